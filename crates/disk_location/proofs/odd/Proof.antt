@@ -1,0 +1,15 @@
+use mathlib.Core.Path.{ap}
+use Prim.Native.Nat.{ℕ}
+use lib.Dec.{eqb}
+use Rattle.disk_location.proofs.Laws.{low-bit}
+use Rattle.disk_location.proofs.odd.Statement.{statement}
+use Rattle.disk_location.proofs.odd.Tie as tie
+use Rattle.disk_location.proofs.odd.Reads as reads
+use Rattle.disk_location.proofs.odd.Lts as lts
+
+-- src/lib.rt:37:1
+returns : tie.Need-returns
+returns c = ap (λ (n : ℕ). eqb n 1) (low-bit (c .args .raw))
+
+pub odd-spec : {M : Type 1} → statement M
+odd-spec = tie.close (tie.spec returns)

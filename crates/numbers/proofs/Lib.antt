@@ -1,0 +1,3 @@
+pub mod LittleEndianTurns
+pub mod GroupTurns
+pub mod Lent

@@ -1,0 +1,137 @@
+// The shared types of document 01. Its rules are the definitions in specs/.
+
+// "Settings": the six that a caller chooses; slots and table entries come from the buffers.
+pub struct Settings {
+    pub slot_bytes: u64,
+    pub file_compaction_percent: u64,
+    pub min_compaction_files: u64,
+    pub target_file_size: u64,
+    pub small_file_cleanup_threshold: u64,
+    pub max_object_size: u64,
+}
+
+// "A record holds the label's five numbers and the live count"; all zeros: empty.
+pub struct Record {
+    pub lsn: u64,
+    pub trailer_offset: u64,
+    pub file_size: u64,
+    pub present_objects: u64,
+    pub generation: u64,
+    pub live: u64,
+}
+
+// An id and a raw location: relative in a trailer, absolute in the table.
+pub struct Entry {
+    pub id: u64,
+    pub location: u64,
+}
+
+// "a file map of 256 records"
+pub struct FileMap {
+    pub records: [Record; 256],
+}
+
+// What a reopening hands to the calls after it.
+pub struct State {
+    pub settings: Settings,
+    pub heap_len: u64,
+    pub table_len: u64,
+    pub files: FileMap,
+    pub next_position: u64,
+}
+
+// "a claim record of the host's": slot s is bit s % 64 of word s / 64.
+pub struct Claims {
+    pub a: u64,
+    pub b: u64,
+    pub c: u64,
+    pub d: u64,
+}
+
+// "Refusal numbers", 1 to 21 in order.
+pub enum Refusal {
+    Limits,
+    BatchBytes,
+    ObjectSize,
+    SlotRoom,
+    NoEmptySlot,
+    TableRoom,
+    PositionsSpent,
+    LabelBytes,
+    TrailerShort,
+    Checksum,
+    EntryCount,
+    EntryPosition,
+    PresentCount,
+    Overlap,
+    NotRising,
+    CutShort,
+    OtherId,
+    NotThere,
+    EqualLocation,
+    Location,
+    Claim,
+}
+
+// The answer of a call that gives nothing but its success: write, claim, release, prune, reopen, the table's store.
+pub enum Answer {
+    Done,
+    Refused(Refusal),
+}
+
+// The body's start in the heap and its length.
+pub enum ReadAnswer {
+    Found(u64, u64),
+    Nothing,
+    ReadRefused(Refusal),
+}
+
+// Ids moved; or the refusal, its generation and the ids moved before it.
+pub enum MaintainAnswer {
+    Moved(u64),
+    Stopped(Refusal, u64, u64),
+}
+
+pub struct Counts {
+    pub files: u64,
+    pub bytes: u64,
+    pub present: u64,
+    pub live: u64,
+}
+
+pub enum CountsAnswer {
+    Counted(Counts),
+    CountsRefused(Refusal),
+}
+
+// Load, and the location held before a store-if-greater.
+pub enum LoadAnswer {
+    At(u64),
+    NoLocation,
+    LoadRefused(Refusal),
+}
+
+pub enum CompareAnswer {
+    Swapped,
+    Differs(u64),
+    CompareRefused(Refusal),
+}
+
+// What the table has for an id.
+pub enum Held {
+    Mapped(u64),
+    Unmapped,
+}
+
+// A slot found in the file map.
+pub enum Slot {
+    Is(u64),
+    NoSlot,
+}
+
+// A slot's label: empty, five numbers (live 0), or no label.
+pub enum Label {
+    Vacant,
+    Five(Record),
+    Wrong,
+}
