@@ -4,11 +4,11 @@ use mathlib.Core.Bool.{Bool, true, false}
 use Prim.Native.Nat.{ℕ, zero, suc, _+_, _-_, _*_, _/_, _%_, _^_, _<_, _≤_}
 use native.Mathlib.Omega.{arith}
 use native.Mathlib.Nat.{add-comm, add-suc, add-zero}
-use lib.Bits.{bitAnd, bitOr, and-block, and-mask, or-shifted}
+use lib.Bits.{bitAnd, bitOr, and-block, and-mask, and-high, or-shifted, or-add-and}
 use lib.Pow.{split, shr-mod, mod-mod-pow, shl-exact}
 use lib.Dec.{lit<, lit≤}
 use lib.Count.{leadingZeros}
-use Rattle.disk_location.specs.Locations.{maskedOf, digitsIn}
+use Rattle.disk_location.specs.Locations.{maskedOf, batchOf, digitsIn}
 
 -- bit 62 of a 64-bit number is cleared by the mask that has all bits but that
 pub mask-clears : (x : ℕ) → x < 2 ^ 64 → bitAnd x (2 ^ 64 - 1 - 2 ^ 62) ≡ maskedOf x
@@ -24,6 +24,14 @@ mask-clears x h =
     (and-mask (x / 2 ^ 63) 1 ∙ shr-mod 1 63 h)
     (and-mask (x % 2 ^ 63) 62 ∙ mod-mod-pow x 1 62)
     ∙ add-comm _ _
+
+-- and set by `or`
+pub or-sets : (x : ℕ) → x < 2 ^ 64 → bitOr x (2 ^ 62) ≡ batchOf x
+unfolding batchOf maskedOf
+or-sets x h =
+    let there : bitAnd x (2 ^ 62) ≡ x / 2 ^ 62 % 2 * 2 ^ 62 = and-high x 1 62 in
+    let sum : bitOr x (2 ^ 62) + bitAnd x (2 ^ 62) ≡ x + 2 ^ 62 = or-add-and x (2 ^ 62) in
+    omega arith
 
 pub low-bit : (x : ℕ) → bitAnd x 1 ≡ x % 2
 low-bit x = and-mask x 1
