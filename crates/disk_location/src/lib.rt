@@ -2,7 +2,7 @@
 
 ghost use mathlib.Core.Path.{_≡_};
 ghost use Prim.Native.Nat.{_+_, _^_, _<_};
-ghost use Rattle.disk_location.specs.Locations.{positionOf, deleteOf, rawOf, locatedAt, relativeAt, maskedOf, batchOf, hasBatch, shardOf};
+ghost use Rattle.disk_location.specs.Locations.{positionOf, deleteOf, rawOf, locatedAt, relativeAt, told, relativeTold, maskedOf, batchOf, hasBatch, shardOf};
 
 const BATCH: u64 = 1 << 62;
 
@@ -45,6 +45,48 @@ fn shifted(position: u64, delete: bool) -> u64
         return position << 1 | 1;
     }
     position << 1
+}
+
+impl Located {
+    // The paper's number: 20 for a refusal, 0 for a location.
+    pub fn number(self) -> u64
+        ensures { λ r. ⌜ r ≡ told self .number ⌝ }
+    {
+        match self {
+            Located::At(_) => 0,
+            Located::Refused => 20,
+        }
+    }
+
+    // The raw location, 0 for a refusal.
+    pub fn raw(self) -> u64
+        ensures { λ r. ⌜ r ≡ told self .raw ⌝ }
+    {
+        match self {
+            Located::At(location) => location.raw(),
+            Located::Refused => 0,
+        }
+    }
+}
+
+impl RelativeLocated {
+    pub fn number(self) -> u64
+        ensures { λ r. ⌜ r ≡ relativeTold self .number ⌝ }
+    {
+        match self {
+            RelativeLocated::At(_) => 0,
+            RelativeLocated::Refused => 20,
+        }
+    }
+
+    pub fn raw(self) -> u64
+        ensures { λ r. ⌜ r ≡ relativeTold self .raw ⌝ }
+    {
+        match self {
+            RelativeLocated::At(location) => location.raw(),
+            RelativeLocated::Refused => 0,
+        }
+    }
 }
 
 impl RelativeDiskLocation {
