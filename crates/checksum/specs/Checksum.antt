@@ -1,5 +1,5 @@
 -- The CRC-32 of IEEE 802.3: a shift register of 32 bits, low bit first, that starts and ends complemented.
-use mathlib.Core.Path.{_≡_, refl}
+use mathlib.Core.Path.{_≡_, refl, ap, _∙_}
 use mathlib.Core.List.{List, [], _∷_, _++_}
 use mathlib.Core.Bool.{Bool, true, false}
 use Prim.Native.Nat.{ℕ, zero, suc, _+_, _-_, _*_, _/_, _%_, _^_, _<_}
@@ -62,6 +62,10 @@ pub crc-append : (r : ℕ) (xs ys : List ℕ) → crcFrom r (xs ++ ys) ≡ crcFr
 unfolding crcFrom
 crc-append r [] ys = refl
 crc-append r (x ∷ xs) ys = crc-append (shifts 8 (bitXor r x)) xs ys
+
+-- the same over three parts, as an object has
+pub crc-three : (r : ℕ) (xs ys zs : List ℕ) → crcFrom r ((xs ++ ys) ++ zs) ≡ crcFrom (crcFrom (crcFrom r xs) ys) zs
+crc-three r xs ys zs = crc-append r (xs ++ ys) zs ∙ ap (λ (x : ℕ). crcFrom x zs) (crc-append r xs ys)
 
 -- the register after one byte more at the front
 pub crc-cons : (r b : ℕ) (bs : List ℕ) → crcFrom r (b ∷ bs) ≡ crcFrom (shifts 8 (bitXor r b)) bs

@@ -66,6 +66,15 @@ pub batch-plain : (x : ℕ) → x < 2 ^ 62 → batchOf x ≡ x + 2 ^ 62
 unfolding batchOf
 batch-plain x h = ap (λ (m : ℕ). m + 2 ^ 62) (masked-plain x h)
 
+-- the bit set is the bit there, and cleared again it leaves what clearing it left before
+pub batch-has : (x : ℕ) → hasBatch (batchOf x) ≡ true
+unfolding batchOf maskedOf
+batch-has x = eq-eqb (batchOf x / 2 ^ 62 % 2) 1 (omega arith)
+
+pub batch-masked : (x : ℕ) → maskedOf (batchOf x) ≡ maskedOf x
+unfolding batchOf maskedOf
+batch-masked x = omega arith
+
 -- x has its digits ..
 pub digits-hold : (k x : ℕ) → x < 2 ^ k → x < 2 ^ digitsIn k x
 unfolding digitsIn
