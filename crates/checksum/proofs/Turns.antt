@@ -1,5 +1,5 @@
 -- A turn of a loop over a list, and over a number's bytes.
-use mathlib.Core.Path.{_≡_, refl}
+use mathlib.Core.Path.{_≡_}
 use mathlib.Core.List.{List}
 use Prim.Native.Nat.{ℕ, _+_, _-_, _/_, _%_, _<_}
 use native.Mathlib.Numerals.{add-one}

@@ -1,14 +1,14 @@
 -- What the definitions of positions amount to.
-use mathlib.Core.Path.{_≡_, refl, sym, ap, _∙_}
+use mathlib.Core.Path.{_≡_, sym, ap, _∙_}
 use mathlib.Core.Bool.{Bool, true, false}
-use Prim.Native.Nat.{ℕ, zero, suc, _+_, _*_, _/_, _%_, _^_, _<_, _≤_}
+use Prim.Native.Nat.{ℕ, zero, suc, _+_, _/_, _%_, _^_, _<_, _≤_}
 use native.Mathlib.Omega.{arith}
 use native.Mathlib.Nat.{pow-suc}
 use borrow.Author.Tests.{lt-ltb, le-ltb, eq-eqb, ne-eqb}
-use lib.Dec.{eqb, lit<}
+use lib.Dec.{lit<}
 use Rattle.disk_location.specs.declared.Located.the-variants.{At, Refused}
 use Rattle.disk_location.specs.declared.RelativeLocated.the-variants as relative
-use Rattle.disk_location.specs.Locations.{maskedOf, batchOf, hasBatch, positionOf, deleteOf, bitOf, rawOf, locatedAt, relativeAt, digitsIn}
+use Rattle.disk_location.specs.Locations.{maskedOf, batchOf, hasBatch, positionOf, deleteOf, rawOf, locatedAt, relativeAt, digitsIn}
 
 -- a position is read back from its raw location
 pub position-raw : (p : ℕ) (d : Bool) → positionOf (rawOf p d) ≡ p

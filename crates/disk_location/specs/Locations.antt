@@ -3,8 +3,6 @@ use Prim.Native.Nat.{ℕ, zero, suc, _+_, _*_, _/_, _%_, _^_}
 use mathlib.Core.Bool.{Bool, true, false}
 use Rattle.numbers.specs.Choice.{pick}
 use lib.Dec.{ltb, eqb}
-use Rattle.disk_location.specs.declared.DiskLocation.{DiskLocation}
-use Rattle.disk_location.specs.declared.RelativeDiskLocation.{RelativeDiskLocation}
 use Rattle.disk_location.specs.declared.Located.{Located}
 use Rattle.disk_location.specs.declared.Located.the-variants.{At, Refused}
 use Rattle.disk_location.specs.declared.RelativeLocated.{RelativeLocated}

@@ -7,7 +7,7 @@ use Prim.Native.Nat.{ℕ, zero, suc, _+_, _-_, _*_, _/_, _%_, _^_, _<_, _≤_}
 use native.Mathlib.Omega.{arith}
 use native.Mathlib.Nat.{pow-suc}
 use borrow.Author.Tests.{lt-ltb, le-ltb, ltb-true, ltb-false}
-use lib.Dec.{ltb, lit<}
+use lib.Dec.{ltb}
 use lib.ListN.{length, take, drop, getD, length-take, length-drop, take-append-drop}
 use lib.Seq.{getD-drop}
 use Rattle.numbers.specs.declared.Number.{Number}
@@ -69,6 +69,17 @@ groups-length (suc k) n = ⊎-elim
 -- .. and at least one
 pub groups-some : (k n : ℕ) → 1 ≤ length (groupsOf (suc k) n)
 groups-some k n = ⊎-elim (λ l. rw (groups-last k n l) (omega arith)) (λ m. rw (groups-more k n m) (omega arith)) (either-way n 128)
+
+-- shortest: j groups of seven bits that hold n are no fewer
+pub groups-least : (k n j : ℕ) → n < 128 ^ suc j → length (groupsOf k n) ≤ suc j
+groups-least zero n j h = rw (groups-none n) (omega arith)
+groups-least (suc k) n zero h =
+    let l : n < 128 = omega arith in
+    rw (groups-last k n l) (omega arith)
+groups-least (suc k) n (suc j) h = ⊎-elim
+    (λ l. rw (groups-last k n l) (omega arith))
+    (λ m. rw (groups-more k n m) (omega (arith, groups-least k (n / 128) j (omega (arith, pow-suc 128 (suc j))))))
+    (either-way n 128)
 
 -- each group is a byte
 pub groups-bytes : (k n : ℕ) → Bytes (groupsOf k n)

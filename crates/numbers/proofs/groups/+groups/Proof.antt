@@ -22,94 +22,42 @@ groups-at t = and 1 groups-kinds.ps (is 1 groups-kinds.ps μ-groups t) groups.Pr
 abbrev groups-below : ℕ → In 1 groups-kinds.ps
 groups-below t = and 1 groups-kinds.ps (falls 1 groups-kinds.ps _<_ μ-groups t) groups.Pre
 
-groups-returns : (t : ℕ) → groups-lts.Need-returns (
-  groups-below t,
-  groups.Post,
-  joined-reads.Asked,
-  joined-reads.Learnt,
-) (groups-at t) groups.Post
+abbrev claims : ℕ → groups-lts.Claims
+claims t = (groups-below t, groups.Post, joined-reads.Asked, joined-reads.Learnt)
+
+groups-returns : (t : ℕ) → groups-lts.Need-returns (claims t) (groups-at t) groups.Post
 groups-returns t c = rw (c .if1 .taken) (sym (number-none _ _))
 
-groups-returns-2 : (t : ℕ) → groups-lts.Need-returns-2 (
-  groups-below t,
-  groups.Post,
-  joined-reads.Asked,
-  joined-reads.Learnt,
-) (groups-at t) groups.Post
+groups-returns-2 : (t : ℕ) → groups-lts.Need-returns-2 (claims t) (groups-at t) groups.Post
 groups-returns-2 t c = sym (number-end _ _ _ (c .if2 .taken))
 
-groups-shared-slice-read-b : (t : ℕ) → groups-lts.Need-shared-slice-read-b (
-  groups-below t,
-  groups.Post,
-  joined-reads.Asked,
-  joined-reads.Learnt,
-) (groups-at t) groups.Post
+groups-shared-slice-read-b : (t : ℕ) → groups-lts.Need-shared-slice-read-b (claims t) (groups-at t) groups.Post
 groups-shared-slice-read-b t c = search needs
 
-groups-cast-t9 : (t : ℕ) → groups-lts.Need-cast-t9 (
-  groups-below t,
-  groups.Post,
-  joined-reads.Asked,
-  joined-reads.Learnt,
-) (groups-at t) groups.Post
+groups-cast-t9 : (t : ℕ) → groups-lts.Need-cast-t9 (claims t) (groups-at t) groups.Post
 groups-cast-t9 t c = search needs
 
-groups-add-t10 : (t : ℕ) → groups-lts.Need-add-t10 (
-  groups-below t,
-  groups.Post,
-  joined-reads.Asked,
-  joined-reads.Learnt,
-) (groups-at t) groups.Post
+groups-add-t10 : (t : ℕ) → groups-lts.Need-add-t10 (claims t) (groups-at t) groups.Post
 groups-add-t10 t c = search needs
 
-groups-returns-3 : (t : ℕ) → groups-lts.Need-returns-3 (
-  groups-below t,
-  groups.Post,
-  joined-reads.Asked,
-  joined-reads.Learnt,
-) (groups-at t) groups.Post
+groups-returns-3 : (t : ℕ) → groups-lts.Need-returns-3 (claims t) (groups-at t) groups.Post
 groups-returns-3 t c =
     let a = c .before .before .before .before .before .args in
     sym (number-last (a .left) (a .s .now) (a .at) (omega arith) (omega arith) (c .if3 .taken))
 
-groups-add-groups : (t : ℕ) → groups-lts.Need-add-groups (
-  groups-below t,
-  groups.Post,
-  joined-reads.Asked,
-  joined-reads.Learnt,
-) (groups-at t) groups.Post
+groups-add-groups : (t : ℕ) → groups-lts.Need-add-groups (claims t) (groups-at t) groups.Post
 groups-add-groups t c = search needs
 
-groups-sub-groups : (t : ℕ) → groups-lts.Need-sub-groups (
-  groups-below t,
-  groups.Post,
-  joined-reads.Asked,
-  joined-reads.Learnt,
-) (groups-at t) groups.Post
+groups-sub-groups : (t : ℕ) → groups-lts.Need-sub-groups (claims t) (groups-at t) groups.Post
 groups-sub-groups t c = search needs
 
-groups-groups-requires : (t : ℕ) → groups-lts.Need-groups-requires (
-  groups-below t,
-  groups.Post,
-  joined-reads.Asked,
-  joined-reads.Learnt,
-) (groups-at t) groups.Post
+groups-groups-requires : (t : ℕ) → groups-lts.Need-groups-requires (claims t) (groups-at t) groups.Post
 groups-groups-requires t c κs = (omega arith, tt)
 
-groups-joined-requires : (t : ℕ) → groups-lts.Need-joined-requires (
-  groups-below t,
-  groups.Post,
-  joined-reads.Asked,
-  joined-reads.Learnt,
-) (groups-at t) groups.Post
+groups-joined-requires : (t : ℕ) → groups-lts.Need-joined-requires (claims t) (groups-at t) groups.Post
 groups-joined-requires t c κs = search needs
 
-groups-returns-4 : (t : ℕ) → groups-lts.Need-returns-4 (
-  groups-below t,
-  groups.Post,
-  joined-reads.Asked,
-  joined-reads.Learnt,
-) (groups-at t) groups.Post
+groups-returns-4 : (t : ℕ) → groups-lts.Need-returns-4 (claims t) (groups-at t) groups.Post
 groups-returns-4 t c =
     let r = c .before in
     let a = r .before .before .before .before .before .before .args in
@@ -117,12 +65,7 @@ groups-returns-4 t c =
     ∙ number-more (a .left) (a .s .now) (a .at) (omega arith) (omega arith) (r .before .if3 .left) (r .before .before .shared-slice-known2 .given (a .at) .fits)
 
 pub +groups-spec : {M : Type 1} → statement M
-+groups-spec = close μ-groups λ t. groups-lts.spec (
-  groups-below t,
-  groups.Post,
-  joined-reads.Asked,
-  joined-reads.Learnt,
-)
++groups-spec = close μ-groups λ t. groups-lts.spec (claims t)
     (groups-at t)
     groups.Post
     (groups-returns t)

@@ -1,5 +1,5 @@
 use mathlib.Core.Path.{_≡_, sym}
-use Prim.Native.Nat.{ℕ, _-_, _^_, _≤_, _<_}
+use Prim.Native.Nat.{_-_, _^_, _≤_, _<_}
 use native.Mathlib.Nat.{le-refl, sub-self}
 use lib.Dec.{lit<}
 use native.Mathlib.Omega.{arith}
