@@ -9,7 +9,7 @@ use native.Mathlib.Nat.{pow-suc}
 use borrow.Author.Tests.{lt-ltb, le-ltb, ltb-true, ltb-false}
 use lib.Dec.{ltb}
 use lib.ListN.{length, take, drop, getD, length-take, length-drop, take-append-drop}
-use lib.Seq.{getD-drop}
+use lib.Seq.{drop-at, getD-drop}
 use Rattle.numbers.specs.declared.Number.{Number}
 use Rattle.numbers.specs.declared.Number.the-variants.{Said, Malformed}
 use Rattle.numbers.specs.Choice.{pick}
@@ -81,6 +81,10 @@ groups-least (suc k) n (suc j) h = ⊎-elim
     (λ m. rw (groups-more k n m) (omega (arith, groups-least k (n / 128) j (omega (arith, pow-suc 128 (suc j))))))
     (either-way n 128)
 
+-- the first group of a number that is not 0 is not 0
+pub groups-first : (k n : ℕ) (rest : List ℕ) → 0 < n → 0 < getD (groupsOf (suc k) n ++ rest) 0 0
+groups-first k n rest some = ⊎-elim (λ l. rw (groups-last k n l) some) (λ m. rw (groups-more k n m) (omega arith)) (either-way n 128)
+
 -- each group is a byte
 pub groups-bytes : (k n : ℕ) → Bytes (groupsOf k n)
 groups-bytes zero n = rw (groups-none n) (λ i. omega arith)
@@ -110,6 +114,10 @@ groups-round (suc k) n rest h = ⊎-elim
     let less : n / 128 < 128 ^ suc k = omega (arith, pow-suc 128 (suc k)) in
     rw (groups-more (suc k) n m) (round-more (suc k) n (groupsOf (suc k) (n / 128) ++ rest) _ m (groups-round k (n / 128) rest less)))
     (either-way n 128)
+
+-- the name under which `rules` cites it
+pub round : (k n : ℕ) (rest : List ℕ) → n < 128 ^ suc k → readGroups (suc k) (groupsOf (suc k) n ++ rest) ≡ said n (length (groupsOf (suc k) n))
+round = groups-round
 
 -- what is read: a number in its one form, from the front of the list
 record Read (k : ℕ) (bs : List ℕ) (v n : ℕ) : Type 0 where
@@ -194,6 +202,14 @@ stands-number k s at v next small st =
 pub number-exactly : (s : List ℕ) (at v next : ℕ) → Bytes s
     → (numberIn 10 s at ≡ Said v next → Stands 10 s at next v) × (Stands 10 s at next v → numberIn 10 s at ≡ Said v next)
 number-exactly s at v next h = (number-stands 10 s at v next h, λ st. stands-number 9 s at v next (omega (arith, st .fits)) st)
+
+-- what was written is read back, wherever it stands and whatever follows
+pub number-back : (s xs rest : List ℕ) (at n : ℕ) → s ≡ xs ++ (groupsOf 10 n ++ rest) → length xs ≡ at → n < 2 ^ 64
+    → numberIn 10 s at ≡ Said n (at + length (groupsOf 10 n))
+unfolding numberIn
+number-back s xs rest at n e l fits =
+    let small : n < 128 ^ 10 = omega arith in
+    rw (e, drop-at xs (groupsOf 10 n ++ rest) at l, groups-round 9 n rest small, lt-ltb n (2 ^ 64) fits)
 
 -- where no number stands, the bytes are refused
 pub number-nothing : (k : ℕ) (s : List ℕ) (at : ℕ) → Bytes s → ((v next : ℕ) → Stands k s at next v → ⊥) → numberIn k s at ≡ Malformed
