@@ -5,6 +5,5 @@ pub mod Order
 pub mod OrderLaws
 pub mod Walk
 pub mod WalkLaws
-pub mod FileLengths
 pub mod Sizes
 pub mod SizeLaws

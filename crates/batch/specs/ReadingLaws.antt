@@ -3,20 +3,22 @@ use mathlib.Core.Path.{_≡_, refl, sym, ap, _∙_}
 use mathlib.Core.Bool.{Bool, true, false, _||_, or-assoc}
 use mathlib.Core.List.{List, [], _∷_}
 use mathlib.Core.Logic.{⊎-elim}
-use Prim.Native.Nat.{ℕ, zero, suc, _+_, _-_, _<_, _≤_}
+use Prim.Native.Nat.{ℕ, zero, suc, _+_, _-_, _^_, _<_, _≤_}
 use native.Mathlib.Omega.{arith}
-use borrow.Author.Tests.{le-leb, lt-leb, leb-true, leb-false}
+use borrow.Author.Tests.{le-leb, lt-leb}
 use lib.Dec.{leb}
 use lib.ListN.{length, take, drop, length-take, length-drop}
 use Rattle.numbers.specs.Choice.{pick}
 use Rattle.numbers.specs.GroupLaws.{either-way}
-use Rattle.rules.specs.Ops.{Op, put, delete}
+use Rattle.rules.specs.Ops.{Op, put, delete, settled}
+use Rattle.rules.specs.OpsLaws.{IdsFit}
+use Rattle.rules.specs.SettledLaws.{settled-all}
 use Rattle.rules.specs.Base.{any}
 use Rattle.rules.specs.Refusal.{_gives_, decide}
 use Rattle.rules.specs.declared.Answer.{Answer}
 use Rattle.rules.specs.declared.Answer.the-variants.{Done, Refused}
 use Rattle.rules.specs.declared.Refusal.the-variants.{BatchBytes, ObjectSize}
-use Rattle.rules.specs.Batch.{Parsed, parsed, malformed, operationAt, Batch, operations, notAsAbove, before, onward, batchFrom, batchIn, isMalformed, opsOf, tooLarge, anyTooLarge}
+use Rattle.rules.specs.Batch.{Parsed, parsed, malformed, operationAt, Batch, operations, notAsAbove, before, batchFrom, batchIn, isMalformed, opsOf, tooLarge, anyTooLarge}
 use Rattle.batch.specs.declared.Operation.{Operation}
 use Rattle.batch.specs.declared.Parse.{Parse}
 use Rattle.batch.specs.declared.Parse.the-variants.{Holds, NotAsAbove}
@@ -124,6 +126,20 @@ walked-length (suc k) s at = go (operationAt s at) refl (walked-length k s)
 pub ops-length : (s : List ℕ) → length (opsIn s) ≤ length s
 unfolding opsFrom
 ops-length s = omega (arith, walked-length (suc (length s)) s 0)
+
+walked-fit : (k : ℕ) (s : List ℕ) (at : ℕ) → IdsFit (walked k s at)
+unfolding walked
+walked-fit zero s at = tt
+walked-fit (suc k) s at = go (operationAt s at) refl (walked-fit k s)
+  where
+    go : (p : Parsed) → operationAt s at ≡ p → ((n : ℕ) → IdsFit (walked k s n)) → IdsFit (followed p (walked k s))
+    go malformed q again = tt
+    go (parsed o next) q again = (operation-behind s at o next q .id-fits, again next)
+
+-- ids have at most 64 bits
+pub settled-fit : (s : List ℕ) → IdsFit (settled (opsIn s))
+unfolding opsFrom
+settled-fit s = settled-all (λ (o : Op). o .id < 2 ^ 64) (opsIn s) (walked-fit (suc (length s)) s 0)
 
 -- ---- what a call of `operation_at` tells
 pub held : (s : List ℕ) (p : Parsed) (r : Parse) (o : Operation) (next : ℕ) → (parsedIn s r ≡ p) × Inside s r → r ≡ Holds o next

@@ -7,14 +7,12 @@ use native.Mathlib.Omega.{arith}
 use borrow.Author.Tests.{lt-ltb, le-ltb}
 use lib.ListN.{length, take, drop}
 use Rattle.numbers.specs.Choice.{pick}
-use Rattle.rules.specs.Base.{each}
 use Rattle.rules.specs.Ops.{Op, put, delete, sizeOf, objectsOf, fileBytes}
+use Rattle.rules.specs.OpsLaws.{objects-nil, objects-length, file-length}
 use Rattle.batch.specs.Reading.{opIn}
 use Rattle.batch.specs.ReadingLaws.{piece-length}
 use Rattle.batch.specs.Sizes.{sizeIn, sizesOf}
-use Rattle.batch.specs.FileLengths.{objects-length, file-length}
 use Rattle.batch.specs.declared.Operation.{Operation}
-use Rattle.batch.specs.declared.Room.{Room}
 use Rattle.batch.specs.declared.Room.the-variants.{Fits, TooLarge}
 
 size-is : (s : List ℕ) (o : Operation) → o .start + o .len ≤ length s → sizeOf (opIn s o .content) ≡ sizeIn o
@@ -40,8 +38,7 @@ total-next s ops rest o e =
     ∙ ap (λ (n : ℕ). n + length (objectsOf rest)) (size-is s o (e .1))
 
 pub total-end : (ops : List Op) → ops ≡ [] → length (objectsOf ops) ≡ 0
-unfolding objectsOf each
-total-end ops e = rw e
+total-end ops e = ap (λ (os : List Op). length (objectsOf os)) e ∙ ap length objects-nil
 
 pub sizes-fit : (slotSize count total : ℕ) (ops : List Op) → count ≡ length ops → total ≡ length (objectsOf ops) → 76 + total + 16 * count ≤ slotSize
     → Fits count total ≡ sizesOf slotSize ops
