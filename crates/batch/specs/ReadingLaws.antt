@@ -1,29 +1,22 @@
 -- The operations of a batch by position: one behind the other, and those of `batchIn` where that is not refused with 2.
 use mathlib.Core.Path.{_≡_, refl, sym, ap, _∙_}
-use mathlib.Core.Bool.{Bool, true, false, _||_, or-assoc}
+use mathlib.Core.Bool.{false}
 use mathlib.Core.List.{List, [], _∷_}
 use mathlib.Core.Logic.{⊎-elim}
 use Prim.Native.Nat.{ℕ, zero, suc, _+_, _-_, _^_, _<_, _≤_}
 use native.Mathlib.Omega.{arith}
 use borrow.Author.Tests.{le-leb, lt-leb}
-use lib.Dec.{leb}
 use lib.ListN.{length, take, drop, length-take, length-drop}
-use Rattle.numbers.specs.Choice.{pick}
 use Rattle.numbers.specs.GroupLaws.{either-way}
-use Rattle.rules.specs.Ops.{Op, put, delete, settled}
+use Rattle.rules.specs.Ops.{Op, settled}
 use Rattle.rules.specs.OpsLaws.{IdsFit}
 use Rattle.rules.specs.SettledLaws.{settled-all}
-use Rattle.rules.specs.Base.{any}
-use Rattle.rules.specs.Refusal.{_gives_, decide}
-use Rattle.rules.specs.declared.Answer.{Answer}
-use Rattle.rules.specs.declared.Answer.the-variants.{Done, Refused}
-use Rattle.rules.specs.declared.Refusal.the-variants.{BatchBytes, ObjectSize}
-use Rattle.rules.specs.Batch.{Parsed, parsed, malformed, operationAt, Batch, operations, notAsAbove, before, batchFrom, batchIn, isMalformed, opsOf, tooLarge, anyTooLarge}
+use Rattle.rules.specs.Batch.{Parsed, parsed, malformed, operationAt, Batch, operations, notAsAbove, before, batchFrom, batchIn, isMalformed, opsOf}
 use Rattle.batch.specs.declared.Operation.{Operation}
 use Rattle.batch.specs.declared.Parse.{Parse}
 use Rattle.batch.specs.declared.Parse.the-variants.{Holds, NotAsAbove}
 use Rattle.batch.specs.Behind.{operation-behind}
-use Rattle.batch.specs.Reading.{opIn, parsedIn, Inside, oversize, followed, walked, opsFrom, opsIn}
+use Rattle.batch.specs.Reading.{opIn, parsedIn, Inside, followed, walked, opsFrom, opsIn}
 
 -- enough is enough: a greater bound on the count finds the same operations
 walked-more : (j k : ℕ) (s : List ℕ) (at : ℕ) → length s - at < j → length s - at < k → walked j s at ≡ walked k s at
@@ -71,7 +64,7 @@ batch-short : (s : List ℕ) (at : ℕ) → at < length s → batchFrom 0 s at �
 unfolding batchFrom
 batch-short s at h = rw (lt-leb (length s) at h)
 
-batch-next : (k : ℕ) (s : List ℕ) (at : ℕ) (o : Op) (next : ℕ) → at < length s → operationAt s at ≡ parsed o next
+pub batch-next : (k : ℕ) (s : List ℕ) (at : ℕ) (o : Op) (next : ℕ) → at < length s → operationAt s at ≡ parsed o next
     → batchFrom (suc k) s at ≡ before o (batchFrom k s next)
 unfolding batchFrom
 batch-next k s at o next h e = rw (lt-leb (length s) at h, e)
@@ -149,42 +142,6 @@ held s p r o next h e = (sym (h .0) ∙ ap (parsedIn s) e, rw e at (h .1))
 pub held-none : (s : List ℕ) (p : Parsed) (r : Parse) → parsedIn s r ≡ p → r ≡ NotAsAbove → p ≡ malformed
 held-none s p r h e = sym h ∙ ap (parsedIn s) e
 
--- ---- refusals 2 and 3, with what was seen before the rest
-unfoldable pub refusing : ℕ → Bool → Batch → Answer
-refusing limit large b = decide (isMalformed b gives BatchBytes ∷ (large || anyTooLarge limit (opsOf b)) gives ObjectSize ∷ [])
-
-pub refusing-end : (limit : ℕ) (large : Bool) → refusing limit large (operations []) ≡ pick large (Refused ObjectSize) Done
-unfolding refusing decide anyTooLarge any
-refusing-end limit true = refl
-refusing-end limit false = refl
-
-pub refusing-malformed : (limit : ℕ) (large : Bool) → refusing limit large notAsAbove ≡ Refused BatchBytes
-unfolding refusing decide
-refusing-malformed limit large = refl
-
-pub refusing-next : (limit : ℕ) (large : Bool) (o : Op) (b : Batch)
-    → refusing limit large (before o b) ≡ refusing limit (large || tooLarge limit (o .content)) b
-unfolding refusing decide anyTooLarge any
-refusing-next limit large o notAsAbove = refl
-refusing-next limit large o (operations os) = rw (or-assoc large (tooLarge limit (o .content)) (anyTooLarge limit os)) refl
-
 -- a piece within the batch has its length
 pub piece-length : (s : List ℕ) (start len : ℕ) → start + len ≤ length s → length (take len (drop start s)) ≡ len
 piece-length s start len h = simp (length-take, length-drop) (omega arith)
-
-pub oversize-is : (limit : ℕ) (s : List ℕ) (o : Operation) → o .start + o .len ≤ length s → tooLarge limit (opIn s o .content) ≡ oversize limit o
-oversize-is limit s o h = go (o .delete)
-  where
-    go : (d : Bool) → tooLarge limit (pick d delete (put (take (o .len) (drop (o .start) s)))) ≡ pick d false (leb limit (o .len))
-    go true = refl
-    go false = ap (leb limit) (piece-length s (o .start) (o .len) h)
-
--- one operation of the batch behind, which k bounds
-pub refusing-turn : (limit : ℕ) (large : Bool) (k : ℕ) (s : List ℕ) (at : ℕ) (o : Operation) (next : ℕ) → at < length s → length s - at ≤ k
-    → (operationAt s at ≡ parsed (opIn s o) next) × (o .start + o .len ≤ length s)
-    → refusing limit (large || oversize limit o) (batchFrom (k - 1) s next) ≡ refusing limit large (batchFrom k s at)
-refusing-turn limit large zero s at o next l h e = absurd (omega arith)
-refusing-turn limit large (suc k) s at o next l h e =
-    let less : suc k - 1 ≡ k = omega arith in
-    rw (less, batch-next k s at (opIn s o) next l (e .0), ← oversize-is limit s o (e .1))
-    (sym (refusing-next limit large (opIn s o) (batchFrom k s next)))
