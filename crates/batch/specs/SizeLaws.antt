@@ -4,7 +4,8 @@ use mathlib.Core.Bool.{Bool, true, false}
 use mathlib.Core.List.{List, [], _∷_}
 use Prim.Native.Nat.{ℕ, _+_, _*_, _<_, _≤_}
 use native.Mathlib.Omega.{arith}
-use borrow.Author.Tests.{lt-ltb, le-ltb}
+use borrow.Author.Tests.{lt-ltb, le-ltb, ltb-true, ltb-false}
+use lib.Dec.{ltb}
 use lib.ListN.{length, take, drop}
 use Rattle.numbers.specs.Choice.{pick}
 use Rattle.rules.specs.Ops.{Op, put, delete, sizeOf, objectsOf, fileBytes}
@@ -52,3 +53,23 @@ unfolding sizesOf
 sizes-large slotSize ops h =
     let over : slotSize < 64 + length (fileBytes ops) = omega (arith, file-length ops) in
     rw (lt-ltb slotSize (64 + length (fileBytes ops)) over)
+
+-- ---- what a call of `sizes` tells
+pub fits-told : (slotSize : ℕ) (ops : List Op) (count total : ℕ) → sizesOf slotSize ops ≡ Fits count total
+    → (64 + length (fileBytes ops) ≤ slotSize) × (count ≡ length ops) × (total ≡ length (objectsOf ops))
+unfolding sizesOf
+fits-told slotSize ops count total e = go (ltb slotSize (64 + length (fileBytes ops))) refl e
+  where
+    go : (t : Bool) → ltb slotSize (64 + length (fileBytes ops)) ≡ t → pick t TooLarge (Fits (length ops) (length (objectsOf ops))) ≡ Fits count total
+        → (64 + length (fileBytes ops) ≤ slotSize) × (count ≡ length ops) × (total ≡ length (objectsOf ops))
+    go true t e = absurd (let z : _≡_ {A = ℕ} 0 1 = cc in omega arith)
+    go false t e = (ltb-false slotSize (64 + length (fileBytes ops)) t, cc, cc)
+
+pub large-told : (slotSize : ℕ) (ops : List Op) → sizesOf slotSize ops ≡ TooLarge → slotSize < 64 + length (fileBytes ops)
+unfolding sizesOf
+large-told slotSize ops e = go (ltb slotSize (64 + length (fileBytes ops))) refl e
+  where
+    go : (t : Bool) → ltb slotSize (64 + length (fileBytes ops)) ≡ t → pick t TooLarge (Fits (length ops) (length (objectsOf ops))) ≡ TooLarge
+        → slotSize < 64 + length (fileBytes ops)
+    go true t e = ltb-true slotSize (64 + length (fileBytes ops)) t
+    go false t e = absurd (let z : _≡_ {A = ℕ} 0 1 = cc in omega arith)
