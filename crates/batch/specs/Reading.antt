@@ -43,5 +43,6 @@ walked (suc k) s at = followed (operationAt s at) (walked k s)
 unfoldable pub opsFrom : List ℕ → ℕ → List Op
 opsFrom s at = walked (suc (length s)) s at
 
+-- of the whole batch
 abbrev pub opsIn : List ℕ → List Op
 opsIn s = opsFrom s 0
