@@ -36,6 +36,11 @@ or-holds true b w = refl
 or-holds false b (inl p) = absurd (false≢true p)
 or-holds false b (inr q) = q
 
+-- some test of two does not hold
+pub and-false : (a b : Bool) → (a && b) ≡ false → (a ≡ false) ⊎ (b ≡ false)
+and-false true b e = inr e
+and-false false b e = inl refl
+
 pub within-true : (low high n : ℕ) → within low high n ≡ true → (low ≤ n) × (n ≤ high)
 within-true low high n e =
     let w = and-true (leb low n) (leb n high) e in
