@@ -1,5 +1,7 @@
 // A file's trailer: its entries by number from the lent bytes, and the tests 9 to 12 on any bytes.
 
+pub mod write;
+
 use disk_location::RelativeDiskLocation;
 use numbers::little_endian;
 use rules::Answer;
