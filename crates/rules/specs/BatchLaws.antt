@@ -4,13 +4,12 @@ use mathlib.Core.Logic.{_⊎_, inl, inr}
 use Prim.Native.Nat.{_≤_, _<_}
 use native.Mathlib.Omega.{arith}
 use borrow.Author.Tests.{ltb-true, le-leb, lt-leb}
-use Rattle.rules.specs.Base.{Bool, true, false, List, [], _∷_, ℕ, zero, suc, _+_, _-_, _^_, length, take, drop, getD, leb, ltb, eqb, pick}
-use Rattle.rules.specs.BaseLaws.{All}
+use Rattle.rules.specs.Base.{Bool, true, false, List, [], ℕ, zero, suc, _+_, _-_, _^_, length, take, drop, getD, leb, ltb, eqb, pick}
 use Rattle.numbers.specs.GroupLaws.{either-way}
 use Rattle.numbers.specs.Groups.{Groups, said, bad, readGroups, bounded, numberIn, saying}
 use Rattle.numbers.specs.declared.Number.{Number}
 use Rattle.numbers.specs.declared.Number.the-variants.{Said, Malformed}
-use Rattle.rules.specs.Ops.{Content, put, delete, Op}
+use Rattle.rules.specs.Ops.{put, delete, Op}
 use Rattle.rules.specs.OpsLaws.{IdsFit}
 use Rattle.rules.specs.Batch.{Parsed, malformed, parsed, putOperation, operationAt, Batch, notAsAbove, operations, before, batchFrom, batchIn, opsOf}
 

@@ -1,24 +1,23 @@
 -- Adding files: what 4, 5 and 7 leave known, and what stays as it was.
-use mathlib.Core.Path.{_≡_, refl, sym, ap, _∙_}
+use mathlib.Core.Path.{_≡_, refl, ap, _∙_}
 use mathlib.Core.Logic.{_⊎_, inl, inr}
 use Prim.Native.Nat.{_≤_, _<_}
 use native.Mathlib.Omega.{arith}
 use borrow.Author.Tests.{ltb-false, lt-ltb}
-use lib.ListN.{length-set, length-map}
+use lib.ListN.{length-set}
 use lib.Seq.{getD-set-same, getD-set-other, set-out}
-use Rattle.rules.specs.Base.{Bool, true, false, _&&_, List, [], _∷_, _++_, map, ℕ, zero, suc, _+_, _-_, _*_, _^_, length, getD, set, leb, ltb, any, sum}
+use Rattle.rules.specs.Base.{List, [], _∷_, ℕ, _+_, _-_, _^_, length, set, ltb, sum}
 use Rattle.rules.specs.Types.{Entry, Record, Slot, Is, NoSlot}
 use Rattle.rules.specs.BaseLaws.{All, all-map, any-false, same?}
 use Rattle.numbers.specs.GroupLaws.{either-way}
 use Rattle.disk_location.specs.Locations.{maskedOf}
 use Rattle.disk_location.specs.LocationLaws.{masked-plain, masked-batch}
-use Rattle.rules.specs.Refusal.{Test, _gives_, NoneHolds}
+use Rattle.rules.specs.Refusal.{NoneHolds}
 use Rattle.rules.specs.Table.{lookup}
 use Rattle.rules.specs.FileMap.{emptyRecord, recordAt, withLive, lessLive, fileFor}
 use Rattle.rules.specs.FileMapLaws.{less-live-length, file-same}
 use Rattle.rules.specs.Ops.{Op, objectsOf, fileBytes}
 use Rattle.rules.specs.OpsLaws.{IdsFit, file-length}
-use Rattle.rules.specs.LabelLaws.{InBounds}
 use Rattle.rules.specs.WrittenLaws.{Writable}
 use Rattle.rules.specs.World.{World, recordsOf}
 use Rattle.rules.specs.Install.{newRecord, fileHolding, losing, recordsWith, roomTests, positionTests}

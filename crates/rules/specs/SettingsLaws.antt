@@ -1,12 +1,12 @@
 -- "Settings": the ranges as facts.
-use mathlib.Core.Path.{_≡_, refl, sym, ap, _∙_}
+use mathlib.Core.Path.{_≡_, refl}
 use Prim.Native.Nat.{_≤_, _<_}
 use native.Mathlib.Nat.{div-add-mod', suc-mul, mul-le-mul-right}
 use native.Mathlib.Omega.{arith}
 use borrow.Author.Tests.{eqb-true, eq-eqb}
-use Rattle.rules.specs.Base.{Bool, true, _&&_, ℕ, zero, suc, _+_, _*_, _/_, _%_, eqb, within}
+use Rattle.rules.specs.Base.{true, ℕ, _+_, _*_, _%_, eqb}
 use Rattle.rules.specs.Types.{Settings}
-use Rattle.rules.specs.BaseLaws.{and-true, and-holds, within-true, within-holds}
+use Rattle.rules.specs.BaseLaws.{and-true, within-true, within-holds}
 use Rattle.rules.specs.Settings.{inRanges, slotsIn, heapInRange, sameSettings}
 
 -- the column "Range"

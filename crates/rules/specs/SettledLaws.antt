@@ -4,7 +4,7 @@ use mathlib.Core.Logic.{_⊎_, inl, inr}
 use Prim.Native.Nat.{_≤_, _<_, zero-le}
 use native.Mathlib.Omega.{arith}
 use borrow.Author.Tests.{lt-ltb, le-ltb, eq-eqb, ne-eqb}
-use Rattle.rules.specs.Base.{Bool, true, false, List, [], _∷_, ℕ, zero, suc, _+_, length, ltb, eqb, pick}
+use Rattle.rules.specs.Base.{List, [], _∷_, ℕ, suc, eqb, pick}
 use Rattle.rules.specs.BaseLaws.{All, order, same?}
 use Rattle.rules.specs.Ops.{Content, Op, joined, settled}
 use Rattle.rules.specs.OpsLaws.{RisingOps, ops-end, ops-rise}

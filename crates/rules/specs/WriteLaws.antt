@@ -1,12 +1,12 @@
 -- What an accepted write knows.
-use mathlib.Core.Path.{_≡_, refl, sym, ap, _∙_}
+use mathlib.Core.Path.{_≡_}
 use Prim.Native.Nat.{_≤_, _<_}
 use native.Mathlib.Omega.{arith}
 use native.Mathlib.Nat.{not-suc-le-zero}
 use borrow.Author.Tests.{ltb-false}
-use Rattle.rules.specs.Base.{Bool, false, List, [], _∷_, _++_, ℕ, zero, suc, _+_, _^_, length, ltb, sum}
+use Rattle.rules.specs.Base.{false, List, [], _∷_, ℕ, _+_, _^_, length, sum}
 use Rattle.rules.specs.Types.{Done, TableRoom}
-use Rattle.rules.specs.Refusal.{Test, _gives_, decide, NoneHolds, clear-when, none-first, none-rest}
+use Rattle.rules.specs.Refusal.{_gives_, decide, NoneHolds, clear-when, none-first, none-rest}
 use Rattle.rules.specs.Ops.{Op, objectsOf, entriesOf, fileBytes, settled}
 use Rattle.rules.specs.Batch.{batchIn, isMalformed, opsOf, anyTooLarge}
 use Rattle.rules.specs.Table.{insertAll}
