@@ -70,7 +70,9 @@ unfolding operationAt idOf nextOf
 operation-stepped s at o next e = go (numberIn 10 s at) refl e
   where
     go : (n : Number) → numberIn 10 s at ≡ n
-        → saying malformed n (λ id tag. pick (leb (length s) tag) malformed (pick (eqb (getD s tag 0) 0) (parsed (record { id = id; content = delete }) (suc tag)) (pick (eqb (getD s tag 0) 1) (putOperation s id (suc tag)) malformed))) ≡ parsed o next
+        → saying malformed n (λ id tag. pick (leb (length s) tag) malformed
+        (pick (eqb (getD s tag 0) 0) (parsed (record { id = id; content = delete }) (suc tag))
+        (pick (eqb (getD s tag 0) 1) (putOperation s id (suc tag)) malformed))) ≡ parsed o next
         → Stepped at o next
     go Malformed p q = not-parsed q
     go (Said id tag) p q = here (leb (length s) tag) (eqb (getD s tag 0) 0) (eqb (getD s tag 0) 1) q

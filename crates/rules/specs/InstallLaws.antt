@@ -6,7 +6,7 @@ use native.Mathlib.Omega.{arith}
 use borrow.Author.Tests.{ltb-false, lt-ltb}
 use lib.ListN.{length-set}
 use lib.Seq.{getD-set-same, getD-set-other, set-out}
-use Rattle.rules.specs.Base.{List, [], _∷_, ℕ, _+_, _-_, _^_, length, set, ltb, sum}
+use Rattle.rules.specs.Base.{List, [], _∷_, ℕ, _+_, _-_, _*_, _^_, length, set, ltb, sum}
 use Rattle.rules.specs.Types.{Entry, Record, Slot, Is, NoSlot}
 use Rattle.rules.specs.BaseLaws.{All, all-map, any-false, same?}
 use Rattle.numbers.specs.GroupLaws.{either-way}
@@ -18,9 +18,10 @@ use Rattle.rules.specs.FileMap.{emptyRecord, recordAt, withLive, lessLiv
 use Rattle.rules.specs.FileMapLaws.{less-live-length, file-same}
 use Rattle.rules.specs.Ops.{Op, objectsOf, fileBytes}
 use Rattle.rules.specs.OpsLaws.{IdsFit, file-length}
-use Rattle.rules.specs.WrittenLaws.{Writable}
-use Rattle.rules.specs.World.{World, recordsOf}
-use Rattle.rules.specs.Install.{newRecord, fileHolding, losing, recordsWith, roomTests, positionTests}
+use Rattle.rules.specs.SlotFile.{holds, viewsIn}
+use Rattle.rules.specs.WrittenLaws.{Writable, fileOfOps, views-made}
+use Rattle.rules.specs.World.{World, recordsOf, slotsOf}
+use Rattle.rules.specs.Install.{newRecord, fileHolding, losing, newSlot, newLsn, recordsWith, storesFor, installed, roomTests, positionTests}
 
 -- ---- 4, 5, 7 do not hold
 -- every file fits its slot, and there are slots for all
@@ -109,3 +110,12 @@ losing-five table (o ∷ os) rs j =
 pub losing-file : (table : List Entry) (ops : List Op) (rs : List Record) (location : ℕ) → fileFor (losing table ops rs) location ≡ fileFor rs location
 losing-file table ops rs location =
     file-same (losing table ops rs) rs (losing-length table ops rs) (λ j. ap (λ (r : Record). r .lsn) (losing-five table ops rs j)) location
+
+-- ---- the heap: the new slot's view alone changes, to the file of these operations
+pub installed-views : (bit generation : ℕ) (w : World) (ops : List Op) → Writable (w .settings .«slot_bytes») (newLsn bit w) generation ops
+    → newSlot w < slotsOf w → slotsOf w * w .settings .«slot_bytes» ≤ length (w .heap)
+    → viewsIn (slotsOf w) (w .settings .«slot_bytes») (installed bit generation w ops .heap)
+    ≡ set (viewsIn (slotsOf w) (w .settings .«slot_bytes») (w .heap)) (newSlot w) (holds (fileOfOps (newLsn bit w) generation ops))
+unfolding installed storesFor
+installed-views bit generation w ops able low whole =
+    views-made (slotsOf w) (w .settings .«slot_bytes») (w .heap) (newSlot w) (newLsn bit w) generation ops low whole able

@@ -121,7 +121,16 @@ fiveBytes r = groupsOf 10 (r .lsn) ++ (groupsOf 10 (r .«trailer_offset») ++ (g
 
 five-length : (r : Record) → length (fiveBytes r) ≤ 50
 unfolding fiveBytes
-five-length r = simp length-append (omega (arith, groups-length 10 (r .lsn), groups-length 10 (r .«trailer_offset»), groups-length 10 (r .«file_size»), groups-length 10 (r .«present_objects»), groups-length 10 (r .generation)))
+five-length r =
+    simp length-append
+    (omega (
+      arith,
+      groups-length 10 (r .lsn),
+      groups-length 10 (r .«trailer_offset»),
+      groups-length 10 (r .«file_size»),
+      groups-length 10 (r .«present_objects»),
+      groups-length 10 (r .generation),
+    ))
 
 -- "a 64-byte label"
 pub label-length : (r : Record) → length (labelBytes r) ≡ 64

@@ -117,4 +117,12 @@ same-settings s t e =
 -- and back
 pub settings-same : (s : Settings) → sameSettings s s ≡ true
 unfolding sameSettings
-settings-same s = simp (eq-eqb (s .«slot_bytes») _ refl, eq-eqb (s .«file_compaction_percent») _ refl, eq-eqb (s .«min_compaction_files») _ refl, eq-eqb (s .«target_file_size») _ refl, eq-eqb (s .«small_file_cleanup_threshold») _ refl, eq-eqb (s .«max_object_size») _ refl)
+settings-same s =
+    simp (
+      eq-eqb (s .«slot_bytes») _ refl,
+      eq-eqb (s .«file_compaction_percent») _ refl,
+      eq-eqb (s .«min_compaction_files») _ refl,
+      eq-eqb (s .«target_file_size») _ refl,
+      eq-eqb (s .«small_file_cleanup_threshold») _ refl,
+      eq-eqb (s .«max_object_size») _ refl,
+    )
