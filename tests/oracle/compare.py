@@ -6,7 +6,7 @@
 After every call: each id's read, the answer, the growth of the next position, counts, each file's numbers, live count and claim;
 after reopenings and rewrites also each file as a set of entries. A heap that the port wrote is renamed to the original's files,
 opened and read by it, and every number must be the same; files that the original wrote are labelled, put into slots, reopened and
-read by the port. A difference that is not in KNOWN fails. The port's bytes are the model's bytes: the console shows the heap's
+read by the port. A difference that is not in known.py fails. The port's bytes are the model's bytes: the console shows the heap's
 checksum, and every answer of it, that checksum among them, must be the model's."""
 import argparse
 import collections
@@ -14,29 +14,9 @@ import time
 import zlib
 
 from model import BATCH_BIT, HEADER, LABEL, Console, batch_operations, label_numbers, le, masked, shard, trailer_entries, Refused
+from known import GROUP_FAILURES, READ_FAILURES, TABLE_FAILURES, directed
 from port import Difference, Model, Port, Rust, Stored, store_transcript
 from scenarios import from_files, scenario
-
-# What is known to differ, or cannot be compared, with the reason; the numbers printed at the end say how often each was met.
-KNOWN = {
-    'delete position': 'document 01 (P10): the object bytes before it; writepath.rs:172 stores 0. Entries are compared as (id, body or delete)',
-    'order': "ids and shards of a rewrite follow hash buckets (lib.rs:168): compared as sets; a file's own lsn after a rewrite into several is not",
-    'cut': 'where a shard can be cut in some order (writepath.rs:84) only reads and the count moved are compared, then both go on from the port\'s heap',
-    'limits': 'refusals 4, 5, 6, 7 come from slots, table and positions, which the original does not limit: the call is not made there',
-    'put of exactly max_object_size': 'refusal 3; writepath.rs:176 accepts it (then gc.rs:77 fails)',
-    'oversize put overridden': 'refusal 3; the original looks only at the last operation on an id',
-    'batch bytes': 'refusal 2: the original takes no bytes but a list',
-    'claim of no file': 'refusal 21: the original has no such call; only claims that are accepted are made there',
-    'damaged file in maintenance': 'which of several faults is met first differs (descending location there, ascending slot here): any failure there will do',
-    '16 in maintenance': 'header or body past T: the original reads on into the trailer (gc.rs:69, gc.rs:97) and may succeed',
-}
-
-READ_FAILURES = {  # refusal number: the original's answers
-    'refused 10': {'err InvalidData'},
-    'refused 16': {'err UnexpectedEof', 'panic lib.rs:215'},
-    'refused 17': {'panic readpath.rs:65'},
-    'refused 18': {'panic file_map.rs:125'},
-}
 
 File = collections.namedtuple('File', 'lsn trailer_offset file_size present generation live claimed')
 
@@ -115,6 +95,7 @@ def plan(lines):
 
 
 CALLS = ('reopen', 'write', 'claim', 'release', 'prune', 'maintain')
+TABLE_CALLS = ('load', 'store', 'cas', 'max')
 
 
 def script(steps, ids):
@@ -151,14 +132,14 @@ class PortView:
 
 
 def views(steps, answers, ids):
-    """a PortView for each step that is a call, None for the others"""
+    """for each step that is a call a PortView, for a table call its answer, None for the others"""
     said, out = iter(answers), []
     for step in steps:
-        answer = next(said)
-        if step.line.split()[0] in CALLS:
+        answer, word = next(said), step.line.split()[0]
+        if word in CALLS:
             out.append(PortView(answer, next(said), next(said), [next(said) for _ in ids]))
         else:
-            out.append(None)
+            out.append(answer[0] if word in TABLE_CALLS else None)
     return out
 
 
@@ -200,7 +181,9 @@ class Comparison:
         for k, (step, view) in enumerate(zip(steps, port_views)):
             word, *words = step.line.split()
             try:
-                if view is not None:
+                if word in TABLE_CALLS:
+                    self.table_call(step.line, view)
+                elif view is not None:
                     must(view.heap_sum == zlib.crc32(step.heap), "the heap's bytes are not the model's", view.heap_sum, zlib.crc32(step.heap))
                     self.calls[word] += 1
                     getattr(self, word)(step, view, *words)
@@ -267,7 +250,7 @@ class Comparison:
                 self.known['16 in maintenance'] += 1
             else:
                 self.known['damaged file in maintenance'] += 1
-                must(got.startswith(('err', 'panic gc.rs:89', 'panic gc.rs:148')), 'maintain', view.answer, got)
+                must(got in GROUP_FAILURES, 'maintain', view.answer, got)
             return
         must(got.startswith('ok ') and got.split()[1] == view.answer.split()[1], 'count moved', view.answer, got)
         if step.cut:
@@ -291,7 +274,7 @@ class Comparison:
     def claimed(self, step, view, word, slot):
         if view.answer != 'ok':
             must(view.answer == 'refused 21', word, view.answer, 'accepted')
-            self.known['claim of no file'] += 1
+            self.known['claim refused'] += 1
         else:
             mine = view.files[slot]
             twins = [f for k, f in view.files.items() if self.same(step, k, f, slot, mine)]
@@ -304,6 +287,14 @@ class Comparison:
 
     def same(self, step, slot, file, other, mine):
         return contents(file.trailer_offset, step.bytes_of(slot, file)) == contents(mine.trailer_offset, step.bytes_of(other, mine))
+
+    def table_call(self, line, answer):
+        self.calls['table call'] += 1
+        if answer in ('refused 6', 'refused 20'):
+            self.known['limits'] += 1
+            return
+        got = self.one(line)
+        must(answer == got or got in TABLE_FAILURES.get(answer, ()), line, answer, got)
 
     # what must be alike
 
@@ -381,7 +372,7 @@ def compare_jobs(comparison, jobs, store=None):
         except Difference as d:
             raise Difference(f'scenario {job.name}, {d}\n\n' + '\n'.join(job.lines))
         files = [(line.split()[1], bytes.fromhex(line.split()[2])) for line in comparison.ask('files')[:-1]]
-        left[job.name] = files, [v for v in job_views if v][-1].reads
+        left[job.name] = files, [v for v in job_views if isinstance(v, PortView)][-1].reads
         if store:
             store_transcript(store, job.name, comparison.rust.transcript)
     return left
@@ -402,12 +393,24 @@ def compare(port, rust, seed, numbers, small=False, store=None, comparison=None)
             carried[-1].want = dict(zip(job.ids, reads))
     run_port(port, carried)
     for job in carried:
-        first = next(v for v in views(job.steps, job.answers, job.ids) if v)
+        first = next(v for v in views(job.steps, job.answers, job.ids) if isinstance(v, PortView))
         for ident, got in zip(job.ids, first.reads):
             if got != job.want[ident]:
                 raise Difference(f"scenario {job.name}: read {ident} of the original's own files\n    before: {job.want[ident]}\n    port: {got}")
     compare_jobs(comparison, carried, store)
     return comparison, len(jobs), len(carried)
+
+
+def compare_directed(port, rust):
+    """the smallest inputs of known.py: each side says what the list has"""
+    cases = directed()
+    for k, (name, lines, port_says, commands, rust_says) in enumerate(cases):
+        rust.begin(f'directed-{k:02}')
+        got = port.run(lines)[-1][0], [rust.ask(command)[0] for command in commands][-1]
+        rust_so = got[1] == rust_says or rust_says == 'panic' and got[1].startswith('panic')  # in the standard library: no place
+        if got[0] != port_says or not rust_so:
+            raise Difference(f'directed case {name}\n    port: {got[0]}, wanted {port_says}\n    Rust: {got[1]}, wanted {rust_says}\n\n' + '\n'.join(lines))
+        yield name
 
 
 def main():
@@ -427,6 +430,11 @@ def main():
     rust = Stored(options.stored) if options.stored else Rust(options.rust)
     began, comparison, done, carried = time.time(), Comparison(rust), 0, 0
     try:
+        cases = 0
+        for k, _ in enumerate(compare_directed(port, rust)):
+            cases += 1
+            if options.store:
+                store_transcript(options.store, f'directed-{k:02}', rust.transcript)
         for at in range(options.start, options.start + options.count, 25):
             if time.time() - began > options.seconds:
                 break
@@ -439,7 +447,7 @@ def main():
         rust.close()
     against = 'stored answers of the original' if options.stored else 'original'
     calls = sum(comparison.calls.values())
-    print(f'{port.name} and {against}: {done} scenarios and {carried} of carried files, {calls} calls alike, seed {options.seed}, '
+    print(f'{port.name} and {against}: {cases} smallest inputs, {done} scenarios and {carried} of carried files, {calls} calls alike, seed {options.seed}, '
           f'{time.time() - began:.0f} s')
     print('  calls: ' + ', '.join(f'{n} {w}' for w, n in sorted(comparison.calls.items())))
     print('  known: ' + ', '.join(f'{w} {n}' for w, n in sorted(comparison.known.items())))

@@ -4,9 +4,9 @@
     scenarios.py SEED NUMBER      prints one"""
 import random
 import sys
-
-from model import BATCH_BIT, LABEL, file_bytes, label_bytes, object_bytes, raw_location, to_groups
 import zlib
+
+from model import BATCH_BIT, HEADER, LABEL, file_bytes, label_bytes, object_bytes, raw_location, to_groups
 
 STRANGE_IDS = [0, 127, 128, 16383, 16384, 2 ** 32, 2 ** 63, 2 ** 64 - 1]
 
@@ -24,10 +24,11 @@ class Maker:
 
     def settings(self, slot_bytes):
         r = self.r
-        percent, least = r.choice([0, 30, 50, 75, 75, 100, 100]), r.choice([1, 2, 2, 3])
-        target = r.choice([1, 60, 100, 300, 2048, 2048, 1048576])
-        longest = r.choice([2, 16, 40, 100, 100, slot_bytes, 1048576])
-        return f'settings {slot_bytes} {percent} {least} {target} {r.choice([0, 2, 4, 64])} {longest}'
+        percent, least = r.choice([0, 30, 50, 75, 75, 100, 100, 100]), r.choice([1, 1, 2, 2, 3])
+        target = r.choice([1, 60, 300, 1000, 2048, 1048576, 1048576, 1048576])
+        threshold = r.choice([0, 0, 0, 2, 4, 64])
+        longest = r.choice([2, 16, 40, 100, 100, slot_bytes, slot_bytes, 1048576])
+        return f'settings {slot_bytes} {percent} {least} {target} {threshold} {longest}'
 
     def body(self, longest):
         r = self.r
@@ -46,13 +47,13 @@ class Maker:
     def start(self):
         """settings, heap and table for a store of own calls"""
         r = self.r
-        slot_bytes, slots = r.choice([256, 300, 512] if self.small else [256, 300, 512, 1024, 4096]), r.randint(2, 20)
+        slot_bytes, slots = r.choice([256, 300, 512] if self.small else [256, 300, 512, 1024, 4096]), r.choice([3, 8, 12, 20, 30, 40])
         table = r.choice([len(self.ids), len(self.ids), 64, max(1, len(self.ids) - 2)])
         return slot_bytes, [self.settings(slot_bytes), 'claims 0 0 0 0', f'heap {slots * slot_bytes}', f'table {table} {table}']
 
     def calls(self, slot_bytes, slots, settings, count):
         """a run of calls after a reopening"""
-        r, lines = self.r, []
+        r, lines, held = self.r, [], []
         for _ in range(count):
             longest = int(settings.split()[6])
             what = r.random()
@@ -62,8 +63,11 @@ class Maker:
                 lines.append('maintain')
             elif what < 0.79:
                 lines.append('prune')
+            elif what < 0.85:
+                held.append(r.randrange(min(slots, 6) + 1))
+                lines.append(f'claim {held[-1]}')
             elif what < 0.89:
-                lines.append(f'{r.choice(["claim", "claim", "release"])} {r.randrange(slots + 1)}')
+                lines.append(f'release {held.pop() if held else r.randrange(slots + 1)}')
             elif what < 0.95:
                 lines.append('reopen')
             else:
@@ -81,7 +85,7 @@ class Maker:
 
     def crafted_file(self, damaged):
         """objects in any order, deletes anywhere up to T, repeated ids, unlisted objects, bytes behind the entries;
-        damaged: also wrong sums, wrong ids, entries between objects"""
+        damaged: also wrong sums, wrong ids, entries between objects, a last object that passes T"""
         r, objects, entries, last = self.r, b'', [], {}
         for _ in range(r.randint(1, 5)):
             ident, at = r.choice(self.ids), len(objects)
@@ -99,21 +103,28 @@ class Maker:
             if last.get(ident, -1) < at:
                 entries.append((ident, raw_location(at, r.random() < 0.3)))
                 last[ident] = at
+        crossing = damaged and r.random() < 0.3 and self.ids[0] not in last
+        if crossing:
+            entries.append((self.ids[0], raw_location(len(objects), False)))
         if not entries:
             return file_bytes([(self.ids[0], b'x')])[:2] + (1,)
         listed = len(entries).to_bytes(8, 'little')
         listed += b''.join(i.to_bytes(8, 'little') + p.to_bytes(8, 'little') for i, p in entries)
         listed += r.randbytes(r.choice([0, 0, 1, 16]))
-        return objects + zlib.crc32(listed).to_bytes(4, 'little') + listed, len(objects), len(entries)
+        trailer = zlib.crc32(listed).to_bytes(4, 'little') + listed
+        if crossing:
+            whole = object_bytes(self.ids[0], r.randbytes(3) + trailer[:r.randint(1, 16)])
+            objects += whole[:r.choice([HEADER + 3, HEADER + 3, HEADER + 1, 7])]
+        return objects + trailer, len(objects), len(entries)
 
     def crafted(self, damaged=False):
         r = self.r
         slot_bytes, lines = self.start()
         slot_bytes = max(slot_bytes, 512)
-        slots = r.randint(4, 20)
+        slots = r.randint(6, 24)
         settings = self.settings(slot_bytes)
         lines = [settings, 'claims 0 0 0 0', f'heap {slots * slot_bytes}', f'table {len(self.ids)} {len(self.ids)}']
-        at, order = r.choice([1, 1, 77, 2 ** 40, BATCH_BIT - 2 ** 22]), r.sample(range(slots), r.randint(1, min(6, slots)))
+        at, order = r.choice([1, 1, 77, 2 ** 40, BATCH_BIT - 2 ** 22, BATCH_BIT - 5000]), r.sample(range(slots), r.randint(1, min(6, slots)))
         for slot in order:
             data, trailer_offset, present = self.crafted_file(damaged)
             lsn = at + r.choice([0, 0, 5]) + r.choice([0, BATCH_BIT])
@@ -123,10 +134,22 @@ class Maker:
         return lines + ['reopen'] + self.calls(slot_bytes, slots, settings, r.randint(2, 8))
 
 
+    def table_calls(self):
+        """the four table calls alone, on an empty store"""
+        r = self.r
+        slot_bytes, lines = self.start()
+        lines.append('reopen')
+        for _ in range(r.randint(10, 30)):
+            raw = lambda: r.choice([1, 2, 3, 10, 11, 2 ** 63, 2 ** 64 - 1])
+            call = r.choice(['load {0}', 'store {0} {1}', 'cas {0} {1} {2}', 'cas {0} {1} {2}', 'max {0} {1}', 'max {0} {1}'])
+            lines.append(call.format(r.choice(self.ids), raw(), raw()))
+        return lines
+
+
 def scenario(seed, number, small=False):
     maker = Maker(seed, number, small)
-    kind = number % 5
-    return maker.own() if kind < 3 else maker.crafted(damaged=kind == 4)
+    kind = number % 6
+    return maker.own() if kind < 3 else maker.table_calls() if kind == 5 else maker.crafted(damaged=kind == 4)
 
 
 def from_files(seed, number, files, settings, table):
