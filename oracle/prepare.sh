@@ -4,6 +4,7 @@
 set -eu
 cd "$(dirname "$0")"
 src=${MARBLE_SRC:-../../shared/docs/src/src}
+command -v cargo >/dev/null || { echo "oracle: no cargo, the original cannot be built"; exit 2; }
 files='disk_location file_map gc lib location_table readpath recovery trailer writepath'
 for f in $files; do
     [ -f "$src/$f.rs" ] || { echo "oracle: $src/$f.rs is not there, the original cannot be built"; exit 2; }

@@ -1,7 +1,7 @@
 #!/usr/bin/env python3
 """Compares the port with the original Rust by running both on the same scenarios.
 
-    compare.py [--model | --console PATH] [--rust PATH | --stored FOLDER] [--seed S] [--from K] [--count N] [--seconds T] [--small] [--store FOLDER]
+    compare.py [--model | --console PATH] [--rust PATH | --stored FILE] [--seed S] [--from K] [--count N] [--seconds T] [--small] [--store FILE]
 
 After every call: each id's read, the answer, the growth of the next position, counts, each file's numbers, live count and claim;
 after reopenings and rewrites also each file as a set of entries. A heap that the port wrote is renamed to the original's files,
@@ -14,8 +14,8 @@ import time
 import zlib
 
 from model import BATCH_BIT, HEADER, LABEL, Console, batch_operations, label_numbers, le, masked, shard, trailer_entries, Refused
-from known import GROUP_FAILURES, READ_FAILURES, TABLE_FAILURES, directed
-from port import Difference, Model, Port, Rust, Stored, store_transcript
+from known import KNOWN, GROUP_FAILURES, READ_FAILURES, TABLE_FAILURES, directed
+from port import Difference, Model, Port, Rust, Stored, store_answers
 from scenarios import from_files, scenario
 
 File = collections.namedtuple('File', 'lsn trailer_offset file_size present generation live claimed')
@@ -156,6 +156,12 @@ class Comparison:
         self.known = collections.Counter()
         self.calls = collections.Counter()
 
+    def met(self, name, times=1):
+        """a known difference"""
+        if name not in KNOWN:
+            raise Difference(f'{name} is not on the list')
+        self.known[name] += times
+
     def ask(self, command):
         return self.rust.ask(command)
 
@@ -213,15 +219,15 @@ class Comparison:
         elif {f.lsn for f in rust} == {f.lsn for f in view.files.values()}:
             must(view.next == rust_next, 'next position', view.next, rust_next)
         else:
-            self.known['order'] += 1
+            self.met('order')
         self.port_next, self.rust_next = view.next, rust_next
         self.alike(step, view, entries=True)
 
     def write(self, step, view, batch):
         if view.answer in ('refused 4', 'refused 5', 'refused 6', 'refused 7'):
-            self.known['limits'] += 1
+            self.met('limits')
         elif view.answer == 'refused 2':
-            self.known['batch bytes'] += 1
+            self.met('batch bytes')
         else:
             operations = batch_operations(bytes.fromhex(batch.replace('-', '')))
             last, longest = dict(operations), step.given.max_object
@@ -229,7 +235,7 @@ class Comparison:
             too_long = view.answer == 'refused 3'
             if too_long and not any(b is not None and len(b) > longest for b in last.values()):
                 exactly = any(b is not None and len(b) == longest for b in last.values())
-                self.known['put of exactly max_object_size' if exactly else 'oversize put overridden'] += 1
+                self.met('put of exactly max_object_size' if exactly else 'oversize put overridden')
             else:
                 got = self.one(' '.join(['write'] + words))
                 if too_long:
@@ -242,19 +248,19 @@ class Comparison:
     def maintain(self, step, view):
         number = view.answer.split()[1] if view.answer.startswith('refused') else None
         if number in ('4', '5', '7'):
-            self.known['limits'] += 1
+            self.met('limits')
             return
         got = self.one('maintain')
         if number is not None:
             if number == '16':
-                self.known['16 in maintenance'] += 1
+                self.met('16 in maintenance')
             else:
-                self.known['damaged file in maintenance'] += 1
+                self.met('damaged file in maintenance')
                 must(got in GROUP_FAILURES, 'maintain', view.answer, got)
             return
         must(got.startswith('ok ') and got.split()[1] == view.answer.split()[1], 'count moved', view.answer, got)
         if step.cut:
-            self.known['cut'] += 1
+            self.met('cut')
             self.reads(view)
         else:
             self.grown(view, int(got.split()[2]))
@@ -274,7 +280,7 @@ class Comparison:
     def claimed(self, step, view, word, slot):
         if view.answer != 'ok':
             must(view.answer == 'refused 21', word, view.answer, 'accepted')
-            self.known['claim refused'] += 1
+            self.met('claim refused')
         else:
             mine = view.files[slot]
             twins = [f for k, f in view.files.items() if self.same(step, k, f, slot, mine)]
@@ -291,7 +297,7 @@ class Comparison:
     def table_call(self, line, answer):
         self.calls['table call'] += 1
         if answer in ('refused 6', 'refused 20'):
-            self.known['limits'] += 1
+            self.met('limits')
             return
         got = self.one(line)
         must(answer == got or got in TABLE_FAILURES.get(answer, ()), line, answer, got)
@@ -315,7 +321,7 @@ class Comparison:
             mine = sorted(((shape(f), contents(f.trailer_offset, step.bytes_of(k, f))) for k, f in view.files.items()), key=key)
             theirs = sorted(((shape(f), by_lsn[f.lsn]) for f in rust), key=key)
             must(mine == theirs, 'files as sets of entries', mine, theirs)
-            self.known['delete position'] += sum(i[1] is None for _, c in mine for i in c)
+            self.met('delete position', sum(i[1] is None for _, c in mine for i in c))
 
     def reads(self, view):
         got = self.one('read ' + ' '.join(map(str, self.ids))).split(',')
@@ -361,7 +367,7 @@ def run_port(port, jobs):
                     raise Difference(f'scenario {job.name}: {line[:200]}\n    port: {said}\n    model: {wanted}')
 
 
-def compare_jobs(comparison, jobs, store=None):
+def compare_jobs(comparison, jobs):
     """compares each job; gives the original's files and the last reads of each"""
     left = {}
     for job in jobs:
@@ -373,53 +379,83 @@ def compare_jobs(comparison, jobs, store=None):
             raise Difference(f'scenario {job.name}, {d}\n\n' + '\n'.join(job.lines))
         files = [(line.split()[1], bytes.fromhex(line.split()[2])) for line in comparison.ask('files')[:-1]]
         left[job.name] = files, [v for v in job_views if isinstance(v, PortView)][-1].reads
-        if store:
-            store_transcript(store, job.name, comparison.rust.transcript)
     return left
 
 
-def compare(port, rust, seed, numbers, small=False, store=None, comparison=None):
-    """one round: scenarios from the seed, then the original's files of each carried to the port"""
-    comparison = comparison or Comparison(rust)
-    jobs = [Job(f'{k:03}', scenario(seed, k, small)) for k in numbers]
+class Generated:
+    """scenarios from a seed, and from the files that the original left of one"""
+
+    def __init__(self, seed, small):
+        self.seed, self.small, self.scenarios = seed, small, {}
+
+    def first(self, number):
+        return self.kept(f'{number:03}', scenario(self.seed, number, self.small))
+
+    def carried(self, number, files, settings, table):
+        """None where there is nothing to carry, or more than 256 slots take"""
+        return self.kept(f'{number:03}r', from_files(self.seed, number, files, settings, table)) if 0 < len(files) <= 170 else None
+
+    def kept(self, name, lines):
+        self.scenarios[name] = lines
+        return Job(name, lines)
+
+
+class Kept:
+    """the stored scenarios"""
+
+    def __init__(self, stored):
+        self.scenarios = stored.scenarios
+
+    def first(self, number):
+        return Job(f'{number:03}', self.scenarios[f'{number:03}'])
+
+    def carried(self, number, files, settings, table):
+        name = f'{number:03}r'
+        return Job(name, self.scenarios[name]) if name in self.scenarios else None
+
+
+def compare(port, comparison, source, numbers):
+    """one round: scenarios, then the original's files of each carried to the port. Gives how many of both"""
+    jobs = [source.first(k) for k in numbers]
     run_port(port, jobs)
-    left = compare_jobs(comparison, jobs, store)
+    left = compare_jobs(comparison, jobs)
     carried = []
     for k, job in zip(numbers, jobs):
         files, reads = left[job.name]
         settings = [line for line in job.lines if line.startswith('settings')][-1]
-        if 0 < len(files) <= 170:
-            carried.append(Job(f'{k:03}r', from_files(seed, k, files, settings, 4 + len(job.ids))))
-            carried[-1].want = dict(zip(job.ids, reads))
+        again = source.carried(k, files, settings, 4 + len(job.ids))
+        if again:
+            again.want = dict(zip(job.ids, reads))
+            carried.append(again)
     run_port(port, carried)
     for job in carried:
         first = next(v for v in views(job.steps, job.answers, job.ids) if isinstance(v, PortView))
         for ident, got in zip(job.ids, first.reads):
             if got != job.want[ident]:
                 raise Difference(f"scenario {job.name}: read {ident} of the original's own files\n    before: {job.want[ident]}\n    port: {got}")
-    compare_jobs(comparison, carried, store)
-    return comparison, len(jobs), len(carried)
+    compare_jobs(comparison, carried)
+    return len(jobs), len(carried)
 
 
 def compare_directed(port, rust):
     """the smallest inputs of known.py: each side says what the list has"""
     cases = directed()
     for k, (name, lines, port_says, commands, rust_says) in enumerate(cases):
-        rust.begin(f'directed-{k:02}')
+        rust.begin(f'smallest input {k}')
         got = port.run(lines)[-1][0], [rust.ask(command)[0] for command in commands][-1]
         rust_so = got[1] == rust_says or rust_says == 'panic' and got[1].startswith('panic')  # in the standard library: no place
         if got[0] != port_says or not rust_so:
-            raise Difference(f'directed case {name}\n    port: {got[0]}, wanted {port_says}\n    Rust: {got[1]}, wanted {rust_says}\n\n' + '\n'.join(lines))
-        yield name
+            raise Difference(f'smallest input {name}\n    port: {got[0]}, wanted {port_says}\n    Rust: {got[1]}, wanted {rust_says}\n\n' + '\n'.join(lines))
+    return len(cases)
 
 
 def main():
     parser = argparse.ArgumentParser()
-    parser.add_argument('--model', action='store_true', help='the model in the port\'s place')
+    parser.add_argument('--model', action='store_true', help="the model in the port's place")
     parser.add_argument('--console', default='target/bin/console')
     parser.add_argument('--rust', default='oracle/target/release/oracle')
-    parser.add_argument('--stored', help='replay the answers of this folder instead of running the original')
-    parser.add_argument('--store', help='write the original\'s answers into this folder')
+    parser.add_argument('--stored', help='replay the answers of this file instead of running the original')
+    parser.add_argument('--store', help="write the original's answers into this file")
     parser.add_argument('--seed', default='1')
     parser.add_argument('--from', dest='start', type=int, default=0)
     parser.add_argument('--count', type=int, default=100)
@@ -428,23 +464,24 @@ def main():
     options = parser.parse_args()
     port = Model() if options.model else Port(options.console)
     rust = Stored(options.stored) if options.stored else Rust(options.rust)
+    if options.stored:
+        options.seed, options.count = 'of the stored answers', sum(name.isdigit() for name in rust.scenarios)
+    source = Kept(rust) if options.stored else Generated(options.seed, options.small)
     began, comparison, done, carried = time.time(), Comparison(rust), 0, 0
     try:
-        cases = 0
-        for k, _ in enumerate(compare_directed(port, rust)):
-            cases += 1
-            if options.store:
-                store_transcript(options.store, f'directed-{k:02}', rust.transcript)
+        cases = compare_directed(port, rust)
         for at in range(options.start, options.start + options.count, 25):
             if time.time() - began > options.seconds:
                 break
             numbers = range(at, min(at + 25, options.start + options.count))
-            _, n, c = compare(port, rust, options.seed, numbers, options.small, options.store, comparison)
+            n, c = compare(port, comparison, source, numbers)
             done, carried = done + n, carried + c
     except Difference as d:
         raise SystemExit(f'DIFFERENCE (seed {options.seed}) {d}')
     finally:
         rust.close()
+    if options.store:
+        store_answers(options.store, source.scenarios, rust.transcripts)
     against = 'stored answers of the original' if options.stored else 'original'
     calls = sum(comparison.calls.values())
     print(f'{port.name} and {against}: {cases} smallest inputs, {done} scenarios and {carried} of carried files, {calls} calls alike, seed {options.seed}, '

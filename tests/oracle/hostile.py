@@ -33,9 +33,10 @@ FORMS = {word: re.compile(f'({form})$') for words, form in {
     'max': f'ok {NUMBER}|ok nothing|{REFUSED}',
 }.items() for word in words.split()}
 DUMP = re.compile(f'(next {NUMBER}|record{f" {NUMBER}" * 7}|claimed {NUMBER}|entry{f" {NUMBER}" * 3}|heap {NUMBER}|end)$')
+LIST = re.compile(f'({NUMBER}{f" {NUMBER}" * 5}|ids {NUMBER})$')
 # scripts follow each other in one process: an accepted reopening empties map and claims, then the state is as before the first one
 RESET = ['settings 128 0 1 1 0 1', 'heap 128', 'table 1 1', 'reopen', f'state{" 0" * 9}']
-STATE_CALLS = ('reopen', 'write', 'claim', 'release', 'prune', 'maintain', 'read', 'counts', 'load', 'store', 'cas', 'max')
+STATE_CALLS = ('reopen', 'write', 'claim', 'release', 'prune', 'maintain', 'read', 'counts', 'list', 'load', 'store', 'cas', 'max')
 
 
 class Maker:
@@ -152,7 +153,7 @@ class Maker:
         r = self.r
         ident = r.choice(self.ids + [r.randrange(60)])
         slot, raw = self.rarely(r.randrange(self.slots + 1), self.edge(), 0.1), r.choice([1, 2, 3, self.edge()])
-        return r.choice(['maintain'] * 5 + [f'write {self.batch()}'] * 5 + [f'read {i}' for i in self.ids] + ['prune', 'counts', 'reopen',
+        return r.choice(['maintain'] * 5 + [f'write {self.batch()}'] * 5 + [f'read {i}' for i in self.ids] + ['prune', 'counts', 'list', 'reopen',
                         f'claim {slot}', f'claim {slot}', f'release {slot}', f'load {ident}', f'store {ident} {raw}',
                         f'cas {ident} {raw} {self.edge()}', f'max {ident} {raw}', self.bad_line()])
 
@@ -188,6 +189,9 @@ def check(maker, answers):
             if before is not None:
                 changed, sum_before = check_call(maker, maker.lines[k - 1], answers[k - 1][0], before, answer), heap_sum(before)
             before = answer
+        elif word == 'list':
+            if answer[0] != 'slot lsn gen present live size' or not all(LIST.match(a) for a in answer[1:]):
+                raise wrong(maker, line, answer, 'not the form of a listing')
         elif answer != ['bad line'] and not (word in FORMS and len(answer) == 1 and FORMS[word].match(answer[0])):
             raise wrong(maker, line, answer, 'not in its form')
     return changed, sum_before
@@ -197,7 +201,7 @@ def check_call(maker, line, answer, before, after):
     """one call between two dumps; gives the slots whose heap bytes it may have changed"""
     word = line.split()[0]
     refused, number = answer.startswith('refused'), answer.split()[1] if answer.startswith('refused') else ''
-    if answer == 'bad line' or word in ('read', 'counts', 'load') or refused and (number == '1' or word not in ('reopen', 'maintain')):
+    if answer == 'bad line' or word in ('read', 'counts', 'load', 'list') or refused and (number == '1' or word not in ('reopen', 'maintain')):
         if before != after:
             raise wrong(maker, line, answer, 'a call that changes nothing changed the dump')
         return []

@@ -605,7 +605,8 @@ class Console:
 
     def do_list(self):
         rows = [f'{k} {r[0]} {r[4]} {r[3]} {r[5]} {r[2]}' for k, r in self.store.files()]
-        return ['slot lsn gen present live size'] + rows + [f'ids {sum(r != 0 for r in self.store.locations)}']
+        used = (self.store.locations + [0]).index(0)  # used entries come first
+        return ['slot lsn gen present live size'] + rows + [f'ids {used}']
 
     def do_dump(self):
         s = self.store

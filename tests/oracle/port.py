@@ -1,7 +1,9 @@
 """The two programs that are compared: the port behind the console's script, and the original behind the driver's."""
 import os
 import subprocess
+import sys
 import tempfile
+import zlib
 
 from model import Console
 
@@ -26,7 +28,7 @@ class Port:
 
     def run(self, lines):
         """one answer, a list of lines, for each line"""
-        done = subprocess.run(self.command, input='\n'.join(lines) + '\n', capture_output=True, text=True, encoding='latin-1')
+        done = subprocess.run(self.command, input=''.join(line + '\n' for line in lines), capture_output=True, text=True, encoding='latin-1')
         if done.returncode != 0:
             raise SystemExit(f'console ended with {done.returncode}: {done.stderr[-500:]}')
         said = iter([line for line in done.stdout.split('\n')[:-1] if not line.startswith('#')])
@@ -50,7 +52,9 @@ def answer_to(line, said):
 
 
 def console_command(path):
-    """programs are x86-64: the kit has their loader and, on Arm, an emulator"""
+    """programs are x86-64: the kit has their loader and, on Arm, an emulator. A Python file (the model) runs as it is"""
+    if path.endswith('.py'):
+        return [sys.executable, path]
     guide = subprocess.run(['rt', 'doc'], capture_output=True, text=True, check=True).stdout.strip()
     home = os.path.dirname(os.path.dirname(guide))
     tools = os.path.join(home, 'on', os.uname().machine, 'toolchain')
@@ -61,17 +65,17 @@ def console_command(path):
 
 
 class Rust:
-    """the original, one process; keeps what was said since begin()"""
+    """the original, one process; keeps all that was said, by the names given to begin"""
 
     def __init__(self, path):
         memory = '/dev/shm' if os.access('/dev/shm', os.W_OK) else None
         self.folder = tempfile.TemporaryDirectory(dir=memory)
         self.process = subprocess.Popen([path, os.path.join(self.folder.name, 'store')], text=True,
                                         stdin=subprocess.PIPE, stdout=subprocess.PIPE)
-        self.transcript = []
+        self.transcripts, self.current = {}, []
 
-    def begin(self, _name):
-        self.transcript = []
+    def begin(self, name):
+        self.current = self.transcripts[name] = []
 
     def ask(self, command):
         """the answer's lines"""
@@ -80,7 +84,7 @@ class Rust:
         answer = [self.line(command)]
         while command in ('files', 'records') and answer[-1] not in ('end', 'closed'):
             answer.append(self.line(command))
-        self.transcript.append((command, answer))
+        self.current.append((command, answer))
         return answer
 
     def line(self, command):
@@ -96,32 +100,51 @@ class Rust:
 
 
 class Stored:
-    """the original's stored answers: the same questions must come in the same order"""
+    """the original's stored answers: the same questions must come in the same order. The scenarios are stored beside them"""
 
-    def __init__(self, folder):
-        self.folder, self.lines = folder, iter([])
+    def __init__(self, path):
+        self.scenarios, self.parts, self.lines, self.last = {}, {}, iter([]), {}
+        with open(path) as stored:
+            for part in stored.read().split('\n= ')[1:]:
+                name, *lines = part.rstrip('\n').split('\n')
+                self.scenarios[name] = [line[2:] for line in lines if line.startswith('! ')]
+                self.parts[name] = [line for line in lines if not line.startswith('! ')]
 
     def begin(self, name):
-        with open(os.path.join(self.folder, name + '.txt')) as stored:
-            self.lines = iter(stored.read().split('\n'))
+        self.lines, self.last = iter(self.parts[name]), {}
 
     def ask(self, command):
-        asked = next(self.lines)
-        if asked != '> ' + command:
-            raise Difference(f'asked {command!r} where the stored answers have {asked!r}')
+        asked = next(self.lines, 'nothing more')
+        if asked != question(command):
+            raise Difference(f'asked {question(command)!r} where the stored answers have {asked!r}')
         answer = [next(self.lines)]
+        if answer == ['same']:
+            return self.last[command]
         while command in ('files', 'records') and answer[-1] not in ('end', 'closed'):
             answer.append(next(self.lines))
+        self.last[command] = answer
         return answer
 
     def close(self):
         pass
 
 
-def store_transcript(folder, name, transcript):
-    with open(os.path.join(folder, name + '.txt'), 'w') as out:
-        for command, answer in transcript:
-            out.write('\n'.join(['> ' + command] + answer) + '\n')
+def question(command):
+    """a command as it is stored: of a long one its front and its checksum"""
+    return f'> {command}' if len(command) < 100 else f'> {command[:60]}.. {zlib.crc32(command.encode()):08x}'
+
+
+def store_answers(path, scenarios, transcripts):
+    """each scenario's lines, then questions and answers; an answer that is the last one to that command is stored as `same`"""
+    with open(path, 'w') as out:
+        out.write('The answers of the original; README.md has the command that makes this file.\n')
+        for name, transcript in transcripts.items():
+            out.write(''.join([f'= {name}\n'] + [f'! {line}\n' for line in scenarios.get(name, [])]))
+            last = {}
+            for command, answer in transcript:
+                said = ['same'] if last.get(command) == answer else answer
+                out.write('\n'.join([question(command)] + said) + '\n')
+                last[command] = answer
 
 
 class Difference(Exception):

@@ -20,12 +20,15 @@ class Maker:
     def __init__(self, seed, number, small=False):
         self.r = random.Random(f'{seed} {number}')
         self.small = small
+        self.one_shard = self.r.random() < 0.25  # bodies of about one size: shards are cut
         self.ids = list(range(1, self.r.randint(3, 8 if small else 14))) + self.r.sample(STRANGE_IDS, self.r.randint(0, 3))
 
     def settings(self, slot_bytes):
         r = self.r
         percent, least = r.choice([0, 30, 50, 75, 75, 100, 100, 100]), r.choice([1, 1, 2, 2, 3])
-        target = r.choice([1, 60, 300, 1000, 2048, 1048576, 1048576, 1048576])
+        target = r.choice([1, 30, 60, 100, 300, 2048, 1048576, 1048576, 1048576])
+        if self.one_shard:
+            percent, target = 100, r.choice([1, 30, 60, 100])
         threshold = r.choice([0, 0, 0, 2, 4, 64])
         longest = r.choice([2, 16, 40, 100, 100, slot_bytes, slot_bytes, 1048576])
         return f'settings {slot_bytes} {percent} {least} {target} {threshold} {longest}'
@@ -34,6 +37,8 @@ class Maker:
         r = self.r
         usual = min(longest - 1, 20 if self.small else 60)
         length = r.choice([0, 1, 2, r.randint(0, usual), r.randint(0, usual), r.randint(0, usual)])
+        if self.one_shard:
+            length = r.choice([0, r.randint(8, 15), r.randint(8, 15), r.randint(8, 15)])
         if r.random() < 0.03:
             length = r.choice([longest - 1, longest, longest + 1])
         return r.randbytes(max(0, min(length, 4000)))
