@@ -60,7 +60,7 @@ class Step:
 
 
 def can_be_cut(store):
-    """could a shard of this maintenance be cut, whatever the order of its entries?"""
+    """could a shard of this maintenance be cut, its entries taken in some order?"""
     table = store.table()
     for group in store.candidates().values():
         sizes = collections.defaultdict(list)
@@ -249,14 +249,13 @@ class Comparison:
         number = view.answer.split()[1] if view.answer.startswith('refused') else None
         if number in ('4', '5', '7'):
             self.met('limits')
+            self.reads(view)
             return
         got = self.one('maintain')
         if number is not None:
-            if number == '16':
-                self.met('16 in maintenance')
-            else:
-                self.met('damaged file in maintenance')
-                must(got in GROUP_FAILURES, 'maintain', view.answer, got)
+            self.met('16 in maintenance' if number == '16' else 'damaged file in maintenance')
+            must(number == '16' or got in GROUP_FAILURES, 'maintain', view.answer, got)
+            self.reads(view)
             return
         must(got.startswith('ok ') and got.split()[1] == view.answer.split()[1], 'count moved', view.answer, got)
         if step.cut:

@@ -64,6 +64,7 @@ class Maker:
         self.lines = RESET + [f'settings {" ".join(map(str, given))}', f'heap {self.heap_bytes}',
                       f'table {self.room} {self.rarely(self.room, r.randrange(10))}']
         self.by_hand()
+        self.lines.append('dump')
         for _ in range(r.randint(1, 6)):
             self.lines += [self.call(), 'dump']
         return self
@@ -179,22 +180,22 @@ def of(dump, word):
 
 
 def check(maker, answers):
-    """forms, and what a call may change. Gives the slots that the last call changed and the heap's sum before it"""
-    before, changed, sum_before = None, [], None
+    """forms, and what a call may change. Gives, of the first call that wrote: the number of lines up to its dump and the slots written"""
+    before, wrote = None, None
     for k, (line, answer) in enumerate(zip(maker.lines, answers)):
         word = line.split()[0]
         if word == 'dump':
             if not all(DUMP.match(a) for a in answer) or not heap_sum(answer).startswith('heap '):
                 raise wrong(maker, line, answer, 'not the form of a dump')
-            if before is not None:
-                changed, sum_before = check_call(maker, maker.lines[k - 1], answers[k - 1][0], before, answer), heap_sum(before)
+            slots = check_call(maker, maker.lines[k - 1], answers[k - 1][0], before, answer) if before else []
+            wrote = wrote or (slots and (k + 1, slots))
             before = answer
         elif word == 'list':
             if answer[0] != 'slot lsn gen present live size' or not all(LIST.match(a) for a in answer[1:]):
                 raise wrong(maker, line, answer, 'not the form of a listing')
         elif answer != ['bad line'] and not (word in FORMS and len(answer) == 1 and FORMS[word].match(answer[0])):
             raise wrong(maker, line, answer, 'not in its form')
-    return changed, sum_before
+    return wrote
 
 
 def check_call(maker, line, answer, before, after):
@@ -225,20 +226,25 @@ def check_call(maker, line, answer, before, after):
     if word in ('write', 'prune', 'maintain'):
         # by everything but the live count
         mine, theirs = ({k: l.rsplit(' ', 1)[0] for k, l in of(d, 'record').items()} for d in (before, after))
-        return [int(k) for k in mine.keys() | theirs.keys() if mine.get(k) != theirs.get(k)]
+        slots = {int(k) for k in mine.keys() | theirs.keys() if mine.get(k) != theirs.get(k)}
+        if word == 'maintain' and slots:  # a file can be written and pruned in one call
+            slots |= {k for k in range(maker.slots) if str(k) not in mine}
+        return sorted(slots)
     return []
 
 
-def undoing(maker, slots):
-    """lines that put the slots' old bytes back; the heap's bytes before the last call are known only if no call before it wrote"""
+def undoing(maker, lines, slots):
+    """the lines, then the slots' old bytes poked back; and the sum that the heap must have again: before them only pokes wrote"""
     heap = bytearray(maker.heap_bytes)
     for offset, data in maker.chunks:
         heap[offset:offset + len(data)] = data
-    return [f'poke {k * maker.slot_bytes} {bytes(heap[k * maker.slot_bytes:(k + 1) * maker.slot_bytes]).hex()}' for k in slots], zlib.crc32(heap)
+    size = maker.slot_bytes
+    back = [f'poke {k * size} {bytes(heap[k * size:(k + 1) * size]).hex()}' for k in slots]
+    return maker.lines[:lines] + back + ['dump'], f'heap {zlib.crc32(heap)}'
 
 
 def run(port, seed, numbers):
-    """one round; gives the calls made"""
+    """one round; gives the calls made, and how many had the bytes outside looked at"""
     makers = [Maker(seed, k).make() for k in numbers]
     answers = iter(port.run([line for m in makers for line in m.lines]))
     calls, undo = 0, []
@@ -246,20 +252,18 @@ def run(port, seed, numbers):
         said = [next(answers) for _ in maker.lines]
         calls += sum(line.split()[0] in STATE_CALLS for line in maker.lines)
         try:
-            changed, sum_before = check(maker, said)
+            wrote = check(maker, said)
             if port.name != 'model':
                 opinion(maker, said)
         except Difference as d:
             raise Difference(f'script {k}: {d}')
-        if changed:
-            lines, known_sum = undoing(maker, changed)
-            if sum_before == f'heap {known_sum}':
-                undo.append((k, maker, lines, sum_before))
-    answers = iter(port.run([line for _, m, lines, _ in undo for line in m.lines + lines + ['dump']]))
-    for k, maker, lines, sum_before in undo:
-        said = [next(answers) for _ in maker.lines + lines + ['dump']]
-        if heap_sum(said[-1]) != sum_before:
-            raise Difference(f'script {k}: bytes changed outside the slots {lines}\n' + '\n'.join(maker.lines))
+        if wrote:
+            undo.append((k, *undoing(maker, *wrote)))
+    answers = iter(port.run([line for _, lines, _ in undo for line in lines]))
+    for k, lines, wanted in undo:
+        said = [next(answers) for _ in lines]
+        if heap_sum(said[-1]) != wanted:
+            raise Difference(f'script {k}: bytes changed outside the slots that the dump shows\n' + '\n'.join(lines))
     return calls, len(undo)
 
 
