@@ -78,6 +78,12 @@ def directed():
              ['absolute 9223372036854775807 1'], 'ok 18446744073709551615'),
         case('store-if-greater, equal', nothing, ['store 1 2', 'max 1 2'], 'refused 19', ['store 1 2', 'max 1 2'], 'panic location_table.rs:53'),
         case('compare-and-store, unmapped', nothing, ['cas 1 2 3'], 'refused 18', ['cas 1 2 3'], 'panic location_table.rs:37'),
+        # claims: both sides the same
+        case('maintenance', Made(one()), ['maintain'], 'ok 1', ['maintain'], 'ok 1 73'),
+        case('.. on a claimed file', Made(one()), ['claim 0', 'maintain'], 'ok 0', ['claim 1', 'maintain'], 'ok 0 51'),
+        case('prune', Made(one()), ['write 01010142', 'prune', 'counts'], 'ok 1 49 1 1', ['write 1=42', 'prune', 'counts'], 'ok 1 49 1 1'),
+        case('.. of a claimed file', Made(one()), ['write 01010142', 'claim 0', 'prune', 'counts'], 'ok 2 98 2 1',
+             ['write 1=42', 'claim 1', 'prune', 'counts'], 'ok 2 98 2 1'),
         # inside the domain
         case('delete position', nothing, ['write 070101410900', 'load 9'], f'ok {2 * (BATCH_BIT + 22) + 1}',
              ['write 7=41 9', 'load 9'], f'ok {2 * (BATCH_BIT + 1) + 1}'),
