@@ -14,7 +14,7 @@ import time
 import zlib
 
 from model import BATCH_BIT, HEADER, LABEL, Console, batch_operations, label_numbers, le, masked, shard, trailer_entries, Refused
-from known import KNOWN, GROUP_FAILURES, READ_FAILURES, TABLE_FAILURES, directed
+from known import GROUP_FAILURES, KNOWN, NOT_MADE, READ_FAILURES, TABLE_FAILURES, directed
 from port import Difference, Model, Port, Rust, Stored, store_answers
 from scenarios import from_files, scenario
 
@@ -482,8 +482,9 @@ def main():
     if options.store:
         store_answers(options.store, source.scenarios, rust.transcripts)
     against = 'stored answers of the original' if options.stored else 'original'
-    calls = sum(comparison.calls.values())
-    print(f'{port.name} and {against}: {cases} smallest inputs, {done} scenarios and {carried} of carried files, {calls} calls alike, seed {options.seed}, '
+    not_made = sum(comparison.known[name] for name in NOT_MADE)
+    calls = sum(comparison.calls.values()) - not_made
+    print(f'{port.name} and {against}: {cases} smallest inputs, {done} scenarios and {carried} of carried files, {calls} calls alike and {not_made} made by the port alone, seed {options.seed}, '
           f'{time.time() - began:.0f} s')
     print('  calls: ' + ', '.join(f'{n} {w}' for w, n in sorted(comparison.calls.items())))
     print('  known: ' + ', '.join(f'{w} {n}' for w, n in sorted(comparison.known.items())))

@@ -21,6 +21,9 @@ KNOWN = {
     '16 in maintenance': "a header or body past T: the original reads on into the trailer (gc.rs:69, gc.rs:97) and may succeed",
 }
 
+# of these the call is not made on the original's side
+NOT_MADE = ('limits', 'put of exactly max_object_size', 'oversize put overridden', 'batch bytes', 'claim refused')
+
 # refusal: the original's answers that mean the same
 READ_FAILURES = {
     'refused 10': {'err InvalidData'},
