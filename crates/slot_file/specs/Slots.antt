@@ -1,12 +1,12 @@
 -- What a slot shows, as the code answers it.
-use mathlib.Core.Path.{_≡_, refl, ap, _∙_}
+use mathlib.Core.Path.{_≡_, refl, _∙_}
 use mathlib.Core.Bool.{true, false, not}
 use mathlib.Core.List.{List, [], _∷_, _++_}
-use Prim.Native.Nat.{ℕ, _+_, _-_, _≤_}
+use Prim.Native.Nat.{ℕ, _-_, _≤_}
 use native.Mathlib.Omega.{arith}
 use lib.Dec.{eqb}
-use lib.ListN.{length, take, drop}
-use lib.Seq.{take-add, drop-at, length-take-le}
+use lib.ListN.{length, drop, length-drop}
+use lib.Seq.{length-take-le}
 use Rattle.rules.specs.declared.Record.{Record}
 use Rattle.rules.specs.declared.Refusal.the-variants.{EntryPosition, PresentCount}
 use Rattle.rules.specs.declared.Refusal.{Refusal}
@@ -14,7 +14,7 @@ use Rattle.rules.specs.declared.Answer.the-variants.{Done, Refused}
 use Rattle.rules.specs.Refusal.{Test, _gives_, decide, decide-append, clear-when}
 use Rattle.numbers.specs.Choice.{pick}
 use Rattle.rules.specs.Trailer.{trailerTests, entriesIn, countIn}
-use Rattle.rules.specs.SlotFile.{View, empty, damaged, holds}
+use Rattle.rules.specs.SlotFile.{View, empty, damaged, holds, fileIn}
 use Rattle.trailer.specs.Entries.{someOver, entries-count, clear-fits}
 use Rattle.slot_file.specs.declared.SlotAnswer.{SlotAnswer}
 use Rattle.slot_file.specs.declared.SlotAnswer.the-variants.{Empty, Damaged, Holds}
@@ -53,9 +53,6 @@ module _ (r : Record) (trailer : List ℕ) where
   unfolding entryTests decide
   entry-clear e = decide-append (trailerTests trailer) _ (clear-when (trailerTests trailer) e) ∙ rw (entries-count trailer (clear-fits trailer e)) refl
 
--- the file of a slot, cut at its object bytes
-pub cut-behind : (m n : ℕ) (l : List ℕ) → m ≤ n → m ≤ length l → drop m (take n l) ≡ take (n - m) (drop m l)
-cut-behind m n l h fit =
-    let whole : n ≡ m + (n - m) = omega arith in
-    let parts : take n l ≡ take m l ++ take (n - m) (drop m l) = ap (λ (k : ℕ). take k l) whole ∙ take-add m (n - m) l in
-    ap (drop m) parts ∙ drop-at (take m l) (take (n - m) (drop m l)) m (length-take-le m l fit)
+-- a file within its slot has its size
+pub file-length : (r : Record) (slot : List ℕ) → r .«file_size» ≤ length slot - 64 → length (fileIn r slot) ≡ r .«file_size»
+file-length r slot h = length-take-le (r .«file_size») (drop 64 slot) (omega (arith, length-drop 64 slot))

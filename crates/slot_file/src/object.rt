@@ -72,7 +72,8 @@ pub fn read(file: &[u8], position: u64, id: u64) -> BodyAnswer
         return BodyAnswer::Unread(Refusal::CutShort);
     }
     let h = header(file, position);
-    if h.room - 20 < h.size {
+    let most = h.room - 20;
+    if most < h.size {
         return BodyAnswer::Unread(Refusal::CutShort);
     }
     if bad_checksum(file, position, h) {

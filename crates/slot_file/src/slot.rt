@@ -9,7 +9,8 @@ ghost use Prim.Native.Nat.{_-_, _≤_};
 ghost use lib.ListN.{length, drop};
 ghost use Rattle.rules.specs.declared.Label.the-variants.{Five};
 ghost use Rattle.rules.specs.Refusal.{decide};
-ghost use Rattle.rules.specs.SlotFile.{objectPart, trailerPart, slotTests, viewBy, viewIn};
+ghost use Rattle.rules.specs.SlotFile.{fileIn, objectPart, trailerPart, slotTests, viewBy, viewIn};
+ghost use Rattle.slot_file.specs.Labels.{Inside};
 ghost use Rattle.slot_file.specs.Slots.{shownBy, entryTests};
 
 // "a 64-byte label, then the file"
@@ -22,25 +23,34 @@ fn behind_label(slot: &[u8]) -> &[u8]
     &slot[64..]
 }
 
-// The object bytes of the file that a record describes, a part of the lent slot.
+// The file that a record describes, a part of the lent slot.
+pub fn file_part(slot: &[u8], r: Record) -> &[u8]
+    requires { ⌜ r .«file_size» ≤ length (now slot) - 64 ⌝ }
+    ensures { λ x. ⌜ now x ≡ fileIn r (now (slot .entry)) ⌝ }
+{
+    let behind = behind_label(slot);
+    let end = r.file_size as usize;
+    &behind[..end]
+}
+
+// Its object bytes.
 pub fn object_part(slot: &[u8], r: Record) -> &[u8]
-    requires { ⌜ (r .«trailer_offset» ≤ r .«file_size») × (r .«file_size» ≤ length (now slot) - 64) ⌝ }
+    requires { ⌜ Inside (length (now slot)) r ⌝ }
     ensures { λ x. ⌜ now x ≡ objectPart r (now (slot .entry)) ⌝ }
 {
-    let file = behind_label(slot);
+    let file = file_part(slot, r);
     let end = r.trailer_offset as usize;
     &file[..end]
 }
 
 // Its trailer.
 pub fn trailer_part(slot: &[u8], r: Record) -> &[u8]
-    requires { ⌜ (r .«trailer_offset» ≤ r .«file_size») × (r .«file_size» ≤ length (now slot) - 64) ⌝ }
+    requires { ⌜ Inside (length (now slot)) r ⌝ }
     ensures { λ x. ⌜ now x ≡ trailerPart r (now (slot .entry)) ⌝ }
 {
-    let file = behind_label(slot);
+    let file = file_part(slot, r);
     let start = r.trailer_offset as usize;
-    let end = r.file_size as usize;
-    &file[start..end]
+    &file[start..]
 }
 
 // 9 to 13, in order.

@@ -2,7 +2,7 @@
 use mathlib.Core.Path.{_≡_, refl, sym, ap, _∙_}
 use mathlib.Core.Bool.{Bool, true, false}
 use mathlib.Core.List.{List, _++_, append-assoc}
-use Prim.Native.Nat.{ℕ, zero, suc, _+_, _-_, _/_, _≤_}
+use Prim.Native.Nat.{ℕ, zero, suc, _-_, _/_, _≤_}
 use native.Mathlib.Omega.{arith}
 use native.Mathlib.Nat.{sub-zero, suc-sub-suc}
 use lib.Dec.{ltb}
@@ -12,8 +12,7 @@ use Rattle.numbers.specs.Parts.{front, front-length}
 use Rattle.rules.specs.declared.Record.{Record}
 use Rattle.rules.specs.Base.{padded}
 use Rattle.rules.specs.Label.{labelBytes}
-use Rattle.rules.specs.Stores.{Store, storesOf, fileStores}
-use Rattle.stores.specs.Runs.{Made, made-then}
+use Rattle.rules.specs.Stores.{Store, storesOf}
 
 -- "lsn, trailer_offset, file_size, present_objects, generation as numbers in groups of seven bits"
 unfoldable pub fiveGroups : Record → List ℕ
@@ -67,9 +66,3 @@ label-made r = front-zeros 64 (fiveGroups r) ∙ sym (five-nested r)
 
 pub label-length : (r : Record) → length (labelBytes r) ≡ 64
 label-length r = ap length (sym (label-made r)) ∙ front-length (replicate 64 0) (fiveGroups r) (omega (arith, five-short r))
-
--- ---- the run of a file: the file, then its label
-pub file-made : (start : ℕ) (label file : List ℕ) {k m n : ℕ} {heap next last : List ℕ}
-    → Made k (storesOf (start + 64) file) heap next m → Made m (labelStores start label) next last n → Made k (fileStores start label file) heap last n
-unfolding fileStores labelStores
-file-made start label file a b = made-then a b

@@ -27,9 +27,9 @@ returns c =
 header-requires : tie.Need-header-requires
 header-requires c κs = search needs
 
-sub-if2 : tie.Need-sub-if2
+sub-most : tie.Need-sub-most
 unfolding storedAt
-sub-if2 c =
+sub-most c =
     let k = c .before in
     let w = k .before .before in
     let start = w .before .before in
@@ -112,8 +112,8 @@ returns-4 c =
     let whole : 20 + n ≤ length (drop at s) = omega (arith, e2 .if2 .left) in
     rw (le-ltb (length (drop at s)) 20 long, le-ltb (length (drop at s)) (20 + n) whole, sym (b .bad-checksum .ensures) ∙ e3 .if3 .left, ne-eqb (storedAt at (drop at s) .id) (start .args .id) (λ e. c .if4 .taken (ap (λ (x : Header). x .id) given ∙ e))) refl
 
-add-t5 : tie.Need-add-t5
-add-t5 c = search needs
+add-t6 : tie.Need-add-t6
+add-t6 c = search needs
 
 returns-5 : tie.Need-returns-5
 unfolding storedAt objectTests decide
@@ -142,10 +142,10 @@ read-spec =
     room-requires
     returns
     header-requires
-    sub-if2
+    sub-most
     returns-2
     bad-checksum-requires
     returns-3
     returns-4
-    add-t5
+    add-t6
     returns-5)

@@ -20,8 +20,7 @@ returns c = rw (← c .before .out-of-bounds .ensures, c .if1 .taken) refl
 trailer-part-requires : tie.Need-trailer-part-requires
 trailer-part-requires c κs =
     let b = c .before in
-    let i = inside (length (b .before .before .args .slot .now)) (b .before .before .args .r) (sym (b .out-of-bounds .ensures) ∙ c .if1 .left) in
-    (i .objects, i .file)
+    inside (length (b .before .before .args .slot .now)) (b .before .before .args .r) (sym (b .out-of-bounds .ensures) ∙ c .if1 .left)
 
 check-trailer-requires : tie.Need-check-trailer-requires
 check-trailer-requires c κs = search needs

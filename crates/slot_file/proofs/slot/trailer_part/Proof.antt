@@ -1,37 +1,40 @@
-use mathlib.Core.Path.{sym, ap, _∙_}
-use mathlib.Core.List.{List}
-use lib.ListN.{take, drop, length-drop, length}
-use Rattle.slot_file.specs.Slots.{cut-behind}
-use Prim.Native.Nat.{ℕ, _-_}
+use mathlib.Core.Path.{ap, _∙_}
+use lib.ListN.{drop, length-drop, length}
+use lib.Seq.{take-all}
+use Rattle.slot_file.specs.Slots.{file-length}
+use Prim.Native.Nat.{_-_}
 use native.Mathlib.Omega.{arith}
 use borrow.Author.Needs.{needs}
 use Rattle.slot_file.proofs.slot.trailer_part.Statement.{statement}
 use Rattle.slot_file.proofs.slot.trailer_part.Tie as tie
 
-behind-label-requires : tie.Need-behind-label-requires
-behind-label-requires c κs = search needs
+file-part-requires : tie.Need-file-part-requires
+file-part-requires c κs = search needs
 
 sub-result : tie.Need-sub-result
-sub-result c = search needs
+sub-result c =
+    let f = c in
+    let start = f .before .before in
+    let size = ap length (f .file-part .ensures) ∙ file-length (start .args .r) (start .args .slot .now) (start .pre .file) in
+    omega (arith, start .pre .objects)
 
 part-result-start : tie.Need-part-result-start
-part-result-start c = search needs
+part-result-start c =
+    let f = c in
+    let start = f .before .before in
+    let size = ap length (f .file-part .ensures) ∙ file-length (start .args .r) (start .args .slot .now) (start .pre .file) in
+    omega (arith, start .pre .objects)
 
 part-result-end : tie.Need-part-result-end
-part-result-end c =
-    let b = c in
-    let start = b .before .before in
-    omega (arith, ap length (b .behind-label .ensures), length-drop 64 (start .args .slot .now), start .pre)
+part-result-end c = search needs
 
 returns : tie.Need-returns
 returns c =
-    let b = c .before in
-    let start = b .before .before in
-    let r = start .args .r in
-    let file = drop 64 (start .args .slot .now) in
-    ap (λ (l : List ℕ). take (r .«file_size» - r .«trailer_offset») (drop (r .«trailer_offset») l)) (b .behind-label .ensures)
-    ∙ sym (cut-behind (r .«trailer_offset») (r .«file_size») file (start .pre .0) (omega (arith, length-drop 64 (start .args .slot .now), start .pre)))
+    let f = c .before in
+    let file = f .file-part .result .now in
+    let offset = f .before .before .args .r .«trailer_offset» in
+    take-all (length file - offset) (drop offset file) (omega (arith, length-drop offset file)) ∙ ap (drop offset) (f .file-part .ensures)
 
 pub trailer-part-spec : {M : Type 1} → statement M
 trailer-part-spec =
-    tie.close (tie.spec behind-label-requires sub-result part-result-start part-result-end returns)
+    tie.close (tie.spec file-part-requires sub-result part-result-start part-result-end returns)
