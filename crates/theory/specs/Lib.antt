@@ -4,3 +4,9 @@ pub mod Counting
 pub mod Newest
 pub mod FileFor
 pub mod Places
+pub mod Clear
+pub mod Slots
+pub mod Files
+pub mod Losing
+pub mod Picture
+pub mod Sound

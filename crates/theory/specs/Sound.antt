@@ -1,0 +1,57 @@
+-- The invariant of a store that its own calls left, on its picture.
+use mathlib.Core.Path.{_≡_, refl, sym, ap, _∙_, subst}
+use Prim.Native.Nat.{_<_, _≤_}
+use Rattle.rules.specs.Base.{Bool, true, false, List, [], _∷_, ℕ, _+_, _^_, length}
+use Rattle.theory.specs.Types.{Entry, Held, Mapped, Unmapped}
+use Rattle.disk_location.specs.Locations.{maskedOf}
+use Rattle.rules.specs.SlotFile.{File, View, holds}
+use Rattle.rules.specs.Table.{lookup}
+use Rattle.rules.specs.Reopen.{filesIn, tableOf, mappedInto}
+use Rattle.theory.specs.Entries.{Rising, Has, has-lookup}
+use Rattle.theory.specs.Newest.{Newest, newest-latest, rising-latest-of}
+use Rattle.theory.specs.Places.{viewAt, rowsOf, Filed, Stands, has-stands}
+use Rattle.theory.specs.Losing.{liveAt}
+use Rattle.theory.specs.Picture.{Picture, Said, pictureSays}
+
+-- capacity: the table's entries; told: what the plain engine says of each id
+pub record Sound (capacity : ℕ) (p : Picture) (told : ℕ → Said) : Type 0 where
+  -- views and records tell of the same files; these are well made, and their masked ranges apart
+  pub filed : Filed (p .views) (p .records)
+  -- every trailer's ids rise
+  pub rising : (k : ℕ) (f : File) → viewAt (p .views) k ≡ holds f → Rising 0 (f .entries)
+  pub sized : length (p .records) ≡ 256
+  pub started : 0 < p .next
+  -- the next position lies above every file
+  pub above : (k : ℕ) (f : File) → viewAt (p .views) k ≡ holds f → maskedOf (f .label .lsn) + f .label .«trailer_offset» < p .next
+  -- the table is the one that a reopening makes of the files
+  pub newest : p .table ≡ tableOf (filesIn (p .views))
+  pub room : length (p .table) ≤ capacity
+  -- ids are numbers of 64 bits
+  pub narrow : (x l : ℕ) → Has (p .table) x l → x < 2 ^ 64
+  -- a file's live count is the number of ids mapped into it
+  pub counted : (k : ℕ) (f : File) → viewAt (p .views) k ≡ holds f → liveAt (p .records) k ≡ mappedInto (p .table) (f .label)
+  -- of each id the store says what the engine says
+  pub says : (x : ℕ) → pictureSays p x ≡ told x
+
+-- the table of files, by their rows
+pub newest-table : (views : List View) (x : ℕ) → Newest (Has (rowsOf views) x) (lookup (tableOf (filesIn views)) x)
+unfolding tableOf
+newest-table views x = newest-latest (rowsOf views) x
+
+pub rising-table : (views : List View) → Rising 0 (tableOf (filesIn views))
+unfolding tableOf
+rising-table views = rising-latest-of (rowsOf views)
+
+module _ (capacity : ℕ) (p : Picture) (told : ℕ → Said) (s : Sound capacity p told) where
+  pub table-rising : Rising 0 (p .table)
+  table-rising = subst (Rising 0) (sym (s .newest)) (rising-table (p .views))
+
+  pub table-newest : (x : ℕ) → Newest (Has (rowsOf (p .views)) x) (lookup (p .table) x)
+  table-newest x = subst (λ (t : List Entry). Newest (Has (rowsOf (p .views)) x) (lookup t x)) (sym (s .newest)) (newest-table (p .views) x)
+
+  -- what the table holds stands in a slot
+  pub table-stands : (x l : ℕ) → lookup (p .table) x ≡ Mapped l → (k : ℕ) × Stands (p .views) x l k
+  table-stands x l h = has-stands (p .views) x l (subst (Newest (Has (rowsOf (p .views)) x)) h (table-newest x) .0)
+
+  pub table-stands-has : (x l : ℕ) → Has (p .table) x l → (k : ℕ) × Stands (p .views) x l k
+  table-stands-has x l h = table-stands x l (has-lookup 0 (p .table) table-rising x l h)
