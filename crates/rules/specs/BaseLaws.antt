@@ -1,10 +1,11 @@
 -- Laws of tests and lists: no word of the paper is here.
-use mathlib.Core.Path.{_≡_, refl, sym, ap, _∙_}
+use mathlib.Core.Path.{_≡_, refl, sym, ap, ap₂, _∙_}
 use mathlib.Core.Bool.{true≢false, false≢true}
 use mathlib.Core.Logic.{_⊎_, inl, inr}
 use Prim.Native.Nat.{_≤_, _<_}
 use native.Mathlib.Nat.{eq-or-lt-of-le}
 use native.Mathlib.Omega.{arith}
+use lib.ListN.{length-append, length-replicate}
 use borrow.Author.Tests.{ltb-true, ltb-false, leb-true, eqb-true, eqb-false, le-leb, eq-eqb, not-true, not-false}
 use Rattle.rules.specs.Base.{Bool, true, false, not, _&&_, _||_, List, [], _∷_, _++_, ℕ, zero, suc, _+_, _-_, length, replicate, leb, ltb, eqb, within, any, zeros, padded}
 
@@ -63,6 +64,11 @@ same? a b = go (eqb a b) refl
     go true h = inl (eqb-true a b h)
     go false h = inr (eqb-false a b h)
 
+-- a number is 0 or more
+pub zero-or-more : (n : ℕ) → (n ≡ 0) ⊎ (0 < n)
+zero-or-more zero = inl refl
+zero-or-more (suc n) = inr (omega arith)
+
 -- ---- zeros
 pub zeros-cons : (n : ℕ) (ns : List ℕ) → zeros (n ∷ ns) ≡ (eqb n 0 && zeros ns)
 unfolding zeros any
@@ -84,3 +90,14 @@ pub zeros-replicate : (n : ℕ) → zeros (replicate n 0) ≡ true
 unfolding zeros any
 zeros-replicate zero = refl
 zeros-replicate (suc n) = zeros-holds 0 (replicate n 0) refl (zeros-replicate n)
+
+pub zeros-is : (ns : List ℕ) → zeros ns ≡ true → ns ≡ replicate (length ns) 0
+zeros-is [] e = refl
+zeros-is (n ∷ ns) e =
+    let w = zeros-true n ns e in
+    ap₂ (λ (x : ℕ) (xs : List ℕ). x ∷ xs) (w .0) (zeros-is ns (w .1))
+
+-- padded to n, it has n
+pub padded-length : (n : ℕ) (ns : List ℕ) → length ns ≤ n → length (padded n ns) ≡ n
+unfolding padded
+padded-length n ns h = omega (arith, length-append ns (replicate (n - length ns) 0), length-replicate {A = ℕ} (n - length ns) 0)
