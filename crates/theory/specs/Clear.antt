@@ -5,7 +5,7 @@ use Rattle.rules.specs.Base.{Bool, true, false, _||_, List, [], _∷_, _++_, �
 use Rattle.theory.specs.Types.{Entry}
 use Rattle.rules.specs.BaseLaws.{or-false, or-clear}
 use Rattle.rules.specs.Refusal.{Test, _gives_, NoneHolds}
-use Rattle.theory.specs.Entries.{Has}
+use Rattle.rules.specs.TableLaws.{Has}
 
 pub none-split : (xs ys : List Test) → NoneHolds (xs ++ ys) → NoneHolds xs × NoneHolds ys
 unfolding NoneHolds

@@ -7,7 +7,8 @@ use Rattle.rules.specs.Base.{Bool, true, false, List, [], _∷_, ℕ, suc, _+_,
 use Rattle.theory.specs.Types.{Entry, Held, Mapped, Unmapped}
 use Rattle.rules.specs.Table.{lookup, insert}
 use Rattle.disk_location.specs.Locations.{bitOf}
-use Rattle.theory.specs.Entries.{Rising, rise, Has, order, same?, lookup-here, lookup-next, insert-next, insert-here, insert-before, above}
+use Rattle.rules.specs.BaseLaws.{order, same?}
+use Rattle.rules.specs.TableLaws.{Rising, rise, Has, lookup-here, lookup-next, insert-next, insert-here, insert-before, lookup-below}
 
 abbrev pub count : (ℕ → Bool) → List Entry → ℕ
 count p t = length (keep (λ (e : Entry). p (e .location)) t)
@@ -43,7 +44,7 @@ count-insert f p (e ∷ t) (rise a r) n = go (count-insert (suc (e .id)) p t r n
         rw (insert-next e t n q, lookup-next e t (n .id) (λ z. omega arith), count-cons p e (insert t n), count-cons p e t) (omega arith)
     go ih (inr (inl q)) = rw (insert-here e t n q, lookup-here e t (n .id) q, count-cons p n t, count-cons p e t) (omega arith)
     go ih (inr (inr q)) =
-        rw (insert-before e t n q, lookup-next e t (n .id) (λ z. omega arith), above (suc (e .id)) t r (n .id) (omega arith), count-cons p n (e ∷ t))
+        rw (insert-before e t n q, lookup-next e t (n .id) (λ z. omega arith), lookup-below (suc (e .id)) t r (n .id) (omega arith), count-cons p n (e ∷ t))
         (omega arith)
 
 pub count-same : (p q : ℕ → Bool) (t : List Entry) → ((x l : ℕ) → Has t x l → p l ≡ q l) → count p t ≡ count q t

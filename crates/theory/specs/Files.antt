@@ -14,7 +14,7 @@ use Rattle.rules.specs.Refusal.{Test, _gives_, NoneHolds}
 use Rattle.rules.specs.SlotFile.{File, View, empty, damaged, holds}
 use Rattle.rules.specs.FileMap.{emptyRecord, recordAt}
 use Rattle.rules.specs.Reopen.{viewTests, fileOf, filesIn, meets, overlapping, notRising, recordOf, recordsFrom, nextAfter}
-use Rattle.theory.specs.Entries.{Rising, rise, Has, rising-has}
+use Rattle.rules.specs.TableLaws.{Rising, rise, Has, rising-has}
 use Rattle.theory.specs.Clear.{none-split, any-has, has-any}
 use Rattle.theory.specs.Places.{viewAt, WellMade, Single, Apart, holds-inj, not-empty, not-damaged}
 

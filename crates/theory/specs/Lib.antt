@@ -2,7 +2,6 @@ pub mod Types
 pub mod Entries
 pub mod Counting
 pub mod Newest
-pub mod FileFor
 pub mod Places
 pub mod Clear
 pub mod Slots

@@ -15,9 +15,10 @@ use Rattle.rules.specs.Ops.{Op, isDelete, sizeOf, entriesOf}
 use Rattle.rules.specs.Table.{lookup, insert, insertAll}
 use Rattle.rules.specs.FileMap.{emptyRecord, recordAt, withLive, fileFor, lessLive}
 use Rattle.rules.specs.Install.{fileHolding, losing}
-use Rattle.theory.specs.Entries.{Rising, Has, same?, lookup-insert-other, rising-insert}
+use Rattle.rules.specs.BaseLaws.{same?}
+use Rattle.rules.specs.TableLaws.{Rising, Has, lookup-insert-other, rising-insert}
 use Rattle.theory.specs.Counting.{count, had, count-insert}
-use Rattle.theory.specs.FileFor.{file-same}
+use Rattle.rules.specs.FileMapLaws.{file-same}
 
 abbrev pub isAt : ℕ → Slot → Bool
 isAt k (Is j) = eqb j k

@@ -9,7 +9,8 @@ use Rattle.theory.specs.Types.{Entry, Held, Mapped, Unmapped}
 use Rattle.disk_location.specs.Locations.{maskedOf, positionOf}
 use Rattle.rules.specs.Table.{lookup, insert, insertAll}
 use Rattle.rules.specs.Reopen.{maskedPosition, latest, latestFrom, latestOf}
-use Rattle.theory.specs.Entries.{Rising, rise, rise-end, Has, order, same?, lookup-here, lookup-next, lookup-insert-same, lookup-insert-other, rising-has, above}
+use Rattle.rules.specs.BaseLaws.{order, same?}
+use Rattle.rules.specs.TableLaws.{Rising, rise, rise-end, Has, lookup-here, lookup-next, lookup-insert-same, lookup-insert-other, rising-has, lookup-below}
 
 -- a location's masked position
 abbrev pub maskedAt : ℕ → ℕ
@@ -90,7 +91,7 @@ lookup-latest-same f (e ∷ t) (rise a r) n = go (lookup-latest-same (suc (e .id
         ∙ sym (ap (λ (o : Held). later o (n .location)) (lookup-here e t (n .id) h))
     go ih (inr (inr h)) =
         ap (λ (u : List Entry). lookup u (n .id)) (latest-before n e t h) ∙ lookup-here n (e ∷ t) (n .id) refl
-        ∙ sym (ap (λ (o : Held). later o (n .location)) (lookup-next e t (n .id) (λ q. omega arith) ∙ above (suc (e .id)) t r (n .id) (omega arith)))
+        ∙ sym (ap (λ (o : Held). later o (n .location)) (lookup-next e t (n .id) (λ q. omega arith) ∙ lookup-below (suc (e .id)) t r (n .id) (omega arith)))
 
 lookup-latest-other : (t : List Entry) (n : Entry) (x : ℕ) → (n .id ≡ x → ⊥) → lookup (latest n t) x ≡ lookup t x
 unfolding latest

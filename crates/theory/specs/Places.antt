@@ -11,9 +11,11 @@ use Rattle.rules.specs.Trailer.{absolute}
 use Rattle.rules.specs.SlotFile.{File, View, empty, damaged, holds}
 use Rattle.rules.specs.FileMap.{emptyRecord, recordAt, withLive, fileFor}
 use Rattle.rules.specs.Reopen.{fileOf, filesIn, inRange}
-use Rattle.theory.specs.Entries.{Rising, Has, same?, mapped-inj, has-lookup, has-absolute, absolute-has, has-append-l, has-append-r, append-has}
+use Rattle.rules.specs.BaseLaws.{same?}
+use Rattle.rules.specs.TableLaws.{Rising, Has, mapped-one, has-lookup}
+use Rattle.theory.specs.Entries.{has-absolute, absolute-has, has-append-l, has-append-r, append-has}
 use Rattle.theory.specs.Newest.{maskedAt}
-use Rattle.theory.specs.FileFor.{file-is}
+use Rattle.rules.specs.FileMapLaws.{file-is}
 
 -- what slot k shows; past the last slot nothing
 abbrev pub viewAt : List View → ℕ → View
@@ -40,7 +42,7 @@ abbrev pub Single : List Entry → Type 0
 Single es = (x r q : ℕ) → Has es x r → Has es x q → positionOf r ≡ positionOf q → r ≡ q
 
 pub rising-single : (f : ℕ) (es : List Entry) → Rising f es → Single es
-rising-single f es s x r q a b e = mapped-inj (sym (has-lookup f es s x r a) ∙ has-lookup f es s x q b)
+rising-single f es s x r q a b e = mapped-one (sym (has-lookup f es s x r a) ∙ has-lookup f es s x q b)
 
 -- what 14 leaves of two files: masked ranges, both ends counted, have nothing in common
 abbrev pub Apart : File → File → Type 0
@@ -196,8 +198,20 @@ module _ (views : List View) (rs : List Record) (filed : Filed views rs) where
       let a = masked-pos (f .label .lsn) (filed .made k f h .placed) in
       let b = holds-lt views k f h in
       let c = filed .fits in
-      file-is rs (r + 2 * f .label .lsn) k (omega arith) (omega arith) (omega arith)
-      (λ j n c. let w = below-own k f r h i j n c in omega arith)
+      file-is rs (r + 2 * f .label .lsn) k (record {
+        place = omega arith;
+        used = omega arith;
+        low = omega arith;
+        most = λ j l c. most j (same? j k) c;
+        first = λ j l c. let w = below-own k f r h i j (λ z. omega arith) c in omega arith;
+      })
+    where
+      most : (j : ℕ) → (j ≡ k) ⊎ (j ≡ k → ⊥) → 2 * recordAt rs j .lsn ≤ r + 2 * f .label .lsn → recordAt rs j .lsn ≤ recordAt rs k .lsn
+      most j (inl q) c = rw q (omega arith)
+      most j (inr q) c =
+          let w = below-own k f r h i j q c in
+          let z : recordAt rs k .lsn ≡ f .label .lsn = ap (λ (r : Record). r .lsn) (record-holds k f h) in
+          omega arith
 
   -- LAW: an entry's location is looked up in its own file
   pub own-file : (x l k : ℕ) → Stands views x l k → fileFor rs l ≡ Is k

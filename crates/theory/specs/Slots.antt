@@ -12,7 +12,7 @@ use Rattle.rules.specs.Label.{labelIn, outOfBounds}
 use Rattle.rules.specs.LabelLaws.{InBounds, in-bounds}
 use Rattle.rules.specs.Trailer.{trailerTests}
 use Rattle.rules.specs.SlotFile.{slotBytes, objectPart, trailerPart, trailerEntries, File, View, empty, damaged, holds, slotTests, viewBy, viewIn, viewsIn}
-use Rattle.theory.specs.Entries.{Has}
+use Rattle.rules.specs.TableLaws.{Has}
 use Rattle.theory.specs.Clear.{none-split, any-has}
 use Rattle.theory.specs.Places.{viewAt, WellMade, holds-inj, not-empty, not-damaged}
 

@@ -7,7 +7,7 @@ use Rattle.disk_location.specs.Locations.{maskedOf}
 use Rattle.rules.specs.SlotFile.{File, View, holds}
 use Rattle.rules.specs.Table.{lookup}
 use Rattle.rules.specs.Reopen.{filesIn, tableOf, mappedInto}
-use Rattle.theory.specs.Entries.{Rising, Has, has-lookup}
+use Rattle.rules.specs.TableLaws.{Rising, Has, has-lookup}
 use Rattle.theory.specs.Newest.{Newest, newest-latest, rising-latest-of}
 use Rattle.theory.specs.Places.{viewAt, rowsOf, Filed, Stands, has-stands}
 use Rattle.theory.specs.Losing.{liveAt}
