@@ -9,3 +9,4 @@ pub mod Files
 pub mod Losing
 pub mod Picture
 pub mod Sound
+pub mod Reopened
