@@ -18,11 +18,8 @@ use Rattle.rules.specs.Install.{fileHolding, losing}
 use Rattle.rules.specs.BaseLaws.{same?}
 use Rattle.rules.specs.TableLaws.{Rising, Has, lookup-insert-other, rising-insert}
 use Rattle.theory.specs.Counting.{count, had, count-insert}
-use Rattle.rules.specs.FileMapLaws.{file-same}
-
-abbrev pub isAt : ℕ → Slot → Bool
-isAt k (Is j) = eqb j k
-isAt k NoSlot = false
+use Rattle.rules.specs.FileMapLaws.{file-same, less-live-length}
+use Rattle.theory.specs.Places.{isAt}
 
 abbrev pub liveAt : List Record → ℕ → ℕ
 liveAt rs j = recordAt rs j .live
@@ -64,20 +61,16 @@ less-at (Is k) rs j = go (same? k j)
         rw (ne-eqb k j q, sub-zero (liveAt rs j))
         (getD-set-other rs k j (withLive (recordAt rs k) (liveAt rs k - 1)) emptyRecord (λ z. q (sym z)))
 
-less-length : (o : Slot) (rs : List Record) → length (lessLive o rs) ≡ length rs
-less-length NoSlot rs = refl
-less-length (Is k) rs = length-set rs k (withLive (recordAt rs k) (liveAt rs k - 1))
-
 -- lookups do not change
 less-file : (o : Slot) (rs : List Record) (l : ℕ) → fileFor (lessLive o rs) l ≡ fileFor rs l
-less-file o rs l = file-same (lessLive o rs) rs (less-length o rs) (λ j. ap (λ (r : Record). r .lsn) (less-at o rs j)) l
+less-file o rs l = file-same (lessLive o rs) rs (less-live-length o rs) (λ j. ap (λ (r : Record). r .lsn) (less-at o rs j)) l
 
 -- ---- all that are replaced
 pub losing-length : (t : List Entry) (os : List Op) (rs : List Record) → length (losing t os rs) ≡ length rs
 unfolding losing
 losing-length t [] rs = refl
 losing-length t (o ∷ os) rs =
-    losing-length t os (lessLive (fileHolding rs (lookup t (o .id))) rs) ∙ less-length (fileHolding rs (lookup t (o .id))) rs
+    losing-length t os (lessLive (fileHolding rs (lookup t (o .id))) rs) ∙ less-live-length (fileHolding rs (lookup t (o .id))) rs
 
 -- a record but for its live count, which does not grow
 pub record Less (r q : Record) : Type 0 where

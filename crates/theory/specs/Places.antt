@@ -3,8 +3,8 @@ use mathlib.Core.Path.{_≡_, refl, sym, ap, _∙_, subst}
 use mathlib.Core.Logic.{_⊎_, inl, inr, ⊎-elim}
 use Prim.Native.Nat.{_<_, _≤_}
 use native.Mathlib.Omega.{arith}
-use borrow.Author.Tests.{ltb-true, ltb-false, leb-true, leb-false, le-leb, lt-leb}
-use Rattle.rules.specs.Base.{Bool, true, false, _&&_, List, [], _∷_, _++_, map, ℕ, zero, suc, _+_, _-_, _*_, _/_, _%_, _^_, length, getD, ltb, leb, each}
+use borrow.Author.Tests.{ltb-true, ltb-false, le-leb, lt-leb, eq-eqb, ne-eqb}
+use Rattle.rules.specs.Base.{Bool, true, false, _&&_, List, [], _∷_, _++_, map, ℕ, zero, suc, _+_, _-_, _*_, _/_, _%_, _^_, length, getD, ltb, leb, eqb, each}
 use Rattle.theory.specs.Types.{Entry, Record, Refusal, Slot, Is, NoSlot}
 use Rattle.disk_location.specs.Locations.{maskedOf, positionOf}
 use Rattle.rules.specs.Trailer.{absolute}
@@ -28,6 +28,11 @@ rowsIn f = map (absolute (f .label .lsn)) (f .entries)
 -- those of all files
 abbrev pub rowsOf : List View → List Entry
 rowsOf views = each rowsIn (filesIn views)
+
+-- slot k is the one found
+abbrev pub isAt : ℕ → Slot → Bool
+isAt k (Is j) = eqb j k
+isAt k NoSlot = false
 
 -- what 8 and 12 leave of a file
 pub record WellMade (f : File) : Type 0 where
@@ -245,6 +250,16 @@ module _ (views : List View) (rs : List Record) (filed : Filed views rs) where
       go m p i (inr a) =
           let b : m < maskedOf (g .label .lsn) = omega arith in
           rw (lt-leb (maskedOf (g .label .lsn)) m b)
+
+  -- LAW: the file found for an entry's location is the one in whose masked range it lies
+  pub found-in-range : (x l k j : ℕ) (s : Stands views x l k) (g : File) → viewAt views j ≡ holds g → isAt j (fileFor rs l) ≡ inRange (g .label) (maskedAt l)
+  found-in-range x l k j s g h = ap (isAt j) (own-file x l k s) ∙ go (same? k j)
+    where
+      go : (k ≡ j) ⊎ (k ≡ j → ⊥) → eqb k j ≡ inRange (g .label) (maskedAt l)
+      go (inl q) =
+          let e : s .file ≡ g = holds-inj (sym (s .shows) ∙ ap (viewAt views) q ∙ h) in
+          eq-eqb k j q ∙ sym (in-own-range x l k s) ∙ ap (λ (c : File). inRange (c .label) (maskedAt l)) e
+      go (inr q) = ne-eqb k j q ∙ sym (in-no-other x l k j s g h (λ z. q (sym z)))
 
   -- LAW: two entries of one id and one masked position are the same
   pub distinct : (x l m : ℕ) → Has (rowsOf views) x l → Has (rowsOf views) x m → maskedAt l ≡ maskedAt m → l ≡ m

@@ -25,10 +25,10 @@ use Rattle.rules.specs.World.{World, recordsOf, mappings, slotsOf, accepted, Af
 use Rattle.theory.specs.Clear.{none-split}
 use Rattle.theory.specs.Counting.{count, count-same}
 use Rattle.theory.specs.Newest.{maskedAt, Newest}
-use Rattle.theory.specs.Places.{viewAt, rowsOf, WellMade, Agrees, Filed, Stands, stands-has, has-stands, own-file, in-own-range, in-no-other, distinct, masked-pos, holds-lt, holds-inj, not-empty}
+use Rattle.theory.specs.Places.{viewAt, rowsOf, WellMade, Agrees, Filed, Stands, stands-has, has-stands, own-file, isAt, found-in-range, distinct, masked-pos, holds-lt, holds-inj, not-empty}
 use Rattle.theory.specs.Slots.{views-length, view-at, seen, seen-made}
 use Rattle.theory.specs.Files.{any-file, undamaged, overlap-apart, clear-single, next-above, record-from, records-from-length}
-use Rattle.theory.specs.Losing.{isAt, liveAt}
+use Rattle.theory.specs.Losing.{liveAt}
 use Rattle.theory.specs.Picture.{viewsOf}
 use Rattle.theory.specs.Sound.{newest-table, rising-table}
 
@@ -149,20 +149,8 @@ module _ (w : World) (p : Passed w) where
           → inRange (f .label) (maskedAt l) ≡ isAt k (fileFor (recordsFrom (tableOf (filesIn (viewsOf w))) (viewsOf w)) l)
       each-one x l a =
           let n = subst (Newest (Has (rowsOf (viewsOf w)) x)) (has-lookup 0 (tableOf (filesIn (viewsOf w))) (rising-table (viewsOf w)) x l a) (newest-table (viewsOf w) x) in
-          go (has-stands (viewsOf w) x l (n .0))
-        where
-          go : (j : ℕ) × Stands (viewsOf w) x l j
-              → inRange (f .label) (maskedAt l) ≡ isAt k (fileFor (recordsFrom (tableOf (filesIn (viewsOf w))) (viewsOf w)) l)
-          go (j, s) = at (same? j k)
-            where
-              at : (j ≡ k) ⊎ (j ≡ k → ⊥) → inRange (f .label) (maskedAt l) ≡ isAt k (fileFor (recordsFrom (tableOf (filesIn (viewsOf w))) (viewsOf w)) l)
-              at (inl q) =
-                  let e : s .file ≡ f = holds-inj (sym (s .shows) ∙ ap (viewAt (viewsOf w)) q ∙ h) in
-                  ap (λ (g : File). inRange (g .label) (maskedAt l)) (sym e) ∙ in-own-range (viewsOf w) reopenedRecords filed-reopened x l j s
-                  ∙ sym (eq-eqb j k q) ∙ sym (ap (isAt k) (own-file (viewsOf w) reopenedRecords filed-reopened x l j s))
-              at (inr q) =
-                  in-no-other (viewsOf w) reopenedRecords filed-reopened x l j k s f h (λ z. q (sym z))
-                  ∙ sym (ne-eqb j k q) ∙ sym (ap (isAt k) (own-file (viewsOf w) reopenedRecords filed-reopened x l j s))
+          let z = has-stands (viewsOf w) x l (n .0) in
+          sym (found-in-range (viewsOf w) reopenedRecords filed-reopened x l (z .0) k (z .1) f h)
 
   opened-means : Opened w (opened w (viewsOf w) .world)
   unfolding opened
