@@ -69,6 +69,12 @@ pub zero-or-more : (n : ℕ) → (n ≡ 0) ⊎ (0 < n)
 zero-or-more zero = inl refl
 zero-or-more (suc n) = inr (omega arith)
 
+-- ---- lists
+-- every element is such
+abbrev pub All : {A : Type 0} → (A → Type 0) → List A → Type 0
+All P [] = Unit {0}
+All P (x ∷ xs) = P x × All P xs
+
 -- ---- zeros
 pub zeros-cons : (n : ℕ) (ns : List ℕ) → zeros (n ∷ ns) ≡ (eqb n 0 && zeros ns)
 unfolding zeros any
