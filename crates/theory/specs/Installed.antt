@@ -14,6 +14,7 @@ use Rattle.rules.specs.Refusal.{decide, after}
 use Rattle.rules.specs.Object.{storedAt}
 use Rattle.rules.specs.Trailer.{absolute}
 use Rattle.rules.specs.Ops.{Op, objectsOf, entriesOf, fileBytes}
+use Rattle.rules.specs.OpsLaws.{RisingOps, file-length, entries-of-rising, entries-of-inside}
 use Rattle.rules.specs.SlotFile.{File, View, empty, damaged, holds}
 use Rattle.rules.specs.Table.{lookup, insertAll}
 use Rattle.rules.specs.TableLaws.{Rising, Has, lookup-has, table-ext, orElse, rising-insert-all, lookup-insert-all, has-lookup}
@@ -25,14 +26,13 @@ use Rattle.theory.specs.Entries.{shiftHeld, lookup-absolute, rising-abso
 use Rattle.theory.specs.Counting.{count, count-same, count-none}
 use Rattle.theory.specs.Newest.{maskedAt, Newest, newest-iff, newest-one, newest-insert-all}
 use Rattle.theory.specs.Places.{viewAt, rowsIn, rowsOf, WellMade, Single, rising-single, Apart, Agrees, Filed, Stands, stands-has, has-stands, not-empty, holds-inj, own-file, isAt, in-own-range, in-no-other, found-in-range, distinct, masked-entry}
-use Rattle.theory.specs.Losing.{liveAt, RisingOps, rowsFor, Less, losing-length, losing-record, losing-live, losing-new}
-use Rattle.theory.specs.Operations.{objects-inside, entries-rising, entries-length, entries-inside}
-use Rattle.theory.specs.Picture.{Picture, Said, silent, gone, body, broken, objectSays, placeSays, entrySays, fileSays, viewSays, slotSays, heldSays, pictureSays, newFile, added}
+use Rattle.theory.specs.Losing.{liveAt, rowsFor, Less, losing-length, losing-record, losing-live, losing-new}
+use Rattle.theory.specs.Picture.{Picture, Said, unheard, gone, body, broken, objectSays, placeSays, entrySays, fileSays, viewSays, slotSays, heldSays, pictureSays, newFile, added}
 use Rattle.theory.specs.Sound.{Sound, newest-table, rising-table, table-rising, table-newest, table-stands, table-stands-has}
 
 -- what a file says goes before what was said
 abbrev pub over : Said → Said → Said
-over silent s = s
+over unheard s = s
 over gone s = gone
 over (body b) s = body b
 over (broken r) s = broken r
@@ -59,8 +59,8 @@ module _ (capacity : ℕ) (p : Picture) (told : ℕ → Said) (s : Sound capacit
         placed = omega arith;
         low = a .low;
         within = omega arith;
-        sized = objects-inside os;
-        inside = λ x r h. let w = entries-inside 0 os x r h in omega arith;
+        sized = let n = file-length os in omega arith;
+        inside = λ x r h. let w = entries-of-inside 0 os x r h in omega arith;
       }
 
   view-new : viewAt (added lsn g p k os .views) k ≡ holds (newFile lsn g os)
@@ -130,7 +130,7 @@ module _ (capacity : ℕ) (p : Picture) (told : ℕ → Said) (s : Sound capacit
 
       single : (j : ℕ) (h : File) → viewAt (added lsn g p k os .views) j ≡ holds h → (j ≡ k) ⊎ (j ≡ k → ⊥) → Single (h .entries)
       single j h e (inl z) =
-          subst (λ (c : File). Single (c .entries)) (is-new j h e z) (rising-single 0 (entriesOf 0 os) (entries-rising 0 0 os (a .rising)))
+          subst (λ (c : File). Single (c .entries)) (is-new j h e z) (rising-single 0 (entriesOf 0 os) (entries-of-rising 0 0 os (a .rising)))
       single j h e (inr z) = s .filed .single j h (sym (view-old j z) ∙ e)
 
       apart : (i j : ℕ) (h c : File) → viewAt (added lsn g p k os .views) i ≡ holds h → viewAt (added lsn g p k os .views) j ≡ holds c → (i ≡ j → ⊥)
@@ -175,7 +175,7 @@ module _ (capacity : ℕ) (p : Picture) (told : ℕ → Said) (s : Sound capacit
   rows-join x l (inr h) = stands-has (added lsn g p k os .views) x l k (stands-new x l h)
 
   rows-rising : Rising 0 (rowsFor lsn 0 os)
-  rows-rising = rising-absolute lsn 0 (entriesOf 0 os) (entries-rising 0 0 os (a .rising))
+  rows-rising = rising-absolute lsn 0 (entriesOf 0 os) (entries-of-rising 0 0 os (a .rising))
 
   -- the new entries are above all that the table holds
   all-above : (x l m : ℕ) → Has (rowsFor lsn 0 os) x l → lookup (p .table) x ≡ Mapped m → maskedAt m < maskedAt l
@@ -327,7 +327,7 @@ module _ (capacity : ℕ) (p : Picture) (told : ℕ → Said) (s : Sound capacit
   rising-added j h e = go (same? j k)
     where
       go : (j ≡ k) ⊎ (j ≡ k → ⊥) → Rising 0 (h .entries)
-      go (inl z) = subst (λ (c : File). Rising 0 (c .entries)) (is-new j h e z) (entries-rising 0 0 os (a .rising))
+      go (inl z) = subst (λ (c : File). Rising 0 (c .entries)) (is-new j h e z) (entries-of-rising 0 0 os (a .rising))
       go (inr z) = s .rising j h (sym (view-old j z) ∙ e)
 
   narrow-added : (x l : ℕ) → Has (insertAll (p .table) (rowsFor lsn 0 os)) x l → x < 2 ^ 64

@@ -10,7 +10,6 @@ pub mod Losing
 pub mod Picture
 pub mod Sound
 pub mod Reopened
-pub mod Operations
 pub mod Installed
 pub mod Emptied
 pub mod SoundWorld

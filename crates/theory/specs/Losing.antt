@@ -12,6 +12,7 @@ use Rattle.theory.specs.Types.{Entry, Record, Held, Mapped, Unmapped, Sl
 use Rattle.disk_location.specs.Locations.{bitOf, rawOf}
 use Rattle.rules.specs.Trailer.{absolute}
 use Rattle.rules.specs.Ops.{Op, isDelete, sizeOf, entriesOf}
+use Rattle.rules.specs.OpsLaws.{RisingOps, ops-end, ops-rise}
 use Rattle.rules.specs.Table.{lookup, insert, insertAll}
 use Rattle.rules.specs.FileMap.{emptyRecord, recordAt, withLive, fileFor, lessLive}
 use Rattle.rules.specs.Install.{fileHolding, losing}
@@ -23,11 +24,6 @@ use Rattle.theory.specs.Places.{isAt}
 
 abbrev pub liveAt : List Record → ℕ → ℕ
 liveAt rs j = recordAt rs j .live
-
--- ids of operations strictly rising, from a least one on
-pub data RisingOps : ℕ → List Op → Type 0 where
-  ops-end : {f : ℕ} → RisingOps f []
-  ops-rise : {f : ℕ} {o : Op} {os : List Op} → f ≤ o .id → RisingOps (suc (o .id)) os → RisingOps f (o ∷ os)
 
 -- an operation's entry at a position of the file, with its absolute location
 abbrev pub rowAt : ℕ → ℕ → Op → Entry

@@ -6,6 +6,7 @@ use Rattle.disk_location.specs.Locations.{positionOf, deleteOf}
 use Rattle.rules.specs.Refusal.{decide, after}
 use Rattle.rules.specs.Object.{Stored, storedAt}
 use Rattle.rules.specs.Ops.{Content, put, delete, Op, objectsOf, entriesOf}
+use Rattle.rules.specs.SettledLaws.{Last, silent, last}
 use Rattle.rules.specs.SlotFile.{File, View, empty, damaged, holds, viewsIn}
 use Rattle.rules.specs.Table.{lookup, insertAll}
 use Rattle.rules.specs.FileMap.{recordAt, withLive, fileFor}
@@ -30,7 +31,7 @@ pictureOf w = record { views = viewsOf w; records = recordsOf w; table = mapping
 
 -- ---- what is said of an id: nothing yet, deleted, a body; or a read that is refused
 pub data Said : Type 0 where
-  silent : Said
+  unheard : Said
   gone : Said
   body : List ℕ → Said
   broken : Refusal → Said
@@ -45,7 +46,7 @@ placeSays f position x = objectSays x (storedAt position (drop position (f .obje
 
 -- by a file's own trailer
 abbrev pub entrySays : File → Held → ℕ → Said
-entrySays f Unmapped x = silent
+entrySays f Unmapped x = unheard
 entrySays f (Mapped r) x = pick (deleteOf r) gone (placeSays f (positionOf r) x)
 
 unfoldable pub fileSays : File → ℕ → Said
@@ -62,27 +63,18 @@ slotSays p NoSlot l x = broken NotThere
 slotSays p (Is k) l x = viewSays (viewAt (p .views) k) (positionOf l - recordAt (p .records) k .lsn) x
 
 abbrev pub heldSays : Picture → Held → ℕ → Said
-heldSays p Unmapped x = silent
+heldSays p Unmapped x = unheard
 heldSays p (Mapped l) x = pick (deleteOf l) gone (slotSays p (fileFor (p .records) l) l x)
 
--- by the store: what a read gives, but that both silent and gone are nothing to it
+-- by the store: what a read gives, but that both unheard and gone are nothing to it
 unfoldable pub pictureSays : Picture → ℕ → Said
 pictureSays p x = heldSays p (lookup (p .table) x) x
 
--- ---- the plain engine: accepted operations, the last one first
-abbrev pub contentSays : Content → Said
-contentSays (put b) = body b
-contentSays delete = gone
-
--- the last operation on an id
-unfoldable pub said : List Op → ℕ → Said
-said [] x = silent
-said (o ∷ os) x = pick (eqb (o .id) x) (contentSays (o .content)) (said os x)
-
--- a batch is heard operation by operation
-unfoldable pub heard : List Op → List Op → List Op
-heard history [] = history
-heard history (o ∷ os) = heard (o ∷ history) os
+-- by the last operation on the id
+abbrev pub lastSays : Last → Said
+lastSays silent = unheard
+lastSays (last (put b)) = body b
+lastSays (last delete) = gone
 
 -- ---- a file of operations added in slot k
 abbrev pub newFile : ℕ → ℕ → List Op → File
