@@ -13,3 +13,4 @@ pub mod Reopened
 pub mod Installed
 pub mod Emptied
 pub mod SoundWorld
+pub mod Told
