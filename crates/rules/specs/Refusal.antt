@@ -59,6 +59,11 @@ unfolding decide NoneHolds
 decide-append [] ys n = refl
 decide-append (b gives r ∷ ts) ys n = rw (n .0) (decide-append ts ys (n .1))
 
+pub none-append : (xs ys : List Test) → NoneHolds xs → NoneHolds ys → NoneHolds (xs ++ ys)
+unfolding NoneHolds
+none-append [] ys n m = m
+none-append (b gives r ∷ ts) ys n m = (n .0, none-append ts ys (n .1) m)
+
 pub given-when : (earlier : List Test) (r : Refusal) (later : List Test) → NoneHolds earlier → decide (earlier ++ (true gives r ∷ later)) ≡ Refused r
 unfolding decide
 given-when earlier r later n = decide-append earlier (true gives r ∷ later) n
