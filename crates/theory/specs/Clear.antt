@@ -12,11 +12,6 @@ unfolding NoneHolds
 none-split [] ys n = (tt, n)
 none-split (b gives r ∷ xs) ys n = let w = none-split xs ys (n .1) in ((n .0, w .0), w .1)
 
-pub none-join : (xs ys : List Test) → NoneHolds xs → NoneHolds ys → NoneHolds (xs ++ ys)
-unfolding NoneHolds
-none-join [] ys n m = m
-none-join (b gives r ∷ xs) ys n m = (n .0, none-join xs ys (n .1) m)
-
 -- no entry passes: none that is there does
 pub any-has : (p : Entry → Bool) (es : List Entry) → any p es ≡ false → (x l : ℕ) → Has es x l → p (record { id = x; location = l }) ≡ false
 unfolding any

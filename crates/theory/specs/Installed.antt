@@ -27,7 +27,8 @@ use Rattle.theory.specs.Counting.{count, count-same, count-none}
 use Rattle.theory.specs.Newest.{maskedAt, Newest, newest-iff, newest-one, newest-insert-all}
 use Rattle.theory.specs.Places.{viewAt, rowsIn, rowsOf, WellMade, Single, rising-single, Apart, Agrees, Filed, Stands, stands-has, has-stands, not-empty, holds-inj, own-file, isAt, in-own-range, in-no-other, found-in-range, distinct, masked-entry}
 use Rattle.theory.specs.Losing.{liveAt, rowsFor, Less, losing-length, losing-record, losing-live, losing-new}
-use Rattle.theory.specs.Picture.{Picture, Said, unheard, gone, body, broken, objectSays, placeSays, entrySays, fileSays, viewSays, slotSays, heldSays, pictureSays, newFile, added}
+use Rattle.rules.specs.WrittenLaws.{fileOfOps}
+use Rattle.theory.specs.Picture.{Picture, Said, unheard, gone, body, broken, objectSays, placeSays, entrySays, fileSays, viewSays, slotSays, heldSays, pictureSays, added}
 use Rattle.theory.specs.Sound.{Sound, newest-table, rising-table, table-rising, table-newest, table-stands, table-stands-has}
 
 -- what a file says goes before what was said
@@ -49,7 +50,7 @@ pub record Addable (capacity : ℕ) (p : Picture) (k lsn : ℕ) (os : List Op) :
   pub narrow : (x l : ℕ) → Has (rowsFor lsn 0 os) x l → x < 2 ^ 64
 
 module _ (capacity : ℕ) (p : Picture) (told : ℕ → Said) (s : Sound capacity p told) (k lsn g : ℕ) (os : List Op) (a : Addable capacity p k lsn os) where
-  new-made : WellMade (newFile lsn g os)
+  new-made : WellMade (fileOfOps lsn g os)
   unfolding newRecord
   new-made =
       let b = a .base in
@@ -63,13 +64,13 @@ module _ (capacity : ℕ) (p : Picture) (told : ℕ → Said) (s : Sound capacit
         inside = λ x r h. let w = entries-of-inside 0 os x r h in omega arith;
       }
 
-  view-new : viewAt (added lsn g p k os .views) k ≡ holds (newFile lsn g os)
+  view-new : viewAt (added lsn g p k os .views) k ≡ holds (fileOfOps lsn g os)
   unfolding added
-  view-new = getD-set-same (p .views) k (holds (newFile lsn g os)) empty (a .slot)
+  view-new = getD-set-same (p .views) k (holds (fileOfOps lsn g os)) empty (a .slot)
 
   view-old : (j : ℕ) → (j ≡ k → ⊥) → viewAt (added lsn g p k os .views) j ≡ viewAt (p .views) j
   unfolding added
-  view-old j n = getD-set-other (p .views) k j (holds (newFile lsn g os)) empty n
+  view-old j n = getD-set-other (p .views) k j (holds (fileOfOps lsn g os)) empty n
 
   in-records : k < length (losing (p .table) os (p .records))
   in-records = let x = losing-length (p .table) os (p .records) in let y = s .filed .fits in let z = a .slot in omega arith
@@ -82,7 +83,7 @@ module _ (capacity : ℕ) (p : Picture) (told : ℕ → Said) (s : Sound capacit
   unfolding added
   record-old j n = getD-set-other (losing (p .table) os (p .records)) k j (newRecord lsn g os) emptyRecord n
 
-  is-new : (j : ℕ) (h : File) → viewAt (added lsn g p k os .views) j ≡ holds h → j ≡ k → newFile lsn g os ≡ h
+  is-new : (j : ℕ) (h : File) → viewAt (added lsn g p k os .views) j ≡ holds h → j ≡ k → fileOfOps lsn g os ≡ h
   is-new j h e z = holds-inj (sym view-new ∙ ap (viewAt (added lsn g p k os .views)) (sym z) ∙ e)
 
   agrees-less : (v : View) (r t : Record) → Agrees v r → Less r t → Agrees v t
@@ -94,7 +95,7 @@ module _ (capacity : ℕ) (p : Picture) (told : ℕ → Said) (s : Sound capacit
   agrees-less (damaged n) r t h z = h
   agrees-less (holds c) r t h z = z .same ∙ ap (λ (r : Record). withLive r (t .live)) h
 
-  apart-new : (j : ℕ) (h : File) → viewAt (p .views) j ≡ holds h → Apart (newFile lsn g os) h
+  apart-new : (j : ℕ) (h : File) → viewAt (p .views) j ≡ holds h → Apart (fileOfOps lsn g os) h
   unfolding newRecord
   apart-new j h e = let u = s .above j h e in let v = a .base in inr (omega arith)
 
@@ -102,7 +103,7 @@ module _ (capacity : ℕ) (p : Picture) (told : ℕ → Said) (s : Sound capacit
   filed-fits : length (added lsn g p k os .views) ≤ length (added lsn g p k os .records)
   unfolding added
   filed-fits =
-      let u = length-set (p .views) k (holds (newFile lsn g os)) in
+      let u = length-set (p .views) k (holds (fileOfOps lsn g os)) in
       let v = length-set (losing (p .table) os (p .records)) k (newRecord lsn g os) in
       let x = losing-length (p .table) os (p .records) in
       let y = s .filed .fits in
@@ -151,7 +152,7 @@ module _ (capacity : ℕ) (p : Picture) (told : ℕ → Said) (s : Sound capacit
   unfolding newRecord
   stands-new x l h =
       let z = absolute-has lsn (entriesOf 0 os) x l h in
-      record { file = newFile lsn g os; raw = z .0; shows = view-new; entry = z .1; located = z .2 }
+      record { file = fileOfOps lsn g os; raw = z .0; shows = view-new; entry = z .1; located = z .2 }
 
   rows-split : (x l : ℕ) → Has (rowsOf (added lsn g p k os .views)) x l → Has (rowsOf (p .views)) x l ⊎ Has (rowsFor lsn 0 os) x l
   unfolding newRecord
@@ -159,7 +160,7 @@ module _ (capacity : ℕ) (p : Picture) (told : ℕ → Said) (s : Sound capacit
     where
       at : (j : ℕ) (t : Stands (added lsn g p k os .views) x l j) → (j ≡ k) ⊎ (j ≡ k → ⊥) → Has (rowsOf (p .views)) x l ⊎ Has (rowsFor lsn 0 os) x l
       at j t (inl z) =
-          let e : t .file ≡ newFile lsn g os = sym (is-new j (t .file) (t .shows) z) in
+          let e : t .file ≡ fileOfOps lsn g os = sym (is-new j (t .file) (t .shows) z) in
           inr (subst (λ (c : File). Has (rowsIn c) x l) e
           (subst (Has (rowsIn (t .file)) x) (sym (t .located)) (has-absolute (t .file .label .lsn) (t .file .entries) x (t .raw) (t .entry))))
       at j t (inr z) =
@@ -184,7 +185,7 @@ module _ (capacity : ℕ) (p : Picture) (told : ℕ → Said) (s : Sound capacit
       let n = absolute-has lsn (entriesOf 0 os) x l h in
       let z = table-stands capacity p told s x m e in
       let t = z .1 in
-      let u = masked-entry (newFile lsn g os) new-made x (n .0) (n .1) in
+      let u = masked-entry (fileOfOps lsn g os) new-made x (n .0) (n .1) in
       let v = masked-entry (t .file) (s .filed .made (z .0) (t .file) (t .shows)) x (t .raw) (t .entry) in
       let i = s .filed .made (z .0) (t .file) (t .shows) .inside x (t .raw) (t .entry) in
       let b = a .base in
@@ -214,7 +215,7 @@ module _ (capacity : ℕ) (p : Picture) (told : ℕ → Said) (s : Sound capacit
   old-outside x m e =
       let z = table-stands capacity p told s x m e in
       let t = stands-old x m (z .0) (z .1) in
-      in-no-other (added lsn g p k os .views) (added lsn g p k os .records) filed-added x m (z .0) k (t .1) (newFile lsn g os) view-new (λ q. t .0 (sym q))
+      in-no-other (added lsn g p k os .views) (added lsn g p k os .records) filed-added x m (z .0) k (t .1) (fileOfOps lsn g os) view-new (λ q. t .0 (sym q))
 
   new-inside : (x l : ℕ) → Has (rowsFor lsn 0 os) x l → inRange (newRecord lsn g os) (maskedAt l) ≡ true
   unfolding newRecord stands-new objectsOf
@@ -253,7 +254,7 @@ module _ (capacity : ℕ) (p : Picture) (told : ℕ → Said) (s : Sound capacit
       go (inr z) = ap (λ (r : Record). r .live) (record-old j z) ∙ counted-old j h z (sym (view-old j z) ∙ e)
 
   -- ---- what is said
-  over-entry : (r x : ℕ) (t : Said) → over (entrySays (newFile lsn g os) (Mapped r) x) t ≡ entrySays (newFile lsn g os) (Mapped r) x
+  over-entry : (r x : ℕ) (t : Said) → over (entrySays (fileOfOps lsn g os) (Mapped r) x) t ≡ entrySays (fileOfOps lsn g os) (Mapped r) x
   over-entry r x t = go (deleteOf r) (decide (objectTests x (storedAt (positionOf r) (drop (positionOf r) (objectsOf os)))))
     where
       go : (b : Bool) (c : Answer)
@@ -281,7 +282,7 @@ module _ (capacity : ℕ) (p : Picture) (told : ℕ → Said) (s : Sound capacit
           ap (λ (v : View). viewSays v (positionOf l - recordAt (added lsn g p k os .records) j .lsn) x) (view-old j n)
           ∙ ap (λ (i : ℕ). viewSays (viewAt (p .views) j) (positionOf l - i) x) m
 
-  new-says : (x r : ℕ) → Has (entriesOf 0 os) x r → heldSays (added lsn g p k os) (Mapped (r + 2 * lsn)) x ≡ entrySays (newFile lsn g os) (Mapped r) x
+  new-says : (x r : ℕ) → Has (entriesOf 0 os) x r → heldSays (added lsn g p k os) (Mapped (r + 2 * lsn)) x ≡ entrySays (fileOfOps lsn g os) (Mapped r) x
   unfolding newRecord
   new-says x r h =
       let y : fileFor (added lsn g p k os .records) (r + 2 * lsn) ≡ Is k
@@ -293,7 +294,7 @@ module _ (capacity : ℕ) (p : Picture) (told : ℕ → Said) (s : Sound capacit
       ∙ ap (pick (deleteOf r) gone) (
       ap (λ (o : Slot). slotSays (added lsn g p k os) o (r + 2 * lsn) x) y
       ∙ ap (λ (v : View). viewSays v ((r + 2 * lsn) / 2 - recordAt (added lsn g p k os .records) k .lsn) x) view-new
-      ∙ ap (λ (n : ℕ). placeSays (newFile lsn g os) n x) c)
+      ∙ ap (λ (n : ℕ). placeSays (fileOfOps lsn g os) n x) c)
 
   table-lookup : (x : ℕ) → lookup (insertAll (p .table) (rowsFor lsn 0 os)) x ≡ orElse (shiftHeld lsn (lookup (entriesOf 0 os) x)) (lookup (p .table) x)
   table-lookup x =
@@ -301,13 +302,13 @@ module _ (capacity : ℕ) (p : Picture) (told : ℕ → Said) (s : Sound capacit
       ∙ ap (λ (o : Held). orElse o (lookup (p .table) x)) (lookup-absolute lsn (entriesOf 0 os) x)
 
   -- LAW: of each id the file's entry is read, or else what was read before
-  pub says-added : (x : ℕ) → heldSays (added lsn g p k os) (lookup (insertAll (p .table) (rowsFor lsn 0 os)) x) x ≡ over (fileSays (newFile lsn g os) x) (pictureSays p x)
+  pub says-added : (x : ℕ) → heldSays (added lsn g p k os) (lookup (insertAll (p .table) (rowsFor lsn 0 os)) x) x ≡ over (fileSays (fileOfOps lsn g os) x) (pictureSays p x)
   unfolding pictureSays fileSays
   says-added x = ap (λ (o : Held). heldSays (added lsn g p k os) o x) (table-lookup x) ∙ go (lookup (entriesOf 0 os) x) refl
     where
       go : (o : Held) → lookup (entriesOf 0 os) x ≡ o
           → heldSays (added lsn g p k os) (orElse (shiftHeld lsn o) (lookup (p .table) x)) x
-          ≡ over (entrySays (newFile lsn g os) o x) (heldSays p (lookup (p .table) x) x)
+          ≡ over (entrySays (fileOfOps lsn g os) o x) (heldSays p (lookup (p .table) x) x)
       go Unmapped h = old-says x (lookup (p .table) x) refl
       go (Mapped r) h = new-says x r (lookup-has (entriesOf 0 os) x r h) ∙ sym (over-entry r x (heldSays p (lookup (p .table) x) x))
 
@@ -341,7 +342,7 @@ module _ (capacity : ℕ) (p : Picture) (told : ℕ → Said) (s : Sound capacit
       go Unmapped e d = s .narrow x l (lookup-has (p .table) x l d)
 
   -- LAW: the invariant after a file is added
-  pub sound-added : Sound capacity (added lsn g p k os) (λ x. over (fileSays (newFile lsn g os) x) (told x))
+  pub sound-added : Sound capacity (added lsn g p k os) (λ x. over (fileSays (fileOfOps lsn g os) x) (told x))
   unfolding added pictureSays
   sound-added = record {
     filed = filed-added;
@@ -353,5 +354,5 @@ module _ (capacity : ℕ) (p : Picture) (told : ℕ → Said) (s : Sound capacit
     room = a .room;
     narrow = narrow-added;
     counted = counted-added;
-    says = λ x. says-added x ∙ ap (over (fileSays (newFile lsn g os) x)) (s .says x);
+    says = λ x. says-added x ∙ ap (over (fileSays (fileOfOps lsn g os) x)) (s .says x);
   }

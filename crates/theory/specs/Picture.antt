@@ -5,11 +5,12 @@ use Rattle.theory.specs.Types.{Entry, Record, Refusal, NotThere, Held, M
 use Rattle.disk_location.specs.Locations.{positionOf, deleteOf}
 use Rattle.rules.specs.Refusal.{decide, after}
 use Rattle.rules.specs.Object.{Stored, storedAt}
-use Rattle.rules.specs.Ops.{Content, put, delete, Op, objectsOf, entriesOf}
+use Rattle.rules.specs.Ops.{Content, put, delete, Op, objectsOf}
 use Rattle.rules.specs.SettledLaws.{Last, silent, last}
+use Rattle.rules.specs.WrittenLaws.{fileOfOps}
 use Rattle.rules.specs.SlotFile.{File, View, empty, damaged, holds, viewsIn}
 use Rattle.rules.specs.Table.{lookup, insertAll}
-use Rattle.rules.specs.FileMap.{recordAt, withLive, fileFor}
+use Rattle.rules.specs.FileMap.{recordAt, fileFor}
 use Rattle.rules.specs.Install.{newRecord, losing}
 use Rattle.rules.specs.Read.{objectTests}
 use Rattle.rules.specs.World.{World, recordsOf, mappings, slotsOf}
@@ -77,12 +78,9 @@ lastSays (last (put b)) = body b
 lastSays (last delete) = gone
 
 -- ---- a file of operations added in slot k
-abbrev pub newFile : ℕ → ℕ → List Op → File
-newFile lsn generation os = record { label = withLive (newRecord lsn generation os) 0; entries = entriesOf 0 os; objects = objectsOf os }
-
 unfoldable pub added : ℕ → ℕ → Picture → ℕ → List Op → Picture
 added lsn generation p k os = record {
-  views = set (p .views) k (holds (newFile lsn generation os));
+  views = set (p .views) k (holds (fileOfOps lsn generation os));
   records = set (losing (p .table) os (p .records)) k (newRecord lsn generation os);
   table = insertAll (p .table) (rowsFor lsn 0 os);
   next = p .next + (length (objectsOf os) + 1);

@@ -26,7 +26,8 @@ use Rattle.theory.specs.Clear.{none-split}
 use Rattle.theory.specs.Counting.{count, count-same}
 use Rattle.theory.specs.Newest.{maskedAt, Newest}
 use Rattle.theory.specs.Places.{viewAt, rowsOf, WellMade, Agrees, Filed, Stands, stands-has, has-stands, own-file, isAt, found-in-range, distinct, masked-pos, holds-lt, holds-inj, not-empty}
-use Rattle.theory.specs.Slots.{views-length, view-at, seen, seen-made}
+use Rattle.rules.specs.SlotLaws.{views-length, views-at}
+use Rattle.theory.specs.Slots.{seen, seen-made}
 use Rattle.theory.specs.Files.{any-file, undamaged, overlap-apart, clear-single, next-above, record-from, records-from-length}
 use Rattle.theory.specs.Losing.{liveAt}
 use Rattle.theory.specs.Picture.{viewsOf}
@@ -99,7 +100,7 @@ pub shown-made : (n size : ℕ) (heap : List ℕ) (k : ℕ) (f : File) → viewA
 shown-made n size heap k f h =
     let l = holds-lt (viewsIn n size heap) k f h in
     let m = views-length n size heap in
-    let e = view-at n size heap k (omega arith) in
+    let e = views-at n size heap k (omega arith) in
     seen-made (slotBytes size heap k) f (seen (slotBytes size heap k) f (sym e ∙ h))
 
 -- every entry of a table of well made files has a location

@@ -1,35 +1,17 @@
--- What a slot shows: the view of each slot by its own bytes, and what a file that is shown went through.
+-- What a file that a slot shows went through.
 use mathlib.Core.Path.{_≡_, refl, sym, ap, _∙_, subst}
-use Prim.Native.Nat.{_<_, _≤_}
-use native.Mathlib.Omega.{arith}
-use lib.Seq.{drop-drop}
 use borrow.Author.Tests.{ltb-false, eqb-true, not-false}
-use Rattle.rules.specs.Base.{Bool, true, false, not, List, [], _∷_, _++_, ℕ, zero, suc, _+_, _*_, length, take, drop, ltb, eqb, any}
+use Rattle.rules.specs.Base.{Bool, true, false, not, List, ℕ, length, take, ltb, eqb, any}
 use Rattle.theory.specs.Types.{Entry, Record, Refusal, Answer, Done, Refused, Label, Vacant, Five, Wrong}
 use Rattle.disk_location.specs.Locations.{positionOf}
 use Rattle.rules.specs.Refusal.{Test, decide, after, NoneHolds, clear-when}
 use Rattle.rules.specs.Label.{labelIn, outOfBounds}
 use Rattle.rules.specs.LabelLaws.{InBounds, in-bounds}
 use Rattle.rules.specs.Trailer.{trailerTests}
-use Rattle.rules.specs.SlotFile.{slotBytes, objectPart, trailerPart, trailerEntries, File, View, empty, damaged, holds, slotTests, viewBy, viewIn, viewsIn}
+use Rattle.rules.specs.SlotFile.{objectPart, trailerPart, trailerEntries, File, View, empty, damaged, holds, slotTests, viewBy, viewIn}
 use Rattle.rules.specs.TableLaws.{Has}
 use Rattle.theory.specs.Clear.{none-split, any-has}
-use Rattle.theory.specs.Places.{viewAt, WellMade, holds-inj, not-empty, not-damaged}
-
-pub views-length : (n size : ℕ) (heap : List ℕ) → length (viewsIn n size heap) ≡ n
-unfolding viewsIn
-views-length zero size heap = refl
-views-length (suc n) size heap = ap suc (views-length n size (drop size heap))
-
--- LAW: slot k's view is that of its own bytes
-pub view-at : (n size : ℕ) (heap : List ℕ) (k : ℕ) → k < n → viewAt (viewsIn n size heap) k ≡ viewIn (slotBytes size heap k)
-unfolding viewsIn slotBytes
-view-at zero size heap k h = absurd (omega arith)
-view-at (suc n) size heap zero h = let z : 0 ≡ 0 * size = omega arith in ap (λ (m : ℕ). viewIn (take size (drop m heap))) z
-view-at (suc n) size heap (suc k) h =
-    let z : size + k * size ≡ suc k * size = omega arith in
-    view-at n size (drop size heap) k (omega arith)
-    ∙ ap (λ (bs : List ℕ). viewIn (take size bs)) (drop-drop (k * size) size heap ∙ ap (λ (m : ℕ). drop m heap) z)
+use Rattle.theory.specs.Places.{WellMade, holds-inj, not-empty, not-damaged}
 
 -- what a file that is shown went through
 pub record Seen (slot : List ℕ) (f : File) : Type 0 where

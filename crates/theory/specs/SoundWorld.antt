@@ -4,7 +4,6 @@ use mathlib.Core.Bool.{true≢false}
 use mathlib.Core.Logic.{_⊎_, inl, inr}
 use Prim.Native.Nat.{_<_, _≤_, zero-le}
 use native.Mathlib.Omega.{arith}
-use native.Mathlib.Nat.{min-eq-left}
 use lib.ListN.{length-take, length-drop}
 use borrow.Author.Tests.{ltb-false}
 use Rattle.rules.specs.Base.{Bool, true, false, List, [], _∷_, ℕ, zero, suc, _+_, _-_, _*_, length, take, drop}
@@ -25,7 +24,8 @@ use Rattle.rules.specs.World.{World, recordsOf, mappings, slotsOf}
 use Rattle.theory.specs.Counting.{count-le}
 use Rattle.theory.specs.Newest.{maskedAt}
 use Rattle.theory.specs.Places.{viewAt, holds-lt, record-holds, record-empty, no-damage}
-use Rattle.theory.specs.Slots.{views-length, view-at, Seen, seen, seen-bounds, seen-trailer, seen-present}
+use Rattle.rules.specs.SlotLaws.{slot-length, views-length, views-at}
+use Rattle.theory.specs.Slots.{Seen, seen, seen-bounds, seen-trailer, seen-present}
 use Rattle.theory.specs.Picture.{Picture, viewsOf, pictureOf, Said}
 use Rattle.theory.specs.Sound.{Sound}
 
@@ -43,12 +43,8 @@ pub record SoundWorld (w : World) (told : ℕ → Said) : Type 0 where
   pub sound : Sound (capacityOf (w .table)) (pictureOf w) told
 
 -- a slot of the heap has S bytes
-pub slot-length : (w : World) → Tidy w → (k : ℕ) → k < slotsOf w → length (slotBytes (w .settings .«slot_bytes») (w .heap) k) ≡ w .settings .«slot_bytes»
-unfolding slotBytes
-slot-length w t k h =
-    let a = slot-within (w .settings) (length (w .heap)) k (t .limits .heap) h in
-    let b = length-drop (k * w .settings .«slot_bytes») (w .heap) in
-    length-take (w .settings .«slot_bytes») (drop (k * w .settings .«slot_bytes») (w .heap)) ∙ min-eq-left (omega arith)
+pub slot-whole : (w : World) → Tidy w → (k : ℕ) → k < slotsOf w → length (slotBytes (w .settings .«slot_bytes») (w .heap) k) ≡ w .settings .«slot_bytes»
+slot-whole w t k h = slot-length (w .settings .«slot_bytes») (w .heap) k (slot-within (w .settings) (length (w .heap)) k (t .limits .heap) h)
 
 -- the file that slot k shows, by the slot's bytes
 pub shown : (w : World) (k : ℕ) (f : File) → viewAt (viewsOf w) k ≡ holds f → (k < slotsOf w) × Seen (slotBytes (w .settings .«slot_bytes») (w .heap) k) f
@@ -56,7 +52,7 @@ shown w k f h =
     let l = holds-lt (viewsOf w) k f h in
     let m = views-length (slotsOf w) (w .settings .«slot_bytes») (w .heap) in
     let i : k < slotsOf w = omega arith in
-    (i, seen (slotBytes (w .settings .«slot_bytes») (w .heap) k) f (sym (view-at (slotsOf w) (w .settings .«slot_bytes») (w .heap) k i) ∙ h))
+    (i, seen (slotBytes (w .settings .«slot_bytes») (w .heap) k) f (sym (views-at (slotsOf w) (w .settings .«slot_bytes») (w .heap) k i) ∙ h))
 
 -- ---- no more entries than the trailer has room for
 entries-from-length : (k : ℕ) (bytes : List ℕ) → length (entriesFrom k bytes) ≤ k
@@ -95,7 +91,7 @@ module _ (w : World) (told : ℕ → Said) (s : SoundWorld w told) where
   pub shown-bounds : (k : ℕ) (f : File) → viewAt (viewsOf w) k ≡ holds f → InBounds (w .settings .«slot_bytes») (f .label)
   shown-bounds k f h =
       let z = shown w k f h in
-      subst (λ (n : ℕ). InBounds n (f .label)) (slot-length w (s .tidy) k (z .0)) (seen-bounds (slotBytes (w .settings .«slot_bytes») (w .heap) k) f (z .1))
+      subst (λ (n : ℕ). InBounds n (f .label)) (slot-whole w (s .tidy) k (z .0)) (seen-bounds (slotBytes (w .settings .«slot_bytes») (w .heap) k) f (z .1))
 
   live-fits : (k : ℕ) (f : File) → viewAt (viewsOf w) k ≡ holds f → recordAt (recordsOf w) k .live ≤ capacityOf (w .table)
   unfolding mappedInto

@@ -5,21 +5,21 @@ use mathlib.Core.List.{append-nil}
 use Prim.Native.Nat.{_<_, _≤_}
 use native.Mathlib.Nat.{sub-zero}
 use native.Mathlib.Omega.{arith}
-use borrow.Author.Tests.{eq-eqb, ne-eqb, le-ltb}
+use borrow.Author.Tests.{eq-eqb, ne-eqb}
 use Rattle.rules.specs.Base.{Bool, true, false, not, List, [], _∷_, _++_, ℕ, suc, _+_, _-_, _*_, _%_, _^_, length, drop, ltb, eqb, pick}
-use Rattle.theory.specs.Types.{Entry, Refusal, CutShort, Checksum, OtherId, Answer, Done, Refused, Held, Mapped, Unmapped}
+use Rattle.theory.specs.Types.{Answer, Held, Mapped, Unmapped}
 use Rattle.disk_location.specs.Locations.{positionOf, deleteOf, rawOf}
 use Rattle.rules.specs.BaseLaws.{same?}
-use Rattle.rules.specs.Refusal.{_gives_, decide, after}
-use Rattle.rules.specs.Object.{Stored, storedAt, badChecksum}
-use Rattle.rules.specs.ObjectLaws.{storedObject, stored-back, stored-good}
+use Rattle.rules.specs.Refusal.{decide, after, decide-clear}
+use Rattle.rules.specs.Object.{storedAt}
+use Rattle.rules.specs.ObjectLaws.{storedObject, stored-back}
 use Rattle.rules.specs.Ops.{Content, put, delete, Op, isDelete, sizeOf, objectsOf, entriesOf}
 use Rattle.rules.specs.OpsLaws.{RisingOps, ops-rise, IdsFit, Stands, Of, entry-stands, stands-inside, stands-bytes}
 use Rattle.rules.specs.SettledLaws.{Last, silent, last, orEarlier, saidBy, lastOn}
 use Rattle.rules.specs.Table.{lookup}
 use Rattle.rules.specs.TableLaws.{Has, lookup-here, lookup-next, lookup-has, mapped-not}
-use Rattle.rules.specs.Read.{objectTests}
-use Rattle.theory.specs.Picture.{Said, unheard, gone, body, broken, objectSays, placeSays, entrySays, fileSays, lastSays, newFile}
+use Rattle.rules.specs.WrittenLaws.{fileOfOps, read-clear}
+use Rattle.theory.specs.Picture.{Said, unheard, gone, body, broken, objectSays, placeSays, entrySays, fileSays, lastSays}
 use Rattle.theory.specs.Installed.{over}
 
 -- ---- the last operation on an id, where ids rise
@@ -71,22 +71,15 @@ over-last (last (put c)) b = refl
 over-last (last delete) b = refl
 
 -- ---- what was written is read
-object-tests : (position x : ℕ) (b : List ℕ) (behind : ℕ) → decide (objectTests x (storedObject position x b behind)) ≡ Done
-unfolding objectTests decide
-object-tests position x b behind =
-    let r : 20 ≤ 20 + length b + behind = omega arith in
-    let t : 20 + length b ≤ 20 + length b + behind = omega arith in
-    rw (le-ltb (20 + length b + behind) 20 r, le-ltb (20 + length b + behind) (20 + length b) t, stored-good position x b behind, eq-eqb x x refl) refl
-
 delete-raw : (p : ℕ) (b : Bool) → deleteOf (rawOf p b) ≡ b
 delete-raw p true = let z : (p * 2 + 1) % 2 ≡ 1 = omega arith in rw z refl
 delete-raw p false = let z : (p * 2 + 0) % 2 ≡ 0 = omega arith in rw z refl
 
 entry-says : (lsn g : ℕ) (os : List Op) (x r : ℕ) → IdsFit os → length (objectsOf os) < 2 ^ 64 → x < 2 ^ 64 → (w : Of 0 os x r)
-    → entrySays (newFile lsn g os) (Mapped r) x ≡ lastSays (last (w .content))
+    → entrySays (fileOfOps lsn g os) (Mapped r) x ≡ lastSays (last (w .content))
 entry-says lsn g os x r i n t w = go (w .content) (w .stands) (w .location)
   where
-    go : (c : Content) → Stands 0 os x c (positionOf r) → r ≡ rawOf (positionOf r) (isDelete c) → pick (deleteOf r) gone (placeSays (newFile lsn g os) (positionOf r) x) ≡ lastSays (last c)
+    go : (c : Content) → Stands 0 os x c (positionOf r) → r ≡ rawOf (positionOf r) (isDelete c) → pick (deleteOf r) gone (placeSays (fileOfOps lsn g os) (positionOf r) x) ≡ lastSays (last c)
     go delete s e = let d : deleteOf r ≡ true = ap deleteOf e ∙ delete-raw (positionOf r) true in rw d refl
     go (put b) s e =
         let d : deleteOf r ≡ false = ap deleteOf e ∙ delete-raw (positionOf r) false in
@@ -95,9 +88,9 @@ entry-says lsn g os x r i n t w = go (w .content) (w .stands) (w .location)
         let m : length b < 2 ^ 64 = omega (arith, v .1) in
         let o : storedAt (positionOf r) (drop (positionOf r) (objectsOf os)) ≡ storedObject (positionOf r) x b (length (y .0))
         = ap (storedAt (positionOf r)) (ap (λ (k : ℕ). drop k (objectsOf os)) (sym (sub-zero (positionOf r))) ∙ y .1) ∙ stored-back (positionOf r) x b (y .0) t m in
-        ap (λ (c : Bool). pick c gone (placeSays (newFile lsn g os) (positionOf r) x)) d
+        ap (λ (c : Bool). pick c gone (placeSays (fileOfOps lsn g os) (positionOf r) x)) d
         ∙ ap (objectSays x) o
-        ∙ ap (λ (a : Answer). after a broken (body b)) (object-tests (positionOf r) x b (length (y .0)))
+        ∙ ap (λ (a : Answer). after a broken (body b)) (decide-clear _ (read-clear (positionOf r) x b (length (y .0))))
 
 ids-fit : (os : List Op) → IdsFit os → (q x r : ℕ) → Has (entriesOf q os) x r → x < 2 ^ 64
 unfolding entriesOf
@@ -106,11 +99,11 @@ ids-fit (o ∷ os) i q x r (inl (a, b)) = subst (λ (n : ℕ). n < 2 ^ 64) a (i 
 ids-fit (o ∷ os) i q x r (inr h) = ids-fit os (i .1) (q + sizeOf (o .content)) x r h
 
 -- LAW: a file of operations says what the operations say
-pub file-says : (lsn g : ℕ) (os : List Op) → RisingOps 0 os → IdsFit os → length (objectsOf os) < 2 ^ 64 → (x : ℕ) → fileSays (newFile lsn g os) x ≡ lastSays (lastOn os x)
+pub file-says : (lsn g : ℕ) (os : List Op) → RisingOps 0 os → IdsFit os → length (objectsOf os) < 2 ^ 64 → (x : ℕ) → fileSays (fileOfOps lsn g os) x ≡ lastSays (lastOn os x)
 unfolding fileSays
 file-says lsn g os r i n x = go (lookup (entriesOf 0 os) x) refl
   where
-    go : (o : Held) → lookup (entriesOf 0 os) x ≡ o → entrySays (newFile lsn g os) o x ≡ lastSays (lastOn os x)
+    go : (o : Held) → lookup (entriesOf 0 os) x ≡ o → entrySays (fileOfOps lsn g os) o x ≡ lastSays (lastOn os x)
     go Unmapped h = ap lastSays (sym (last-none 0 os x h))
     go (Mapped l) h =
         let a = lookup-has (entriesOf 0 os) x l h in
