@@ -14,3 +14,5 @@ pub mod Installed
 pub mod Emptied
 pub mod SoundWorld
 pub mod Told
+pub mod SameIds
+pub mod Adding

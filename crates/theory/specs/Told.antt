@@ -92,7 +92,8 @@ entry-says lsn g os x r i n t w = go (w .content) (w .stands) (w .location)
         ∙ ap (objectSays x) o
         ∙ ap (λ (a : Answer). after a broken (body b)) (decide-clear _ (read-clear (positionOf r) x b (length (y .0))))
 
-ids-fit : (os : List Op) → IdsFit os → (q x r : ℕ) → Has (entriesOf q os) x r → x < 2 ^ 64
+-- ids of 64 bits
+pub ids-fit : (os : List Op) → IdsFit os → (q x r : ℕ) → Has (entriesOf q os) x r → x < 2 ^ 64
 unfolding entriesOf
 ids-fit [] i q x r h = absurd h
 ids-fit (o ∷ os) i q x r (inl (a, b)) = subst (λ (n : ℕ). n < 2 ^ 64) a (i .0)
