@@ -16,3 +16,5 @@ pub mod SoundWorld
 pub mod Told
 pub mod SameIds
 pub mod Adding
+pub mod BatchIds
+pub mod Writing
