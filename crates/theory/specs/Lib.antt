@@ -18,3 +18,4 @@ pub mod SameIds
 pub mod Adding
 pub mod BatchIds
 pub mod Writing
+pub mod Again
