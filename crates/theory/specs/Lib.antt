@@ -19,3 +19,4 @@ pub mod Adding
 pub mod BatchIds
 pub mod Writing
 pub mod Again
+pub mod Pruning
