@@ -75,6 +75,22 @@ abbrev pub All : {A : Type 0} → (A → Type 0) → List A → Type 0
 All P [] = Unit {0}
 All P (x ∷ xs) = P x × All P xs
 
+-- what each has, each has by what follows from it
+pub all-map : {A : Type 0} (P Q : A → Type 0) (xs : List A) → ((x : A) → P x → Q x) → All P xs → All Q xs
+all-map P Q [] f a = tt
+all-map P Q (x ∷ xs) f a = (f x (a .0), all-map P Q xs f (a .1))
+
+-- none passes
+pub any-false : {A : Type 0} (f : A → Bool) (xs : List A) → any f xs ≡ false → All (λ (x : A). f x ≡ false) xs
+unfolding any
+any-false f [] e = tt
+any-false f (x ∷ xs) e = let w = or-false (f x) (any f xs) e in (w .0, any-false f xs (w .1))
+
+pub any-clear : {A : Type 0} (f : A → Bool) (xs : List A) → All (λ (x : A). f x ≡ false) xs → any f xs ≡ false
+unfolding any
+any-clear f [] a = refl
+any-clear f (x ∷ xs) a = or-clear (f x) (any f xs) (a .0) (any-clear f xs (a .1))
+
 -- ---- zeros
 pub zeros-cons : (n : ℕ) (ns : List ℕ) → zeros (n ∷ ns) ≡ (eqb n 0 && zeros ns)
 unfolding zeros any

@@ -64,6 +64,16 @@ unfolding NoneHolds
 none-append [] ys n m = m
 none-append (b gives r ∷ ts) ys n m = (n .0, none-append ts ys (n .1) m)
 
+pub none-first : (xs ys : List Test) → NoneHolds (xs ++ ys) → NoneHolds xs
+unfolding NoneHolds
+none-first [] ys n = tt
+none-first (b gives r ∷ ts) ys n = (n .0, none-first ts ys (n .1))
+
+pub none-rest : (xs ys : List Test) → NoneHolds (xs ++ ys) → NoneHolds ys
+unfolding NoneHolds
+none-rest [] ys n = n
+none-rest (b gives r ∷ ts) ys n = none-rest ts ys (n .1)
+
 pub given-when : (earlier : List Test) (r : Refusal) (later : List Test) → NoneHolds earlier → decide (earlier ++ (true gives r ∷ later)) ≡ Refused r
 unfolding decide
 given-when earlier r later n = decide-append earlier (true gives r ∷ later) n
