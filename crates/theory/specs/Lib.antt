@@ -16,7 +16,6 @@ pub mod SoundWorld
 pub mod Told
 pub mod SameIds
 pub mod Adding
-pub mod BatchIds
 pub mod Writing
 pub mod Again
 pub mod Pruning

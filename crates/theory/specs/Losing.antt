@@ -62,12 +62,6 @@ less-file : (o : Slot) (rs : List Record) (l : ℕ) → fileFor (lessLive o rs) 
 less-file o rs l = file-same (lessLive o rs) rs (less-live-length o rs) (λ j. ap (λ (r : Record). r .lsn) (less-at o rs j)) l
 
 -- ---- all that are replaced
-pub losing-length : (t : List Entry) (os : List Op) (rs : List Record) → length (losing t os rs) ≡ length rs
-unfolding losing
-losing-length t [] rs = refl
-losing-length t (o ∷ os) rs =
-    losing-length t os (lessLive (fileHolding rs (lookup t (o .id))) rs) ∙ less-live-length (fileHolding rs (lookup t (o .id))) rs
-
 -- a record but for its live count, which does not grow
 pub record Less (r q : Record) : Type 0 where
   pub same : q ≡ withLive r (q .live)
