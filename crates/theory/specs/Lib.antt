@@ -19,3 +19,4 @@ pub mod Adding
 pub mod Writing
 pub mod Again
 pub mod Pruning
+pub mod Reading
