@@ -20,3 +20,4 @@ pub mod Writing
 pub mod Again
 pub mod Pruning
 pub mod Reading
+pub mod Fresh
