@@ -21,3 +21,4 @@ pub mod Again
 pub mod Pruning
 pub mod Reading
 pub mod Fresh
+pub mod History
