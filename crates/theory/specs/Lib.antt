@@ -22,3 +22,4 @@ pub mod Pruning
 pub mod Reading
 pub mod Fresh
 pub mod History
+pub mod Moving
