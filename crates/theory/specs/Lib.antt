@@ -23,3 +23,4 @@ pub mod Reading
 pub mod Fresh
 pub mod History
 pub mod Moving
+pub mod Shards
