@@ -10,6 +10,7 @@ use Rattle.rules.specs.SettledLaws.{lastOn}
 use Rattle.rules.specs.FileMap.{isEmpty, recordAt}
 use Rattle.rules.specs.Read.{readOf}
 use Rattle.rules.specs.Write.{writeCall}
+use Rattle.rules.specs.Maintenance.{maintainCall}
 use Rattle.rules.specs.Prune.{pruneCall}
 use Rattle.rules.specs.Claims.{claimCall, releaseCall}
 use Rattle.rules.specs.Reopen.{reopenCall}
@@ -19,6 +20,7 @@ use Rattle.theory.specs.Picture.{viewsOf}
 use Rattle.theory.specs.SoundWorld.{SoundWorld}
 use Rattle.theory.specs.Writing.{engine, heard, sound-write}
 use Rattle.theory.specs.Reading.{Reads, sound-read}
+use Rattle.theory.specs.Maintaining.{sound-maintain}
 use Rattle.theory.specs.Pruning.{file-slot, sound-prune, sound-claim, sound-release}
 use Rattle.theory.specs.Again.{again, reopen-accepted, sound-again}
 use Rattle.theory.specs.Fresh.{Blank, fresh, fresh-opens, sound-fresh}
@@ -26,6 +28,7 @@ use Rattle.theory.specs.Fresh.{Blank, fresh, fresh-opens, sound-fresh}
 -- the calls that change a store
 pub data Call : Type 0 where
   write : List ℕ → Call
+  maintain : Call
   prune : Call
   claim : ℕ → Call
   release : ℕ → Call
@@ -34,6 +37,7 @@ pub data Call : Type 0 where
 -- document 01's call, accepted or refused
 abbrev pub called : World → Call → After
 called w (write bytes) = writeCall w bytes
+called w maintain = maintainCall w
 called w prune = pruneCall w
 called w (claim slot) = claimCall w slot
 called w (release slot) = releaseCall w slot
@@ -42,6 +46,7 @@ called w reopen = reopenCall w
 -- the plain engine: the operations of all accepted writes, in order
 abbrev pub hears : World → List Op → Call → List Op
 hears w history (write bytes) = heard history bytes (writeCall w bytes .answer)
+hears w history maintain = history
 hears w history prune = history
 hears w history (claim slot) = history
 hears w history (release slot) = history
@@ -95,6 +100,7 @@ sound-kept w history s =
 -- each call keeps the invariant
 sound-called : (w : World) (history : List Op) (c : Call) → SoundWorld w (engine history) → SoundWorld (called w c .world) (engine (hears w history c))
 sound-called w history (write bytes) s = sound-write w history s bytes
+sound-called w history maintain s = sound-maintain history w s
 sound-called w history prune s = sound-prune w (engine history) s
 sound-called w history (claim slot) s = sound-claim w (engine history) s slot
 sound-called w history (release slot) s = sound-release w (engine history) s slot

@@ -21,6 +21,8 @@ pub mod Again
 pub mod Pruning
 pub mod Reading
 pub mod Fresh
-pub mod History
 pub mod Moving
 pub mod Shards
+pub mod Rewriting
+pub mod Maintaining
+pub mod History
