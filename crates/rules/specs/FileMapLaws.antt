@@ -1,6 +1,5 @@
 -- The file map: empty records, lookups and live counts, in a reader's words.
 use mathlib.Core.Path.{_≡_, refl, sym, ap, _∙_}
-use mathlib.Core.Bool.{false≢true}
 use mathlib.Core.Logic.{_⊎_, inl, inr}
 use Prim.Native.Nat.{_≤_, _<_, min}
 use native.Mathlib.Nat.{zero-add, le-of-suc-le-suc, not-suc-le-zero, eq-or-lt-of-le, min-le-left, min-le-right, le-min}
@@ -10,10 +9,10 @@ use lib.ListN.{drop-of-length-le, length-set, length-take}
 use lib.Seq.{drop-cons, getD-take}
 use borrow.Author.Tests.{ne-eqb, lt-ltb, le-ltb, le-leb, lt-leb, leb-true, leb-false, eqb-true, eqb-false}
 use Rattle.numbers.specs.GroupLaws.{either-way}
-use Rattle.rules.specs.Base.{Bool, true, false, _&&_, List, [], _∷_, ℕ, zero, suc, _+_, _-_, _*_, length, getD, set, take, drop, leb, ltb, eqb, pick, any, zeros}
+use Rattle.rules.specs.Base.{Bool, true, false, _&&_, List, [], _∷_, ℕ, zero, suc, _+_, _-_, _*_, length, getD, take, drop, leb, ltb, eqb, pick, any, zeros}
 use Rattle.rules.specs.Types.{Record, Slot, Is, NoSlot}
 use Rattle.rules.specs.BaseLaws.{zeros-true, zeros-cons, order}
-use Rattle.rules.specs.FileMap.{emptyRecord, isEmpty, recordAt, withLive, slotsWhere, emptySlots, lowestEmpty, Lead, leads, leadFrom, fileFor, lessLive}
+use Rattle.rules.specs.FileMap.{emptyRecord, isEmpty, recordAt, slotsWhere, emptySlots, lowestEmpty, Lead, leads, leadFrom, fileFor, lessLive}
 
 -- "An empty record is all zeros.", and only that one
 pub empty-is : (r : Record) → isEmpty r ≡ true → r ≡ emptyRecord
