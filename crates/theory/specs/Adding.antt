@@ -4,29 +4,26 @@ use mathlib.Core.Bool.{true≢false}
 use mathlib.Core.Logic.{_⊎_, inl, inr}
 use Prim.Native.Nat.{_<_, _≤_}
 use native.Mathlib.Omega.{arith}
-use Rattle.rules.specs.Base.{Bool, true, false, List, [], _∷_, map, ℕ, _+_, _-_, _*_, _^_, length, set}
-use Rattle.theory.specs.Types.{Entry, Record, Settings, State}
+use Rattle.rules.specs.Base.{true, List, ℕ, _+_, _-_, _^_, length, set}
+use Rattle.theory.specs.Types.{Record}
 use Rattle.disk_location.specs.Locations.{maskedOf}
 use Rattle.disk_location.specs.LocationLaws.{masked-plain, masked-batch}
 use Rattle.rules.specs.Settings.{slotsIn}
 use Rattle.rules.specs.SettingsLaws.{HeapInRange, heap-whole}
-use Rattle.rules.specs.LabelLaws.{InBounds}
 use Rattle.rules.specs.Ops.{Op, objectsOf, entriesOf, fileBytes}
 use Rattle.rules.specs.OpsLaws.{RisingOps, IdsFit, file-length}
-use Rattle.rules.specs.SlotFile.{File, View, empty, damaged, holds, viewsIn}
+use Rattle.rules.specs.SlotFile.{View, empty, damaged, holds, viewsIn}
 use Rattle.rules.specs.StoreLaws.{made-length}
 use Rattle.rules.specs.SlotLaws.{views-length}
 use Rattle.rules.specs.WrittenLaws.{Writable, fileOfOps, views-made}
 use Rattle.rules.specs.Table.{insertAll}
-use Rattle.rules.specs.TableLaws.{Has, rising-insert-all}
-use Rattle.rules.specs.Layout.{Buffers, capacityOf, laidOut, inForm, usedEntries}
-use Rattle.rules.specs.LayoutLaws.{LengthsInRange, Used, laid-out-ids, laid-out-locations, used-laid-out, form-laid-out}
-use Rattle.rules.specs.FileMap.{isEmpty, recordAt, withLive, lowestEmpty}
-use Rattle.rules.specs.FileMapLaws.{not-empty, Lowest, lowest-empty}
+use Rattle.rules.specs.TableLaws.{rising-insert-all}
+use Rattle.rules.specs.Layout.{capacityOf}
+use Rattle.rules.specs.LayoutLaws.{Used, laid-out-ids, laid-out-locations, used-laid-out, form-laid-out}
+use Rattle.rules.specs.FileMap.{isEmpty, recordAt}
+use Rattle.rules.specs.FileMapLaws.{not-empty, lowest-empty}
 use Rattle.rules.specs.Install.{newRecord, newSlot, newLsn, recordsWith, storesFor, tableWith, nextWith, installed, emptyOf}
-use Rattle.rules.specs.Reopen.{filesIn, tableOf}
-use Rattle.rules.specs.World.{World, recordsOf, mappings, slotsOf, stateWith}
-use Rattle.rules.specs.Condition1Laws.{InLimits}
+use Rattle.rules.specs.World.{World, recordsOf, mappings, slotsOf}
 use Rattle.theory.specs.Entries.{absolute-has}
 use Rattle.theory.specs.Places.{viewAt, masked-pos, record-holds, no-damage}
 use Rattle.theory.specs.Losing.{rowsFor}

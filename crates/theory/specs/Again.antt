@@ -1,29 +1,27 @@
 -- Reopening a store of the invariant: accepted, with the same table, records and live counts, and a next position above every file.
 use mathlib.Core.Path.{_≡_, refl, sym, ap, _∙_, subst}
-use Prim.Native.Nat.{_<_, _≤_}
+use Prim.Native.Nat.{_≤_}
 use native.Mathlib.Omega.{arith}
 use lib.Seq.{ext-getD}
 use borrow.Author.Tests.{le-ltb}
-use Rattle.rules.specs.Base.{Bool, true, false, List, [], _∷_, _++_, ℕ, _+_, length, ltb, any, each, pick}
-use Rattle.theory.specs.Types.{Entry, Record, Settings, State, FileMap, Refusal, Limits, Answer, Done, Refused, Held, Mapped, Unmapped, Slot, Is, NoSlot}
+use Rattle.rules.specs.Base.{List, [], ℕ, length, each, pick}
+use Rattle.theory.specs.Types.{Entry, Held, Mapped, Unmapped, Slot, Is, NoSlot}
 use Rattle.disk_location.specs.Locations.{deleteOf}
-use Rattle.rules.specs.Refusal.{Test, _gives_, decide, after, NoneHolds, decide-clear, none-append}
-use Rattle.rules.specs.Condition1.{outOfRange}
-use Rattle.rules.specs.Condition1Laws.{InLimits, limits-in}
+use Rattle.rules.specs.Refusal.{decide, NoneHolds, decide-clear, none-append}
+use Rattle.rules.specs.Condition1Laws.{limits-in}
 use Rattle.rules.specs.SlotFile.{File, View, empty, damaged, holds}
-use Rattle.rules.specs.SlotLaws.{views-length}
 use Rattle.rules.specs.Table.{lookup}
-use Rattle.rules.specs.Layout.{Buffers, capacityOf, laidOut}
+use Rattle.rules.specs.Layout.{capacityOf, laidOut}
 use Rattle.rules.specs.LayoutLaws.{laid-out-used}
 use Rattle.rules.specs.FileMap.{emptyRecord, recordAt, withLive, fileFor}
 use Rattle.rules.specs.Claims.{noClaims}
-use Rattle.rules.specs.Reopen.{viewTests, filesIn, overlapping, notRising, tableOf, reopenTests, mappedInto, recordOf, recordsFrom, nextAfter, stateOf, givenUp, opened, reopenCall}
-use Rattle.rules.specs.World.{World, recordsOf, mappings, slotsOf, stateWith, accepted, After, unchanged}
-use Rattle.theory.specs.Places.{viewAt, WellMade, record-holds, record-empty, no-damage}
-use Rattle.theory.specs.Files.{no-file, no-damage-tests, no-overlap, rising-clear, next-positive, next-above, record-from, records-from-length}
+use Rattle.rules.specs.Reopen.{viewTests, filesIn, notRising, tableOf, reopenTests, mappedInto, recordOf, recordsFrom, nextAfter, opened, reopenCall}
+use Rattle.rules.specs.ReopenLaws.{rising-entries, records-from-length}
+use Rattle.rules.specs.World.{World, recordsOf, stateWith, accepted}
+use Rattle.theory.specs.Places.{viewAt, record-holds, record-empty, no-damage}
+use Rattle.theory.specs.Files.{no-file, no-damage-tests, no-overlap, next-positive, next-above, record-from}
 use Rattle.theory.specs.Picture.{Picture, viewsOf, pictureOf, Said, gone, slotSays, heldSays, pictureSays}
-use Rattle.theory.specs.Sound.{Sound}
-use Rattle.theory.specs.SoundWorld.{Tidy, SoundWorld}
+use Rattle.theory.specs.SoundWorld.{SoundWorld}
 
 -- the same store without claims, its next position worked out again
 abbrev pub again : World → World
@@ -78,7 +76,7 @@ module _ (w : World) (told : ℕ → Said) (s : SoundWorld w told) where
       none-append (each viewTests (viewsOf w)) _ (no-damage-tests (viewsOf w) (no-damage (viewsOf w) (recordsOf w) (s .sound .filed))) (
         no-overlap (viewsOf w) (s .sound .filed .apart),
         (
-          no-file (λ (f : File). notRising (f .entries)) (viewsOf w) (λ k f h. rising-clear 0 (f .entries) (s .sound .rising k f h)),
+          no-file (λ (f : File). notRising (f .entries)) (viewsOf w) (λ k f h. rising-entries 0 (f .entries) (s .sound .rising k f h)),
           (
             le-ltb (capacityOf (w .table)) (length (tableOf (filesIn (viewsOf w)))) (subst (λ (t : List Entry). length t ≤ capacityOf (w .table)) (s .sound .newest) (s .sound .room)),
             tt,

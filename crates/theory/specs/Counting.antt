@@ -1,13 +1,13 @@
 -- How many entries of a table have a location that passes a test.
 use mathlib.Core.Path.{_≡_, refl, sym, ap, _∙_}
 use mathlib.Core.Logic.{_⊎_, inl, inr}
-use Prim.Native.Nat.{_<_, _≤_, zero-le}
+use Prim.Native.Nat.{_<_, _≤_}
 use native.Mathlib.Omega.{arith}
 use Rattle.rules.specs.Base.{Bool, true, false, List, [], _∷_, ℕ, suc, _+_, length, keep, pick}
 use Rattle.theory.specs.Types.{Entry, Held, Mapped, Unmapped}
 use Rattle.rules.specs.Table.{lookup, insert}
 use Rattle.disk_location.specs.Locations.{bitOf}
-use Rattle.rules.specs.BaseLaws.{order, same?}
+use Rattle.rules.specs.BaseLaws.{order}
 use Rattle.rules.specs.TableLaws.{Rising, rise, Has, lookup-here, lookup-next, insert-next, insert-here, insert-before, lookup-below}
 
 abbrev pub count : (ℕ → Bool) → List Entry → ℕ

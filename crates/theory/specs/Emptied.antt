@@ -1,18 +1,18 @@
 -- Files with no live entry are removed: the invariant holds again and nothing else is said of any id.
-use mathlib.Core.Path.{_≡_, refl, sym, ap, _∙_, subst}
+use mathlib.Core.Path.{_≡_, refl, sym, ap, _∙_}
 use mathlib.Core.Logic.{_⊎_, inl, inr, ⊎-elim}
-use Prim.Native.Nat.{_<_, _≤_}
+use Prim.Native.Nat.{_≤_}
 use native.Mathlib.Omega.{arith}
-use Rattle.rules.specs.Base.{Bool, true, false, List, [], _∷_, ℕ, _+_, _-_, length, pick}
-use Rattle.theory.specs.Types.{Entry, Record, Held, Mapped, Unmapped, Slot, Is, NoSlot}
+use Rattle.rules.specs.Base.{List, ℕ, _-_, length, pick}
+use Rattle.theory.specs.Types.{Entry, Record, Held, Mapped, Unmapped, Slot}
 use Rattle.disk_location.specs.Locations.{positionOf, deleteOf}
-use Rattle.rules.specs.SlotFile.{File, View, empty, damaged, holds}
+use Rattle.rules.specs.SlotFile.{File, View, empty, holds}
 use Rattle.rules.specs.Table.{lookup}
 use Rattle.rules.specs.TableLaws.{Has, lookup-has, table-ext}
-use Rattle.rules.specs.FileMap.{emptyRecord, recordAt, fileFor}
+use Rattle.rules.specs.FileMap.{emptyRecord, recordAt}
 use Rattle.rules.specs.Reopen.{filesIn, tableOf, inRange, mappedInto}
 use Rattle.theory.specs.Counting.{count-has}
-use Rattle.theory.specs.Newest.{maskedAt, Newest, newest-less, newest-one}
+use Rattle.theory.specs.Newest.{maskedAt, newest-less, newest-one}
 use Rattle.theory.specs.Places.{viewAt, rowsOf, Agrees, Filed, Stands, stands-has, has-stands, not-empty, own-file, in-own-range, distinct}
 use Rattle.theory.specs.Losing.{liveAt}
 use Rattle.theory.specs.Picture.{Picture, Said, gone, viewSays, slotSays, heldSays, pictureSays}

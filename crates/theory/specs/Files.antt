@@ -1,21 +1,19 @@
 -- The files that views show: 8 to 15 as facts about slots, the file map and the next position that a reopening makes of them.
 use mathlib.Core.Path.{_≡_, refl, sym, ap, _∙_, subst}
 use mathlib.Core.Bool.{true≢false}
-use mathlib.Core.Logic.{_⊎_, inl, inr, ⊎-elim}
+use mathlib.Core.Logic.{_⊎_, inl, inr}
 use Prim.Native.Nat.{_<_, _≤_}
 use native.Mathlib.Omega.{arith}
-use lib.ListN.{length-append, length-map, length-replicate}
-use borrow.Author.Tests.{leb-true, leb-false, lt-leb, eq-eqb, ne-eqb, eqb-true}
-use Rattle.rules.specs.Base.{Bool, true, false, _&&_, _||_, List, [], _∷_, _++_, map, ℕ, zero, suc, _+_, _-_, length, replicate, leb, eqb, pick, any, each, larger, greatest}
-use Rattle.theory.specs.Types.{Entry, Record, Refusal}
+use borrow.Author.Tests.{leb-true, leb-false, lt-leb, eq-eqb}
+use Rattle.rules.specs.Base.{Bool, true, false, _&&_, List, [], _∷_, _++_, map, ℕ, zero, suc, _+_, _-_, length, replicate, leb, eqb, pick, any, each, larger, greatest}
+use Rattle.theory.specs.Types.{Entry, Refusal}
 use Rattle.disk_location.specs.Locations.{maskedOf, positionOf}
 use Rattle.rules.specs.BaseLaws.{or-false, or-clear}
-use Rattle.rules.specs.Refusal.{Test, _gives_, NoneHolds}
+use Rattle.rules.specs.Refusal.{NoneHolds}
 use Rattle.rules.specs.SlotFile.{File, View, empty, damaged, holds}
 use Rattle.rules.specs.FileMap.{emptyRecord, recordAt}
-use Rattle.rules.specs.Reopen.{viewTests, fileOf, filesIn, meets, overlapping, notRising, recordOf, recordsFrom, nextAfter}
-use Rattle.rules.specs.TableLaws.{Rising, rise, Has, rising-has}
-use Rattle.theory.specs.Clear.{none-split, any-has, has-any}
+use Rattle.rules.specs.Reopen.{viewTests, filesIn, meets, overlapping, notRising, recordOf, recordsFrom, nextAfter}
+use Rattle.rules.specs.TableLaws.{Has}
 use Rattle.theory.specs.Places.{viewAt, WellMade, Single, Apart, holds-inj, not-empty, not-damaged}
 
 -- ---- some file
@@ -113,13 +111,14 @@ no-overlap (holds f ∷ vs) h =
 abbrev pub falls : Entry → Entry → Bool
 falls e d = eqb (d .id) (e .id) && leb (positionOf (d .location)) (positionOf (e .location))
 
-pub rising-clear : (f : ℕ) (es : List Entry) → Rising f es → notRising es ≡ false
-unfolding notRising
-rising-clear f [] r = refl
-rising-clear f (e ∷ es) (rise a r) =
-    or-clear (any (falls e) es) (notRising es)
-    (has-any (falls e) es (λ x l h. let w = rising-has (suc (e .id)) es r x l h in rw (ne-eqb x (e .id) (λ q. omega arith)) refl))
-    (rising-clear (suc (e .id)) es r)
+-- no entry passes: none that is there does
+any-has : (p : Entry → Bool) (es : List Entry) → any p es ≡ false → (x l : ℕ) → Has es x l → p (record { id = x; location = l }) ≡ false
+unfolding any
+any-has p [] h x l a = absurd a
+any-has p (e ∷ es) h x l (inl (a, b)) =
+    let q : _≡_ {A = Entry} e (record { id = x; location = l }) = λ i. record { id = a i; location = b i } in
+    sym (ap p q) ∙ or-false (p e) (any p es) h .0
+any-has p (e ∷ es) h x l (inr a) = any-has p es (or-false (p e) (any p es) h .1) x l a
 
 pub clear-single : (es : List Entry) → notRising es ≡ false → Single es
 unfolding notRising
@@ -189,11 +188,3 @@ records-at table (v ∷ vs) m (suc k) = records-at table vs m k
 pub record-from : (table : List Entry) (vs : List View) (k : ℕ) → recordAt (recordsFrom table vs) k ≡ recordOf table (viewAt vs k)
 unfolding recordsFrom
 record-from table vs k = records-at table vs (256 - length vs) k
-
-pub records-from-length : (table : List Entry) (vs : List View) → length vs ≤ 256 → length (recordsFrom table vs) ≡ 256
-unfolding recordsFrom
-records-from-length table vs h =
-    let a = length-append (map (recordOf table) vs) (replicate (256 - length vs) emptyRecord) in
-    let b = length-map vs (recordOf table) in
-    let c = length-replicate (256 - length vs) emptyRecord in
-    omega arith

@@ -6,29 +6,28 @@ use native.Mathlib.Nat.{add-zero}
 use lib.ListN.{length-replicate, List·getD-eq-default}
 use lib.Seq.{ext-getD, getD-take, getD-drop}
 use borrow.Author.Tests.{eq-eqb, ltb-true, ltb-false, le-ltb}
-use Rattle.rules.specs.Base.{Bool, true, false, List, [], _∷_, _++_, ℕ, zero, suc, _+_, _*_, length, getD, take, drop, replicate, ltb, eqb, any, each, greatest}
-use Rattle.theory.specs.Types.{Entry, Record, Settings, State, Refusal, Limits, Answer, Done, Refused}
-use Rattle.rules.specs.Refusal.{Test, _gives_, decide, after, NoneHolds, decide-clear, none-append}
+use Rattle.rules.specs.Base.{Bool, true, false, List, [], _∷_, ℕ, zero, suc, _*_, length, getD, take, drop, replicate, ltb, any, each, greatest}
+use Rattle.theory.specs.Types.{Entry, Refusal}
+use Rattle.rules.specs.Refusal.{decide, NoneHolds, decide-clear, none-append}
 use Rattle.rules.specs.Condition1.{outOfRange}
 use Rattle.rules.specs.Condition1Laws.{InLimits, in-limits}
 use Rattle.rules.specs.Label.{labelIn}
-use Rattle.rules.specs.SlotFile.{slotBytes, File, View, empty, damaged, holds, viewIn, viewsIn}
+use Rattle.rules.specs.SlotFile.{slotBytes, File, View, empty, damaged, holds, viewIn}
 use Rattle.rules.specs.SlotLaws.{views-length, views-at}
-use Rattle.rules.specs.Ops.{Op}
 use Rattle.rules.specs.SettledLaws.{lastOn}
 use Rattle.rules.specs.Table.{lookup}
-use Rattle.rules.specs.TableLaws.{Rising, rise-end, Has}
-use Rattle.rules.specs.Layout.{Buffers, capacityOf, laidOut, usedEntries}
+use Rattle.rules.specs.TableLaws.{rise-end, Has}
+use Rattle.rules.specs.Layout.{capacityOf, laidOut, usedEntries}
 use Rattle.rules.specs.LayoutLaws.{laid-out-ids, laid-out-locations, used-laid-out, form-laid-out}
 use Rattle.rules.specs.FileMap.{emptyRecord, recordAt, noFiles}
 use Rattle.rules.specs.Claims.{noClaims}
-use Rattle.rules.specs.Reopen.{viewTests, fileOf, filesIn, overlapping, notRising, latestFrom, tableOf, reopenTests, recordOf, recordsFrom, nextAfter, stateOf, givenUp, opened, reopenCall}
-use Rattle.rules.specs.World.{World, recordsOf, mappings, slotsOf, accepted, After, unchanged}
+use Rattle.rules.specs.Reopen.{viewTests, filesIn, overlapping, notRising, latestFrom, tableOf, reopenTests, recordOf, recordsFrom, nextAfter, stateOf, opened, reopenCall}
+use Rattle.rules.specs.ReopenLaws.{records-from-length}
+use Rattle.rules.specs.World.{World, slotsOf, accepted}
 use Rattle.theory.specs.Places.{viewAt, not-empty}
-use Rattle.theory.specs.Files.{no-damage-tests, record-from, records-from-length}
+use Rattle.theory.specs.Files.{no-damage-tests, record-from}
 use Rattle.theory.specs.Picture.{viewsOf, pictureOf, heldSays, pictureSays}
-use Rattle.theory.specs.Sound.{Sound}
-use Rattle.theory.specs.SoundWorld.{Tidy, SoundWorld}
+use Rattle.theory.specs.SoundWorld.{SoundWorld}
 use Rattle.theory.specs.Writing.{engine}
 
 -- every slot of the heap begins with byte 0, whatever follows

@@ -1,7 +1,7 @@
 -- Demand 3: whatever calls were made, reads give the last accepted put, and a reopening finds the store as it was.
-use mathlib.Core.Path.{_≡_, refl, sym, ap, _∙_, subst}
+use mathlib.Core.Path.{_≡_, sym, ap, subst}
 use Prim.Native.Nat.{_<_}
-use Rattle.rules.specs.Base.{Bool, false, List, [], _∷_, ℕ, _+_, length}
+use Rattle.rules.specs.Base.{false, List, [], _∷_, ℕ, _+_, length}
 use Rattle.theory.specs.Types.{Record}
 use Rattle.disk_location.specs.Locations.{maskedOf}
 use Rattle.rules.specs.Condition1.{outOfRange}
@@ -15,7 +15,7 @@ use Rattle.rules.specs.Prune.{pruneCall}
 use Rattle.rules.specs.Claims.{claimCall, releaseCall}
 use Rattle.rules.specs.Reopen.{reopenCall}
 use Rattle.rules.specs.World.{World, recordsOf, accepted, After}
-use Rattle.theory.specs.Places.{viewAt, record-holds}
+use Rattle.theory.specs.Places.{record-holds}
 use Rattle.theory.specs.Picture.{viewsOf}
 use Rattle.theory.specs.SoundWorld.{SoundWorld}
 use Rattle.theory.specs.Writing.{engine, heard, sound-write}
@@ -23,7 +23,7 @@ use Rattle.theory.specs.Reading.{Reads, sound-read}
 use Rattle.theory.specs.Maintaining.{sound-maintain}
 use Rattle.theory.specs.Pruning.{file-slot, sound-prune, sound-claim, sound-release}
 use Rattle.theory.specs.Again.{again, reopen-accepted, sound-again}
-use Rattle.theory.specs.Fresh.{Blank, fresh, fresh-opens, sound-fresh}
+use Rattle.theory.specs.Fresh.{Blank, fresh-opens, sound-fresh}
 
 -- the calls that change a store
 pub data Call : Type 0 where

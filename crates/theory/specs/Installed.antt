@@ -3,17 +3,15 @@ use mathlib.Core.Path.{_≡_, refl, sym, ap, _∙_, subst}
 use mathlib.Core.Logic.{_⊎_, inl, inr, ⊎-elim}
 use Prim.Native.Nat.{_<_, _≤_}
 use native.Mathlib.Omega.{arith}
-use lib.ListN.{length-set, length-map}
+use lib.ListN.{length-set}
 use lib.Seq.{getD-set-same, getD-set-other}
-use borrow.Author.Tests.{eq-eqb, ne-eqb}
-use Rattle.rules.specs.Base.{Bool, true, false, List, [], _∷_, map, ℕ, _+_, _-_, _*_, _/_, _%_, _^_, length, set, drop, eqb, pick}
-use Rattle.theory.specs.Types.{Entry, Record, Refusal, Answer, Done, Refused, Held, Mapped, Unmapped, Slot, Is, NoSlot}
+use Rattle.rules.specs.Base.{Bool, true, false, List, ℕ, _+_, _-_, _*_, _/_, _%_, _^_, length, drop, eqb, pick}
+use Rattle.theory.specs.Types.{Record, Answer, Done, Refused, Held, Mapped, Unmapped, Slot, Is}
 use Rattle.disk_location.specs.Locations.{maskedOf, positionOf, deleteOf}
 use Rattle.rules.specs.BaseLaws.{same?}
 use Rattle.rules.specs.Refusal.{decide, after}
 use Rattle.rules.specs.Object.{storedAt}
-use Rattle.rules.specs.Trailer.{absolute}
-use Rattle.rules.specs.Ops.{Op, objectsOf, entriesOf, fileBytes}
+use Rattle.rules.specs.Ops.{Op, objectsOf, entriesOf}
 use Rattle.rules.specs.OpsLaws.{RisingOps, file-length, entries-of-rising, entries-of-inside}
 use Rattle.rules.specs.SlotFile.{File, View, empty, damaged, holds}
 use Rattle.rules.specs.Table.{lookup, insertAll}
@@ -24,13 +22,13 @@ use Rattle.rules.specs.InstallLaws.{losing-length}
 use Rattle.rules.specs.Reopen.{filesIn, tableOf, inRange, mappedInto}
 use Rattle.rules.specs.Read.{objectTests}
 use Rattle.theory.specs.Entries.{shiftHeld, lookup-absolute, rising-absolute, has-absolute, absolute-has}
-use Rattle.theory.specs.Counting.{count, count-same, count-none}
-use Rattle.theory.specs.Newest.{maskedAt, Newest, newest-iff, newest-one, newest-insert-all}
-use Rattle.theory.specs.Places.{viewAt, rowsIn, rowsOf, WellMade, Single, rising-single, Apart, Agrees, Filed, Stands, stands-has, has-stands, not-empty, holds-inj, own-file, isAt, in-own-range, in-no-other, found-in-range, distinct, masked-entry}
+use Rattle.theory.specs.Counting.{count, count-none}
+use Rattle.theory.specs.Newest.{maskedAt, newest-iff, newest-one, newest-insert-all}
+use Rattle.theory.specs.Places.{viewAt, rowsIn, rowsOf, WellMade, Single, rising-single, Apart, Agrees, Filed, Stands, stands-has, has-stands, not-empty, holds-inj, own-file, in-own-range, in-no-other, found-in-range, distinct, masked-entry}
 use Rattle.theory.specs.Losing.{liveAt, rowsFor, Less, losing-record, losing-live, losing-new}
 use Rattle.rules.specs.WrittenLaws.{fileOfOps}
-use Rattle.theory.specs.Picture.{Picture, Said, unheard, gone, body, broken, objectSays, placeSays, entrySays, fileSays, viewSays, slotSays, heldSays, pictureSays, added}
-use Rattle.theory.specs.Sound.{Sound, newest-table, rising-table, table-rising, table-newest, table-stands, table-stands-has}
+use Rattle.theory.specs.Picture.{Picture, Said, unheard, gone, body, broken, placeSays, entrySays, fileSays, viewSays, slotSays, heldSays, pictureSays, added}
+use Rattle.theory.specs.Sound.{Sound, newest-table, rising-table, table-rising, table-newest, table-stands}
 
 -- what a file says goes before what was said
 abbrev pub over : Said → Said → Said

@@ -3,8 +3,6 @@ pub mod Entries
 pub mod Counting
 pub mod Newest
 pub mod Places
-pub mod Clear
-pub mod Slots
 pub mod Files
 pub mod Losing
 pub mod Picture

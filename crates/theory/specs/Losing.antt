@@ -1,10 +1,10 @@
 -- "each replaced location's file .. loses one live": live counts as ids leave their old locations, one by one.
 use mathlib.Core.Path.{_≡_, refl, sym, ap, _∙_}
 use mathlib.Core.Logic.{_⊎_, inl, inr}
-use Prim.Native.Nat.{_<_, _≤_, zero-le}
+use Prim.Native.Nat.{_≤_, zero-le}
 use native.Mathlib.Nat.{sub-zero}
 use native.Mathlib.Omega.{arith}
-use lib.ListN.{length-set, List·getD-eq-default}
+use lib.ListN.{List·getD-eq-default}
 use lib.Seq.{getD-set-same, getD-set-other, set-out}
 use borrow.Author.Tests.{ltb-true, ltb-false, eq-eqb, ne-eqb}
 use Rattle.rules.specs.Base.{Bool, true, false, List, [], _∷_, map, ℕ, suc, _+_, _-_, length, set, ltb, eqb}
@@ -12,7 +12,7 @@ use Rattle.theory.specs.Types.{Entry, Record, Held, Mapped, Unmapped, Sl
 use Rattle.disk_location.specs.Locations.{bitOf, rawOf}
 use Rattle.rules.specs.Trailer.{absolute}
 use Rattle.rules.specs.Ops.{Op, isDelete, sizeOf, entriesOf}
-use Rattle.rules.specs.OpsLaws.{RisingOps, ops-end, ops-rise}
+use Rattle.rules.specs.OpsLaws.{RisingOps, ops-rise}
 use Rattle.rules.specs.Table.{lookup, insert, insertAll}
 use Rattle.rules.specs.FileMap.{emptyRecord, recordAt, withLive, fileFor, lessLive}
 use Rattle.rules.specs.Install.{fileHolding, losing}

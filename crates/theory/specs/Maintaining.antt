@@ -1,26 +1,23 @@
 -- Maintenance on a store of the invariant, refused or not, group by group: nothing else is said of any id.
-use mathlib.Core.Path.{_≡_, refl, sym, ap, _∙_, subst}
-use Prim.Native.Nat.{_<_, _≤_}
+use mathlib.Core.Path.{_≡_, refl}
+use Prim.Native.Nat.{_≤_}
 use native.Mathlib.Omega.{arith}
-use borrow.Author.Tests.{ltb-false}
-use Rattle.rules.specs.Base.{Bool, true, false, _&&_, List, [], _∷_, _++_, ℕ, zero, suc, _+_, _^_, length, ltb, pick, each, sum}
-use Rattle.theory.specs.Types.{Record, Settings, Refusal, Limits, Answer, Done, Refused}
+use Rattle.rules.specs.Base.{Bool, true, false, List, [], _∷_, _++_, ℕ, _+_, length, ltb, pick, each}
+use Rattle.theory.specs.Types.{Refusal, Answer, Done, Refused}
 use Rattle.rules.specs.BaseLaws.{All, all-map}
-use Rattle.rules.specs.Refusal.{Test, _gives_, decide, after, NoneHolds, clear-when, none-first, none-rest}
-use Rattle.rules.specs.Ops.{Op, objectsOf, settled}
-use Rattle.rules.specs.OpsLaws.{RisingOps}
+use Rattle.rules.specs.Refusal.{decide, after, NoneHolds, clear-when, none-first, none-rest}
+use Rattle.rules.specs.Ops.{Op}
 use Rattle.rules.specs.SettledLaws.{settled-rising}
 use Rattle.rules.specs.FileMap.{recordAt}
 use Rattle.rules.specs.Install.{installedAll, roomTests, emptyOf, positionTests}
-use Rattle.rules.specs.InstallLaws.{Room, room-clear, positions-clear}
-use Rattle.rules.specs.Maintenance.{foundIn, found, filesOf, fileTests, slotOf, Stop, going, stopped, Course, group, groupTests, rewriteGroup, onward, groupsFrom, courseOf, ended, finished, maintainCall}
-use Rattle.rules.specs.Prune.{pruned}
-use Rattle.rules.specs.World.{World, recordsOf, mappings, After}
+use Rattle.rules.specs.InstallLaws.{room-clear, positions-clear}
+use Rattle.rules.specs.Maintenance.{foundIn, found, filesOf, fileTests, slotOf, Stop, going, stopped, Course, group, groupTests, rewriteGroup, onward, groupsFrom, courseOf, ended, maintainCall}
+use Rattle.rules.specs.World.{World, recordsOf, mappings}
 use Rattle.theory.specs.SoundWorld.{SoundWorld, sound-fine}
 use Rattle.theory.specs.Writing.{engine}
 use Rattle.theory.specs.Pruning.{sound-pruned}
 use Rattle.theory.specs.Moving.{Movable, found-movable}
-use Rattle.theory.specs.Shards.{Sub, sub-rising, sub-all, PartOf, files-parts}
+use Rattle.theory.specs.Shards.{sub-rising, sub-all, PartOf, files-parts}
 use Rattle.theory.specs.Rewriting.{Rewritable, sound-rewritten}
 
 module _ (history : List Op) where

@@ -1,31 +1,29 @@
 -- What maintenance finds in a group is current: an object or a delete at its id's location is what the engine says of it.
 use mathlib.Core.Path.{_≡_, refl, sym, ap, _∙_, subst}
-use mathlib.Core.Logic.{_⊎_, inl, inr}
 use Prim.Native.Nat.{_<_, _≤_}
 use native.Mathlib.Omega.{arith}
 use lib.ListN.{length-take, length-drop}
 use lib.Seq.{drop-drop}
-use borrow.Author.Tests.{eqb-true, eq-eqb}
-use Rattle.rules.specs.Base.{Bool, true, false, List, [], _∷_, _++_, map, ℕ, zero, suc, _+_, _-_, _*_, _/_, _%_, _^_, length, take, drop, eqb, pick, keep, each}
-use Rattle.theory.specs.Types.{Entry, Record, Refusal, Answer, Done, Refused, Held, Mapped, Unmapped, Slot, Is, NoSlot}
+use borrow.Author.Tests.{eqb-true}
+use Rattle.rules.specs.Base.{Bool, true, false, List, [], _∷_, _++_, map, ℕ, zero, suc, _+_, _-_, _*_, _%_, _^_, length, drop, eqb, pick, keep, each}
+use Rattle.theory.specs.Types.{Entry, Record, Answer, Done, Refused, Held, Mapped, Unmapped, Slot, Is}
 use Rattle.disk_location.specs.Locations.{positionOf, deleteOf, rawOf}
 use Rattle.rules.specs.BaseLaws.{All}
 use Rattle.rules.specs.Refusal.{decide, after}
 use Rattle.rules.specs.Object.{Stored, storedAt, objectsFrom, objectsIn}
-use Rattle.rules.specs.Trailer.{absolute, countIn, entriesFrom, entriesIn}
-use Rattle.rules.specs.Ops.{Content, put, delete, Op, settled}
-use Rattle.rules.specs.SettledLaws.{Last, silent, last, lastOn, settled-all}
-use Rattle.rules.specs.SlotFile.{slotBytes, fileIn, objectPart, trailerPart, trailerEntries, File, View, empty, damaged, holds}
+use Rattle.rules.specs.Trailer.{absolute}
+use Rattle.rules.specs.Ops.{put, delete, Op}
+use Rattle.rules.specs.SettledLaws.{Last, last, lastOn, settled-all}
+use Rattle.rules.specs.SlotFile.{slotBytes, fileIn, objectPart, trailerEntries, File, View, empty, damaged, holds}
 use Rattle.rules.specs.Table.{lookup, mappedTo}
-use Rattle.rules.specs.TableLaws.{Has, lookup-has}
-use Rattle.rules.specs.FileMap.{emptyRecord, recordAt, withLive, fileFor}
+use Rattle.rules.specs.TableLaws.{lookup-has}
+use Rattle.rules.specs.FileMap.{emptyRecord, recordAt, fileFor}
 use Rattle.rules.specs.Read.{objectTests}
 use Rattle.rules.specs.Maintenance.{storedObjects, deletesOf, objectsFound, deletesFound, slotOf, foundIn, found}
 use Rattle.rules.specs.World.{World, recordsOf, mappings}
 use Rattle.theory.specs.Entries.{absolute-location}
 use Rattle.theory.specs.Places.{viewAt, record-holds, record-empty, no-damage, own-place}
-use Rattle.theory.specs.Slots.{Seen}
-use Rattle.theory.specs.Picture.{Picture, viewsOf, pictureOf, Said, unheard, gone, body, broken, objectSays, placeSays, viewSays, slotSays, heldSays, pictureSays, lastSays}
+use Rattle.theory.specs.Picture.{viewsOf, pictureOf, Said, gone, body, broken, objectSays, placeSays, viewSays, slotSays, heldSays, pictureSays, lastSays}
 use Rattle.theory.specs.SoundWorld.{SoundWorld, shown}
 use Rattle.theory.specs.Writing.{engine}
 use Rattle.theory.specs.Reading.{not-broken}
@@ -130,7 +128,7 @@ module _ (w : World) (history : List Op) (s : SoundWorld w (engine history)) whe
 
       inside : o .position ≤ f .label .«trailer_offset»
       inside =
-          let z = shown w k f h .1 .objects in
+          let z = sym (shown w k f h .1 .objects) in
           let a : length (f .objects) ≡ length (objectPart (f .label) (slotBytes (w .settings .«slot_bytes») (w .heap) k)) = ap length z in
           let b = length-take (f .label .«trailer_offset») (fileIn (f .label) (slotBytes (w .settings .«slot_bytes») (w .heap) k)) in
           let c = t .1 in
@@ -171,7 +169,7 @@ module _ (w : World) (history : List Op) (s : SoundWorld w (engine history)) whe
     where
       same : f .objects ≡ objectPart r (slotOf w k)
       same =
-          shown w k f h .1 .objects
+          sym (shown w k f h .1 .objects)
           ∙ ap (λ (c : Record). objectPart c (slotOf w k)) (sym (e ∙ record-holds (viewsOf w) (recordsOf w) (s .sound .filed) k f h))
 
   deletes-movable : (r : Record) (slot : List ℕ) → All (Movable (engine history)) (deletesFound (mappings w) r slot)

@@ -1,11 +1,10 @@
 -- A store as its slots' views, its records, its table and its next position; and what it says of an id.
-use mathlib.Core.Path.{_≡_, refl}
-use Rattle.rules.specs.Base.{Bool, true, false, List, [], _∷_, ℕ, _+_, _-_, length, set, drop, eqb, pick}
+use Rattle.rules.specs.Base.{List, ℕ, _+_, _-_, length, set, drop, pick}
 use Rattle.theory.specs.Types.{Entry, Record, Refusal, NotThere, Held, Mapped, Unmapped, Slot, Is, NoSlot}
 use Rattle.disk_location.specs.Locations.{positionOf, deleteOf}
 use Rattle.rules.specs.Refusal.{decide, after}
 use Rattle.rules.specs.Object.{Stored, storedAt}
-use Rattle.rules.specs.Ops.{Content, put, delete, Op, objectsOf}
+use Rattle.rules.specs.Ops.{put, delete, Op, objectsOf}
 use Rattle.rules.specs.SettledLaws.{Last, silent, last}
 use Rattle.rules.specs.WrittenLaws.{fileOfOps}
 use Rattle.rules.specs.SlotFile.{File, View, empty, damaged, holds, viewsIn}

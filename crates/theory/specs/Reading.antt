@@ -1,28 +1,27 @@
 -- A read on a store of the invariant gives what the plain engine says.
 use mathlib.Core.Path.{_≡_, refl, sym, ap, _∙_, subst}
-use Prim.Native.Nat.{_<_, _≤_}
+use Prim.Native.Nat.{_≤_}
 use native.Mathlib.Omega.{arith}
 use lib.ListN.{length-take, length-drop}
 use lib.Seq.{take-take, drop-drop, length-take-le}
-use borrow.Author.Tests.{ltb-false, le-ltb, eqb-true, not-false}
-use Rattle.rules.specs.Base.{Bool, true, false, not, List, [], _∷_, ℕ, _+_, _-_, _*_, length, take, drop, ltb, eqb, pick}
-use Rattle.theory.specs.Types.{Record, Refusal, Limits, Answer, Done, Refused, ReadAnswer, Found, Nothing, ReadRefused, Held, Mapped, Unmapped, Slot, Is, NoSlot}
+use borrow.Author.Tests.{ltb-false, le-ltb}
+use Rattle.rules.specs.Base.{Bool, true, false, List, ℕ, _+_, _-_, _*_, length, take, drop, pick}
+use Rattle.theory.specs.Types.{Record, Refusal, Answer, Done, Refused, ReadAnswer, Found, Nothing, ReadRefused, Held, Mapped, Unmapped, Slot, Is, NoSlot}
 use Rattle.disk_location.specs.Locations.{positionOf, deleteOf}
-use Rattle.rules.specs.Refusal.{_gives_, decide, after, NoneHolds, clear-when, decide-clear}
+use Rattle.rules.specs.Refusal.{decide, after, NoneHolds, clear-when, decide-clear}
 use Rattle.numbers.specs.LittleEndian.{leValue}
 use Rattle.rules.specs.Object.{Stored, storedAt, badChecksum}
-use Rattle.rules.specs.Ops.{Content, put, delete, Op}
+use Rattle.rules.specs.Ops.{put, delete, Op}
 use Rattle.rules.specs.SettledLaws.{Last, silent, last, lastOn}
 use Rattle.rules.specs.PartLaws.{drop-take}
-use Rattle.rules.specs.SlotFile.{slotBytes, fileIn, objectPart, File, View, empty, damaged, holds}
+use Rattle.rules.specs.SlotFile.{slotBytes, fileIn, File, View, empty, damaged, holds}
 use Rattle.rules.specs.Table.{lookup}
-use Rattle.rules.specs.FileMap.{recordAt, withLive, fileFor}
+use Rattle.rules.specs.FileMap.{recordAt, fileFor}
 use Rattle.rules.specs.Read.{objectTests, objectIn, readObject, readFile, readHeld, readOf, partOf}
-use Rattle.rules.specs.World.{World, recordsOf, mappings, slotsOf}
+use Rattle.rules.specs.World.{World, recordsOf, mappings}
 use Rattle.theory.specs.Places.{viewAt, record-holds}
-use Rattle.theory.specs.Slots.{Seen}
-use Rattle.theory.specs.Picture.{Picture, viewsOf, pictureOf, Said, unheard, gone, body, broken, objectSays, placeSays, viewSays, slotSays, heldSays, pictureSays, lastSays}
-use Rattle.theory.specs.SoundWorld.{Tidy, SoundWorld, sound-fine, shown, slot-whole}
+use Rattle.theory.specs.Picture.{viewsOf, pictureOf, Said, unheard, gone, body, broken, objectSays, placeSays, viewSays, slotSays, heldSays, pictureSays, lastSays}
+use Rattle.theory.specs.SoundWorld.{SoundWorld, sound-fine, shown}
 use Rattle.theory.specs.Writing.{engine}
 
 -- what a read answers, by the last operation on the id
@@ -178,7 +177,7 @@ module _ (w : World) (told : ℕ → Said) (s : SoundWorld w told) where
   object-read k position x f b h e =
       let z = shown w k f h in
       let slot = slotBytes (w .settings .«slot_bytes») (w .heap) k in
-      let r = read-back position (f .label .«trailer_offset») x (f .objects) (fileIn (f .label) slot) b (z .1 .objects) e in
+      let r = read-back position (f .label .«trailer_offset») x (f .objects) (fileIn (f .label) slot) b (sym (z .1 .objects)) e in
       let q : recordAt (recordsOf w) k .«file_size» ≡ f .label .«file_size» = ap (λ (r : Record). r .«file_size») (record-holds (viewsOf w) (recordsOf w) (s .sound .filed) k f h) in (
         ap (λ (n : ℕ). readObject w x k (storedAt position (drop position (take n (drop 64 slot))))) q
             ∙ ap (λ (a : Answer). after a ReadRefused (Found (found-at (fileIn (f .label) slot)) (storedAt position (drop position (fileIn (f .label) slot)) .size))) (decide-clear _ (r .clear))

@@ -1,34 +1,31 @@
 -- G: what an accepted reopening means, whoever wrote the files.
 use mathlib.Core.Path.{_≡_, refl, sym, ap, _∙_, subst}
 use mathlib.Core.Bool.{true≢false}
-use mathlib.Core.Logic.{_⊎_, inl, inr}
 use Prim.Native.Nat.{_<_, _≤_}
 use native.Mathlib.Omega.{arith}
-use borrow.Author.Tests.{ltb-false, eqb-true, eq-eqb, ne-eqb}
-use Rattle.rules.specs.Base.{Bool, true, false, List, [], _∷_, _++_, ℕ, _+_, _*_, length, ltb, eqb, any, each}
-use Rattle.theory.specs.Types.{Entry, Record, Refusal, Limits, Answer, Done, Refused, Held, Mapped, Unmapped, Slot, Is, NoSlot}
+use borrow.Author.Tests.{ltb-false, eq-eqb}
+use Rattle.rules.specs.Base.{Bool, true, false, List, [], _∷_, ℕ, _+_, length, any, each}
+use Rattle.theory.specs.Types.{Entry, Record, Refusal, Limits, Answer, Done, Refused, Mapped, Unmapped, Is}
 use Rattle.disk_location.specs.Locations.{maskedOf}
-use Rattle.rules.specs.BaseLaws.{same?}
-use Rattle.rules.specs.Refusal.{Test, _gives_, decide, after, numberOf, NoneHolds, clear-when}
+use Rattle.rules.specs.Refusal.{_gives_, decide, after, numberOf, NoneHolds, clear-when, none-first, none-rest}
 use Rattle.rules.specs.Answers.{known}
-use Rattle.rules.specs.Settings.{slotsIn}
 use Rattle.rules.specs.Condition1.{outOfRange}
 use Rattle.rules.specs.Condition1Laws.{InLimits, in-limits}
 use Rattle.rules.specs.SlotFile.{File, View, empty, damaged, holds, viewsIn, slotBytes}
 use Rattle.rules.specs.Table.{lookup}
-use Rattle.rules.specs.TableLaws.{Rising, Has, has-lookup}
+use Rattle.rules.specs.TableLaws.{Has, has-lookup}
 use Rattle.rules.specs.Layout.{capacityOf, laidOut, usedEntries}
 use Rattle.rules.specs.LayoutLaws.{Used, used-laid-out}
 use Rattle.rules.specs.FileMap.{recordAt, withLive, fileFor}
-use Rattle.rules.specs.Reopen.{viewTests, filesIn, overlapping, notRising, tableOf, reopenTests, mappedInto, recordOf, recordsFrom, nextAfter, inRange, givenUp, opened, reopenCall}
+use Rattle.rules.specs.Reopen.{viewTests, filesIn, overlapping, notRising, tableOf, reopenTests, mappedInto, recordOf, recordsFrom, inRange, givenUp, opened, reopenCall}
+use Rattle.rules.specs.ReopenLaws.{records-from-length}
 use Rattle.rules.specs.World.{World, recordsOf, mappings, slotsOf, accepted, After, unchanged}
-use Rattle.theory.specs.Clear.{none-split}
 use Rattle.theory.specs.Counting.{count, count-same}
 use Rattle.theory.specs.Newest.{maskedAt, Newest}
-use Rattle.theory.specs.Places.{viewAt, rowsOf, WellMade, Agrees, Filed, Stands, stands-has, has-stands, own-file, isAt, found-in-range, distinct, masked-pos, holds-lt, holds-inj, not-empty}
+use Rattle.theory.specs.Places.{viewAt, rowsOf, WellMade, Agrees, Filed, Stands, stands-has, has-stands, own-file, isAt, found-in-range, distinct, masked-pos, holds-lt}
 use Rattle.rules.specs.SlotLaws.{views-length, views-at}
-use Rattle.theory.specs.Slots.{seen, seen-made}
-use Rattle.theory.specs.Files.{any-file, undamaged, overlap-apart, clear-single, next-above, record-from, records-from-length}
+use Rattle.rules.specs.SeenLaws.{seen}
+use Rattle.theory.specs.Files.{any-file, undamaged, overlap-apart, clear-single, next-above, record-from}
 use Rattle.theory.specs.Losing.{liveAt}
 use Rattle.theory.specs.Picture.{viewsOf}
 use Rattle.theory.specs.Sound.{newest-table, rising-table}
@@ -71,13 +68,13 @@ tests-passed : (w : World) → outOfRange (w .settings) (length (w .heap)) (w .t
     → reopenCall w ≡ opened w (viewsOf w) → Passed w
 unfolding reopenTests NoneHolds
 tests-passed w l n e =
-    let a = none-split (each viewTests (viewsOf w)) _ n in
+    let a = none-rest (each viewTests (viewsOf w)) _ n in
     record {
       limits = in-limits (w .settings) (length (w .heap)) (w .table) l;
-      whole = undamaged (viewsOf w) (a .0);
-      clear = a .1 .0;
-      once = a .1 .1 .0;
-      room = ltb-false _ _ (a .1 .1 .1 .0);
+      whole = undamaged (viewsOf w) (none-first (each viewTests (viewsOf w)) _ n);
+      clear = a .0;
+      once = a .1 .0;
+      room = ltb-false _ _ (a .1 .1 .0);
       is = e;
     }
 
@@ -101,7 +98,9 @@ shown-made n size heap k f h =
     let l = holds-lt (viewsIn n size heap) k f h in
     let m = views-length n size heap in
     let e = views-at n size heap k (omega arith) in
-    seen-made (slotBytes size heap k) f (seen (slotBytes size heap k) f (sym e ∙ h))
+    let s = seen (slotBytes size heap k) f (sym e ∙ h) in
+    let b = s .bounds in
+    record { placed = b .masked; low = b .lsn; within = b .end; sized = b .offset; inside = s .inside }
 
 -- every entry of a table of well made files has a location
 pub rows-used : (views : List View) → ((k : ℕ) (f : File) → viewAt views k ≡ holds f → WellMade f) → Used (tableOf (filesIn views))

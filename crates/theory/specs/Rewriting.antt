@@ -1,32 +1,32 @@
 -- Files of current contents added one after another: nothing else is said of any id.
 use mathlib.Core.Path.{_≡_, refl, sym, ap, _∙_, subst}
-use mathlib.Core.Logic.{_⊎_, inl, inr, ⊎-elim}
+use mathlib.Core.Logic.{inl, inr}
 use Prim.Native.Nat.{_<_, _≤_, zero-le, min}
 use native.Mathlib.Omega.{arith}
 use lib.ListN.{length-take, length-set, List·getD-eq-default}
 use lib.Seq.{getD-take, getD-set-other}
-use borrow.Author.Tests.{ltb-true, ltb-false, eqb-true, ne-eqb}
-use Rattle.rules.specs.Base.{Bool, true, false, List, [], _∷_, map, ℕ, zero, suc, _+_, _-_, _*_, _^_, length, set, take, ltb, eqb, pick, sum}
-use Rattle.theory.specs.Types.{Entry, Record, Settings, Held, Mapped, Unmapped}
-use Rattle.rules.specs.BaseLaws.{All, all-map, same?}
+use borrow.Author.Tests.{ltb-true, ltb-false, eqb-true}
+use Rattle.rules.specs.Base.{Bool, true, false, List, [], _∷_, ℕ, zero, suc, _+_, _-_, _*_, _^_, length, set, take, ltb, eqb, pick, sum}
+use Rattle.theory.specs.Types.{Record, Settings, Held, Mapped, Unmapped}
+use Rattle.rules.specs.BaseLaws.{All, all-map}
 use Rattle.rules.specs.Settings.{slotsIn}
 use Rattle.rules.specs.Ops.{Content, put, delete, Op, objectsOf, entriesOf, fileBytes}
-use Rattle.rules.specs.OpsLaws.{RisingOps, IdsFit, Of, entry-stands, Stands}
-use Rattle.rules.specs.SettledLaws.{Last, silent, last, orEarlier, saidBy, lastOn}
+use Rattle.rules.specs.OpsLaws.{RisingOps, entry-stands, Stands}
+use Rattle.rules.specs.SettledLaws.{Last, silent, last, orEarlier, lastOn}
 use Rattle.rules.specs.StoreLaws.{made-length}
 use Rattle.rules.specs.WrittenLaws.{fileOfOps}
-use Rattle.rules.specs.Table.{lookup, insertAll}
-use Rattle.rules.specs.TableLaws.{Has, lookup-has}
+use Rattle.rules.specs.Table.{lookup}
+use Rattle.rules.specs.TableLaws.{Has}
 use Rattle.rules.specs.Layout.{capacityOf}
-use Rattle.rules.specs.FileMap.{emptyRecord, isEmpty, recordAt, withLive, slotsWhere, emptySlots, lowestEmpty}
+use Rattle.rules.specs.FileMap.{emptyRecord, isEmpty, recordAt, withLive, slotsWhere, emptySlots}
 use Rattle.rules.specs.FileMapLaws.{empty-is, is-empty}
 use Rattle.rules.specs.Install.{newRecord, losing, newSlot, newLsn, recordsWith, storesFor, nextWith, installed, installedAll, emptyOf}
 use Rattle.rules.specs.InstallLaws.{losing-length}
 use Rattle.rules.specs.World.{World, recordsOf, mappings, slotsOf}
 use Rattle.theory.specs.Entries.{insert-all-old, absolute-has}
 use Rattle.theory.specs.Losing.{rowsFor, Less, losing-record}
-use Rattle.theory.specs.Picture.{Picture, pictureOf, Said, unheard, gone, body, fileSays, heldSays, pictureSays, lastSays}
-use Rattle.theory.specs.Sound.{Sound, table-rising}
+use Rattle.theory.specs.Picture.{pictureOf, Said, unheard, fileSays, heldSays, pictureSays, lastSays}
+use Rattle.theory.specs.Sound.{table-rising}
 use Rattle.theory.specs.Installed.{over}
 use Rattle.theory.specs.Told.{file-says}
 use Rattle.theory.specs.SoundWorld.{SoundWorld}

@@ -1,5 +1,5 @@
 -- The files that come out of a group: each is a selection of what is moved, in order, and not empty.
-use mathlib.Core.Path.{_≡_, refl, sym, ap, _∙_, subst}
+use mathlib.Core.Path.{_≡_, refl, subst}
 use mathlib.Core.List.{append-assoc, append-nil}
 use Prim.Native.Nat.{_<_, _≤_}
 use native.Mathlib.Omega.{arith}
@@ -7,7 +7,7 @@ use lib.ListN.{length-append}
 use borrow.Author.Tests.{ltb-true}
 use Rattle.rules.specs.Base.{Bool, true, false, List, [], _∷_, _++_, map, ℕ, zero, suc, _+_, length, getD, set, replicate, ltb, pick, keep}
 use Rattle.rules.specs.BaseLaws.{All, all-map}
-use Rattle.rules.specs.Ops.{Op, sizeOf, shardFor}
+use Rattle.rules.specs.Ops.{Op, shardFor}
 use Rattle.rules.specs.OpsLaws.{RisingOps, ops-end, ops-rise}
 use Rattle.rules.specs.Maintenance.{Shard, noEntries, Split, cutOff, joining, splitFrom, hasEntries, filesOf}
 use Rattle.theory.specs.Moving.{all-append}

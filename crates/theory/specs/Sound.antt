@@ -1,8 +1,8 @@
 -- The invariant of a store that its own calls left, on its picture.
-use mathlib.Core.Path.{_≡_, refl, sym, ap, _∙_, subst}
+use mathlib.Core.Path.{_≡_, sym, subst}
 use Prim.Native.Nat.{_<_, _≤_}
-use Rattle.rules.specs.Base.{Bool, true, false, List, [], _∷_, ℕ, _+_, _^_, length}
-use Rattle.theory.specs.Types.{Entry, Held, Mapped, Unmapped}
+use Rattle.rules.specs.Base.{List, ℕ, _+_, _^_, length}
+use Rattle.theory.specs.Types.{Entry, Mapped}
 use Rattle.disk_location.specs.Locations.{maskedOf}
 use Rattle.rules.specs.SlotFile.{File, View, holds}
 use Rattle.rules.specs.Table.{lookup}

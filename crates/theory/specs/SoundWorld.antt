@@ -1,32 +1,30 @@
 -- The invariant of a store in bytes; 1 refuses no call on it.
 use mathlib.Core.Path.{_≡_, refl, sym, ap, _∙_, subst}
 use mathlib.Core.Bool.{true≢false}
-use mathlib.Core.Logic.{_⊎_, inl, inr}
 use Prim.Native.Nat.{_<_, _≤_, zero-le}
 use native.Mathlib.Omega.{arith}
 use lib.ListN.{length-take, length-drop}
 use borrow.Author.Tests.{ltb-false}
-use Rattle.rules.specs.Base.{Bool, true, false, List, [], _∷_, ℕ, zero, suc, _+_, _-_, _*_, length, take, drop}
-use Rattle.theory.specs.Types.{Entry, Record, Settings, Refusal}
+use Rattle.rules.specs.Base.{true, false, List, [], _∷_, ℕ, zero, suc, _+_, _-_, _*_, length, drop}
+use Rattle.theory.specs.Types.{Record}
 use Rattle.rules.specs.Refusal.{NoneHolds}
-use Rattle.rules.specs.Settings.{slotsIn}
 use Rattle.rules.specs.SettingsLaws.{slot-within}
 use Rattle.rules.specs.LabelLaws.{InBounds}
 use Rattle.rules.specs.Trailer.{countIn, trailerTests, entriesFrom, entriesIn}
-use Rattle.rules.specs.SlotFile.{slotBytes, fileIn, trailerPart, trailerEntries, File, View, empty, damaged, holds}
-use Rattle.rules.specs.Layout.{Buffers, capacityOf, inForm}
-use Rattle.rules.specs.FileMap.{emptyRecord, isEmpty, recordAt, withLive}
+use Rattle.rules.specs.SlotFile.{slotBytes, fileIn, trailerPart, File, View, empty, damaged, holds}
+use Rattle.rules.specs.Layout.{capacityOf, inForm}
+use Rattle.rules.specs.FileMap.{isEmpty, recordAt, withLive}
 use Rattle.rules.specs.FileMapLaws.{is-empty}
 use Rattle.rules.specs.Condition1.{refused1}
-use Rattle.rules.specs.Condition1Laws.{InLimits, GoodRecord, Passed, passes}
+use Rattle.rules.specs.Condition1Laws.{InLimits, GoodRecord, passes}
 use Rattle.rules.specs.Reopen.{inRange, mappedInto}
 use Rattle.rules.specs.World.{World, recordsOf, mappings, slotsOf}
 use Rattle.theory.specs.Counting.{count-le}
 use Rattle.theory.specs.Newest.{maskedAt}
 use Rattle.theory.specs.Places.{viewAt, holds-lt, record-holds, record-empty, no-damage}
 use Rattle.rules.specs.SlotLaws.{slot-length, views-length, views-at}
-use Rattle.theory.specs.Slots.{Seen, seen, seen-bounds, seen-trailer, seen-present}
-use Rattle.theory.specs.Picture.{Picture, viewsOf, pictureOf, Said}
+use Rattle.rules.specs.SeenLaws.{Seen, seen}
+use Rattle.theory.specs.Picture.{viewsOf, pictureOf, Said}
 use Rattle.theory.specs.Sound.{Sound}
 
 -- settings, lengths and table form as 1 asks for them
@@ -77,10 +75,10 @@ trailer-size r slot =
 -- "present over file_size" is no file that is shown
 present-fits : (slot : List ℕ) (f : File) → Seen slot f → f .label .«present_objects» ≤ f .label .«file_size»
 present-fits slot f s =
-    let a = seen-present slot f s in
-    let b = trailer-room (trailerPart (f .label) slot) (seen-trailer slot f s) in
+    let a = s .present in
+    let b = trailer-room (trailerPart (f .label) slot) (s .trailer) in
     let c = trailer-size (f .label) slot in
-    let d : length (f .entries) ≡ length (entriesIn (trailerPart (f .label) slot)) = ap length (s .entries) in
+    let d : length (f .entries) ≡ length (entriesIn (trailerPart (f .label) slot)) = ap length (sym (s .entries)) in
     omega arith
 
 bounds-live : (size : ℕ) (r : Record) (n : ℕ) → InBounds size r → InBounds size (withLive r n)
@@ -91,7 +89,7 @@ module _ (w : World) (told : ℕ → Said) (s : SoundWorld w told) where
   pub shown-bounds : (k : ℕ) (f : File) → viewAt (viewsOf w) k ≡ holds f → InBounds (w .settings .«slot_bytes») (f .label)
   shown-bounds k f h =
       let z = shown w k f h in
-      subst (λ (n : ℕ). InBounds n (f .label)) (slot-whole w (s .tidy) k (z .0)) (seen-bounds (slotBytes (w .settings .«slot_bytes») (w .heap) k) f (z .1))
+      subst (λ (n : ℕ). InBounds n (f .label)) (slot-whole w (s .tidy) k (z .0)) (z .1 .bounds)
 
   live-fits : (k : ℕ) (f : File) → viewAt (viewsOf w) k ≡ holds f → recordAt (recordsOf w) k .live ≤ capacityOf (w .table)
   unfolding mappedInto

@@ -1,16 +1,15 @@
 -- A file of operations says of each id what its last operation says.
 use mathlib.Core.Path.{_≡_, refl, sym, ap, _∙_, subst}
 use mathlib.Core.Logic.{_⊎_, inl, inr}
-use mathlib.Core.List.{append-nil}
-use Prim.Native.Nat.{_<_, _≤_}
+use Prim.Native.Nat.{_<_}
 use native.Mathlib.Nat.{sub-zero}
 use native.Mathlib.Omega.{arith}
 use borrow.Author.Tests.{eq-eqb, ne-eqb}
-use Rattle.rules.specs.Base.{Bool, true, false, not, List, [], _∷_, _++_, ℕ, suc, _+_, _-_, _*_, _%_, _^_, length, drop, ltb, eqb, pick}
+use Rattle.rules.specs.Base.{Bool, true, false, List, [], _∷_, _++_, ℕ, suc, _+_, _-_, _*_, _%_, _^_, length, drop, pick}
 use Rattle.theory.specs.Types.{Answer, Held, Mapped, Unmapped}
 use Rattle.disk_location.specs.Locations.{positionOf, deleteOf, rawOf}
 use Rattle.rules.specs.BaseLaws.{same?}
-use Rattle.rules.specs.Refusal.{decide, after, decide-clear}
+use Rattle.rules.specs.Refusal.{after, decide-clear}
 use Rattle.rules.specs.Object.{storedAt}
 use Rattle.rules.specs.ObjectLaws.{storedObject, stored-back}
 use Rattle.rules.specs.Ops.{Content, put, delete, Op, isDelete, sizeOf, objectsOf, entriesOf}
@@ -19,7 +18,7 @@ use Rattle.rules.specs.SettledLaws.{Last, silent, last, orEarlier, saidBy, last
 use Rattle.rules.specs.Table.{lookup}
 use Rattle.rules.specs.TableLaws.{Has, lookup-here, lookup-next, lookup-has, mapped-not}
 use Rattle.rules.specs.WrittenLaws.{fileOfOps, read-clear}
-use Rattle.theory.specs.Picture.{Said, unheard, gone, body, broken, objectSays, placeSays, entrySays, fileSays, lastSays}
+use Rattle.theory.specs.Picture.{gone, body, broken, objectSays, placeSays, entrySays, fileSays, lastSays}
 use Rattle.theory.specs.Installed.{over}
 
 -- ---- the last operation on an id, where ids rise

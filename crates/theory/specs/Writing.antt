@@ -1,15 +1,14 @@
 -- A write on a store of the invariant: refused, nothing changes; accepted, the engine hears the batch.
 use mathlib.Core.Path.{_≡_, refl, sym, ap, _∙_, subst}
-use mathlib.Core.Logic.{_⊎_, inl, inr}
-use Prim.Native.Nat.{_<_, _≤_, zero-le}
+use mathlib.Core.Logic.{inr}
+use Prim.Native.Nat.{_<_, zero-le}
 use native.Mathlib.Omega.{arith}
 use Rattle.rules.specs.Base.{Bool, List, [], _∷_, _++_, ℕ, _^_, length, eqb, pick}
-use Rattle.theory.specs.Types.{Refusal, Answer, Done, Refused}
+use Rattle.theory.specs.Types.{Answer, Done, Refused}
 use Rattle.rules.specs.Refusal.{decide, after}
 use Rattle.rules.specs.Answers.{known}
 use Rattle.rules.specs.Ops.{Op, objectsOf, entriesOf, settled}
-use Rattle.rules.specs.OpsLaws.{RisingOps, IdsFit}
-use Rattle.rules.specs.SettledLaws.{Last, silent, last, orEarlier, lastOn, settled-rising, settled-last, settled-all}
+use Rattle.rules.specs.SettledLaws.{Last, last, orEarlier, lastOn, settled-rising, settled-last, settled-all}
 use Rattle.rules.specs.WrittenLaws.{fileOfOps}
 use Rattle.rules.specs.Batch.{batchIn, opsOf}
 use Rattle.rules.specs.BatchLaws.{batch-ids}
@@ -19,10 +18,9 @@ use Rattle.rules.specs.WriteLaws.{opsIn, Accepted, write-accepted}
 use Rattle.rules.specs.World.{World, mappings, Given, accepted, unchanged}
 use Rattle.theory.specs.SameIds.{room-absolute}
 use Rattle.theory.specs.Picture.{Said, fileSays, lastSays}
-use Rattle.theory.specs.Sound.{Sound}
 use Rattle.theory.specs.Installed.{over}
 use Rattle.theory.specs.Told.{last-append, over-last, file-says}
-use Rattle.theory.specs.SoundWorld.{Tidy, SoundWorld}
+use Rattle.theory.specs.SoundWorld.{SoundWorld}
 use Rattle.theory.specs.Adding.{Fitting, sound-installed}
 
 -- what the plain engine says: the last operation on the id
