@@ -24,3 +24,4 @@ pub mod Shards
 pub mod Rewriting
 pub mod Maintaining
 pub mod History
+pub mod Accepting

@@ -128,9 +128,6 @@ not-empty h = let z : _≡_ {A = ℕ} 0 1 = cc in omega arith
 pub not-damaged : {n : Refusal} {f : File} → damaged n ≡ holds f → ⊥
 not-damaged h = let z : _≡_ {A = ℕ} 0 1 = cc in omega arith
 
-pub is-inj : {a b : ℕ} → Is a ≡ Is b → a ≡ b
-is-inj h = cc
-
 pub holds-lt : (views : List View) (k : ℕ) (f : File) → viewAt views k ≡ holds f → k < length views
 holds-lt [] k f h = absurd (not-empty h)
 holds-lt (v ∷ vs) zero f h = omega arith

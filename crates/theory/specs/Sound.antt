@@ -7,7 +7,7 @@ use Rattle.disk_location.specs.Locations.{maskedOf}
 use Rattle.rules.specs.SlotFile.{File, View, holds}
 use Rattle.rules.specs.Table.{lookup}
 use Rattle.rules.specs.Reopen.{filesIn, tableOf, mappedInto}
-use Rattle.rules.specs.TableLaws.{Rising, Has, has-lookup}
+use Rattle.rules.specs.TableLaws.{Rising, Has}
 use Rattle.theory.specs.Newest.{Newest, newest-latest, rising-latest-of}
 use Rattle.theory.specs.Places.{viewAt, rowsOf, Filed, Stands, has-stands}
 use Rattle.theory.specs.Losing.{liveAt}
@@ -52,6 +52,3 @@ module _ (capacity : ℕ) (p : Picture) (told : ℕ → Said) (s : Sound capacit
   -- what the table holds stands in a slot
   pub table-stands : (x l : ℕ) → lookup (p .table) x ≡ Mapped l → (k : ℕ) × Stands (p .views) x l k
   table-stands x l h = has-stands (p .views) x l (subst (Newest (Has (rowsOf (p .views)) x)) h (table-newest x) .0)
-
-  pub table-stands-has : (x l : ℕ) → Has (p .table) x l → (k : ℕ) × Stands (p .views) x l k
-  table-stands-has x l h = table-stands x l (has-lookup 0 (p .table) table-rising x l h)
