@@ -4,7 +4,7 @@ use mathlib.Core.Bool.{true≢false}
 use mathlib.Core.Logic.{_⊎_, inl, inr}
 use Prim.Native.Nat.{_<_, _≤_}
 use native.Mathlib.Omega.{arith}
-use Rattle.rules.specs.Base.{true, List, ℕ, _+_, _-_, _^_, length, set}
+use Rattle.rules.specs.Base.{Bool, false, true, List, ℕ, _+_, _-_, _^_, length, set}
 use Rattle.theory.specs.Types.{Record}
 use Rattle.disk_location.specs.Locations.{maskedOf}
 use Rattle.disk_location.specs.LocationLaws.{masked-plain, masked-batch}
@@ -12,6 +12,7 @@ use Rattle.rules.specs.Settings.{slotsIn}
 use Rattle.rules.specs.SettingsLaws.{HeapInRange, heap-whole}
 use Rattle.rules.specs.Ops.{Op, objectsOf, entriesOf, fileBytes}
 use Rattle.rules.specs.OpsLaws.{RisingOps, IdsFit, file-length}
+use Rattle.rules.specs.Batch.{anyTooLarge}
 use Rattle.rules.specs.SlotFile.{View, empty, damaged, holds, viewsIn}
 use Rattle.rules.specs.StoreLaws.{made-length}
 use Rattle.rules.specs.SlotLaws.{views-length}
@@ -28,11 +29,11 @@ use Rattle.theory.specs.Entries.{absolute-has}
 use Rattle.theory.specs.Places.{viewAt, masked-pos, record-holds, no-damage}
 use Rattle.theory.specs.Losing.{rowsFor}
 use Rattle.theory.specs.Picture.{Picture, viewsOf, pictureOf, Said, fileSays, added}
-use Rattle.theory.specs.Sound.{Sound, table-rising}
+use Rattle.theory.specs.Sound.{Bounds, Sound, table-rising}
 use Rattle.theory.specs.Installed.{over, Addable, filed-added, newest-added, sound-added}
 use Rattle.theory.specs.Reopened.{rows-used}
 use Rattle.theory.specs.Told.{ids-fit}
-use Rattle.theory.specs.SoundWorld.{Tidy, SoundWorld}
+use Rattle.theory.specs.SoundWorld.{Tidy, boundsOf, SoundWorld}
 
 -- 4, 5, 6 and 7 do not refuse a file of these operations; bit: the batch bit or none
 pub record Fitting (bit g : ℕ) (w : World) (os : List Op) : Type 0 where
@@ -43,6 +44,7 @@ pub record Fitting (bit g : ℕ) (w : World) (os : List Op) : Type 0 where
   pub aged : g ≤ 255
   pub slot : 64 + length (fileBytes os) ≤ w .settings .«slot_bytes»
   pub free : 0 < emptyOf w
+  pub small : anyTooLarge (w .settings .«max_object_size») os ≡ false
   pub room : length (insertAll (mappings w) (rowsFor (newLsn bit w) 0 os)) ≤ capacityOf (w .table)
   pub positions : w .state .«next_position» + (length (objectsOf os) + 1) ≤ 2 ^ 62
 
@@ -74,7 +76,7 @@ module _ (w : World) (told : ℕ → Said) (s : SoundWorld w told) where
             let p = f .positions in
             (ap (λ (b : ℕ). maskedOf (w .state .«next_position» + b)) e ∙ masked-batch (w .state .«next_position») (omega arith), omega arith)
 
-    addable : Addable (capacityOf (w .table)) (pictureOf w) (newSlot w) (newLsn bit w) os
+    addable : Addable (boundsOf w) (pictureOf w) (newSlot w) (newLsn bit w) os
     addable =
         let z = free-slot (f .free) in
         let n = views-length (slotsOf w) (w .settings .«slot_bytes») (w .heap) in
@@ -86,6 +88,8 @@ module _ (w : World) (told : ℕ → Said) (s : SoundWorld w told) where
           base = base .0;
           low = base .1;
           within = omega arith;
+          ids = f .ids;
+          small = f .small;
           room = f .room;
           narrow = λ x l h. let a = absolute-has (newLsn bit w) (entriesOf 0 os) x l h in ids-fit os (f .ids) 0 x (a .0) (a .1);
         }
@@ -110,9 +114,9 @@ module _ (w : World) (told : ℕ → Said) (s : SoundWorld w told) where
 
     used-after : Used (insertAll (mappings w) (rowsFor (newLsn bit w) 0 os))
     used-after =
-        subst Used (sym (newest-added (capacityOf (w .table)) (pictureOf w) told (s .sound) (newSlot w) (newLsn bit w) g os addable))
+        subst Used (sym (newest-added (boundsOf w) (pictureOf w) told (s .sound) (newSlot w) (newLsn bit w) g os addable))
         (rows-used (added (newLsn bit w) g (pictureOf w) (newSlot w) os .views)
-        (filed-added (capacityOf (w .table)) (pictureOf w) told (s .sound) (newSlot w) (newLsn bit w) g os addable .made))
+        (filed-added (boundsOf w) (pictureOf w) told (s .sound) (newSlot w) (newLsn bit w) g os addable .made))
 
     views-after : viewsOf (installed bit g w os) ≡ set (viewsOf w) (newSlot w) (holds (fileOfOps (newLsn bit w) g os))
     unfolding installed storesFor
@@ -135,6 +139,10 @@ module _ (w : World) (told : ℕ → Said) (s : SoundWorld w told) where
     unfolding installed tableWith
     capacity-after = laid-out-ids (capacityOf (w .table)) (insertAll (mappings w) (rowsFor (newLsn bit w) 0 os)) (f .room)
 
+    bounds-after : boundsOf (installed bit g w os) ≡ boundsOf w
+    unfolding installed
+    bounds-after = λ i. record { entries = capacity-after i; object = w .settings .«max_object_size» }
+
     tidy-installed : Tidy (installed bit g w os)
     unfolding installed tableWith
     tidy-installed =
@@ -154,7 +162,7 @@ module _ (w : World) (told : ℕ → Said) (s : SoundWorld w told) where
           settings = s .tidy .settings;
           heap-len = n ∙ s .tidy .heap-len;
           table-len = a ∙ s .tidy .table-len;
-          form = form-laid-out (capacityOf (w .table)) t used-after (rising-insert-all (mappings w) (rowsFor (newLsn bit w) 0 os) (table-rising (capacityOf (w .table)) (pictureOf w) told (s .sound)));
+          form = form-laid-out (capacityOf (w .table)) t used-after (rising-insert-all (mappings w) (rowsFor (newLsn bit w) 0 os) (table-rising (boundsOf w) (pictureOf w) told (s .sound)));
         }
 
     -- LAW: the invariant after a file is added
@@ -162,7 +170,7 @@ module _ (w : World) (told : ℕ → Said) (s : SoundWorld w told) where
     sound-installed = record {
       tidy = tidy-installed;
       sound =
-          subst (λ (n : ℕ). Sound n (pictureOf (installed bit g w os)) (λ x. over (fileSays (fileOfOps (newLsn bit w) g os) x) (told x))) (sym capacity-after)
-          (subst (λ (p : Picture). Sound (capacityOf (w .table)) p (λ x. over (fileSays (fileOfOps (newLsn bit w) g os) x) (told x))) (sym picture-installed)
-          (sound-added (capacityOf (w .table)) (pictureOf w) told (s .sound) (newSlot w) (newLsn bit w) g os addable));
+          subst (λ (b : Bounds). Sound b (pictureOf (installed bit g w os)) (λ x. over (fileSays (fileOfOps (newLsn bit w) g os) x) (told x))) (sym bounds-after)
+          (subst (λ (p : Picture). Sound (boundsOf w) p (λ x. over (fileSays (fileOfOps (newLsn bit w) g os) x) (told x))) (sym picture-installed)
+          (sound-added (boundsOf w) (pictureOf w) told (s .sound) (newSlot w) (newLsn bit w) g os addable));
     }

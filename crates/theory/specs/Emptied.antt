@@ -16,7 +16,7 @@ use Rattle.theory.specs.Newest.{maskedAt, newest-less, newest-one}
 use Rattle.theory.specs.Places.{viewAt, rowsOf, Agrees, Filed, Stands, stands-has, has-stands, not-empty, own-file, in-own-range, distinct}
 use Rattle.theory.specs.Losing.{liveAt}
 use Rattle.theory.specs.Picture.{Picture, Said, gone, viewSays, slotSays, heldSays, pictureSays}
-use Rattle.theory.specs.Sound.{Sound, newest-table, rising-table, table-rising, table-newest, table-stands}
+use Rattle.theory.specs.Sound.{Bounds, Sound, newest-table, rising-table, table-rising, table-newest, table-stands}
 
 -- slot k as it was, or without its file, which had no live entry
 abbrev pub KeptOrEmptied : Picture → Picture → ℕ → Type 0
@@ -32,7 +32,7 @@ pub record Emptied (p q : Picture) : Type 0 where
   pub table : q .table ≡ p .table
   pub next : q .next ≡ p .next
 
-module _ (capacity : ℕ) (p : Picture) (told : ℕ → Said) (s : Sound capacity p told) (q : Picture) (e : Emptied p q) where
+module _ (bounds : Bounds) (p : Picture) (told : ℕ → Said) (s : Sound bounds p told) (q : Picture) (e : Emptied p q) where
   -- a file that is there was there, with that live count
   back : (k : ℕ) (f : File) → viewAt (q .views) k ≡ holds f → (viewAt (p .views) k ≡ holds f) × (recordAt (q .records) k ≡ recordAt (p .records) k)
   back k f h = ⊎-elim (λ c. (sym (c .0) ∙ h, c .1)) (λ c. absurd (not-empty (sym (c .1) ∙ h))) (e .each k)
@@ -70,7 +70,7 @@ module _ (capacity : ℕ) (p : Picture) (told : ℕ → Said) (s : Sound capacit
   -- LAW: the table that a reopening makes is the same
   newest-emptied : q .table ≡ tableOf (filesIn (q .views))
   newest-emptied =
-      e .table ∙ table-ext 0 0 (p .table) (tableOf (filesIn (q .views))) (table-rising capacity p told s) (rising-table (q .views)) same
+      e .table ∙ table-ext 0 0 (p .table) (tableOf (filesIn (q .views))) (table-rising bounds p told s) (rising-table (q .views)) same
     where
       same : (x : ℕ) → lookup (p .table) x ≡ lookup (tableOf (filesIn (q .views))) x
       same x =
@@ -80,8 +80,8 @@ module _ (capacity : ℕ) (p : Picture) (told : ℕ → Said) (s : Sound capacit
           (λ l h. let z = has-stands (q .views) x l h in
           let t = z .1 in
           stands-has (p .views) x l (z .0) (record { file = t .file; raw = t .raw; shows = back (z .0) (t .file) (t .shows) .0; entry = t .entry; located = t .located }))
-          (λ l h. let z = table-stands capacity p told s x l h in stands-has (q .views) x l (z .0) (stands-kept x l (z .0) h (z .1)))
-          (table-newest capacity p told s x))
+          (λ l h. let z = table-stands bounds p told s x l h in stands-has (q .views) x l (z .0) (stands-kept x l (z .0) h (z .1)))
+          (table-newest bounds p told s x))
           (newest-table (q .views) x)
 
   -- LAW: nothing else is said
@@ -92,7 +92,7 @@ module _ (capacity : ℕ) (p : Picture) (told : ℕ → Said) (s : Sound capacit
       go : (o : Held) → lookup (p .table) x ≡ o → heldSays q o x ≡ heldSays p o x
       go Unmapped h = refl
       go (Mapped l) h =
-          let z = table-stands capacity p told s x l h in
+          let z = table-stands bounds p told s x l h in
           let c = kept x l (z .0) h (z .1) in
           ap (pick (deleteOf l) gone) (
           ap (λ (o : Slot). slotSays q o l x) (own-file (q .views) (q .records) filed-emptied x l (z .0) (stands-kept x l (z .0) h (z .1)))
@@ -101,10 +101,10 @@ module _ (capacity : ℕ) (p : Picture) (told : ℕ → Said) (s : Sound capacit
           ∙ sym (ap (λ (o : Slot). slotSays p o l x) (own-file (p .views) (p .records) (s .filed) x l (z .0) (z .1))))
 
   -- LAW: the invariant after files of no live entry are removed
-  pub sound-emptied : Sound capacity q told
+  pub sound-emptied : Sound bounds q told
   sound-emptied = record {
     filed = filed-emptied;
-    rising = λ k f h. s .rising k f (back k f h .0);
+    written = λ k f h. s .written k f (back k f h .0);
     sized = e .sized ∙ s .sized;
     started = rw (e .next) (s .started);
     above = λ k f h. rw (e .next) (s .above k f (back k f h .0));

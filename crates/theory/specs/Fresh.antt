@@ -150,7 +150,7 @@ module _ (w : World) (range : outOfRange (w .settings) (length (w .heap)) (w .ta
             single = λ k f e. absurd (no k f e);
             apart = λ j k f g e. absurd (no j f e);
           };
-          rising = λ k f e. absurd (no k f e);
+          written = λ k f e. absurd (no k f e);
           sized = length-replicate 256 emptyRecord;
           started = omega arith;
           above = λ k f e. absurd (no k f e);

@@ -12,7 +12,8 @@ use Rattle.rules.specs.BaseLaws.{same?}
 use Rattle.rules.specs.Refusal.{decide, after}
 use Rattle.rules.specs.Object.{storedAt}
 use Rattle.rules.specs.Ops.{Op, objectsOf, entriesOf}
-use Rattle.rules.specs.OpsLaws.{RisingOps, file-length, entries-of-rising, entries-of-inside}
+use Rattle.rules.specs.OpsLaws.{RisingOps, IdsFit, file-length, entries-of-rising, entries-of-inside}
+use Rattle.rules.specs.Batch.{anyTooLarge}
 use Rattle.rules.specs.SlotFile.{File, View, empty, damaged, holds}
 use Rattle.rules.specs.Table.{lookup, insertAll}
 use Rattle.rules.specs.TableLaws.{Rising, Has, lookup-has, table-ext, orElse, rising-insert-all, lookup-insert-all, has-lookup}
@@ -28,7 +29,7 @@ use Rattle.theory.specs.Places.{viewAt, rowsIn, rowsOf, WellMade, Single
 use Rattle.theory.specs.Losing.{liveAt, rowsFor, Less, losing-record, losing-live, losing-new}
 use Rattle.rules.specs.WrittenLaws.{fileOfOps}
 use Rattle.theory.specs.Picture.{Picture, Said, unheard, gone, body, broken, placeSays, entrySays, fileSays, viewSays, slotSays, heldSays, pictureSays, added}
-use Rattle.theory.specs.Sound.{Sound, newest-table, rising-table, table-rising, table-newest, table-stands}
+use Rattle.theory.specs.Sound.{Bounds, OfOps, Sound, newest-table, rising-table, table-rising, table-newest, table-stands}
 
 -- what a file says goes before what was said
 abbrev pub over : Said → Said → Said
@@ -38,17 +39,19 @@ over (body b) s = body b
 over (broken r) s = broken r
 
 -- a file that may be added at slot k: the slot is empty, the file at the next position
-pub record Addable (capacity : ℕ) (p : Picture) (k lsn : ℕ) (os : List Op) : Type 0 where
+pub record Addable (bounds : Bounds) (p : Picture) (k lsn : ℕ) (os : List Op) : Type 0 where
   pub slot : k < length (p .views)
   pub free : viewAt (p .views) k ≡ empty
   pub rising : RisingOps 0 os
   pub base : maskedOf lsn ≡ p .next
   pub low : lsn < 2 ^ 63
   pub within : p .next + length (objectsOf os) < 2 ^ 62
-  pub room : length (insertAll (p .table) (rowsFor lsn 0 os)) ≤ capacity
+  pub ids : IdsFit os
+  pub small : anyTooLarge (bounds .object) os ≡ false
+  pub room : length (insertAll (p .table) (rowsFor lsn 0 os)) ≤ bounds .entries
   pub narrow : (x l : ℕ) → Has (rowsFor lsn 0 os) x l → x < 2 ^ 64
 
-module _ (capacity : ℕ) (p : Picture) (told : ℕ → Said) (s : Sound capacity p told) (k lsn g : ℕ) (os : List Op) (a : Addable capacity p k lsn os) where
+module _ (bounds : Bounds) (p : Picture) (told : ℕ → Said) (s : Sound bounds p told) (k lsn g : ℕ) (os : List Op) (a : Addable bounds p k lsn os) where
   new-made : WellMade (fileOfOps lsn g os)
   unfolding newRecord
   new-made =
@@ -182,7 +185,7 @@ module _ (capacity : ℕ) (p : Picture) (told : ℕ → Said) (s : Sound capacit
   unfolding newRecord
   all-above x l m h e =
       let n = absolute-has lsn (entriesOf 0 os) x l h in
-      let z = table-stands capacity p told s x m e in
+      let z = table-stands bounds p told s x m e in
       let t = z .1 in
       let u = masked-entry (fileOfOps lsn g os) new-made x (n .0) (n .1) in
       let v = masked-entry (t .file) (s .filed .made (z .0) (t .file) (t .shows)) x (t .raw) (t .entry) in
@@ -197,7 +200,7 @@ module _ (capacity : ℕ) (p : Picture) (told : ℕ → Said) (s : Sound capacit
   pub newest-added : insertAll (p .table) (rowsFor lsn 0 os) ≡ tableOf (filesIn (added lsn g p k os .views))
   newest-added =
       table-ext 0 0 (insertAll (p .table) (rowsFor lsn 0 os)) (tableOf (filesIn (added lsn g p k os .views)))
-      (rising-insert-all (p .table) (rowsFor lsn 0 os) (table-rising capacity p told s)) (rising-table (added lsn g p k os .views)) each-one
+      (rising-insert-all (p .table) (rowsFor lsn 0 os) (table-rising bounds p told s)) (rising-table (added lsn g p k os .views)) each-one
     where
       each-one : (x : ℕ) → lookup (insertAll (p .table) (rowsFor lsn 0 os)) x ≡ lookup (tableOf (filesIn (added lsn g p k os .views))) x
       each-one x =
@@ -205,14 +208,14 @@ module _ (capacity : ℕ) (p : Picture) (told : ℕ → Said) (s : Sound capacit
           (distinct (added lsn g p k os .views) (added lsn g p k os .records) filed-added x)
           (newest-iff (λ l. Has (rowsOf (p .views)) x l ⊎ Has (rowsFor lsn 0 os) x l) (Has (rowsOf (added lsn g p k os .views)) x)
           (lookup (insertAll (p .table) (rowsFor lsn 0 os)) x) (rows-join x) (rows-split x)
-          (newest-insert-all 0 (p .table) (rowsFor lsn 0 os) x (Has (rowsOf (p .views)) x) rows-rising (λ l m. all-above x l m) (table-newest capacity p told s x)))
+          (newest-insert-all 0 (p .table) (rowsFor lsn 0 os) x (Has (rowsOf (p .views)) x) rows-rising (λ l m. all-above x l m) (table-newest bounds p told s x)))
           (newest-table (added lsn g p k os .views) x)
 
   -- ---- live counts
   -- the locations held lie outside the new file's masked range, the new ones inside it
   old-outside : (x m : ℕ) → lookup (p .table) x ≡ Mapped m → inRange (newRecord lsn g os) (maskedAt m) ≡ false
   old-outside x m e =
-      let z = table-stands capacity p told s x m e in
+      let z = table-stands bounds p told s x m e in
       let t = stands-old x m (z .0) (z .1) in
       in-no-other (added lsn g p k os .views) (added lsn g p k os .records) filed-added x m (z .0) k (t .1) (fileOfOps lsn g os) view-new (λ q. t .0 (sym q))
 
@@ -225,8 +228,8 @@ module _ (capacity : ℕ) (p : Picture) (told : ℕ → Said) (s : Sound capacit
   counted-new =
       let u : count (λ (l : ℕ). inRange (newRecord lsn g os) (maskedAt l)) (p .table) ≡ 0
       = count-none (λ (l : ℕ). inRange (newRecord lsn g os) (maskedAt l)) (p .table)
-      (λ x l h. old-outside x l (has-lookup 0 (p .table) (table-rising capacity p told s) x l h)) in
-      let v = losing-new (λ (l : ℕ). inRange (newRecord lsn g os) (maskedAt l)) k lsn (p .table) 0 0 (p .table) os (table-rising capacity p told s) (a .rising)
+      (λ x l h. old-outside x l (has-lookup 0 (p .table) (table-rising bounds p told s) x l h)) in
+      let v = losing-new (λ (l : ℕ). inRange (newRecord lsn g os) (maskedAt l)) k lsn (p .table) 0 0 (p .table) os (table-rising bounds p told s) (a .rising)
       (λ x h. refl) old-outside new-inside in
       omega arith
 
@@ -234,9 +237,9 @@ module _ (capacity : ℕ) (p : Picture) (told : ℕ → Said) (s : Sound capacit
       → liveAt (losing (p .table) os (p .records)) j ≡ mappedInto (insertAll (p .table) (rowsFor lsn 0 os)) (h .label)
   unfolding mappedInto
   counted-old j h n e =
-      losing-live (λ (l : ℕ). inRange (h .label) (maskedAt l)) j lsn (p .table) 0 0 (p .table) os (p .records) (table-rising capacity p told s) (a .rising)
+      losing-live (λ (l : ℕ). inRange (h .label) (maskedAt l)) j lsn (p .table) 0 0 (p .table) os (p .records) (table-rising bounds p told s) (a .rising)
       (λ x b. refl)
-      (λ x m b. let z = table-stands capacity p told s x m b in found-in-range (p .views) (p .records) (s .filed) x m (z .0) j (z .1) h e)
+      (λ x m b. let z = table-stands bounds p told s x m b in found-in-range (p .views) (p .records) (s .filed) x m (z .0) j (z .1) h e)
       (λ x l b. in-no-other (added lsn g p k os .views) (added lsn g p k os .records) filed-added x l k j (stands-new x l b) h (view-old j n ∙ e) n)
       (s .counted j h e)
 
@@ -267,7 +270,7 @@ module _ (capacity : ℕ) (p : Picture) (told : ℕ → Said) (s : Sound capacit
   old-says : (x : ℕ) (o : Held) → lookup (p .table) x ≡ o → heldSays (added lsn g p k os) o x ≡ heldSays p o x
   old-says x Unmapped h = refl
   old-says x (Mapped l) h =
-      let z = table-stands capacity p told s x l h in
+      let z = table-stands bounds p told s x l h in
       let t = stands-old x l (z .0) (z .1) in
       ap (pick (deleteOf l) gone) (
       ap (λ (o : Slot). slotSays (added lsn g p k os) o l x) (own-file (added lsn g p k os .views) (added lsn g p k os .records) filed-added x l (z .0) (t .1))
@@ -323,29 +326,29 @@ module _ (capacity : ℕ) (p : Picture) (told : ℕ → Said) (s : Sound capacit
           omega arith
       go (inr z) = let u = s .above j h (sym (view-old j z) ∙ e) in omega arith
 
-  rising-added : (j : ℕ) (h : File) → viewAt (added lsn g p k os .views) j ≡ holds h → Rising 0 (h .entries)
-  rising-added j h e = go (same? j k)
+  written-added : (j : ℕ) (h : File) → viewAt (added lsn g p k os .views) j ≡ holds h → OfOps (bounds .object) h
+  written-added j h e = go (same? j k)
     where
-      go : (j ≡ k) ⊎ (j ≡ k → ⊥) → Rising 0 (h .entries)
-      go (inl z) = subst (λ (c : File). Rising 0 (c .entries)) (is-new j h e z) (entries-of-rising 0 0 os (a .rising))
-      go (inr z) = s .rising j h (sym (view-old j z) ∙ e)
+      go : (j ≡ k) ⊎ (j ≡ k → ⊥) → OfOps (bounds .object) h
+      go (inl z) = subst (OfOps (bounds .object)) (is-new j h e z) (record { ops = os; rising = a .rising; ids = a .ids; small = a .small; entries = refl; objects = refl })
+      go (inr z) = s .written j h (sym (view-old j z) ∙ e)
 
   narrow-added : (x l : ℕ) → Has (insertAll (p .table) (rowsFor lsn 0 os)) x l → x < 2 ^ 64
   narrow-added x l h =
       go (lookup (rowsFor lsn 0 os) x) refl
       (sym (lookup-insert-all 0 (p .table) (rowsFor lsn 0 os) rows-rising x)
-      ∙ has-lookup 0 (insertAll (p .table) (rowsFor lsn 0 os)) (rising-insert-all (p .table) (rowsFor lsn 0 os) (table-rising capacity p told s)) x l h)
+      ∙ has-lookup 0 (insertAll (p .table) (rowsFor lsn 0 os)) (rising-insert-all (p .table) (rowsFor lsn 0 os) (table-rising bounds p told s)) x l h)
     where
       go : (o : Held) → lookup (rowsFor lsn 0 os) x ≡ o → orElse o (lookup (p .table) x) ≡ Mapped l → x < 2 ^ 64
       go (Mapped m) e d = a .narrow x m (lookup-has (rowsFor lsn 0 os) x m e)
       go Unmapped e d = s .narrow x l (lookup-has (p .table) x l d)
 
   -- LAW: the invariant after a file is added
-  pub sound-added : Sound capacity (added lsn g p k os) (λ x. over (fileSays (fileOfOps lsn g os) x) (told x))
+  pub sound-added : Sound bounds (added lsn g p k os) (λ x. over (fileSays (fileOfOps lsn g os) x) (told x))
   unfolding added pictureSays
   sound-added = record {
     filed = filed-added;
-    rising = rising-added;
+    written = written-added;
     sized = length-set (losing (p .table) os (p .records)) k (newRecord lsn g os) ∙ losing-length (p .table) os (p .records) ∙ s .sized;
     started = let z = s .started in omega arith;
     above = above-added;

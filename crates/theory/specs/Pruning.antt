@@ -27,7 +27,7 @@ use Rattle.rules.specs.World.{World, recordsOf, slotsOf, accepted, After, uncha
 use Rattle.theory.specs.Places.{viewAt, holds-lt, record-empty, no-damage}
 use Rattle.theory.specs.Picture.{viewsOf, pictureOf, Said}
 use Rattle.theory.specs.Emptied.{KeptOrEmptied, Emptied, sound-emptied}
-use Rattle.theory.specs.SoundWorld.{Tidy, SoundWorld, sound-fine}
+use Rattle.theory.specs.SoundWorld.{Tidy, boundsOf, SoundWorld, sound-fine}
 
 pick-same : {A : Type 0} (b : Bool) (a : A) → a ≡ pick b a a
 pick-same true a = refl
@@ -129,7 +129,7 @@ module _ (w : World) (told : ℕ → Said) (s : SoundWorld w told) where
   -- LAW: the invariant after files of no live entry are pruned
   pub sound-pruned : SoundWorld (pruned w) told
   unfolding pruned
-  sound-pruned = record { tidy = tidy-pruned; sound = sound-emptied (capacityOf (w .table)) (pictureOf w) told (s .sound) (pictureOf (pruned w)) emptied-pruned }
+  sound-pruned = record { tidy = tidy-pruned; sound = sound-emptied (boundsOf w) (pictureOf w) told (s .sound) (pictureOf (pruned w)) emptied-pruned }
 
   -- LAW: prune is accepted, and keeps the invariant
   pub prune-accepted : pruneCall w ≡ record { answer = accepted []; world = pruned w }

@@ -1,9 +1,12 @@
 -- The invariant of a store that its own calls left, on its picture.
 use mathlib.Core.Path.{_≡_, sym, subst}
 use Prim.Native.Nat.{_<_, _≤_}
-use Rattle.rules.specs.Base.{List, ℕ, _+_, _^_, length}
+use Rattle.rules.specs.Base.{Bool, false, List, ℕ, _+_, _^_, length}
 use Rattle.theory.specs.Types.{Entry, Mapped}
 use Rattle.disk_location.specs.Locations.{maskedOf}
+use Rattle.rules.specs.Ops.{Op, objectsOf, entriesOf}
+use Rattle.rules.specs.OpsLaws.{RisingOps, IdsFit, entries-of-rising}
+use Rattle.rules.specs.Batch.{anyTooLarge}
 use Rattle.rules.specs.SlotFile.{File, View, holds}
 use Rattle.rules.specs.Table.{lookup}
 use Rattle.rules.specs.Reopen.{filesIn, tableOf, mappedInto}
@@ -13,19 +16,33 @@ use Rattle.theory.specs.Places.{viewAt, rowsOf, Filed, Stands, has-stand
 use Rattle.theory.specs.Losing.{liveAt}
 use Rattle.theory.specs.Picture.{Picture, Said, pictureSays}
 
--- capacity: the table's entries; told: what the plain engine says of each id
-pub record Sound (capacity : ℕ) (p : Picture) (told : ℕ → Said) : Type 0 where
+-- the table's entries, and max_object_size
+pub record Bounds : Type 0 where
+  pub entries : ℕ
+  pub object : ℕ
+
+-- a file as a writer makes it: of operations in order, none of which 3 refuses
+pub record OfOps (limit : ℕ) (f : File) : Type 0 where
+  pub ops : List Op
+  pub rising : RisingOps 0 ops
+  pub ids : IdsFit ops
+  pub small : anyTooLarge limit ops ≡ false
+  pub entries : f .entries ≡ entriesOf 0 ops
+  pub objects : f .objects ≡ objectsOf ops
+
+-- told: what the plain engine says of each id
+pub record Sound (bounds : Bounds) (p : Picture) (told : ℕ → Said) : Type 0 where
   -- views and records tell of the same files; these are well made, and their masked ranges apart
   pub filed : Filed (p .views) (p .records)
-  -- every trailer's ids rise
-  pub rising : (k : ℕ) (f : File) → viewAt (p .views) k ≡ holds f → Rising 0 (f .entries)
+  -- every file is one of operations
+  pub written : (k : ℕ) (f : File) → viewAt (p .views) k ≡ holds f → OfOps (bounds .object) f
   pub sized : length (p .records) ≡ 256
   pub started : 0 < p .next
   -- the next position lies above every file
   pub above : (k : ℕ) (f : File) → viewAt (p .views) k ≡ holds f → maskedOf (f .label .lsn) + f .label .«trailer_offset» < p .next
   -- the table is the one that a reopening makes of the files
   pub newest : p .table ≡ tableOf (filesIn (p .views))
-  pub room : length (p .table) ≤ capacity
+  pub room : length (p .table) ≤ bounds .entries
   -- ids are numbers of 64 bits
   pub narrow : (x l : ℕ) → Has (p .table) x l → x < 2 ^ 64
   -- a file's live count is the number of ids mapped into it
@@ -42,7 +59,11 @@ pub rising-table : (views : List View) → Rising 0 (tableOf (filesIn views))
 unfolding tableOf
 rising-table views = rising-latest-of (rowsOf views)
 
-module _ (capacity : ℕ) (p : Picture) (told : ℕ → Said) (s : Sound capacity p told) where
+-- its trailer's ids rise
+pub written-rising : (limit : ℕ) (f : File) → OfOps limit f → Rising 0 (f .entries)
+written-rising limit f o = subst (Rising 0) (sym (o .entries)) (entries-of-rising 0 0 (o .ops) (o .rising))
+
+module _ (bounds : Bounds) (p : Picture) (told : ℕ → Said) (s : Sound bounds p told) where
   pub table-rising : Rising 0 (p .table)
   table-rising = subst (Rising 0) (sym (s .newest)) (rising-table (p .views))
 
