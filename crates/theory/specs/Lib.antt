@@ -25,3 +25,4 @@ pub mod Rewriting
 pub mod Maintaining
 pub mod History
 pub mod Accepting
+pub mod Checked

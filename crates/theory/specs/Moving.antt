@@ -126,7 +126,7 @@ none-found P table slot = tt
 
 module _ (w : World) (history : List Op) (s : SoundWorld w (engine history)) where
   -- T bytes at most
-  objects-inside : (k : ℕ) (f : File) → viewAt (viewsOf w) k ≡ holds f → length (f .objects) ≤ f .label .«trailer_offset»
+  pub objects-inside : (k : ℕ) (f : File) → viewAt (viewsOf w) k ≡ holds f → length (f .objects) ≤ f .label .«trailer_offset»
   objects-inside k f h =
       let a : length (f .objects) ≡ length (objectPart (f .label) (slotBytes (w .settings .«slot_bytes») (w .heap) k)) = ap length (sym (shown w k f h .1 .objects)) in
       let b = length-take (f .label .«trailer_offset») (fileIn (f .label) (slotBytes (w .settings .«slot_bytes») (w .heap) k)) in
