@@ -31,7 +31,7 @@ use Rattle.theory.specs.Pruning.{file-slot}
 use Rattle.theory.specs.Moving.{objects-inside}
 
 -- no test of any element
-none-each : {A : Type 0} (f : A → List Test) (xs : List A) → All (λ (x : A). NoneHolds (f x)) xs → NoneHolds (each f xs)
+pub none-each : {A : Type 0} (f : A → List Test) (xs : List A) → All (λ (x : A). NoneHolds (f x)) xs → NoneHolds (each f xs)
 unfolding each NoneHolds
 none-each f [] h = tt
 none-each f (x ∷ xs) h = none-append (f x) (each f xs) (h .0) (none-each f xs (h .1))

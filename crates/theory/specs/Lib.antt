@@ -26,3 +26,4 @@ pub mod Maintaining
 pub mod History
 pub mod Accepting
 pub mod Checked
+pub mod Stopping
