@@ -27,3 +27,4 @@ pub mod History
 pub mod Accepting
 pub mod Checked
 pub mod Stopping
+pub mod Tally
