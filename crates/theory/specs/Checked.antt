@@ -1,30 +1,30 @@
 -- On a store of the invariant no file of a group is refused: maintenance stops with 4, 5 or 7 only.
 use mathlib.Core.Path.{_≡_, refl, sym, ap, _∙_, subst}
 use mathlib.Core.Logic.{_⊎_, inl, inr}
-use Prim.Native.Nat.{_<_, _≤_}
+use Prim.Native.Nat.{_<_}
 use native.Mathlib.Omega.{arith}
 use borrow.Author.Tests.{le-ltb, lt-leb}
-use Rattle.rules.specs.Base.{Bool, true, false, List, [], _∷_, _++_, ℕ, _+_, _*_, _^_, length, leb, ltb, keep, pick, each}
-use Rattle.theory.specs.Types.{Entry, Record, Refusal, Held, Mapped, Unmapped}
+use Rattle.rules.specs.Base.{Bool, true, false, List, [], _∷_, _++_, ℕ, _+_, _*_, _^_, length, leb, keep, pick, each}
+use Rattle.theory.specs.Types.{Entry, Record, Held, Mapped, Unmapped}
 use Rattle.disk_location.specs.Locations.{maskedOf, positionOf, deleteOf, rawOf}
 use Rattle.rules.specs.BaseLaws.{All, any-false}
 use Rattle.rules.specs.Refusal.{Test, NoneHolds, none-append}
-use Rattle.rules.specs.Object.{Stored, objectsIn, badChecksum}
+use Rattle.rules.specs.Object.{Stored, objectsIn}
 use Rattle.rules.specs.ObjectLaws.{storedObject, stored-good}
 use Rattle.rules.specs.Trailer.{trailerTests}
-use Rattle.rules.specs.Ops.{Content, put, delete, isDelete, Op, sizeOf, objectsOf, entriesOf}
+use Rattle.rules.specs.Ops.{Content, put, delete, isDelete, Op, sizeOf, objectsOf}
 use Rattle.rules.specs.OpsLaws.{storedHere, storedOf, objects-back, Stands, stands-entry}
 use Rattle.rules.specs.Batch.{tooLarge, anyTooLarge}
-use Rattle.rules.specs.SlotFile.{objectPart, trailerPart, trailerEntries, File, View, empty, damaged, holds}
+use Rattle.rules.specs.SlotFile.{objectPart, trailerPart, trailerEntries, File, holds}
 use Rattle.rules.specs.Table.{lookup, unmapped}
 use Rattle.rules.specs.TableLaws.{Has}
 use Rattle.rules.specs.FileMap.{isEmpty, recordAt, withLive}
-use Rattle.rules.specs.Maintenance.{movedTests, deleteTests, storedObjects, deletesOf, fileTests, slotOf}
+use Rattle.rules.specs.Maintenance.{movedTests, deleteTests, deletesOf, fileTests, slotOf}
 use Rattle.rules.specs.World.{World, recordsOf, mappings}
 use Rattle.theory.specs.Newest.{Newest}
 use Rattle.theory.specs.Places.{viewAt, rowsOf, WellMade, kinds, record-holds, stands-has}
 use Rattle.theory.specs.Picture.{viewsOf, pictureOf}
-use Rattle.theory.specs.Sound.{OfOps, table-newest}
+use Rattle.theory.specs.Sound.{table-newest}
 use Rattle.theory.specs.SoundWorld.{boundsOf, SoundWorld, shown}
 use Rattle.theory.specs.Writing.{engine}
 use Rattle.theory.specs.Pruning.{file-slot}

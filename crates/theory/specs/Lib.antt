@@ -28,3 +28,4 @@ pub mod Accepting
 pub mod Checked
 pub mod Stopping
 pub mod Tally
+pub mod Moved

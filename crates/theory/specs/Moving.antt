@@ -81,7 +81,7 @@ stored-small limit position (o ∷ os) a = go (o .content) (a .0) (stored-small 
     go (put b) h ih = (h, ih)
     go delete h ih = ih
 
-mapped-to : (o : Held) (l : ℕ) → mappedTo o l ≡ true → o ≡ Mapped l
+pub mapped-to : (o : Held) (l : ℕ) → mappedTo o l ≡ true → o ≡ Mapped l
 mapped-to Unmapped l h = absurd (let z : _≡_ {A = ℕ} 0 1 = cc in omega arith)
 mapped-to (Mapped m) l h = ap Mapped (eqb-true m l h)
 

@@ -16,7 +16,6 @@ use Rattle.rules.specs.SlotFile.{File, View, empty, damaged, holds, viewsIn}
 use Rattle.rules.specs.SlotLaws.{views-length}
 use Rattle.rules.specs.Stores.{Store, made}
 use Rattle.rules.specs.StoreLaws.{made-length}
-use Rattle.rules.specs.Layout.{capacityOf}
 use Rattle.rules.specs.FileMap.{emptyRecord, isEmpty, recordAt}
 use Rattle.rules.specs.FileMapLaws.{is-empty}
 use Rattle.rules.specs.Claims.{isClaimed, notAFile, claimSet, claimCleared, withClaims, claimCall, releaseCall}

@@ -18,7 +18,6 @@ use Rattle.rules.specs.StoreLaws.{made-length}
 use Rattle.rules.specs.WrittenLaws.{fileOfOps}
 use Rattle.rules.specs.Table.{lookup}
 use Rattle.rules.specs.TableLaws.{Has}
-use Rattle.rules.specs.Layout.{capacityOf}
 use Rattle.rules.specs.FileMap.{emptyRecord, isEmpty, recordAt, withLive, slotsWhere, emptySlots}
 use Rattle.rules.specs.FileMapLaws.{empty-is, is-empty}
 use Rattle.rules.specs.Install.{newRecord, losing, newSlot, newLsn, recordsWith, storesFor, nextWith, installed, installedAll, emptyOf}
@@ -131,7 +130,7 @@ one-fewer bit g w os =
 op-is : (o : Op) (x : ℕ) (c : Content) → o .id ≡ x → o .content ≡ c → _≡_ {A = Op} o (record { id = x; content = c })
 op-is o x c p q = λ i. record { id = p i; content = q i }
 
-last-all : (P : Op → Type 0) (os : List Op) → All P os → (x : ℕ) (c : Content) → lastOn os x ≡ last c → P (record { id = x; content = c })
+pub last-all : (P : Op → Type 0) (os : List Op) → All P os → (x : ℕ) (c : Content) → lastOn os x ≡ last c → P (record { id = x; content = c })
 unfolding lastOn
 last-all P [] a x c e = absurd (let z : _≡_ {A = ℕ} 0 1 = cc in omega arith)
 last-all P (o ∷ os) a x c e = go (last-all P os (a .1) x c) (lastOn os x) refl (eqb (o .id) x) refl e
@@ -146,7 +145,7 @@ stands-all P q [] a x c p h = absurd h
 stands-all P q (o ∷ os) a x c p (inl (i, d, e)) = subst P (op-is o x c i d) (a .0)
 stands-all P q (o ∷ os) a x c p (inr h) = stands-all P _ os (a .1) x c p h
 
-heard-of : (c : Content) → unheard ≡ lastSays (last c) → ⊥
+pub heard-of : (c : Content) → unheard ≡ lastSays (last c) → ⊥
 heard-of (put b) e = let z : _≡_ {A = ℕ} 0 1 = cc in omega arith
 heard-of delete e = let z : _≡_ {A = ℕ} 0 1 = cc in omega arith
 

@@ -1,7 +1,10 @@
 -- The invariant of a store that its own calls left, on its picture.
-use mathlib.Core.Path.{_≡_, sym, subst}
+use mathlib.Core.Path.{_≡_, sym, ap, _∙_, subst}
+use mathlib.Core.Bool.{true≢false}
+use mathlib.Core.Logic.{_⊎_, inl, inr}
 use Prim.Native.Nat.{_<_, _≤_}
-use Rattle.rules.specs.Base.{Bool, false, List, ℕ, _+_, _^_, length}
+use Rattle.rules.specs.Base.{true, false, List, ℕ, _+_, _*_, _^_, length}
+use Rattle.rules.specs.BaseLaws.{same?}
 use Rattle.theory.specs.Types.{Entry, Mapped}
 use Rattle.disk_location.specs.Locations.{maskedOf}
 use Rattle.rules.specs.Ops.{Op, objectsOf, entriesOf}
@@ -9,10 +12,10 @@ use Rattle.rules.specs.OpsLaws.{RisingOps, IdsFit, entries-of-rising}
 use Rattle.rules.specs.Batch.{anyTooLarge}
 use Rattle.rules.specs.SlotFile.{File, View, holds}
 use Rattle.rules.specs.Table.{lookup}
-use Rattle.rules.specs.Reopen.{filesIn, tableOf, mappedInto}
+use Rattle.rules.specs.Reopen.{filesIn, inRange, tableOf, mappedInto}
 use Rattle.rules.specs.TableLaws.{Rising, Has}
-use Rattle.theory.specs.Newest.{Newest, newest-latest, rising-latest-of}
-use Rattle.theory.specs.Places.{viewAt, rowsOf, Filed, Stands, has-stands}
+use Rattle.theory.specs.Newest.{maskedAt, Newest, newest-latest, rising-latest-of}
+use Rattle.theory.specs.Places.{viewAt, rowsOf, Filed, Stands, has-stands, holds-inj, in-no-other}
 use Rattle.theory.specs.Losing.{liveAt}
 use Rattle.theory.specs.Picture.{Picture, Said, pictureSays}
 
@@ -73,3 +76,17 @@ module _ (bounds : Bounds) (p : Picture) (told : ℕ → Said) (s : Sound bounds
   -- what the table holds stands in a slot
   pub table-stands : (x l : ℕ) → lookup (p .table) x ≡ Mapped l → (k : ℕ) × Stands (p .views) x l k
   table-stands x l h = has-stands (p .views) x l (subst (Newest (Has (rowsOf (p .views)) x)) h (table-newest x) .0)
+
+  -- LAW: a location that lies in a file's masked range is that of an entry of the file
+  pub range-entry : (x l k : ℕ) (f : File) → lookup (p .table) x ≡ Mapped l → viewAt (p .views) k ≡ holds f → inRange (f .label) (maskedAt l) ≡ true
+      → (r : ℕ) × Has (f .entries) x r × (l ≡ r + 2 * f .label .lsn)
+  range-entry x l k f e h i = by (table-stands x l e)
+    where
+      by : (j : ℕ) × Stands (p .views) x l j → (r : ℕ) × Has (f .entries) x r × (l ≡ r + 2 * f .label .lsn)
+      by (j, t) = at (same? k j)
+        where
+          at : (k ≡ j) ⊎ (k ≡ j → ⊥) → (r : ℕ) × Has (f .entries) x r × (l ≡ r + 2 * f .label .lsn)
+          at (inr n) = absurd (true≢false (sym i ∙ in-no-other (p .views) (p .records) (s .filed) x l j k t f h n))
+          at (inl q) =
+              let c : t .file ≡ f = holds-inj (sym (t .shows) ∙ ap (viewAt (p .views)) (sym q) ∙ h) in
+              (t .raw, subst (λ (g : File). Has (g .entries) x (t .raw)) c (t .entry), t .located ∙ ap (λ (g : File). t .raw + 2 * g .label .lsn) c)

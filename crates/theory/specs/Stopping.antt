@@ -1,24 +1,24 @@
 -- On a store of the invariant maintenance is accepted, or stops with 4, 5 or 7.
 use mathlib.Core.Path.{_≡_, refl, sym, ap, _∙_, subst}
-use mathlib.Core.Logic.{_⊎_, inl, inr, ⊎-elim}
+use mathlib.Core.Logic.{_⊎_, inl, inr}
 use Prim.Native.Nat.{_<_, _≤_}
 use native.Mathlib.Nat.{zero-add}
 use native.Mathlib.Omega.{arith}
 use lib.Seq.{getD-set-same, getD-set-other, set-out}
 use borrow.Author.Tests.{ltb-true, ltb-false}
-use Rattle.rules.specs.Base.{Bool, true, false, _&&_, List, [], _∷_, _++_, ℕ, zero, suc, _+_, length, set, ltb, eqb, pick, each, any, sum}
+use Rattle.rules.specs.Base.{Bool, true, false, _&&_, List, [], _∷_, ℕ, _+_, length, set, ltb, eqb, pick, each}
 use Rattle.theory.specs.Types.{Record, Refusal, SlotRoom, NoEmptySlot, PositionsSpent, Answer, Done, Refused, Moved, Stopped}
 use Rattle.rules.specs.BaseLaws.{All, all-map, same?, and-true}
-use Rattle.rules.specs.Refusal.{Test, _gives_, decide, after, NoneHolds, decide-append}
-use Rattle.rules.specs.Ops.{Op, objectsOf}
-use Rattle.rules.specs.FileMap.{emptyRecord, isEmpty, recordAt, withLive, slotsWhere, fileCount}
-use Rattle.rules.specs.FileMapLaws.{not-empty, Among, Passing, slot-passes}
-use Rattle.rules.specs.Install.{newRecord, losing, newSlot, newLsn, recordsWith, nextWith, installed, installedAll, roomTests, emptyOf, positionTests}
-use Rattle.rules.specs.Maintenance.{found, filesOf, fileTests, slotOf, Stop, going, stopped, Course, isCandidate, newGeneration, group, groupTests, rewriteGroup, onward, groupsFrom, courseOf, ended, finished, maintainCall}
-use Rattle.rules.specs.MaintenanceLaws.{Candidate, candidate}
+use Rattle.rules.specs.Refusal.{_gives_, decide, after, NoneHolds, decide-append}
+use Rattle.rules.specs.Ops.{Op}
+use Rattle.rules.specs.FileMap.{emptyRecord, isEmpty, recordAt, fileCount}
+use Rattle.rules.specs.FileMapLaws.{not-empty, Among, slot-passes}
+use Rattle.rules.specs.Install.{newRecord, losing, newSlot, newLsn, recordsWith, nextWith, installed, installedAll, roomTests, positionTests}
+use Rattle.rules.specs.Maintenance.{found, filesOf, fileTests, slotOf, Stop, going, stopped, Course, isCandidate, newGeneration, group, groupTests, rewriteGroup, onward, groupsFrom, courseOf, ended, maintainCall}
+use Rattle.rules.specs.MaintenanceLaws.{candidate}
 use Rattle.rules.specs.World.{World, recordsOf, mappings, maintainGiven}
 use Rattle.theory.specs.Places.{masked-pos, record-holds}
-use Rattle.theory.specs.Losing.{Less, losing-record}
+use Rattle.theory.specs.Losing.{losing-record}
 use Rattle.theory.specs.Picture.{viewsOf}
 use Rattle.theory.specs.SoundWorld.{SoundWorld, sound-fine}
 use Rattle.theory.specs.Writing.{engine}

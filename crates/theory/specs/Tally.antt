@@ -1,14 +1,14 @@
 -- Counting ids: a settled list against a table, and the ids in some files' ranges file by file.
-use mathlib.Core.Path.{_≡_, refl, sym, ap, _∙_, subst}
+use mathlib.Core.Path.{_≡_, refl, sym, ap, _∙_}
 use mathlib.Core.Bool.{true≢false}
 use mathlib.Core.Logic.{_⊎_, inl, inr}
 use Prim.Native.Nat.{_<_, _≤_}
 use native.Mathlib.Omega.{arith}
 use borrow.Author.Tests.{eq-eqb, ne-eqb}
-use Rattle.rules.specs.Base.{Bool, true, false, _||_, List, [], _∷_, _++_, ℕ, suc, _+_, length, pick, any, keep, each, sum}
-use Rattle.theory.specs.Types.{Entry, Held, Mapped, Unmapped}
+use Rattle.rules.specs.Base.{Bool, true, false, _||_, List, [], _∷_, _++_, ℕ, suc, _+_, length, pick, any, keep, sum}
+use Rattle.theory.specs.Types.{Entry}
 use Rattle.disk_location.specs.Locations.{bitOf}
-use Rattle.rules.specs.BaseLaws.{order, same?, or-clear}
+use Rattle.rules.specs.BaseLaws.{All, order, same?, or-clear}
 use Rattle.rules.specs.Ops.{Op}
 use Rattle.rules.specs.OpsLaws.{RisingOps, ops-rise}
 use Rattle.rules.specs.SettledLaws.{Last, silent, last, orEarlier, saidBy, lastOn}
@@ -149,10 +149,14 @@ unfolding sum
 sum-zero [] f h = refl
 sum-zero (k ∷ ks) f h = let i = sum-zero ks f h in let z = h k in omega arith
 
-pub sum-same : (f g : ℕ → ℕ) (ks : List ℕ) → ((k : ℕ) → f k ≡ g k) → sum f ks ≡ sum g ks
+pub sum-same : (f g : ℕ → ℕ) (ks : List ℕ) → All (λ (k : ℕ). f k ≡ g k) ks → sum f ks ≡ sum g ks
 unfolding sum
 sum-same f g [] h = refl
-sum-same f g (k ∷ ks) h = let i = sum-same f g ks h in let z = h k in omega arith
+sum-same f g (k ∷ ks) h = let i = sum-same f g ks (h .1) in let z = h .0 in omega arith
+
+every : (P : ℕ → Type 0) (ks : List ℕ) → ((k : ℕ) → P k) → All P ks
+every P [] h = tt
+every P (k ∷ ks) h = (h k, every P ks h)
 
 -- past slot j none passes
 any-past : (p : ℕ → Bool) (j n : ℕ) (ks : List ℕ) → j < n → Ascending n ks → ((k : ℕ) → (k ≡ j → ⊥) → p k ≡ false) → any p ks ≡ false
@@ -185,4 +189,4 @@ count-slots i ks a p (e ∷ t) h =
     let c = count-cons (λ (l : ℕ). any (λ (k : ℕ). p k l) ks) e t in
     let o = only-one i ks a (λ (k : ℕ). p k (e .location)) (w .0) (w .1) in
     let d = sum-add (λ (k : ℕ). bitOf (p k (e .location))) (λ (k : ℕ). count (p k) t) ks in
-    sum-same (λ (k : ℕ). count (p k) (e ∷ t)) (λ (k : ℕ). bitOf (p k (e .location)) + count (p k) t) ks (λ k. count-cons (p k) e t) ∙ d ∙ omega arith
+    sum-same (λ (k : ℕ). count (p k) (e ∷ t)) (λ (k : ℕ). bitOf (p k (e .location)) + count (p k) t) ks (every _ ks (λ k. count-cons (p k) e t)) ∙ d ∙ omega arith
