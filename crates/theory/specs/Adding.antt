@@ -76,7 +76,7 @@ module _ (w : World) (told : ℕ → Said) (s : SoundWorld w told) where
             let p = f .positions in
             (ap (λ (b : ℕ). maskedOf (w .state .«next_position» + b)) e ∙ masked-batch (w .state .«next_position») (omega arith), omega arith)
 
-    addable : Addable (boundsOf w) (pictureOf w) (newSlot w) (newLsn bit w) os
+    pub addable : Addable (boundsOf w) (pictureOf w) (newSlot w) (newLsn bit w) os
     addable =
         let z = free-slot (f .free) in
         let n = views-length (slotsOf w) (w .settings .«slot_bytes») (w .heap) in
@@ -126,7 +126,7 @@ module _ (w : World) (told : ℕ → Said) (s : SoundWorld w told) where
         ∙ views-made (slotsOf w) (w .settings .«slot_bytes») (w .heap) (newSlot w) (newLsn bit w) g os (free-slot (f .free) .0) (omega arith) writable
 
     -- LAW: the picture after is the picture with the file added
-    picture-installed : pictureOf (installed bit g w os) ≡ added (newLsn bit w) g (pictureOf w) (newSlot w) os
+    pub picture-installed : pictureOf (installed bit g w os) ≡ added (newLsn bit w) g (pictureOf w) (newSlot w) os
     unfolding installed added recordsWith tableWith nextWith
     picture-installed = λ i. record {
       views = views-after i;

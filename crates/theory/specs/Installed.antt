@@ -70,7 +70,7 @@ module _ (bounds : Bounds) (p : Picture) (told : ℕ → Said) (s : Sound bounds
   unfolding added
   view-new = getD-set-same (p .views) k (holds (fileOfOps lsn g os)) empty (a .slot)
 
-  view-old : (j : ℕ) → (j ≡ k → ⊥) → viewAt (added lsn g p k os .views) j ≡ viewAt (p .views) j
+  pub view-old : (j : ℕ) → (j ≡ k → ⊥) → viewAt (added lsn g p k os .views) j ≡ viewAt (p .views) j
   unfolding added
   view-old j n = getD-set-other (p .views) k j (holds (fileOfOps lsn g os)) empty n
 
@@ -150,7 +150,7 @@ module _ (bounds : Bounds) (p : Picture) (told : ℕ → Said) (s : Sound bounds
       let n : j ≡ k → ⊥ = λ z. not-empty (sym (a .free) ∙ ap (viewAt (p .views)) (sym z) ∙ t .shows) in
       (n, record { file = t .file; raw = t .raw; shows = view-old j n ∙ t .shows; entry = t .entry; located = t .located })
 
-  stands-new : (x l : ℕ) → Has (rowsFor lsn 0 os) x l → Stands (added lsn g p k os .views) x l k
+  pub stands-new : (x l : ℕ) → Has (rowsFor lsn 0 os) x l → Stands (added lsn g p k os .views) x l k
   unfolding newRecord
   stands-new x l h =
       let z = absolute-has lsn (entriesOf 0 os) x l h in

@@ -29,3 +29,4 @@ pub mod Checked
 pub mod Stopping
 pub mod Tally
 pub mod Moved
+pub mod Unmoved

@@ -58,7 +58,7 @@ less-at (Is k) rs j = go (same? k j)
         (getD-set-other rs k j (withLive (recordAt rs k) (liveAt rs k - 1)) emptyRecord (λ z. q (sym z)))
 
 -- lookups do not change
-less-file : (o : Slot) (rs : List Record) (l : ℕ) → fileFor (lessLive o rs) l ≡ fileFor rs l
+pub less-file : (o : Slot) (rs : List Record) (l : ℕ) → fileFor (lessLive o rs) l ≡ fileFor rs l
 less-file o rs l = file-same (lessLive o rs) rs (less-live-length o rs) (λ j. ap (λ (r : Record). r .lsn) (less-at o rs j)) l
 
 -- ---- all that are replaced

@@ -100,7 +100,7 @@ delete-found table lsn (e ∷ es) x r (inr h) d m = go (deleteOf (e .location)) 
     go true false q ih = rw q ih
 
 -- what is found in a file lies in its range
-abbrev InRangeOf : List Entry → Record → Op → Type 0
+abbrev pub InRangeOf : List Entry → Record → Op → Type 0
 InRangeOf table r o = (l : ℕ) → lookup table (o .id) ≡ Mapped l → inRange r (maskedAt l) ≡ true
 
 deletes-all : (P : Entry → Type 0) (es : List Entry) → ((x l : ℕ) → Has es x l → P (record { id = x; location = l })) → All P (keep (λ (e : Entry). deleteOf (e .location)) es)
@@ -113,7 +113,7 @@ deletes-all P (e ∷ es) h = go (deleteOf (e .location)) (deletes-all P es (λ x
     go false ih = ih
 
 module _ (w : World) (history : List Op) (s : SoundWorld w (engine history)) where
-  found-inside : (k : ℕ) (f : File) → viewAt (viewsOf w) k ≡ holds f → (n : ℕ)
+  pub found-inside : (k : ℕ) (f : File) → viewAt (viewsOf w) k ≡ holds f → (n : ℕ)
       → All (InRangeOf (mappings w) (f .label)) (objectsFound (mappings w) (withLive (f .label) n) (slotOf w k) ++ deletesFound (mappings w) (withLive (f .label) n) (slotOf w k))
   unfolding objectsFound deletesFound deletesOf
   found-inside k f h n =
@@ -212,7 +212,7 @@ module _ (w : World) (history : List Op) (s : SoundWorld w (engine history)) whe
       or-swap false false = refl
 
   -- a location lies in one file's range at most
-  one-range : (x l : ℕ) → Has (mappings w) x l → (j : ℕ) × ((k : ℕ) → (k ≡ j → ⊥) → inRange (recordAt (recordsOf w) k) (maskedAt l) ≡ false)
+  pub one-range : (x l : ℕ) → Has (mappings w) x l → (j : ℕ) × ((k : ℕ) → (k ≡ j → ⊥) → inRange (recordAt (recordsOf w) k) (maskedAt l) ≡ false)
   one-range x l h =
       let z = table-stands (boundsOf w) (pictureOf w) (engine history) (s .sound) x l (has-lookup 0 (mappings w) (table-rising (boundsOf w) (pictureOf w) (engine history) (s .sound)) x l h) in
       let t = z .1 in

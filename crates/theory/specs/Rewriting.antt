@@ -161,7 +161,7 @@ pub record Rewritable (limit : ℕ) (told : ℕ → Said) (file : List Op) : Typ
 
 module _ (limit : ℕ) (history : List Op) where
   -- nothing else is said
-  still-said : (file : List Op) → Rewritable limit (engine history) file → length (objectsOf file) < 2 ^ 64 → (lsn g x : ℕ)
+  pub still-said : (file : List Op) → Rewritable limit (engine history) file → length (objectsOf file) < 2 ^ 64 → (lsn g x : ℕ)
       → over (fileSays (fileOfOps lsn g file) x) (engine history x) ≡ engine history x
   still-said file r n lsn g x =
       ap (λ (t : Said). over t (engine history x))
@@ -193,7 +193,7 @@ module _ (limit : ℕ) (history : List Op) where
           let t = stands-all (Movable limit (engine history)) 0 file (r .current) x (d .content) _ (d .stands) in
           absurd (heard-of (d .content) (sym (ap (λ (c : Held). heldSays (pictureOf w) c x) e) ∙ s .sound .says x ∙ t .0))
 
-  fits-file : (w : World) → SoundWorld w (engine history) → (g : ℕ) (file : List Op) → Rewritable limit (engine history) file → g ≤ 255 → limit ≡ w .settings .«max_object_size»
+  pub fits-file : (w : World) → SoundWorld w (engine history) → (g : ℕ) (file : List Op) → Rewritable limit (engine history) file → g ≤ 255 → limit ≡ w .settings .«max_object_size»
       → 64 + length (fileBytes file) ≤ w .settings .«slot_bytes» → 0 < emptyOf w → w .state .«next_position» + (length (objectsOf file) + 1) ≤ 2 ^ 62 → Fitting 0 g w file
   fits-file w s g file r aged same slot free positions = record {
     some = r .some;
@@ -212,7 +212,7 @@ module _ (limit : ℕ) (history : List Op) where
     positions = positions;
   }
 
-  installed-numbers : (g : ℕ) (w : World) (file : List Op)
+  pub installed-numbers : (g : ℕ) (w : World) (file : List Op)
       → (installed 0 g w file .settings ≡ w .settings) × (installed 0 g w file .state .«next_position» ≡ w .state .«next_position» + (length (objectsOf file) + 1))
   unfolding installed nextWith
   installed-numbers g w file = (refl, refl)

@@ -71,7 +71,7 @@ stay-all g [] w h k l = l
 stay-all g (f ∷ fs) w h k l = stay-all g fs (installed 0 g w f) (next-installed 0 g w f h) k (stay-installed 0 g w f h k l)
 
 -- ---- the slots of a group are files', as the call starts and when the group's turn comes
-among-all : (P : ℕ → Type 0) (ks : List ℕ) → ((k : ℕ) → Among ks k → P k) → All P ks
+pub among-all : (P : ℕ → Type 0) (ks : List ℕ) → ((k : ℕ) → Among ks k → P k) → All P ks
 among-all P [] h = tt
 among-all P (k ∷ ks) h = (h k (inl refl), among-all P ks (λ j a. h j (inr a)))
 
