@@ -30,3 +30,4 @@ pub mod Stopping
 pub mod Tally
 pub mod Moved
 pub mod Unmoved
+pub mod Finished

@@ -22,7 +22,7 @@ use Rattle.theory.specs.Rewriting.{Rewritable, sound-rewritten}
 
 module _ (history : List Op) where
   -- what a group moves, in files
-  files-rewritable : (w : World) → SoundWorld w (engine history) → (slots : List ℕ) (target : ℕ) → All (Rewritable (w .settings .«max_object_size») (engine history)) (filesOf target (found w slots))
+  pub files-rewritable : (w : World) → SoundWorld w (engine history) → (slots : List ℕ) (target : ℕ) → All (Rewritable (w .settings .«max_object_size») (engine history)) (filesOf target (found w slots))
   unfolding found
   files-rewritable w s slots target =
       all-map (PartOf (found w slots)) (Rewritable (w .settings .«max_object_size») (engine history)) (filesOf target (found w slots))

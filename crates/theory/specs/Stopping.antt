@@ -120,7 +120,7 @@ module _ (history : List Op) where
       go Done e = (tt, stay-all g (filesOf (w .settings .«target_file_size») (found w slots)) w (s .sound .started))
       go (Refused r) e = (spent-tests _ _ _ r (sym (decide-append (each (λ (k : ℕ). fileTests (w .settings .«max_object_size») (mappings w) (recordAt (recordsOf w) k) (slotOf w k)) slots) _ clear) ∙ e), λ k h. h)
 
-  onward-well : (start : World) (stop : Stop) (g : ℕ) → g ≤ 255 → (slots : List ℕ) → All (λ (k : ℕ). 0 < recordAt (recordsOf start) k .lsn) slots → (c : Course)
+  pub onward-well : (start : World) (stop : Stop) (g : ℕ) → g ≤ 255 → (slots : List ℕ) → All (λ (k : ℕ). 0 < recordAt (recordsOf start) k .lsn) slots → (c : Course)
       → c .stop ≡ stop → Underway history start c → Underway history start (onward stop g slots c)
   onward-well start (stopped r n) g aged slots files c e u = u
   onward-well start going g aged slots files c e u = record { sound = sound-onward history going g aged slots c (u .sound); stay = stays .1; stop = stays .0 }
