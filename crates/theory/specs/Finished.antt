@@ -1,6 +1,7 @@
 -- C: maintenance answers the count of ids moved, the live counts of the finished groups' files as the call starts; or stops with 4, 5 or 7.
 use mathlib.Core.Path.{_≡_, refl, sym, ap, _∙_, subst}
 use mathlib.Core.Bool.{true≢false}
+use mathlib.Core.List.{append-assoc, append-nil}
 use mathlib.Core.Logic.{_⊎_, inl, inr, ⊎-elim}
 use Prim.Native.Nat.{_<_, _≤_}
 use native.Mathlib.Nat.{zero-add}
@@ -17,7 +18,7 @@ use Rattle.rules.specs.Table.{lookup}
 use Rattle.rules.specs.TableLaws.{lookup-has}
 use Rattle.rules.specs.FileMap.{recordAt, withLive, slotsWhere, fileCount}
 use Rattle.rules.specs.FileMapLaws.{not-empty, Among, Passing, slot-passes}
-use Rattle.rules.specs.Install.{installedAll, roomTests, emptyOf, positionTests}
+use Rattle.rules.specs.Install.{installed, installedAll, roomTests, emptyOf, positionTests}
 use Rattle.rules.specs.InstallLaws.{Room, room-clear, positions-clear}
 use Rattle.rules.specs.Maintenance.{objectsFound, deletesFound, foundIn, found, filesOf, fileTests, slotOf, Stop, going, stopped, Course, isCandidate, newGeneration, group, groupTests, rewriteGroup, onward, groupsFrom, courseOf, ended, maintainCall}
 use Rattle.rules.specs.Reopen.{inRange}
@@ -33,7 +34,7 @@ use Rattle.theory.specs.Shards.{PartOf, sub-all, files-parts}
 use Rattle.theory.specs.Tally.{Ascending, sum-same}
 use Rattle.theory.specs.Moved.{InRangeOf, found-inside, one-range, found-count}
 use Rattle.theory.specs.Maintaining.{files-rewritable}
-use Rattle.theory.specs.Stopping.{Spent, Stay, StopsWell, among-all, group-files, Underway, onward-well}
+use Rattle.theory.specs.Stopping.{Spent, Stay, StopsWell, among-all, group-files, Underway, onward-well, groups-well}
 use Rattle.theory.specs.Rewriting.{Rewritable}
 use Rattle.theory.specs.Unmoved.{Elsewhere, unmoved}
 
@@ -79,6 +80,11 @@ all-each-in P f (x ∷ xs) a = all-append P (f x) (each f xs) (a .0) (all-each-i
 all-among : (P Q : ℕ → Type 0) (ks : List ℕ) → ((k : ℕ) → Among ks k → P k → Q k) → All P ks → All Q ks
 all-among P Q [] h a = tt
 all-among P Q (k ∷ ks) h a = (h k (inl refl) (a .0), all-among P Q ks (λ j b. h j (inr b)) (a .1))
+
+among-get : (P : ℕ → Type 0) (ks : List ℕ) → All P ks → (k : ℕ) → Among ks k → P k
+among-get P [] a k b = absurd b
+among-get P (m ∷ ms) a k (inl q) = subst P q (a .0)
+among-get P (m ∷ ms) a k (inr b) = among-get P ms (a .1) k b
 
 module _ (history : List Op) (w : World) (s : SoundWorld w (engine history)) where
   elsewhere-in : (k j : ℕ) → (k ≡ j → ⊥) → 0 < recordAt (recordsOf w) j .lsn → All (Elsewhere w k) (foundIn w j)
@@ -145,3 +151,162 @@ module _ (history : List Op) (w : World) (s : SoundWorld w (engine history)) whe
           ≡ moved + sum (λ (k : ℕ). recordAt (recordsOf w) k .live) ks
       go Done q = ap (λ (n : ℕ). moved + n) (found-count w history s 0 ks up files)
       go (Refused r) q = absurd (let z : _≡_ {A = ℕ} 0 1 = cc in omega arith)
+
+-- a group is rewritten, or refused with its generation and nothing moved
+rewrite-ends : (g : ℕ) (ks : List ℕ) (moved : ℕ) (w : World)
+    → (rewriteGroup g ks moved w .stop ≡ going) ⊎ ((r : Refusal) × (rewriteGroup g ks moved w .stop ≡ stopped r g) × (rewriteGroup g ks moved w .moved ≡ moved))
+unfolding rewriteGroup
+rewrite-ends g ks moved w = go (decide (groupTests w ks (filesOf (w .settings .«target_file_size») (found w ks))))
+  where
+    course : Answer → Course
+    course a = after {A = Course} a (λ (r : Refusal). record { stop = stopped r g; moved = moved; world = w })
+        (record { stop = going; moved = moved + length (found w ks); world = installedAll 0 g w (filesOf (w .settings .«target_file_size») (found w ks)) })
+
+    go : (a : Answer) → (course a .stop ≡ going) ⊎ ((r : Refusal) × (course a .stop ≡ stopped r g) × (course a .moved ≡ moved))
+    go Done = inl refl
+    go (Refused r) = inr (r, refl, refl)
+
+settings-all : (g : ℕ) (files : List (List Op)) (w : World) → installedAll 0 g w files .settings ≡ w .settings
+unfolding installedAll installed
+settings-all g [] w = refl
+settings-all g (f ∷ fs) w = settings-all g fs (installed 0 g w f)
+
+settings-group : (g : ℕ) (ks : List ℕ) (moved : ℕ) (w : World) → rewriteGroup g ks moved w .world .settings ≡ w .settings
+unfolding rewriteGroup
+settings-group g ks moved w = go (decide (groupTests w ks (filesOf (w .settings .«target_file_size») (found w ks))))
+  where
+    go : (a : Answer) → after {A = Course} a (λ (r : Refusal). record { stop = stopped r g; moved = moved; world = w })
+        (record { stop = going; moved = moved + length (found w ks); world = installedAll 0 g w (filesOf (w .settings .«target_file_size») (found w ks)) }) .world .settings ≡ w .settings
+    go Done = settings-all g (filesOf (w .settings .«target_file_size») (found w ks)) w
+    go (Refused r) = refl
+
+-- ---- group by group
+-- what was moved, where the groups ds are done
+abbrev MovedBy : World → List ℕ → Stop → ℕ → Type 0
+MovedBy start ds going n = n ≡ sum (liveOf start) ds
+MovedBy start ds (stopped r g) n = n ≡ sum (liveOf start) (before g)
+
+record Tallied (start : World) (ds gs : List ℕ) (c : Course) : Type 0 where
+  settings : c .world .settings ≡ start .settings
+  same : All (λ (g : ℕ). All (λ (k : ℕ). recordAt (recordsOf (c .world)) k ≡ recordAt (recordsOf start) k) (group start g)) gs
+  moved : MovedBy start ds (c .stop) (c .moved)
+
+-- ds are the generations before the next one, and no generation comes twice
+abbrev Splits : List ℕ → List ℕ → Type 0
+Splits ds [] = Unit {0}
+Splits ds (g ∷ gs) = (before g ≡ ds) × All (λ (h : ℕ). h ≡ g → ⊥) gs × Splits (ds ++ (g ∷ [])) gs
+
+sum-snoc : (f : ℕ → ℕ) (ds : List ℕ) (g : ℕ) → sum f (ds ++ (g ∷ [])) ≡ sum f ds + f g
+unfolding sum
+sum-snoc f [] g = omega arith
+sum-snoc f (d ∷ ds) g = let i = sum-snoc f ds g in omega arith
+
+module _ (history : List Op) (start : World) (st : SoundWorld start (engine history)) where
+  tally-group : (g : ℕ) → g ≤ 255 → (ds gs : List ℕ) → Splits ds (g ∷ gs) → (c : Course) → Underway history start c → c .stop ≡ going → Tallied start ds (g ∷ gs) c
+      → ltb (length (group start g)) (start .settings .«min_compaction_files») ≡ false
+      → Tallied start (ds ++ (g ∷ [])) gs (rewriteGroup g (group start g) (c .moved) (c .world))
+  tally-group g aged ds gs p c u e t enough = record {
+    settings = settings-group g (group start g) (c .moved) (c .world) ∙ t .settings;
+    same = keeps gs (p .1) (t .same .1);
+    moved = counted (rewriteGroup g (group start g) (c .moved) (c .world) .stop) refl;
+  }
+    where
+      files : All (λ (k : ℕ). 0 < recordAt (recordsOf (c .world)) k .lsn) (group start g)
+      files = all-map (λ (k : ℕ). 0 < recordAt (recordsOf start) k .lsn) (λ (k : ℕ). 0 < recordAt (recordsOf (c .world)) k .lsn) (group start g) (λ k h. u .stay k h) (group-files start history st g)
+
+      here : c .moved ≡ sum (liveOf start) ds
+      here = subst (λ (o : Stop). MovedBy start ds o (c .moved)) e (t .moved)
+
+      keeps : (hs : List ℕ) → All (λ (h : ℕ). h ≡ g → ⊥) hs → All (λ (h : ℕ). All (λ (k : ℕ). recordAt (recordsOf (c .world)) k ≡ recordAt (recordsOf start) k) (group start h)) hs
+          → All (λ (h : ℕ). All (λ (k : ℕ). recordAt (recordsOf (rewriteGroup g (group start g) (c .moved) (c .world) .world)) k ≡ recordAt (recordsOf start) k) (group start h)) hs
+      keeps [] n a = tt
+      keeps (h ∷ hs) n a = (one, keeps hs (n .1) (a .1))
+        where
+          one : All (λ (k : ℕ). recordAt (recordsOf (rewriteGroup g (group start g) (c .moved) (c .world) .world)) k ≡ recordAt (recordsOf start) k) (group start h)
+          one = all-among (λ (k : ℕ). recordAt (recordsOf (c .world)) k ≡ recordAt (recordsOf start) k)
+              (λ (k : ℕ). recordAt (recordsOf (rewriteGroup g (group start g) (c .moved) (c .world) .world)) k ≡ recordAt (recordsOf start) k) (group start h)
+              (λ k i q.
+              group-unmoved history (c .world) (u .sound) g aged (group start g) (c .moved) files k
+              (subst (λ (r : Record). 0 < r .lsn) (sym q) (among-get (λ (m : ℕ). 0 < recordAt (recordsOf start) m .lsn) (group start h) (group-files start history st h) k i))
+              (λ j b z. n .0 (sym (group-generation start h k i) ∙ ap (λ (m : ℕ). newGeneration (recordAt (recordsOf start) m .generation)) z ∙ group-generation start g j b)) ∙ q)
+              (a .0)
+
+      counted : (o : Stop) → rewriteGroup g (group start g) (c .moved) (c .world) .stop ≡ o
+          → MovedBy start (ds ++ (g ∷ [])) (rewriteGroup g (group start g) (c .moved) (c .world) .stop) (rewriteGroup g (group start g) (c .moved) (c .world) .moved)
+      counted o q = ⊎-elim went halted (rewrite-ends g (group start g) (c .moved) (c .world))
+        where
+          went : rewriteGroup g (group start g) (c .moved) (c .world) .stop ≡ going
+              → MovedBy start (ds ++ (g ∷ [])) (rewriteGroup g (group start g) (c .moved) (c .world) .stop) (rewriteGroup g (group start g) (c .moved) (c .world) .moved)
+          went z =
+              let a = group-count history (c .world) (u .sound) g (group start g) (c .moved) (group-ascending start g) files z in
+              let b = sum-same (λ (k : ℕ). recordAt (recordsOf (c .world)) k .live) (λ (k : ℕ). recordAt (recordsOf start) k .live) (group start g)
+              (all-map (λ (k : ℕ). recordAt (recordsOf (c .world)) k ≡ recordAt (recordsOf start) k) (λ (k : ℕ). recordAt (recordsOf (c .world)) k .live ≡ recordAt (recordsOf start) k .live) (group start g)
+              (λ k y. ap (λ (r : Record). r .live) y) (t .same .0)) in
+              let d : liveOf start g ≡ sum (λ (k : ℕ). recordAt (recordsOf start) k .live) (group start g)
+              = ap (λ (x : Bool). pick x 0 (sum (λ (k : ℕ). recordAt (recordsOf start) k .live) (group start g))) enough in
+              let m = sum-snoc (liveOf start) ds g in
+              let n = here in
+              subst (λ (o : Stop). MovedBy start (ds ++ (g ∷ [])) o (rewriteGroup g (group start g) (c .moved) (c .world) .moved)) (sym z) (omega arith)
+
+          halted : (r : Refusal) × (rewriteGroup g (group start g) (c .moved) (c .world) .stop ≡ stopped r g) × (rewriteGroup g (group start g) (c .moved) (c .world) .moved ≡ c .moved)
+              → MovedBy start (ds ++ (g ∷ [])) (rewriteGroup g (group start g) (c .moved) (c .world) .stop) (rewriteGroup g (group start g) (c .moved) (c .world) .moved)
+          halted (r, z, y) =
+              subst (λ (o : Stop). MovedBy start (ds ++ (g ∷ [])) o (rewriteGroup g (group start g) (c .moved) (c .world) .moved)) (sym z)
+              (y ∙ here ∙ ap (sum (liveOf start)) (sym (p .0)))
+
+  tally-onward : (stop : Stop) (g : ℕ) → g ≤ 255 → (ds gs : List ℕ) → Splits ds (g ∷ gs) → (c : Course) → c .stop ≡ stop → Underway history start c → Tallied start ds (g ∷ gs) c
+      → Tallied start (ds ++ (g ∷ [])) gs (onward stop g (group start g) c)
+  tally-onward (stopped r h) g aged ds gs p c e u t = record {
+    settings = t .settings;
+    same = t .same .1;
+    moved = subst (λ (o : Stop). MovedBy start (ds ++ (g ∷ [])) o (c .moved)) (sym e) (subst (λ (o : Stop). MovedBy start ds o (c .moved)) e (t .moved));
+  }
+  tally-onward going g aged ds gs p c e u t = go (ltb (length (group start g)) (c .world .settings .«min_compaction_files»)) refl
+    where
+      limit : ltb (length (group start g)) (start .settings .«min_compaction_files») ≡ ltb (length (group start g)) (c .world .settings .«min_compaction_files»)
+      limit = ap (λ (x : Settings). ltb (length (group start g)) (x .«min_compaction_files»)) (sym (t .settings))
+
+      go : (b : Bool) → ltb (length (group start g)) (c .world .settings .«min_compaction_files») ≡ b
+          → Tallied start (ds ++ (g ∷ [])) gs (pick b c (rewriteGroup g (group start g) (c .moved) (c .world)))
+      go false q = tally-group g aged ds gs p c u e t (limit ∙ q)
+      go true q =
+          let a : c .moved ≡ sum (liveOf start) ds = subst (λ (o : Stop). MovedBy start ds o (c .moved)) e (t .moved) in
+          let b : liveOf start g ≡ 0 = ap (λ (x : Bool). pick x 0 (sum (λ (k : ℕ). recordAt (recordsOf start) k .live) (group start g))) (limit ∙ q) in
+          let m = sum-snoc (liveOf start) ds g in
+          record { settings = t .settings; same = t .same .1; moved = subst (λ (o : Stop). MovedBy start (ds ++ (g ∷ [])) o (c .moved)) (sym e) (omega arith) }
+
+  tally-groups : (ds gs : List ℕ) → All (λ (g : ℕ). g ≤ 255) gs → Splits ds gs → (c : Course) → Underway history start c → Tallied start ds gs c
+      → Tallied start (ds ++ gs) [] (groupsFrom gs start c)
+  unfolding groupsFrom
+  tally-groups ds [] y p c u t = rw (append-nil ds) t
+  tally-groups ds (g ∷ gs) y p c u t =
+      subst (λ (l : List ℕ). Tallied start l [] (groupsFrom gs start (onward (c .stop) g (group start g) c))) (append-assoc ds (g ∷ []) gs)
+      (tally-groups (ds ++ (g ∷ [])) gs (y .1) (p .2) (onward (c .stop) g (group start g) c)
+      (onward-well history start (c .stop) g (y .0) (group start g) (group-files start history st g) c refl u)
+      (tally-onward (c .stop) g (y .0) ds gs p c refl u t))
+
+  all-same : (gs : List ℕ) → All (λ (g : ℕ). All (λ (k : ℕ). recordAt (recordsOf start) k ≡ recordAt (recordsOf start) k) (group start g)) gs
+  all-same [] = tt
+  all-same (g ∷ gs) = (among-all (λ (k : ℕ). recordAt (recordsOf start) k ≡ recordAt (recordsOf start) k) (group start g) (λ k a. refl), all-same gs)
+
+  -- LAW (C): the count moved is the live counts of all groups that are not skipped; where 4, 5 or 7 stops the call, of those of the generations before
+  pub maintain-answer :
+      (maintainCall start .answer ≡ maintainGiven (Moved (sum (liveOf start) (1 ∷ 2 ∷ 3 ∷ []))))
+      ⊎ ((r : Refusal) × (g : ℕ) × (maintainCall start .answer ≡ maintainGiven (Stopped r g (sum (liveOf start) (before g)))) × Spent r)
+  unfolding maintainCall decide courseOf sum keep
+  maintain-answer = rw (sound-fine start (engine history) st) (by (courseOf start .stop) (u .stop) (t .moved))
+    where
+      u : Underway history start (courseOf start)
+      u = groups-well history (1 ∷ 2 ∷ 3 ∷ []) (omega arith, (omega arith, (omega arith, tt))) start st (record { stop = going; moved = 0; world = start }) (record { sound = st; stay = λ k h. h; stop = tt })
+
+      t : Tallied start (1 ∷ 2 ∷ 3 ∷ []) [] (courseOf start)
+      t = tally-groups [] (1 ∷ 2 ∷ 3 ∷ []) (omega arith, (omega arith, (omega arith, tt)))
+          (refl, ((λ z. omega arith), ((λ z. omega arith), tt)), (refl, ((λ z. omega arith), tt), (refl, tt, tt)))
+          (record { stop = going; moved = 0; world = start }) (record { sound = st; stay = λ k h. h; stop = tt })
+          (record { settings = refl; same = all-same (1 ∷ 2 ∷ 3 ∷ []); moved = refl })
+
+      by : (o : Stop) → StopsWell o → MovedBy start (1 ∷ 2 ∷ 3 ∷ []) o (courseOf start .moved)
+          → (ended o (courseOf start) .answer ≡ maintainGiven (Moved (sum (liveOf start) (1 ∷ 2 ∷ 3 ∷ []))))
+          ⊎ ((r : Refusal) × (g : ℕ) × (ended o (courseOf start) .answer ≡ maintainGiven (Stopped r g (sum (liveOf start) (before g)))) × Spent r)
+      by going s m = inl (ap (λ (n : ℕ). maintainGiven (Moved n)) m)
+      by (stopped r g) s m = inr (r, g, ap (λ (n : ℕ). maintainGiven (Stopped r g n)) m, s)

@@ -135,7 +135,7 @@ module _ (history : List Op) where
       stays : StopsWell (onward going g slots c .stop) × Stay start (onward going g slots c .world)
       stays = at (ltb (length slots) (c .world .settings .«min_compaction_files»))
 
-  groups-well : (gs : List ℕ) → All (λ (g : ℕ). g ≤ 255) gs → (start : World) → SoundWorld start (engine history) → (c : Course) → Underway history start c → Underway history start (groupsFrom gs start c)
+  pub groups-well : (gs : List ℕ) → All (λ (g : ℕ). g ≤ 255) gs → (start : World) → SoundWorld start (engine history) → (c : Course) → Underway history start c → Underway history start (groupsFrom gs start c)
   unfolding groupsFrom
   groups-well [] y start s c u = u
   groups-well (g ∷ gs) y start s c u =
