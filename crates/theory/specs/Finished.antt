@@ -7,19 +7,18 @@ use Prim.Native.Nat.{_<_, _≤_}
 use native.Mathlib.Nat.{zero-add}
 use native.Mathlib.Omega.{arith}
 use borrow.Author.Tests.{eqb-true}
-use Rattle.rules.specs.Base.{Bool, true, false, _&&_, List, [], _∷_, _++_, ℕ, zero, suc, _+_, length, ltb, eqb, pick, keep, each, sum}
+use Rattle.rules.specs.Base.{Bool, true, false, _&&_, List, [], _∷_, _++_, ℕ, suc, _+_, length, ltb, eqb, pick, keep, each, sum}
 use Rattle.theory.specs.Types.{Record, Settings, Refusal, Answer, Done, Refused, Moved, Stopped, Mapped}
 use Rattle.rules.specs.BaseLaws.{All, all-map, same?, and-true}
 use Rattle.rules.specs.Refusal.{decide, after, NoneHolds, clear-when, none-first, none-rest}
 use Rattle.rules.specs.Ops.{Op}
 use Rattle.rules.specs.SettledLaws.{settled-all}
-use Rattle.rules.specs.SlotFile.{File, holds}
 use Rattle.rules.specs.Table.{lookup}
 use Rattle.rules.specs.TableLaws.{lookup-has}
-use Rattle.rules.specs.FileMap.{recordAt, withLive, slotsWhere, fileCount}
-use Rattle.rules.specs.FileMapLaws.{not-empty, Among, Passing, slot-passes}
+use Rattle.rules.specs.FileMap.{recordAt, slotsWhere, fileCount}
+use Rattle.rules.specs.FileMapLaws.{not-empty, Among, slot-passes}
 use Rattle.rules.specs.Install.{installed, installedAll, roomTests, emptyOf, positionTests}
-use Rattle.rules.specs.InstallLaws.{Room, room-clear, positions-clear}
+use Rattle.rules.specs.InstallLaws.{room-clear, positions-clear}
 use Rattle.rules.specs.Maintenance.{objectsFound, deletesFound, foundIn, found, filesOf, fileTests, slotOf, Stop, going, stopped, Course, isCandidate, newGeneration, group, groupTests, rewriteGroup, onward, groupsFrom, courseOf, ended, maintainCall}
 use Rattle.rules.specs.Reopen.{inRange}
 use Rattle.rules.specs.World.{World, recordsOf, mappings, maintainGiven}
@@ -34,7 +33,7 @@ use Rattle.theory.specs.Shards.{PartOf, sub-all, files-parts}
 use Rattle.theory.specs.Tally.{Ascending, sum-same}
 use Rattle.theory.specs.Moved.{InRangeOf, found-inside, one-range, found-count}
 use Rattle.theory.specs.Maintaining.{files-rewritable}
-use Rattle.theory.specs.Stopping.{Spent, Stay, StopsWell, among-all, group-files, Underway, onward-well, groups-well}
+use Rattle.theory.specs.Stopping.{Spent, StopsWell, among-all, group-files, Underway, onward-well, groups-well}
 use Rattle.theory.specs.Rewriting.{Rewritable}
 use Rattle.theory.specs.Unmoved.{Elsewhere, unmoved}
 
@@ -68,7 +67,7 @@ group-generation : (w : World) (g k : ℕ) → Among (group w g) k → newGenera
 unfolding group
 group-generation w g k a =
     let p = slot-passes (λ (i : ℕ) (r : Record). isCandidate (w .settings) (w .claims) (fileCount (recordsOf w)) i r && eqb (newGeneration (r .generation)) g) 0 (recordsOf w) k a in
-    ap (λ (i : ℕ). newGeneration (recordAt (recordsOf w) i .generation)) (p .is ∙ zero-add (p .off)) 
+    ap (λ (i : ℕ). newGeneration (recordAt (recordsOf w) i .generation)) (p .is ∙ zero-add (p .off))
     ∙ eqb-true _ _ (and-true (isCandidate (w .settings) (w .claims) (fileCount (recordsOf w)) (0 + p .off) (recordAt (recordsOf w) (p .off))) _ (p .passes) .1)
 
 -- ---- what a group moves is in its own files

@@ -1,4 +1,4 @@
--- On a store of the invariant maintenance is accepted, or stops with 4, 5 or 7.
+-- On a store of the invariant a group is rewritten or refused with 4, 5 or 7, and files stay files.
 use mathlib.Core.Path.{_≡_, refl, sym, ap, _∙_, subst}
 use mathlib.Core.Logic.{_⊎_, inl, inr}
 use Prim.Native.Nat.{_<_, _≤_}
@@ -7,20 +7,20 @@ use native.Mathlib.Omega.{arith}
 use lib.Seq.{getD-set-same, getD-set-other, set-out}
 use borrow.Author.Tests.{ltb-true, ltb-false}
 use Rattle.rules.specs.Base.{Bool, true, false, _&&_, List, [], _∷_, ℕ, _+_, length, set, ltb, eqb, pick, each}
-use Rattle.theory.specs.Types.{Record, Refusal, SlotRoom, NoEmptySlot, PositionsSpent, Answer, Done, Refused, Moved, Stopped}
+use Rattle.theory.specs.Types.{Record, Refusal, SlotRoom, NoEmptySlot, PositionsSpent, Answer, Done, Refused}
 use Rattle.rules.specs.BaseLaws.{All, all-map, same?, and-true}
 use Rattle.rules.specs.Refusal.{_gives_, decide, after, NoneHolds, decide-append}
 use Rattle.rules.specs.Ops.{Op}
 use Rattle.rules.specs.FileMap.{emptyRecord, isEmpty, recordAt, fileCount}
 use Rattle.rules.specs.FileMapLaws.{not-empty, Among, slot-passes}
 use Rattle.rules.specs.Install.{newRecord, losing, newSlot, newLsn, recordsWith, nextWith, installed, installedAll, roomTests, positionTests}
-use Rattle.rules.specs.Maintenance.{found, filesOf, fileTests, slotOf, Stop, going, stopped, Course, isCandidate, newGeneration, group, groupTests, rewriteGroup, onward, groupsFrom, courseOf, ended, maintainCall}
+use Rattle.rules.specs.Maintenance.{found, filesOf, fileTests, slotOf, Stop, going, stopped, Course, isCandidate, newGeneration, group, groupTests, rewriteGroup, onward, groupsFrom}
 use Rattle.rules.specs.MaintenanceLaws.{candidate}
-use Rattle.rules.specs.World.{World, recordsOf, mappings, maintainGiven}
+use Rattle.rules.specs.World.{World, recordsOf, mappings}
 use Rattle.theory.specs.Places.{masked-pos, record-holds}
 use Rattle.theory.specs.Losing.{losing-record}
 use Rattle.theory.specs.Picture.{viewsOf}
-use Rattle.theory.specs.SoundWorld.{SoundWorld, sound-fine}
+use Rattle.theory.specs.SoundWorld.{SoundWorld}
 use Rattle.theory.specs.Writing.{engine}
 use Rattle.theory.specs.Pruning.{file-slot}
 use Rattle.theory.specs.Maintaining.{sound-onward}
@@ -140,17 +140,3 @@ module _ (history : List Op) where
   groups-well [] y start s c u = u
   groups-well (g ∷ gs) y start s c u =
       groups-well gs (y .1) start s (onward (c .stop) g (group start g) c) (onward-well start (c .stop) g (y .0) (group start g) (group-files start history s g) c refl u)
-
-  -- LAW: maintenance is accepted, or stops with 4, 5 or 7
-  pub maintain-stops : (w : World) → SoundWorld w (engine history)
-      → ((n : ℕ) × (maintainCall w .answer ≡ maintainGiven (Moved n))) ⊎ ((r : Refusal) × (g : ℕ) × (n : ℕ) × (maintainCall w .answer ≡ maintainGiven (Stopped r g n)) × Spent r)
-  unfolding maintainCall decide courseOf
-  maintain-stops w s = rw (sound-fine w (engine history) s) (by (courseOf w .stop) (u .stop))
-    where
-      u : Underway history w (courseOf w)
-      u = groups-well (1 ∷ 2 ∷ 3 ∷ []) (omega arith, (omega arith, (omega arith, tt))) w s (record { stop = going; moved = 0; world = w }) (record { sound = s; stay = λ k h. h; stop = tt })
-
-      by : (stop : Stop) → StopsWell stop
-          → ((n : ℕ) × (ended stop (courseOf w) .answer ≡ maintainGiven (Moved n))) ⊎ ((r : Refusal) × (g : ℕ) × (n : ℕ) × (ended stop (courseOf w) .answer ≡ maintainGiven (Stopped r g n)) × Spent r)
-      by going t = inl (courseOf w .moved, refl)
-      by (stopped r g) t = inr (r, g, courseOf w .moved, refl, t)
