@@ -1,5 +1,5 @@
 -- A turn of a loop over a list: what is left from place i on, and its end. No word of the paper is here.
-use mathlib.Core.Path.{_≡_, refl, sym, ap, _∙_}
+use mathlib.Core.Path.{_≡_, ap}
 use Prim.Native.Nat.{_≤_, _<_}
 use native.Mathlib.Numerals.{add-one}
 use lib.ListN.{drop-of-length-le}
