@@ -28,14 +28,14 @@ use Rattle.theory.specs.Picture.{viewsOf}
 use Rattle.theory.specs.SoundWorld.{SoundWorld, sound-fine}
 use Rattle.theory.specs.Writing.{engine}
 use Rattle.theory.specs.Pruning.{file-slot}
-use Rattle.theory.specs.Moving.{all-append}
 use Rattle.theory.specs.Shards.{PartOf, sub-all, files-parts}
 use Rattle.theory.specs.Tally.{Ascending, sum-same}
 use Rattle.theory.specs.Moved.{InRangeOf, found-inside, one-range, found-count}
 use Rattle.theory.specs.Maintaining.{files-rewritable}
-use Rattle.theory.specs.Stopping.{Spent, StopsWell, among-all, group-files, Underway, onward-well, groups-well}
+use Rattle.theory.specs.Stopping.{Spent, StopsWell, group-files, Underway, onward-well, groups-well}
 use Rattle.theory.specs.Rewriting.{Rewritable}
 use Rattle.theory.specs.Unmoved.{Elsewhere, unmoved}
+use Rattle.theory.specs.Lists.{all-each, among-all, all-among, among-get}
 
 -- the ids mapped into a generation's candidates, as the call starts; none where the group is skipped
 abbrev pub liveOf : World → ℕ → ℕ
@@ -71,20 +71,6 @@ group-generation w g k a =
     ∙ eqb-true _ _ (and-true (isCandidate (w .settings) (w .claims) (fileCount (recordsOf w)) (0 + p .off) (recordAt (recordsOf w) (p .off))) _ (p .passes) .1)
 
 -- ---- what a group moves is in its own files
-all-each-in : {A B : Type 0} (P : B → Type 0) (f : A → List B) (xs : List A) → All (λ (x : A). All P (f x)) xs → All P (each f xs)
-unfolding each
-all-each-in P f [] a = tt
-all-each-in P f (x ∷ xs) a = all-append P (f x) (each f xs) (a .0) (all-each-in P f xs (a .1))
-
-all-among : (P Q : ℕ → Type 0) (ks : List ℕ) → ((k : ℕ) → Among ks k → P k → Q k) → All P ks → All Q ks
-all-among P Q [] h a = tt
-all-among P Q (k ∷ ks) h a = (h k (inl refl) (a .0), all-among P Q ks (λ j b. h j (inr b)) (a .1))
-
-among-get : (P : ℕ → Type 0) (ks : List ℕ) → All P ks → (k : ℕ) → Among ks k → P k
-among-get P [] a k b = absurd b
-among-get P (m ∷ ms) a k (inl q) = subst P q (a .0)
-among-get P (m ∷ ms) a k (inr b) = among-get P ms (a .1) k b
-
 module _ (history : List Op) (w : World) (s : SoundWorld w (engine history)) where
   elsewhere-in : (k j : ℕ) → (k ≡ j → ⊥) → 0 < recordAt (recordsOf w) j .lsn → All (Elsewhere w k) (foundIn w j)
   elsewhere-in k j n some =
@@ -104,7 +90,7 @@ module _ (history : List Op) (w : World) (s : SoundWorld w (engine history)) whe
   unfolding found
   found-elsewhere k ks out files =
       settled-all (Elsewhere w k) (each (foundIn w) ks)
-      (all-each-in (Elsewhere w k) (foundIn w) ks (all-among (λ (j : ℕ). 0 < recordAt (recordsOf w) j .lsn) (λ (j : ℕ). All (Elsewhere w k) (foundIn w j)) ks (λ j a some. elsewhere-in k j (out j a) some) files))
+      (all-each (Elsewhere w k) (foundIn w) ks (all-among (λ (j : ℕ). 0 < recordAt (recordsOf w) j .lsn) (λ (j : ℕ). All (Elsewhere w k) (foundIn w j)) ks (λ j a some. elsewhere-in k j (out j a) some) files))
 
   files-unmoved : (g : ℕ) → g ≤ 255 → (fs : List (List Op)) → All (Rewritable (w .settings .«max_object_size») (engine history)) fs → (k : ℕ) → 0 < recordAt (recordsOf w) k .lsn
       → All (All (Elsewhere w k)) fs → NoneHolds (roomTests (w .settings .«slot_bytes») (emptyOf w) fs ++ positionTests (w .state .«next_position») fs)

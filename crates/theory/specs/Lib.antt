@@ -1,4 +1,5 @@
 pub mod Types
+pub mod Lists
 pub mod Entries
 pub mod Counting
 pub mod Newest

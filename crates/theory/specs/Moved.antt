@@ -32,9 +32,10 @@ use Rattle.theory.specs.SoundWorld.{boundsOf, SoundWorld, shown}
 use Rattle.theory.specs.Writing.{engine}
 use Rattle.rules.specs.FileMapLaws.{not-empty}
 use Rattle.theory.specs.Pruning.{file-slot}
-use Rattle.theory.specs.Moving.{Movable, StandsIn, objects-stand, objects-inside, all-append, all-kept, mapped-to, found-movable}
+use Rattle.theory.specs.Moving.{Movable, StandsIn, objects-stand, objects-inside, mapped-to, found-movable}
 use Rattle.theory.specs.Rewriting.{last-all, heard-of}
 use Rattle.theory.specs.Tally.{known, heardIn, heard-append, heard-cons, keep-same, count-heard, Ascending, sum-same, count-slots}
+use Rattle.theory.specs.Lists.{all-append, all-kept}
 
 -- a position of a file lies in its masked range
 in-range-at : (f : File) → WellMade f → (p l : ℕ) → p ≤ f .label .«trailer_offset» → positionOf l ≡ f .label .lsn + p → inRange (f .label) (maskedAt l) ≡ true

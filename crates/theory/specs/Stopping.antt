@@ -12,7 +12,7 @@ use Rattle.rules.specs.BaseLaws.{All, all-map, same?, and-true}
 use Rattle.rules.specs.Refusal.{_gives_, decide, after, NoneHolds, decide-append}
 use Rattle.rules.specs.Ops.{Op}
 use Rattle.rules.specs.FileMap.{emptyRecord, isEmpty, recordAt, fileCount}
-use Rattle.rules.specs.FileMapLaws.{not-empty, Among, slot-passes}
+use Rattle.rules.specs.FileMapLaws.{not-empty, slot-passes}
 use Rattle.rules.specs.Install.{newRecord, losing, newSlot, newLsn, recordsWith, nextWith, installed, installedAll, roomTests, positionTests}
 use Rattle.rules.specs.Maintenance.{found, filesOf, fileTests, slotOf, Stop, going, stopped, Course, isCandidate, newGeneration, group, groupTests, rewriteGroup, onward, groupsFrom}
 use Rattle.rules.specs.MaintenanceLaws.{candidate}
@@ -25,6 +25,7 @@ use Rattle.theory.specs.Writing.{engine}
 use Rattle.theory.specs.Pruning.{file-slot}
 use Rattle.theory.specs.Maintaining.{sound-onward}
 use Rattle.theory.specs.Checked.{none-each, file-clear}
+use Rattle.theory.specs.Lists.{among-all}
 
 -- 4, 5 or 7
 abbrev pub Spent : Refusal → Type 0
@@ -71,10 +72,6 @@ stay-all g [] w h k l = l
 stay-all g (f ∷ fs) w h k l = stay-all g fs (installed 0 g w f) (next-installed 0 g w f h) k (stay-installed 0 g w f h k l)
 
 -- ---- the slots of a group are files', as the call starts and when the group's turn comes
-pub among-all : (P : ℕ → Type 0) (ks : List ℕ) → ((k : ℕ) → Among ks k → P k) → All P ks
-among-all P [] h = tt
-among-all P (k ∷ ks) h = (h k (inl refl), among-all P ks (λ j a. h j (inr a)))
-
 file-lsn : (w : World) (history : List Op) → SoundWorld w (engine history) → (k : ℕ) → isEmpty (recordAt (recordsOf w) k) ≡ false → 0 < recordAt (recordsOf w) k .lsn
 file-lsn w history s k h =
     let f = file-slot w (engine history) s k h in

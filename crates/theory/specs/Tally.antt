@@ -11,11 +11,12 @@ use Rattle.disk_location.specs.Locations.{bitOf}
 use Rattle.rules.specs.BaseLaws.{All, order, same?, or-clear}
 use Rattle.rules.specs.Ops.{Op}
 use Rattle.rules.specs.OpsLaws.{RisingOps, ops-rise}
-use Rattle.rules.specs.SettledLaws.{Last, silent, last, orEarlier, saidBy, lastOn}
+use Rattle.rules.specs.SettledLaws.{last-below, Last, silent, last, orEarlier, saidBy, lastOn}
 use Rattle.rules.specs.Table.{lookup, unmapped}
 use Rattle.rules.specs.TableLaws.{Rising, rise, Has, lookup-next, lookup-below, rising-has}
 use Rattle.theory.specs.Counting.{count, count-cons, count-nil}
-use Rattle.theory.specs.Told.{last-below, last-append}
+use Rattle.theory.specs.Told.{last-append}
+use Rattle.theory.specs.Lists.{every}
 
 -- an operation on x is among these
 abbrev pub known : Last → Bool
@@ -153,10 +154,6 @@ pub sum-same : (f g : ℕ → ℕ) (ks : List ℕ) → All (λ (k : ℕ). f k �
 unfolding sum
 sum-same f g [] h = refl
 sum-same f g (k ∷ ks) h = let i = sum-same f g ks (h .1) in let z = h .0 in omega arith
-
-every : (P : ℕ → Type 0) (ks : List ℕ) → ((k : ℕ) → P k) → All P ks
-every P [] h = tt
-every P (k ∷ ks) h = (h k, every P ks h)
 
 -- past slot j none passes
 any-past : (p : ℕ → Bool) (j n : ℕ) (ks : List ℕ) → j < n → Ascending n ks → ((k : ℕ) → (k ≡ j → ⊥) → p k ≡ false) → any p ks ≡ false
