@@ -57,6 +57,7 @@ pub record Life : Type 0 where
   pub world : World
   pub history : List Op
 
+-- call by call
 unfoldable pub lived : Life → List Call → Life
 lived l [] = l
 lived l (c ∷ cs) = lived (record { world = called (l .world) c .world; history = hears (l .world) (l .history) c }) cs

@@ -114,6 +114,7 @@ deletes-all P (e ∷ es) h = go (deleteOf (e .location)) (deletes-all P es (λ x
     go false ih = ih
 
 module _ (w : World) (history : List Op) (s : SoundWorld w (engine history)) where
+  -- what a file's turn finds lies in its masked range
   pub found-inside : (k : ℕ) (f : File) → viewAt (viewsOf w) k ≡ holds f → (n : ℕ)
       → All (InRangeOf (mappings w) (f .label)) (objectsFound (mappings w) (withLive (f .label) n) (slotOf w k) ++ deletesFound (mappings w) (withLive (f .label) n) (slotOf w k))
   unfolding objectsFound deletesFound deletesOf

@@ -48,6 +48,7 @@ stored-small limit position (o ∷ os) a = go (o .content) (a .0) (stored-small 
     go (put b) h ih = (h, ih)
     go delete h ih = ih
 
+-- the test as a fact
 pub mapped-to : (o : Held) (l : ℕ) → mappedTo o l ≡ true → o ≡ Mapped l
 mapped-to Unmapped l h = absurd (let z : _≡_ {A = ℕ} 0 1 = cc in omega arith)
 mapped-to (Mapped m) l h = ap Mapped (eqb-true m l h)
@@ -67,6 +68,7 @@ walked (suc k) position (b ∷ bs) objects e =
       walked k (position + (20 + size)) (drop (20 + size) (b ∷ bs)) objects (ap (drop (20 + size)) e ∙ drop-drop (20 + size) position objects),
     )
 
+-- each object of the walk is what stands at its position
 pub objects-stand : (objects : List ℕ) → All (StandsIn objects) (objectsIn objects)
 unfolding objectsIn
 objects-stand objects = walked (length objects) 0 objects objects refl

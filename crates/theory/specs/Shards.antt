@@ -37,11 +37,13 @@ ops-lower : (f g : ℕ) (a : List Op) → g ≤ f → RisingOps f a → RisingOp
 ops-lower f g [] h r = ops-end
 ops-lower f g (o ∷ a) h (ops-rise p r) = let q : g ≤ o .id = omega arith in ops-rise q r
 
+-- a selection of rising ids rises
 pub sub-rising : {a b : List Op} {f : ℕ} → Sub a b → RisingOps f b → RisingOps f a
 sub-rising sub-nil r = r
 sub-rising (sub-keep s) (ops-rise p r) = ops-rise p (sub-rising s r)
 sub-rising {a} {f = f} (sub-skip {o = o} s) (ops-rise p r) = ops-lower (suc (o .id)) f a (omega arith) (sub-rising s r)
 
+-- what holds of all holds of a selection
 pub sub-all : {a b : List Op} (P : Op → Type 0) → Sub a b → All P b → All P a
 sub-all P sub-nil h = h
 sub-all P (sub-keep s) h = (h .0, sub-all P s (h .1))
@@ -57,6 +59,7 @@ PartOf ops file = Sub file ops × (0 < length file)
 abbrev pub ShardOf : List Op → Shard → Type 0
 ShardOf ops shard = Sub (shard .ops) ops × (0 < shard .size → 0 < length (shard .ops))
 
+-- shards and fragments of these operations
 pub record SplitOf (ops : List Op) (s : Split) : Type 0 where
   pub shards : All (ShardOf ops) (s .shards)
   pub fragments : All (PartOf ops) (s .fragments)

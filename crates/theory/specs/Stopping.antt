@@ -79,6 +79,7 @@ file-lsn w history s k h =
     let p = masked-pos (f .0 .label .lsn) (s .sound .filed .made k (f .0) (f .1) .placed) in
     omega arith
 
+-- candidates are files
 pub group-files : (w : World) (history : List Op) → SoundWorld w (engine history) → (g : ℕ) → All (λ (k : ℕ). 0 < recordAt (recordsOf w) k .lsn) (group w g)
 unfolding group
 group-files w history s g = among-all (λ (k : ℕ). 0 < recordAt (recordsOf w) k .lsn) (group w g) (λ k a.
@@ -91,6 +92,7 @@ abbrev pub StopsWell : Stop → Type 0
 StopsWell going = Unit {0}
 StopsWell (stopped r g) = Spent r
 
+-- the invariant, the files as the call starts, and a stop with 4, 5 or 7 only
 pub record Underway (history : List Op) (start : World) (c : Course) : Type 0 where
   pub sound : SoundWorld (c .world) (engine history)
   pub stay : Stay start (c .world)
@@ -117,6 +119,7 @@ module _ (history : List Op) where
       go Done e = (tt, stay-all g (filesOf (w .settings .«target_file_size») (found w slots)) w (s .sound .started))
       go (Refused r) e = (spent-tests _ _ _ r (sym (decide-append (each (λ (k : ℕ). fileTests (w .settings .«max_object_size») (mappings w) (recordAt (recordsOf w) k) (slotOf w k)) slots) _ clear) ∙ e), λ k h. h)
 
+  -- one generation
   pub onward-well : (start : World) (stop : Stop) (g : ℕ) → g ≤ 255 → (slots : List ℕ) → All (λ (k : ℕ). 0 < recordAt (recordsOf start) k .lsn) slots → (c : Course)
       → c .stop ≡ stop → Underway history start c → Underway history start (onward stop g slots c)
   onward-well start (stopped r n) g aged slots files c e u = u
@@ -132,6 +135,7 @@ module _ (history : List Op) where
       stays : StopsWell (onward going g slots c .stop) × Stay start (onward going g slots c .world)
       stays = at (ltb (length slots) (c .world .settings .«min_compaction_files»))
 
+  -- all generations
   pub groups-well : (gs : List ℕ) → All (λ (g : ℕ). g ≤ 255) gs → (start : World) → SoundWorld start (engine history) → (c : Course) → Underway history start c → Underway history start (groupsFrom gs start c)
   unfolding groupsFrom
   groups-well [] y start s c u = u

@@ -23,9 +23,11 @@ abbrev pub known : Last → Bool
 known silent = false
 known (last c) = true
 
+-- some operation of these is on x
 abbrev pub heardIn : List Op → ℕ → Bool
 heardIn os x = known (lastOn os x)
 
+-- in one of two lists
 pub heard-append : (xs ys : List Op) (x : ℕ) → heardIn (xs ++ ys) x ≡ (heardIn ys x || heardIn xs x)
 heard-append xs ys x = ap known (last-append xs ys x) ∙ go (lastOn ys x) (lastOn xs x)
   where
@@ -33,6 +35,7 @@ heard-append xs ys x = ap known (last-append xs ys x) ∙ go (lastOn ys x) (last
     go silent b = refl
     go (last c) b = refl
 
+-- in the first or the rest
 pub heard-cons : (o : Op) (os : List Op) (x : ℕ) → (o .id ≡ x) ⊎ (heardIn os x ≡ true) → heardIn (o ∷ os) x ≡ true
 unfolding lastOn
 heard-cons o os x h = go (lastOn os x) refl h
@@ -66,6 +69,7 @@ keep-nil : (p : Entry → Bool) → length (keep p []) ≡ 0
 unfolding keep
 keep-nil p = refl
 
+-- tests that agree on the table
 pub keep-same : (p q : Entry → Bool) (t : List Entry) → ((x l : ℕ) → Has t x l → p (record { id = x; location = l }) ≡ q (record { id = x; location = l })) → length (keep p t) ≡ length (keep q t)
 keep-same p q [] h = keep-nil p ∙ sym (keep-nil q)
 keep-same p q (e ∷ t) h =
@@ -150,6 +154,7 @@ unfolding sum
 sum-zero [] f h = refl
 sum-zero (k ∷ ks) f h = let i = sum-zero ks f h in let z = h k in omega arith
 
+-- summands that agree
 pub sum-same : (f g : ℕ → ℕ) (ks : List ℕ) → All (λ (k : ℕ). f k ≡ g k) ks → sum f ks ≡ sum g ks
 unfolding sum
 sum-same f g [] h = refl

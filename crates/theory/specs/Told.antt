@@ -58,6 +58,7 @@ last-append (o ∷ xs) ys x = ap (λ (l : Last). orEarlier l (saidBy o x)) (last
     assoc silent b c = refl
     assoc (last d) b c = refl
 
+-- the later word over the earlier
 pub over-last : (a b : Last) → over (lastSays a) (lastSays b) ≡ lastSays (orEarlier a b)
 over-last silent b = refl
 over-last (last (put c)) b = refl
