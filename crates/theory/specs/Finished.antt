@@ -36,6 +36,9 @@ use Rattle.theory.specs.Stopping.{Spent, StopsWell, group-files, Underwa
 use Rattle.theory.specs.Rewriting.{Rewritable}
 use Rattle.theory.specs.Unmoved.{Elsewhere, unmoved}
 use Rattle.theory.specs.Lists.{all-each, among-all, all-among, among-get}
+use Rattle.rules.specs.Condition1.{outOfRange}
+use Rattle.theory.specs.Fresh.{Blank}
+use Rattle.theory.specs.History.{Call, lived, born, sound-history}
 
 -- the ids mapped into a generation's candidates, as the call starts; none where the group is skipped
 abbrev pub liveOf : World → ℕ → ℕ
@@ -44,6 +47,12 @@ liveOf w g = pick (ltb (length (group w g)) (w .settings .«min_compaction_files
 -- the generations before one
 abbrev pub before : ℕ → List ℕ
 before g = keep (λ (h : ℕ). ltb h g) (1 ∷ 2 ∷ 3 ∷ [])
+
+-- what maintenance answers: the live counts of all groups that are not skipped; or 4, 5 or 7, its generation, and those of the generations before
+abbrev pub Answers : World → Type 0
+Answers w =
+    (maintainCall w .answer ≡ maintainGiven (Moved (sum (liveOf w) (1 ∷ 2 ∷ 3 ∷ []))))
+    ⊎ ((r : Refusal) × (g : ℕ) × (maintainCall w .answer ≡ maintainGiven (Stopped r g (sum (liveOf w) (before g)))) × Spent r)
 
 -- ---- slots of a group: ascending, and of one generation only
 where-ascending : (f : ℕ → Record → Bool) (i : ℕ) (rs : List Record) → Ascending i (slotsWhere f i rs)
@@ -274,10 +283,8 @@ module _ (history : List Op) (start : World) (st : SoundWorld start (engine hist
   all-same [] = tt
   all-same (g ∷ gs) = (among-all (λ (k : ℕ). recordAt (recordsOf start) k ≡ recordAt (recordsOf start) k) (group start g) (λ k a. refl), all-same gs)
 
-  -- LAW (C): the count moved is the live counts of all groups that are not skipped; where 4, 5 or 7 stops the call, of those of the generations before
-  pub maintain-answer :
-      (maintainCall start .answer ≡ maintainGiven (Moved (sum (liveOf start) (1 ∷ 2 ∷ 3 ∷ []))))
-      ⊎ ((r : Refusal) × (g : ℕ) × (maintainCall start .answer ≡ maintainGiven (Stopped r g (sum (liveOf start) (before g)))) × Spent r)
+  -- LAW: maintenance on a store of the invariant
+  pub maintain-answer : Answers start
   unfolding maintainCall decide courseOf sum keep
   maintain-answer = rw (sound-fine start (engine history) st) (by (courseOf start .stop) (u .stop) (t .moved))
     where
@@ -295,3 +302,7 @@ module _ (history : List Op) (start : World) (st : SoundWorld start (engine hist
           ⊎ ((r : Refusal) × (g : ℕ) × (ended o (courseOf start) .answer ≡ maintainGiven (Stopped r g (sum (liveOf start) (before g)))) × Spent r)
       by going s m = inl (ap (λ (n : ℕ). maintainGiven (Moved n)) m)
       by (stopped r g) s m = inr (r, g, ap (λ (n : ℕ). maintainGiven (Stopped r g n)) m, s)
+
+-- C: so on every store of demand 3
+pub any-maintenance : (w : World) → outOfRange (w .settings) (length (w .heap)) (w .table) ≡ false → Blank w → (calls : List Call) → Answers (lived (born w) calls .world)
+any-maintenance w range blank calls = maintain-answer (lived (born w) calls .history) (lived (born w) calls .world) (sound-history w range blank calls)
