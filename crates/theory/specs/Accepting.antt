@@ -1,5 +1,5 @@
 -- N: no store refuses every write: within the limits a write is accepted.
-use mathlib.Core.Path.{_≡_, refl, ap, _∙_}
+use mathlib.Core.Path.{subst, _≡_, refl, ap, _∙_}
 use Prim.Native.Nat.{_<_, _≤_, zero-le}
 use native.Mathlib.Omega.{arith}
 use borrow.Author.Tests.{le-ltb}
@@ -21,10 +21,14 @@ use Rattle.rules.specs.Install.{roomTests, emptyOf, positionTests}
 use Rattle.rules.specs.Write.{newFiles, tooManyIds, writeTests, writeCall}
 use Rattle.rules.specs.WriteLaws.{opsIn}
 use Rattle.rules.specs.Reopen.{reopenCall}
-use Rattle.rules.specs.World.{World, mappings, slotsOf, accepted, After}
+use Rattle.rules.specs.World.{World, mappings, slotsOf, Given, accepted, After}
 use Rattle.theory.specs.Picture.{Said}
 use Rattle.theory.specs.SoundWorld.{SoundWorld, sound-fine}
-use Rattle.theory.specs.Writing.{engine}
+use Rattle.theory.specs.Writing.{engine, heard}
+use Rattle.rules.specs.SettledLaws.{lastOn}
+use Rattle.rules.specs.Read.{readOf}
+use Rattle.theory.specs.Reading.{Reads}
+use Rattle.theory.specs.History.{write, lived, any-history}
 use Rattle.theory.specs.Fresh.{Blank, fresh, fresh-opens, sound-fresh}
 
 -- a batch within the limits of a store: 2 to 7 do not hold
@@ -97,3 +101,14 @@ fresh-write w range blank bytes parsed small slot ids =
       ids = omega arith;
       positions = omega arith;
     })
+
+-- LAW: and then each id reads as the batch's last operation on it says
+pub fresh-read : (w : World) → outOfRange (w .settings) (length (w .heap)) (w .table) ≡ false → Blank w → (bytes : List ℕ)
+    → isMalformed (batchIn bytes) ≡ false → anyTooLarge (w .settings .«max_object_size») (opsOf (batchIn bytes)) ≡ false
+    → 64 + length (fileBytes (opsIn bytes)) ≤ w .settings .«slot_bytes» → length (opsIn bytes) ≤ capacityOf (w .table)
+    → (id : ℕ) → Reads (writeCall (reopenCall w .world) bytes .world) (readOf (writeCall (reopenCall w .world) bytes .world) id) (lastOn (opsOf (batchIn bytes)) id)
+unfolding lived
+fresh-read w range blank bytes parsed small slot ids id =
+    subst (λ (g : Given). Reads (writeCall (reopenCall w .world) bytes .world) (readOf (writeCall (reopenCall w .world) bytes .world) id) (lastOn (heard [] bytes g) id))
+    (fresh-write w range blank bytes parsed small slot ids)
+    (any-history w range blank (write bytes ∷ []) .reads id)

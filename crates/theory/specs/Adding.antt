@@ -76,6 +76,7 @@ module _ (w : World) (told : ℕ → Said) (s : SoundWorld w told) where
             let p = f .positions in
             (ap (λ (b : ℕ). maskedOf (w .state .«next_position» + b)) e ∙ masked-batch (w .state .«next_position») (omega arith), omega arith)
 
+    -- it may be added to the picture
     pub addable : Addable (boundsOf w) (pictureOf w) (newSlot w) (newLsn bit w) os
     addable =
         let z = free-slot (f .free) in

@@ -113,6 +113,7 @@ module _ (w : World) (history : List Op) (s : SoundWorld w (engine history)) whe
       (subst (λ (es : List Entry). All (λ (e : Entry). NoneHolds (deleteTests (f .label .lsn) (mappings w) e)) (keep (λ (e : Entry). deleteOf (e .location)) es)) (sym (shown w k f h .1 .entries))
       (deletes-clear (f .label .lsn) (mappings w) (f .entries) (λ x l a. (sum-fits f (s .sound .filed .made k f h) x l a, mentioned-mapped k f h x l a))))))
 
+  -- the same, by the record
   pub file-clear : (k : ℕ) → isEmpty (recordAt (recordsOf w) k) ≡ false
       → NoneHolds (fileTests (w .settings .«max_object_size») (mappings w) (recordAt (recordsOf w) k) (slotOf w k))
   file-clear k some =

@@ -10,6 +10,7 @@ use Rattle.disk_location.specs.Locations.{bitOf}
 use Rattle.rules.specs.BaseLaws.{order}
 use Rattle.rules.specs.TableLaws.{Rising, rise, Has, lookup-here, lookup-next, insert-next, insert-here, insert-before, lookup-below}
 
+-- how many
 abbrev pub count : (ℕ → Bool) → List Entry → ℕ
 count p t = length (keep (λ (e : Entry). p (e .location)) t)
 
@@ -22,6 +23,7 @@ count-cons p e t = go (p (e .location))
     go true = omega arith
     go false = omega arith
 
+-- none of none
 pub count-nil : (p : ℕ → Bool) → count p [] ≡ 0
 unfolding keep
 count-nil p = refl
@@ -47,6 +49,7 @@ count-insert f p (e ∷ t) (rise a r) n = go (count-insert (suc (e .id)) p t r n
         rw (insert-before e t n q, lookup-next e t (n .id) (λ z. omega arith), lookup-below (suc (e .id)) t r (n .id) (omega arith), count-cons p n (e ∷ t))
         (omega arith)
 
+-- tests that agree on the table
 pub count-same : (p q : ℕ → Bool) (t : List Entry) → ((x l : ℕ) → Has t x l → p l ≡ q l) → count p t ≡ count q t
 count-same p q [] h = count-nil p ∙ sym (count-nil q)
 count-same p q (e ∷ t) h =
@@ -56,6 +59,7 @@ count-same p q (e ∷ t) h =
     let d = count-cons q e t in
     omega arith
 
+-- none passes
 pub count-none : (p : ℕ → Bool) (t : List Entry) → ((x l : ℕ) → Has t x l → p l ≡ false) → count p t ≡ 0
 count-none p [] h = count-nil p
 count-none p (e ∷ t) h =
@@ -64,6 +68,7 @@ count-none p (e ∷ t) h =
     let c = count-cons p e t in
     omega arith
 
+-- one that passes
 pub count-has : (p : ℕ → Bool) (t : List Entry) (x l : ℕ) → Has t x l → p l ≡ true → 0 < count p t
 count-has p [] x l h q = absurd h
 count-has p (e ∷ t) x l (inl (a, b)) q =
@@ -72,6 +77,7 @@ count-has p (e ∷ t) x l (inl (a, b)) q =
     omega arith
 count-has p (e ∷ t) x l (inr h) q = let z = count-has p t x l h q in let c = count-cons p e t in omega arith
 
+-- no more than the table has
 pub count-le : (p : ℕ → Bool) (t : List Entry) → count p t ≤ length t
 count-le p [] = let c = count-nil p in omega arith
 count-le p (e ∷ t) = let h = count-le p t in let b = bit-le (p (e .location)) in let c = count-cons p e t in omega arith

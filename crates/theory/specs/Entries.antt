@@ -32,10 +32,12 @@ absolute-location n e = go (eqb (e .location % 2) 1) refl
     go true q = let o = eqb-true (e .location % 2) 1 q in rw q (omega arith)
     go false q = let o = eqb-false (e .location % 2) 1 q in rw q (omega (arith, o))
 
+-- what is held, counted from a file's lsn
 abbrev pub shiftHeld : ℕ → Held → Held
 shiftHeld n (Mapped l) = Mapped (l + 2 * n)
 shiftHeld n Unmapped = Unmapped
 
+-- a lookup among absolute locations
 pub lookup-absolute : (n : ℕ) (es : List Entry) (x : ℕ) → lookup (map (absolute n) es) x ≡ shiftHeld n (lookup es x)
 unfolding lookup
 lookup-absolute n [] x = refl
@@ -47,15 +49,18 @@ lookup-absolute n (e ∷ es) x = go (lookup-absolute n es x) (same? (e .id) x)
         lookup-here (absolute n e) (map (absolute n) es) x q ∙ ap Mapped (absolute-location n e) ∙ sym (ap (shiftHeld n) (lookup-here e es x q))
     go ih (inr q) = lookup-next (absolute n e) (map (absolute n) es) x q ∙ ih ∙ sym (ap (shiftHeld n) (lookup-next e es x q))
 
+-- ids do not change
 pub rising-absolute : (n f : ℕ) (es : List Entry) → Rising f es → Rising f (map (absolute n) es)
 rising-absolute n f [] r = rise-end
 rising-absolute n f (e ∷ es) (rise a r) = rise a (rising-absolute n (suc (e .id)) es r)
 
+-- an entry, with its absolute location
 pub has-absolute : (n : ℕ) (es : List Entry) (x r : ℕ) → Has es x r → Has (map (absolute n) es) x (r + 2 * n)
 has-absolute n [] x r h = h
 has-absolute n (e ∷ es) x r (inl (a, b)) = inl (a, absolute-location n e ∙ ap (λ (m : ℕ). m + 2 * n) b)
 has-absolute n (e ∷ es) x r (inr h) = inr (has-absolute n es x r h)
 
+-- and back
 pub absolute-has : (n : ℕ) (es : List Entry) (x l : ℕ) → Has (map (absolute n) es) x l → (r : ℕ) × Has es x r × (l ≡ r + 2 * n)
 absolute-has n [] x l h = absurd h
 absolute-has n (e ∷ es) x l (inl (a, b)) = (e .location, inl (a, refl), sym b ∙ absolute-location n e)
@@ -67,10 +72,12 @@ has-append-l [] t x l h = absurd h
 has-append-l (e ∷ s) t x l (inl h) = inl h
 has-append-l (e ∷ s) t x l (inr h) = inr (has-append-l s t x l h)
 
+-- in the second
 pub has-append-r : (s t : List Entry) (x l : ℕ) → Has t x l → Has (s ++ t) x l
 has-append-r [] t x l h = h
 has-append-r (e ∷ s) t x l h = inr (has-append-r s t x l h)
 
+-- in one of the two
 pub append-has : (s t : List Entry) (x l : ℕ) → Has (s ++ t) x l → Has s x l ⊎ Has t x l
 append-has [] t x l h = inr h
 append-has (e ∷ s) t x l (inl h) = inl (inl h)

@@ -27,6 +27,7 @@ any-file p (damaged n ∷ vs) h (suc k) f e = any-file p vs h k f e
 any-file p (holds g ∷ vs) h zero f e = sym (ap p (holds-inj e)) ∙ or-false (p g) (any p (filesIn vs)) h .0
 any-file p (holds g ∷ vs) h (suc k) f e = any-file p vs (or-false (p g) (any p (filesIn vs)) h .1) k f e
 
+-- and the other way round
 pub no-file : (p : File → Bool) (vs : List View) → ((k : ℕ) (f : File) → viewAt vs k ≡ holds f → p f ≡ false) → any p (filesIn vs) ≡ false
 unfolding filesIn each any
 no-file p [] h = refl
@@ -44,6 +45,7 @@ undamaged (damaged m ∷ vs) h k n e = true≢false (h .0)
 undamaged (holds f ∷ vs) h zero n e = let z : _≡_ {A = ℕ} 0 1 = cc in omega arith
 undamaged (holds f ∷ vs) h (suc k) n e = undamaged vs h k n e
 
+-- and the other way round
 pub no-damage-tests : (vs : List View) → ((k : ℕ) (n : Refusal) → viewAt vs k ≡ damaged n → ⊥) → NoneHolds (each viewTests vs)
 unfolding each NoneHolds
 no-damage-tests [] h = tt
@@ -75,6 +77,7 @@ swap : (f g : File) → Apart f g → Apart g f
 swap f g (inl h) = inr h
 swap f g (inr h) = inl h
 
+-- 14 does not hold: files of two slots are apart
 pub overlap-apart : (vs : List View) → overlapping (filesIn vs) ≡ false
     → (j k : ℕ) (f g : File) → viewAt vs j ≡ holds f → viewAt vs k ≡ holds g → (j ≡ k → ⊥) → Apart f g
 unfolding overlapping filesIn each
@@ -96,6 +99,7 @@ overlap-apart (holds c ∷ vs) h (suc j) (suc k) f g p q n =
     let w = or-false (any (λ (d : File). meets (c .label) (d .label)) (filesIn vs)) (overlapping (filesIn vs)) h in
     overlap-apart vs (w .1) j k f g p q (λ z. n (ap suc z))
 
+-- and the other way round
 pub no-overlap : (vs : List View)
     → ((j k : ℕ) (f g : File) → viewAt vs j ≡ holds f → viewAt vs k ≡ holds g → (j ≡ k → ⊥) → Apart f g) → overlapping (filesIn vs) ≡ false
 unfolding overlapping filesIn each
@@ -120,6 +124,7 @@ any-has p (e ∷ es) h x l (inl (a, b)) =
     sym (ap p q) ∙ or-false (p e) (any p es) h .0
 any-has p (e ∷ es) h x l (inr a) = any-has p es (or-false (p e) (any p es) h .1) x l a
 
+-- 15 does not hold: an id stands at a position once
 pub clear-single : (es : List Entry) → notRising es ≡ false → Single es
 unfolding notRising
 clear-single [] h x r q a b e = absurd a
@@ -159,6 +164,7 @@ greatest-le m (holds g ∷ vs) zero f h =
     omega arith
 greatest-le m (holds g ∷ vs) (suc k) f h = let w = larger-le (m g) (greatest m (filesIn vs)) in let u = greatest-le m vs k f h in omega arith
 
+-- the next position is never 0
 pub next-positive : (vs : List View) → 0 < nextAfter (filesIn vs)
 unfolding nextAfter
 next-positive vs = omega arith

@@ -57,6 +57,7 @@ pub record Life : Type 0 where
   pub world : World
   pub history : List Op
 
+-- call by call
 unfoldable pub lived : Life → List Call → Life
 lived l [] = l
 lived l (c ∷ cs) = lived (record { world = called (l .world) c .world; history = hears (l .world) (l .history) c }) cs
@@ -117,10 +118,14 @@ sound-lived l (c ∷ cs) s =
 abbrev pub born : World → Life
 born w = record { world = reopenCall w .world; history = [] }
 
+-- LAW: the invariant holds whatever calls were made
+pub sound-history : (w : World) → outOfRange (w .settings) (length (w .heap)) (w .table) ≡ false → Blank w
+    → (calls : List Call) → SoundWorld (lived (born w) calls .world) (engine (lived (born w) calls .history))
+sound-history w range blank calls =
+    sound-lived (born w) calls
+    (subst (λ (a : After). SoundWorld (a .world) (engine [])) (sym (fresh-opens w range blank)) (sound-fresh w range blank))
+
 -- DEMAND 3: reopen a heap whose slots all begin with byte 0, in range; then make any calls, refused ones among them
 pub any-history : (w : World) → outOfRange (w .settings) (length (w .heap)) (w .table) ≡ false → Blank w
     → (calls : List Call) → Kept (lived (born w) calls .world) (lived (born w) calls .history)
-any-history w range blank calls =
-    sound-kept (lived (born w) calls .world) (lived (born w) calls .history)
-    (sound-lived (born w) calls
-    (subst (λ (a : After). SoundWorld (a .world) (engine [])) (sym (fresh-opens w range blank)) (sound-fresh w range blank)))
+any-history w range blank calls = sound-kept (lived (born w) calls .world) (lived (born w) calls .history) (sound-history w range blank calls)

@@ -70,6 +70,7 @@ module _ (bounds : Bounds) (p : Picture) (told : ℕ → Said) (s : Sound bounds
   unfolding added
   view-new = getD-set-same (p .views) k (holds (fileOfOps lsn g os)) empty (a .slot)
 
+  -- every other slot shows what it showed
   pub view-old : (j : ℕ) → (j ≡ k → ⊥) → viewAt (added lsn g p k os .views) j ≡ viewAt (p .views) j
   unfolding added
   view-old j n = getD-set-other (p .views) k j (holds (fileOfOps lsn g os)) empty n
@@ -111,6 +112,7 @@ module _ (bounds : Bounds) (p : Picture) (told : ℕ → Said) (s : Sound bounds
       let y = s .filed .fits in
       omega arith
 
+  -- views and records tell of the same files again
   pub filed-added : Filed (added lsn g p k os .views) (added lsn g p k os .records)
   filed-added = record {
     fits = filed-fits;
@@ -150,6 +152,7 @@ module _ (bounds : Bounds) (p : Picture) (told : ℕ → Said) (s : Sound bounds
       let n : j ≡ k → ⊥ = λ z. not-empty (sym (a .free) ∙ ap (viewAt (p .views)) (sym z) ∙ t .shows) in
       (n, record { file = t .file; raw = t .raw; shows = view-old j n ∙ t .shows; entry = t .entry; located = t .located })
 
+  -- the new entries stand in the new file
   pub stands-new : (x l : ℕ) → Has (rowsFor lsn 0 os) x l → Stands (added lsn g p k os .views) x l k
   unfolding newRecord
   stands-new x l h =

@@ -22,6 +22,7 @@ use Rattle.theory.specs.Counting.{count, had, count-insert}
 use Rattle.rules.specs.FileMapLaws.{file-same, less-live-length}
 use Rattle.theory.specs.Places.{isAt}
 
+-- the live count of a slot
 abbrev pub liveAt : List Record → ℕ → ℕ
 liveAt rs j = recordAt rs j .live
 
@@ -67,6 +68,7 @@ pub record Less (r q : Record) : Type 0 where
   pub same : q ≡ withLive r (q .live)
   pub less : q .live ≤ r .live
 
+-- only live counts fall
 pub losing-record : (t : List Entry) (os : List Op) (rs : List Record) (j : ℕ) → Less (recordAt rs j) (recordAt (losing t os rs) j)
 unfolding losing
 losing-record t [] rs j = record { same = refl; less = omega arith }

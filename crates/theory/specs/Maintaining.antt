@@ -22,7 +22,7 @@ use Rattle.theory.specs.Rewriting.{Rewritable, sound-rewritten}
 
 module _ (history : List Op) where
   -- what a group moves, in files
-  files-rewritable : (w : World) → SoundWorld w (engine history) → (slots : List ℕ) (target : ℕ) → All (Rewritable (w .settings .«max_object_size») (engine history)) (filesOf target (found w slots))
+  pub files-rewritable : (w : World) → SoundWorld w (engine history) → (slots : List ℕ) (target : ℕ) → All (Rewritable (w .settings .«max_object_size») (engine history)) (filesOf target (found w slots))
   unfolding found
   files-rewritable w s slots target =
       all-map (PartOf (found w slots)) (Rewritable (w .settings .«max_object_size») (engine history)) (filesOf target (found w slots))
@@ -59,6 +59,7 @@ module _ (history : List Op) where
           (none-rest (each (λ (k : ℕ). fileTests (w .settings .«max_object_size») (mappings w) (recordAt (recordsOf w) k) (slotOf w k)) slots) _
           (clear-when (groupTests w slots (filesOf (w .settings .«target_file_size») (found w slots))) e))
 
+  -- one generation: skipped, rewritten or refused
   pub sound-onward : (stop : Stop) (g : ℕ) → g ≤ 255 → (slots : List ℕ) (c : Course) → SoundWorld (c .world) (engine history) → SoundWorld (onward stop g slots c .world) (engine history)
   sound-onward (stopped r n) g aged slots c s = s
   sound-onward going g aged slots c s = go (ltb (length slots) (c .world .settings .«min_compaction_files»))

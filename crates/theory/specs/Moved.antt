@@ -32,9 +32,10 @@ use Rattle.theory.specs.SoundWorld.{boundsOf, SoundWorld, shown}
 use Rattle.theory.specs.Writing.{engine}
 use Rattle.rules.specs.FileMapLaws.{not-empty}
 use Rattle.theory.specs.Pruning.{file-slot}
-use Rattle.theory.specs.Moving.{Movable, StandsIn, objects-stand, objects-inside, all-append, all-kept, mapped-to, found-movable}
+use Rattle.theory.specs.Moving.{Movable, StandsIn, objects-stand, objects-inside, mapped-to, found-movable}
 use Rattle.theory.specs.Rewriting.{last-all, heard-of}
 use Rattle.theory.specs.Tally.{known, heardIn, heard-append, heard-cons, keep-same, count-heard, Ascending, sum-same, count-slots}
+use Rattle.theory.specs.Lists.{all-append, all-kept}
 
 -- a position of a file lies in its masked range
 in-range-at : (f : File) → WellMade f → (p l : ℕ) → p ≤ f .label .«trailer_offset» → positionOf l ≡ f .label .lsn + p → inRange (f .label) (maskedAt l) ≡ true
@@ -113,6 +114,7 @@ deletes-all P (e ∷ es) h = go (deleteOf (e .location)) (deletes-all P es (λ x
     go false ih = ih
 
 module _ (w : World) (history : List Op) (s : SoundWorld w (engine history)) where
+  -- what a file's turn finds lies in its masked range
   pub found-inside : (k : ℕ) (f : File) → viewAt (viewsOf w) k ≡ holds f → (n : ℕ)
       → All (InRangeOf (mappings w) (f .label)) (objectsFound (mappings w) (withLive (f .label) n) (slotOf w k) ++ deletesFound (mappings w) (withLive (f .label) n) (slotOf w k))
   unfolding objectsFound deletesFound deletesOf

@@ -5,7 +5,7 @@ use native.Mathlib.Omega.{arith}
 use lib.ListN.{length-take, length-drop}
 use lib.Seq.{drop-drop}
 use borrow.Author.Tests.{eqb-true}
-use Rattle.rules.specs.Base.{Bool, true, false, List, [], _∷_, _++_, map, ℕ, zero, suc, _+_, _-_, _*_, _%_, _^_, length, drop, eqb, pick, keep, each}
+use Rattle.rules.specs.Base.{Bool, true, false, List, [], _∷_, _++_, ℕ, zero, suc, _+_, _-_, _*_, _%_, _^_, length, drop, eqb, pick, keep, each}
 use Rattle.theory.specs.Types.{Entry, Record, Answer, Done, Refused, Held, Mapped, Unmapped, Slot, Is}
 use Rattle.disk_location.specs.Locations.{positionOf, deleteOf, rawOf}
 use Rattle.rules.specs.BaseLaws.{All, any-false}
@@ -30,44 +30,11 @@ use Rattle.theory.specs.Sound.{OfOps}
 use Rattle.theory.specs.SoundWorld.{SoundWorld, shown}
 use Rattle.theory.specs.Writing.{engine}
 use Rattle.theory.specs.Reading.{not-broken}
+use Rattle.theory.specs.Lists.{all-append, all-kept, all-pass, all-both, all-each, every}
 
 -- an operation that says what is said already, and that neither 3 nor an id's width refuses
 abbrev pub Movable : ℕ → (ℕ → Said) → Op → Type 0
 Movable limit told o = (told (o .id) ≡ lastSays (last (o .content))) × (o .id < 2 ^ 64) × (tooLarge limit (o .content) ≡ false)
-
--- ---- all elements
-pub all-append : {A : Type 0} (P : A → Type 0) (xs ys : List A) → All P xs → All P ys → All P (xs ++ ys)
-all-append P [] ys a b = b
-all-append P (x ∷ xs) ys a b = (a .0, all-append P xs ys (a .1) b)
-
-pub all-each : {A B : Type 0} (P : B → Type 0) (f : A → List B) (xs : List A) → ((x : A) → All P (f x)) → All P (each f xs)
-unfolding each
-all-each P f [] h = tt
-all-each P f (x ∷ xs) h = all-append P (f x) (each f xs) (h x) (all-each P f xs h)
-
--- those that are kept, changed
-pub all-kept : {A B : Type 0} (Q : A → Type 0) (P : B → Type 0) (f : A → Bool) (g : A → B) (xs : List A) → ((x : A) → Q x → f x ≡ true → P (g x))
-    → All Q xs → All P (map g (keep f xs))
-unfolding keep
-all-kept Q P f g [] h a = tt
-all-kept Q P f g (x ∷ xs) h a = go (f x) refl (all-kept Q P f g xs h (a .1))
-  where
-    go : (b : Bool) → f x ≡ b → All P (map g (keep f xs)) → All P (map g (pick b (x ∷ keep f xs) (keep f xs)))
-    go true e ih = (h x (a .0) e, ih)
-    go false e ih = ih
-
-all-pass : {A : Type 0} (f : A → Bool) (xs : List A) → All (λ (x : A). f x ≡ true) (keep f xs)
-unfolding keep
-all-pass f [] = tt
-all-pass f (x ∷ xs) = go (f x) refl (all-pass f xs)
-  where
-    go : (b : Bool) → f x ≡ b → All (λ (y : _). f y ≡ true) (keep f xs) → All (λ (y : _). f y ≡ true) (pick b (x ∷ keep f xs) (keep f xs))
-    go true e ih = (e, ih)
-    go false e ih = ih
-
-all-both : {A : Type 0} (P Q : A → Type 0) (xs : List A) → All P xs → All Q xs → All (λ (x : A). P x × Q x) xs
-all-both P Q [] a b = tt
-all-both P Q (x ∷ xs) a b = ((a .0, b .0), all-both P Q xs (a .1) (b .1))
 
 -- the objects of operations that 3 does not refuse
 stored-small : (limit position : ℕ) (os : List Op) → All (λ (o : Op). tooLarge limit (o .content) ≡ false) os
@@ -81,6 +48,7 @@ stored-small limit position (o ∷ os) a = go (o .content) (a .0) (stored-small 
     go (put b) h ih = (h, ih)
     go delete h ih = ih
 
+-- the test as a fact
 pub mapped-to : (o : Held) (l : ℕ) → mappedTo o l ≡ true → o ≡ Mapped l
 mapped-to Unmapped l h = absurd (let z : _≡_ {A = ℕ} 0 1 = cc in omega arith)
 mapped-to (Mapped m) l h = ap Mapped (eqb-true m l h)
@@ -100,6 +68,7 @@ walked (suc k) position (b ∷ bs) objects e =
       walked k (position + (20 + size)) (drop (20 + size) (b ∷ bs)) objects (ap (drop (20 + size)) e ∙ drop-drop (20 + size) position objects),
     )
 
+-- each object of the walk is what stands at its position
 pub objects-stand : (objects : List ℕ) → All (StandsIn objects) (objectsIn objects)
 unfolding objectsIn
 objects-stand objects = walked (length objects) 0 objects objects refl
@@ -233,4 +202,4 @@ module _ (w : World) (history : List Op) (s : SoundWorld w (engine history)) whe
   -- LAW: what a group moves is current
   pub found-movable : (slots : List ℕ) → All (Movable (w .settings .«max_object_size») (engine history)) (found w slots)
   unfolding found
-  found-movable slots = settled-all (Movable (w .settings .«max_object_size») (engine history)) (each (foundIn w) slots) (all-each (Movable (w .settings .«max_object_size») (engine history)) (foundIn w) slots found-in)
+  found-movable slots = settled-all (Movable (w .settings .«max_object_size») (engine history)) (each (foundIn w) slots) (all-each (Movable (w .settings .«max_object_size») (engine history)) (foundIn w) slots (every (λ (k : ℕ). All (Movable (w .settings .«max_object_size») (engine history)) (foundIn w k)) slots found-in))

@@ -21,6 +21,7 @@ abbrev pub Newest : (ℕ → Type 0) → Held → Type 0
 Newest P Unmapped = (l : ℕ) → P l → ⊥
 Newest P (Mapped l) = P l × ((m : ℕ) → P m → maskedAt m ≤ maskedAt l)
 
+-- the same candidates
 pub newest-iff : (P Q : ℕ → Type 0) (o : Held) → ((l : ℕ) → P l → Q l) → ((l : ℕ) → Q l → P l) → Newest P o → Newest Q o
 newest-iff P Q Unmapped f g n = λ l q. n l (g l q)
 newest-iff P Q (Mapped l) f g n = (f l (n .0), λ m q. n .1 m (g m q))
@@ -132,6 +133,7 @@ rising-latest f (e ∷ t) n h (rise a r) = go (λ k. rising-latest (suc (e .id))
     go ih (inr (inl k)) = rw (latest-here n e t k) (here (ltb (maskedPosition e) (maskedPosition n)) k)
     go ih (inr (inr k)) = rw (latest-before n e t k) (rise h (rise k r))
 
+-- the order is kept
 pub rising-from : (t es : List Entry) → Rising 0 t → Rising 0 (latestFrom t es)
 unfolding latestFrom
 rising-from t [] r = r
@@ -186,6 +188,7 @@ newest-latest es x =
     (λ l. ⊎-elim (λ a. absurd a) (λ b. b)) (λ l a. inr a)
     (newest-from [] es x (λ l. ⊥) rise-end (λ l a. a))
 
+-- ids rise
 pub rising-latest-of : (es : List Entry) → Rising 0 (latestOf es)
 rising-latest-of es = rising-from [] es rise-end
 

@@ -16,6 +16,7 @@ use Rattle.rules.specs.World.{World, recordsOf, mappings, slotsOf}
 use Rattle.theory.specs.Places.{viewAt}
 use Rattle.theory.specs.Losing.{rowsFor}
 
+-- what the theorems look at
 pub record Picture : Type 0 where
   pub views : List View
   pub records : List Record
@@ -26,6 +27,7 @@ pub record Picture : Type 0 where
 abbrev pub viewsOf : World → List View
 viewsOf w = viewsIn (slotsOf w) (w .settings .«slot_bytes») (w .heap)
 
+-- the picture of a store in bytes
 abbrev pub pictureOf : World → Picture
 pictureOf w = record { views = viewsOf w; records = recordsOf w; table = mappings w; next = w .state .«next_position» }
 
@@ -49,9 +51,11 @@ abbrev pub entrySays : File → Held → ℕ → Said
 entrySays f Unmapped x = unheard
 entrySays f (Mapped r) x = pick (deleteOf r) gone (placeSays f (positionOf r) x)
 
+-- of an id
 unfoldable pub fileSays : File → ℕ → Said
 fileSays f x = entrySays f (lookup (f .entries) x) x
 
+-- at a position of what a slot shows
 abbrev pub viewSays : View → ℕ → ℕ → Said
 viewSays empty position x = broken NotThere
 viewSays (damaged r) position x = broken NotThere
@@ -62,6 +66,7 @@ abbrev pub slotSays : Picture → Slot → ℕ → ℕ → Said
 slotSays p NoSlot l x = broken NotThere
 slotSays p (Is k) l x = viewSays (viewAt (p .views) k) (positionOf l - recordAt (p .records) k .lsn) x
 
+-- by what the table holds
 abbrev pub heldSays : Picture → Held → ℕ → Said
 heldSays p Unmapped x = unheard
 heldSays p (Mapped l) x = pick (deleteOf l) gone (slotSays p (fileFor (p .records) l) l x)

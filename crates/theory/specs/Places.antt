@@ -46,6 +46,7 @@ pub record WellMade (f : File) : Type 0 where
 abbrev pub Single : List Entry → Type 0
 Single es = (x r q : ℕ) → Has es x r → Has es x q → positionOf r ≡ positionOf q → r ≡ q
 
+-- rising ids stand once
 pub rising-single : (f : ℕ) (es : List Entry) → Rising f es → Single es
 rising-single f es s x r q a b e = mapped-one (sym (has-lookup f es s x r a) ∙ has-lookup f es s x q b)
 
@@ -82,6 +83,7 @@ pub masked-at : (n p : ℕ) → n < 2 ^ 63 → maskedOf n + p < 2 ^ 62 → maske
 unfolding maskedOf
 masked-at n p a b = omega arith
 
+-- an lsn is its masked position, or that with the batch bit
 pub kinds : (n : ℕ) → n < 2 ^ 63 → (n ≡ maskedOf n) ⊎ (n ≡ maskedOf n + 2 ^ 62)
 unfolding maskedOf
 kinds n h = go (ltb n (2 ^ 62)) refl
@@ -106,6 +108,7 @@ lower a ta b tb p h2 h3 h4 h5 h6 d h7 = go (kinds a h2) (kinds b h5) d
     go (inr u) (inr v) (inl d) = omega arith
     go (inr u) (inr v) (inr d) = omega arith
 
+-- a masked position above 0 is one of an lsn above 0
 pub masked-pos : (n : ℕ) → 0 < maskedOf n → 0 < n
 unfolding maskedOf
 masked-pos n h = omega arith
@@ -122,12 +125,15 @@ masked-entry f m x r h =
 pub holds-inj : {f g : File} → holds f ≡ holds g → f ≡ g
 holds-inj h = cc
 
+-- an empty slot shows no file
 pub not-empty : {f : File} → empty ≡ holds f → ⊥
 not-empty h = let z : _≡_ {A = ℕ} 0 1 = cc in omega arith
 
+-- nor does a damaged one
 pub not-damaged : {n : Refusal} {f : File} → damaged n ≡ holds f → ⊥
 not-damaged h = let z : _≡_ {A = ℕ} 0 1 = cc in omega arith
 
+-- a file is in one of the slots
 pub holds-lt : (views : List View) (k : ℕ) (f : File) → viewAt views k ≡ holds f → k < length views
 holds-lt [] k f h = absurd (not-empty h)
 holds-lt (v ∷ vs) zero f h = omega arith
@@ -149,6 +155,7 @@ stands-has (v ∷ vs) x l (suc k) s =
     go (damaged n) h = h
     go (holds f) h = has-append-r (rowsIn f) (rowsOf vs) x l h
 
+-- and back
 pub has-stands : (views : List View) (x l : ℕ) → Has (rowsOf views) x l → (k : ℕ) × Stands views x l k
 unfolding filesIn each
 has-stands [] x l h = absurd h
@@ -165,12 +172,15 @@ has-stands (v ∷ vs) x l h = go (has-stands vs x l) v refl h
         (0, record { file = f; raw = w .0; shows = e; entry = w .1; located = w .2 })) (λ b. next (ih b)) (append-has (rowsIn f) (rowsOf vs) x l a)
 
 module _ (views : List View) (rs : List Record) (filed : Filed views rs) where
+  -- the record of a slot with a file
   pub record-holds : (k : ℕ) (f : File) → viewAt views k ≡ holds f → recordAt rs k ≡ withLive (f .label) (recordAt rs k .live)
   record-holds k f h = subst (λ (v : View). Agrees v (recordAt rs k)) h (filed .agree k)
 
+  -- of an empty one
   pub record-empty : (k : ℕ) → viewAt views k ≡ empty → recordAt rs k ≡ emptyRecord
   record-empty k h = subst (λ (v : View). Agrees v (recordAt rs k)) h (filed .agree k)
 
+  -- none is damaged
   pub no-damage : (k : ℕ) (n : Refusal) → viewAt views k ≡ damaged n → ⊥
   no-damage k n h = subst (λ (v : View). Agrees v (recordAt rs k)) h (filed .agree k)
 
@@ -232,6 +242,7 @@ module _ (views : List View) (rs : List Record) (filed : Filed views rs) where
       let b : maskedAt l ≤ maskedOf (s .file .label .lsn) + s .file .label .«trailer_offset» = omega arith in
       rw (le-leb (maskedOf (s .file .label .lsn)) (maskedAt l) a, le-leb (maskedAt l) (maskedOf (s .file .label .lsn) + s .file .label .«trailer_offset») b)
 
+  -- and in no other file's
   pub in-no-other : (x l k j : ℕ) (s : Stands views x l k) (g : File) → viewAt views j ≡ holds g → (j ≡ k → ⊥) → inRange (g .label) (maskedAt l) ≡ false
   in-no-other x l k j s g h n =
       let p = masked-stands x l k s in

@@ -135,6 +135,7 @@ module _ (w : World) (told : ℕ → Said) (s : SoundWorld w told) where
   unfolding pruneCall decide
   prune-accepted = rw (sound-fine w told s) refl
 
+  -- the call
   pub sound-prune : SoundWorld (pruneCall w .world) told
   sound-prune = subst (λ (a : After). SoundWorld (a .world) told) (sym prune-accepted) sound-pruned
 
@@ -157,6 +158,7 @@ module _ (w : World) (told : ℕ → Said) (s : SoundWorld w told) where
   unfolding claimCall
   sound-claim slot = by-claims (decide (refused1 w gives Limits ∷ (notAFile w slot || isClaimed (w .claims) slot) gives Claim ∷ [])) (claimSet (w .claims) slot)
 
+  -- and release
   pub sound-release : (slot : ℕ) → SoundWorld (releaseCall w slot .world) told
   unfolding releaseCall
   sound-release slot = by-claims (decide (refused1 w gives Limits ∷ (notAFile w slot || not (isClaimed (w .claims) slot)) gives Claim ∷ [])) (claimCleared (w .claims) slot)

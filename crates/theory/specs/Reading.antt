@@ -84,6 +84,7 @@ more-room x o n h c =
     let b : 20 + o .size ≤ o .room = ltb-false _ _ (c .1 .0) in
     (le-ltb n 20 (omega arith), (le-ltb n (20 + o .size) (omega arith), c .1 .1))
 
+-- no operation says that a read is refused
 pub not-broken : (t : Last) {r : Refusal} → broken r ≡ lastSays t → ⊥
 not-broken silent e = let z : _≡_ {A = ℕ} 0 1 = cc in omega arith
 not-broken (last (put b)) e = let z : _≡_ {A = ℕ} 0 1 = cc in omega arith

@@ -78,6 +78,7 @@ tests-passed w l n e =
       is = e;
     }
 
+-- an accepted reopening went through all tests
 pub passed : (w : World) → reopenCall w .answer ≡ accepted [] → Passed w
 unfolding reopenCall decide givenUp
 passed w h = go (outOfRange (w .settings) (length (w .heap)) (w .table)) refl h
@@ -125,6 +126,7 @@ module _ (w : World) (p : Passed w) where
   made : (k : ℕ) (f : File) → viewAt (viewsOf w) k ≡ holds f → WellMade f
   made = shown-made (slotsOf w) (w .settings .«slot_bytes») (w .heap)
 
+  -- views and records tell of the same files
   pub filed-reopened : Filed (viewsOf w) (recordsFrom (tableOf (filesIn (viewsOf w))) (viewsOf w))
   filed-reopened = record {
     fits = let a = records-from-length (tableOf (filesIn (viewsOf w))) (viewsOf w) views-fit in let b = views-fit in omega arith;

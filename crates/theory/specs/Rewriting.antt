@@ -130,6 +130,7 @@ one-fewer bit g w os =
 op-is : (o : Op) (x : ℕ) (c : Content) → o .id ≡ x → o .content ≡ c → _≡_ {A = Op} o (record { id = x; content = c })
 op-is o x c p q = λ i. record { id = p i; content = q i }
 
+-- of the last operation on an id
 pub last-all : (P : Op → Type 0) (os : List Op) → All P os → (x : ℕ) (c : Content) → lastOn os x ≡ last c → P (record { id = x; content = c })
 unfolding lastOn
 last-all P [] a x c e = absurd (let z : _≡_ {A = ℕ} 0 1 = cc in omega arith)
@@ -145,6 +146,7 @@ stands-all P q [] a x c p h = absurd h
 stands-all P q (o ∷ os) a x c p (inl (i, d, e)) = subst P (op-is o x c i d) (a .0)
 stands-all P q (o ∷ os) a x c p (inr h) = stands-all P _ os (a .1) x c p h
 
+-- an operation says something
 pub heard-of : (c : Content) → unheard ≡ lastSays (last c) → ⊥
 heard-of (put b) e = let z : _≡_ {A = ℕ} 0 1 = cc in omega arith
 heard-of delete e = let z : _≡_ {A = ℕ} 0 1 = cc in omega arith
@@ -193,6 +195,7 @@ module _ (limit : ℕ) (history : List Op) where
           let t = stands-all (Movable limit (engine history)) 0 file (r .current) x (d .content) _ (d .stands) in
           absurd (heard-of (d .content) (sym (ap (λ (c : Held). heldSays (pictureOf w) c x) e) ∙ s .sound .says x ∙ t .0))
 
+  -- a file of current contents fits where there is room for it
   pub fits-file : (w : World) → SoundWorld w (engine history) → (g : ℕ) (file : List Op) → Rewritable limit (engine history) file → g ≤ 255 → limit ≡ w .settings .«max_object_size»
       → 64 + length (fileBytes file) ≤ w .settings .«slot_bytes» → 0 < emptyOf w → w .state .«next_position» + (length (objectsOf file) + 1) ≤ 2 ^ 62 → Fitting 0 g w file
   fits-file w s g file r aged same slot free positions = record {
@@ -212,6 +215,7 @@ module _ (limit : ℕ) (history : List Op) where
     positions = positions;
   }
 
+  -- settings stay, and the next position grows by T + 1
   pub installed-numbers : (g : ℕ) (w : World) (file : List Op)
       → (installed 0 g w file .settings ≡ w .settings) × (installed 0 g w file .state .«next_position» ≡ w .state .«next_position» + (length (objectsOf file) + 1))
   unfolding installed nextWith

@@ -10,6 +10,7 @@ use Rattle.rules.specs.Trailer.{absolute}
 use Rattle.rules.specs.Table.{insert, insertAll}
 use Rattle.rules.specs.TableLaws.{insert-next, insert-here, insert-before}
 
+-- the same ids in the same order
 abbrev pub SameIds : List Entry → List Entry → Type 0
 SameIds [] [] = Unit {0}
 SameIds [] (d ∷ u) = ⊥

@@ -5,12 +5,12 @@ use Prim.Native.Nat.{_<_, _≤_}
 use native.Mathlib.Omega.{arith}
 use lib.ListN.{length-append}
 use borrow.Author.Tests.{ltb-true}
-use Rattle.rules.specs.Base.{Bool, true, false, List, [], _∷_, _++_, map, ℕ, zero, suc, _+_, length, getD, set, replicate, ltb, pick, keep}
+use Rattle.rules.specs.Base.{Bool, true, false, List, [], _∷_, _++_, map, ℕ, suc, _+_, length, getD, set, replicate, ltb, pick, keep}
 use Rattle.rules.specs.BaseLaws.{All, all-map}
 use Rattle.rules.specs.Ops.{Op, shardFor}
 use Rattle.rules.specs.OpsLaws.{RisingOps, ops-end, ops-rise}
 use Rattle.rules.specs.Maintenance.{Shard, noEntries, Split, cutOff, joining, splitFrom, hasEntries, filesOf}
-use Rattle.theory.specs.Moving.{all-append}
+use Rattle.theory.specs.Lists.{all-append, all-set, all-get, all-replicate}
 
 -- a selection of these operations, in order
 pub data Sub : List Op → List Op → Type 0 where
@@ -37,31 +37,19 @@ ops-lower : (f g : ℕ) (a : List Op) → g ≤ f → RisingOps f a → RisingOp
 ops-lower f g [] h r = ops-end
 ops-lower f g (o ∷ a) h (ops-rise p r) = let q : g ≤ o .id = omega arith in ops-rise q r
 
+-- a selection of rising ids rises
 pub sub-rising : {a b : List Op} {f : ℕ} → Sub a b → RisingOps f b → RisingOps f a
 sub-rising sub-nil r = r
 sub-rising (sub-keep s) (ops-rise p r) = ops-rise p (sub-rising s r)
 sub-rising {a} {f = f} (sub-skip {o = o} s) (ops-rise p r) = ops-lower (suc (o .id)) f a (omega arith) (sub-rising s r)
 
+-- what holds of all holds of a selection
 pub sub-all : {a b : List Op} (P : Op → Type 0) → Sub a b → All P b → All P a
 sub-all P sub-nil h = h
 sub-all P (sub-keep s) h = (h .0, sub-all P s (h .1))
 sub-all P (sub-skip s) h = sub-all P s (h .1)
 
 -- ---- lists with one element changed
-all-set : {A : Type 0} (P : A → Type 0) (xs : List A) (i : ℕ) (a : A) → All P xs → P a → All P (set xs i a)
-all-set P [] i a h p = tt
-all-set P (x ∷ xs) zero a h p = (p, h .1)
-all-set P (x ∷ xs) (suc i) a h p = (h .0, all-set P xs i a (h .1) p)
-
-all-get : {A : Type 0} (P : A → Type 0) (xs : List A) (i : ℕ) (d : A) → All P xs → P d → P (getD xs i d)
-all-get P [] i d h p = p
-all-get P (x ∷ xs) zero d h p = h .0
-all-get P (x ∷ xs) (suc i) d h p = all-get P xs i d (h .1) p
-
-all-replicate : {A : Type 0} (P : A → Type 0) (n : ℕ) (a : A) → P a → All P (replicate n a)
-all-replicate P zero a p = tt
-all-replicate P (suc n) a p = (p, all-replicate P n a p)
-
 -- ---- the split, of the operations seen so far
 -- a file of these: a selection that is not empty
 abbrev pub PartOf : List Op → List Op → Type 0
@@ -71,6 +59,7 @@ PartOf ops file = Sub file ops × (0 < length file)
 abbrev pub ShardOf : List Op → Shard → Type 0
 ShardOf ops shard = Sub (shard .ops) ops × (0 < shard .size → 0 < length (shard .ops))
 
+-- shards and fragments of these operations
 pub record SplitOf (ops : List Op) (s : Split) : Type 0 where
   pub shards : All (ShardOf ops) (s .shards)
   pub fragments : All (PartOf ops) (s .fragments)

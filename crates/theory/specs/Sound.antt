@@ -58,6 +58,7 @@ pub newest-table : (views : List View) (x : ℕ) → Newest (Has (rowsOf views) 
 unfolding tableOf
 newest-table views x = newest-latest (rowsOf views) x
 
+-- its ids rise
 pub rising-table : (views : List View) → Rising 0 (tableOf (filesIn views))
 unfolding tableOf
 rising-table views = rising-latest-of (rowsOf views)
@@ -67,9 +68,11 @@ pub written-rising : (limit : ℕ) (f : File) → OfOps limit f → Rising 0 (f 
 written-rising limit f o = subst (Rising 0) (sym (o .entries)) (entries-of-rising 0 0 (o .ops) (o .rising))
 
 module _ (bounds : Bounds) (p : Picture) (told : ℕ → Said) (s : Sound bounds p told) where
+  -- the table is in order
   pub table-rising : Rising 0 (p .table)
   table-rising = subst (Rising 0) (sym (s .newest)) (rising-table (p .views))
 
+  -- and holds each id's greatest entry
   pub table-newest : (x : ℕ) → Newest (Has (rowsOf (p .views)) x) (lookup (p .table) x)
   table-newest x = subst (λ (t : List Entry). Newest (Has (rowsOf (p .views)) x) (lookup t x)) (sym (s .newest)) (newest-table (p .views) x)
 

@@ -1,4 +1,4 @@
--- On a store of the invariant maintenance is accepted, or stops with 4, 5 or 7.
+-- On a store of the invariant a group is rewritten or refused with 4, 5 or 7, and files stay files.
 use mathlib.Core.Path.{_≡_, refl, sym, ap, _∙_, subst}
 use mathlib.Core.Logic.{_⊎_, inl, inr}
 use Prim.Native.Nat.{_<_, _≤_}
@@ -7,24 +7,25 @@ use native.Mathlib.Omega.{arith}
 use lib.Seq.{getD-set-same, getD-set-other, set-out}
 use borrow.Author.Tests.{ltb-true, ltb-false}
 use Rattle.rules.specs.Base.{Bool, true, false, _&&_, List, [], _∷_, ℕ, _+_, length, set, ltb, eqb, pick, each}
-use Rattle.theory.specs.Types.{Record, Refusal, SlotRoom, NoEmptySlot, PositionsSpent, Answer, Done, Refused, Moved, Stopped}
+use Rattle.theory.specs.Types.{Record, Refusal, SlotRoom, NoEmptySlot, PositionsSpent, Answer, Done, Refused}
 use Rattle.rules.specs.BaseLaws.{All, all-map, same?, and-true}
 use Rattle.rules.specs.Refusal.{_gives_, decide, after, NoneHolds, decide-append}
 use Rattle.rules.specs.Ops.{Op}
 use Rattle.rules.specs.FileMap.{emptyRecord, isEmpty, recordAt, fileCount}
-use Rattle.rules.specs.FileMapLaws.{not-empty, Among, slot-passes}
+use Rattle.rules.specs.FileMapLaws.{not-empty, slot-passes}
 use Rattle.rules.specs.Install.{newRecord, losing, newSlot, newLsn, recordsWith, nextWith, installed, installedAll, roomTests, positionTests}
-use Rattle.rules.specs.Maintenance.{found, filesOf, fileTests, slotOf, Stop, going, stopped, Course, isCandidate, newGeneration, group, groupTests, rewriteGroup, onward, groupsFrom, courseOf, ended, maintainCall}
+use Rattle.rules.specs.Maintenance.{found, filesOf, fileTests, slotOf, Stop, going, stopped, Course, isCandidate, newGeneration, group, groupTests, rewriteGroup, onward, groupsFrom}
 use Rattle.rules.specs.MaintenanceLaws.{candidate}
-use Rattle.rules.specs.World.{World, recordsOf, mappings, maintainGiven}
+use Rattle.rules.specs.World.{World, recordsOf, mappings}
 use Rattle.theory.specs.Places.{masked-pos, record-holds}
 use Rattle.theory.specs.Losing.{losing-record}
 use Rattle.theory.specs.Picture.{viewsOf}
-use Rattle.theory.specs.SoundWorld.{SoundWorld, sound-fine}
+use Rattle.theory.specs.SoundWorld.{SoundWorld}
 use Rattle.theory.specs.Writing.{engine}
 use Rattle.theory.specs.Pruning.{file-slot}
 use Rattle.theory.specs.Maintaining.{sound-onward}
 use Rattle.theory.specs.Checked.{none-each, file-clear}
+use Rattle.theory.specs.Lists.{among-all}
 
 -- 4, 5 or 7
 abbrev pub Spent : Refusal → Type 0
@@ -71,10 +72,6 @@ stay-all g [] w h k l = l
 stay-all g (f ∷ fs) w h k l = stay-all g fs (installed 0 g w f) (next-installed 0 g w f h) k (stay-installed 0 g w f h k l)
 
 -- ---- the slots of a group are files', as the call starts and when the group's turn comes
-pub among-all : (P : ℕ → Type 0) (ks : List ℕ) → ((k : ℕ) → Among ks k → P k) → All P ks
-among-all P [] h = tt
-among-all P (k ∷ ks) h = (h k (inl refl), among-all P ks (λ j a. h j (inr a)))
-
 file-lsn : (w : World) (history : List Op) → SoundWorld w (engine history) → (k : ℕ) → isEmpty (recordAt (recordsOf w) k) ≡ false → 0 < recordAt (recordsOf w) k .lsn
 file-lsn w history s k h =
     let f = file-slot w (engine history) s k h in
@@ -82,6 +79,7 @@ file-lsn w history s k h =
     let p = masked-pos (f .0 .label .lsn) (s .sound .filed .made k (f .0) (f .1) .placed) in
     omega arith
 
+-- candidates are files
 pub group-files : (w : World) (history : List Op) → SoundWorld w (engine history) → (g : ℕ) → All (λ (k : ℕ). 0 < recordAt (recordsOf w) k .lsn) (group w g)
 unfolding group
 group-files w history s g = among-all (λ (k : ℕ). 0 < recordAt (recordsOf w) k .lsn) (group w g) (λ k a.
@@ -94,6 +92,7 @@ abbrev pub StopsWell : Stop → Type 0
 StopsWell going = Unit {0}
 StopsWell (stopped r g) = Spent r
 
+-- the invariant, the files as the call starts, and a stop with 4, 5 or 7 only
 pub record Underway (history : List Op) (start : World) (c : Course) : Type 0 where
   pub sound : SoundWorld (c .world) (engine history)
   pub stay : Stay start (c .world)
@@ -120,7 +119,8 @@ module _ (history : List Op) where
       go Done e = (tt, stay-all g (filesOf (w .settings .«target_file_size») (found w slots)) w (s .sound .started))
       go (Refused r) e = (spent-tests _ _ _ r (sym (decide-append (each (λ (k : ℕ). fileTests (w .settings .«max_object_size») (mappings w) (recordAt (recordsOf w) k) (slotOf w k)) slots) _ clear) ∙ e), λ k h. h)
 
-  onward-well : (start : World) (stop : Stop) (g : ℕ) → g ≤ 255 → (slots : List ℕ) → All (λ (k : ℕ). 0 < recordAt (recordsOf start) k .lsn) slots → (c : Course)
+  -- one generation
+  pub onward-well : (start : World) (stop : Stop) (g : ℕ) → g ≤ 255 → (slots : List ℕ) → All (λ (k : ℕ). 0 < recordAt (recordsOf start) k .lsn) slots → (c : Course)
       → c .stop ≡ stop → Underway history start c → Underway history start (onward stop g slots c)
   onward-well start (stopped r n) g aged slots files c e u = u
   onward-well start going g aged slots files c e u = record { sound = sound-onward history going g aged slots c (u .sound); stay = stays .1; stop = stays .0 }
@@ -135,22 +135,9 @@ module _ (history : List Op) where
       stays : StopsWell (onward going g slots c .stop) × Stay start (onward going g slots c .world)
       stays = at (ltb (length slots) (c .world .settings .«min_compaction_files»))
 
-  groups-well : (gs : List ℕ) → All (λ (g : ℕ). g ≤ 255) gs → (start : World) → SoundWorld start (engine history) → (c : Course) → Underway history start c → Underway history start (groupsFrom gs start c)
+  -- all generations
+  pub groups-well : (gs : List ℕ) → All (λ (g : ℕ). g ≤ 255) gs → (start : World) → SoundWorld start (engine history) → (c : Course) → Underway history start c → Underway history start (groupsFrom gs start c)
   unfolding groupsFrom
   groups-well [] y start s c u = u
   groups-well (g ∷ gs) y start s c u =
       groups-well gs (y .1) start s (onward (c .stop) g (group start g) c) (onward-well start (c .stop) g (y .0) (group start g) (group-files start history s g) c refl u)
-
-  -- LAW: maintenance is accepted, or stops with 4, 5 or 7
-  pub maintain-stops : (w : World) → SoundWorld w (engine history)
-      → ((n : ℕ) × (maintainCall w .answer ≡ maintainGiven (Moved n))) ⊎ ((r : Refusal) × (g : ℕ) × (n : ℕ) × (maintainCall w .answer ≡ maintainGiven (Stopped r g n)) × Spent r)
-  unfolding maintainCall decide courseOf
-  maintain-stops w s = rw (sound-fine w (engine history) s) (by (courseOf w .stop) (u .stop))
-    where
-      u : Underway history w (courseOf w)
-      u = groups-well (1 ∷ 2 ∷ 3 ∷ []) (omega arith, (omega arith, (omega arith, tt))) w s (record { stop = going; moved = 0; world = w }) (record { sound = s; stay = λ k h. h; stop = tt })
-
-      by : (stop : Stop) → StopsWell stop
-          → ((n : ℕ) × (ended stop (courseOf w) .answer ≡ maintainGiven (Moved n))) ⊎ ((r : Refusal) × (g : ℕ) × (n : ℕ) × (ended stop (courseOf w) .answer ≡ maintainGiven (Stopped r g n)) × Spent r)
-      by going t = inl (courseOf w .moved, refl)
-      by (stopped r g) t = inr (r, g, courseOf w .moved, refl, t)

@@ -11,20 +11,23 @@ use Rattle.disk_location.specs.Locations.{bitOf}
 use Rattle.rules.specs.BaseLaws.{All, order, same?, or-clear}
 use Rattle.rules.specs.Ops.{Op}
 use Rattle.rules.specs.OpsLaws.{RisingOps, ops-rise}
-use Rattle.rules.specs.SettledLaws.{Last, silent, last, orEarlier, saidBy, lastOn}
+use Rattle.rules.specs.SettledLaws.{last-below, Last, silent, last, orEarlier, saidBy, lastOn}
 use Rattle.rules.specs.Table.{lookup, unmapped}
 use Rattle.rules.specs.TableLaws.{Rising, rise, Has, lookup-next, lookup-below, rising-has}
 use Rattle.theory.specs.Counting.{count, count-cons, count-nil}
-use Rattle.theory.specs.Told.{last-below, last-append}
+use Rattle.theory.specs.Told.{last-append}
+use Rattle.theory.specs.Lists.{every}
 
 -- an operation on x is among these
 abbrev pub known : Last → Bool
 known silent = false
 known (last c) = true
 
+-- some operation of these is on x
 abbrev pub heardIn : List Op → ℕ → Bool
 heardIn os x = known (lastOn os x)
 
+-- in one of two lists
 pub heard-append : (xs ys : List Op) (x : ℕ) → heardIn (xs ++ ys) x ≡ (heardIn ys x || heardIn xs x)
 heard-append xs ys x = ap known (last-append xs ys x) ∙ go (lastOn ys x) (lastOn xs x)
   where
@@ -32,6 +35,7 @@ heard-append xs ys x = ap known (last-append xs ys x) ∙ go (lastOn ys x) (last
     go silent b = refl
     go (last c) b = refl
 
+-- in the first or the rest
 pub heard-cons : (o : Op) (os : List Op) (x : ℕ) → (o .id ≡ x) ⊎ (heardIn os x ≡ true) → heardIn (o ∷ os) x ≡ true
 unfolding lastOn
 heard-cons o os x h = go (lastOn os x) refl h
@@ -65,6 +69,7 @@ keep-nil : (p : Entry → Bool) → length (keep p []) ≡ 0
 unfolding keep
 keep-nil p = refl
 
+-- tests that agree on the table
 pub keep-same : (p q : Entry → Bool) (t : List Entry) → ((x l : ℕ) → Has t x l → p (record { id = x; location = l }) ≡ q (record { id = x; location = l })) → length (keep p t) ≡ length (keep q t)
 keep-same p q [] h = keep-nil p ∙ sym (keep-nil q)
 keep-same p q (e ∷ t) h =
@@ -149,14 +154,11 @@ unfolding sum
 sum-zero [] f h = refl
 sum-zero (k ∷ ks) f h = let i = sum-zero ks f h in let z = h k in omega arith
 
+-- summands that agree
 pub sum-same : (f g : ℕ → ℕ) (ks : List ℕ) → All (λ (k : ℕ). f k ≡ g k) ks → sum f ks ≡ sum g ks
 unfolding sum
 sum-same f g [] h = refl
 sum-same f g (k ∷ ks) h = let i = sum-same f g ks (h .1) in let z = h .0 in omega arith
-
-every : (P : ℕ → Type 0) (ks : List ℕ) → ((k : ℕ) → P k) → All P ks
-every P [] h = tt
-every P (k ∷ ks) h = (h k, every P ks h)
 
 -- past slot j none passes
 any-past : (p : ℕ → Bool) (j n : ℕ) (ks : List ℕ) → j < n → Ascending n ks → ((k : ℕ) → (k ≡ j → ⊥) → p k ≡ false) → any p ks ≡ false

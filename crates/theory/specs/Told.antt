@@ -14,7 +14,7 @@ use Rattle.rules.specs.Object.{storedAt}
 use Rattle.rules.specs.ObjectLaws.{storedObject, stored-back}
 use Rattle.rules.specs.Ops.{Content, put, delete, Op, isDelete, sizeOf, objectsOf, entriesOf}
 use Rattle.rules.specs.OpsLaws.{RisingOps, ops-rise, IdsFit, Stands, Of, entry-stands, stands-inside, stands-bytes}
-use Rattle.rules.specs.SettledLaws.{Last, silent, last, orEarlier, saidBy, lastOn}
+use Rattle.rules.specs.SettledLaws.{last-below, Last, silent, last, orEarlier, saidBy, lastOn}
 use Rattle.rules.specs.Table.{lookup}
 use Rattle.rules.specs.TableLaws.{Has, lookup-here, lookup-next, lookup-has, mapped-not}
 use Rattle.rules.specs.WrittenLaws.{fileOfOps, read-clear}
@@ -22,12 +22,6 @@ use Rattle.theory.specs.Picture.{gone, body, broken, objectSays, placeSa
 use Rattle.theory.specs.Installed.{over}
 
 -- ---- the last operation on an id, where ids rise
-pub last-below : (f : ℕ) (os : List Op) → RisingOps f os → (x : ℕ) → x < f → lastOn os x ≡ silent
-unfolding lastOn
-last-below f [] r x h = refl
-last-below f (o ∷ os) (ops-rise a r) x h =
-    ap (λ (l : Last). orEarlier l (saidBy o x)) (last-below (suc (o .id)) os r x (omega arith)) ∙ rw (ne-eqb (o .id) x (λ q. omega arith)) refl
-
 last-stands : (f q : ℕ) (os : List Op) → RisingOps f os → (x : ℕ) (c : Content) (p : ℕ) → Stands q os x c p → lastOn os x ≡ last c
 unfolding lastOn
 last-stands f q [] r x c p h = absurd h
@@ -64,6 +58,7 @@ last-append (o ∷ xs) ys x = ap (λ (l : Last). orEarlier l (saidBy o x)) (last
     assoc silent b c = refl
     assoc (last d) b c = refl
 
+-- the later word over the earlier
 pub over-last : (a b : Last) → over (lastSays a) (lastSays b) ≡ lastSays (orEarlier a b)
 over-last silent b = refl
 over-last (last (put c)) b = refl

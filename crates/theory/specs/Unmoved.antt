@@ -1,33 +1,29 @@
 -- A file outside a group keeps its record while the group is rewritten.
 use mathlib.Core.Path.{_≡_, refl, sym, ap, _∙_, subst}
-use mathlib.Core.Bool.{true≢false}
-use mathlib.Core.Logic.{_⊎_, inl, inr}
 use Prim.Native.Nat.{_<_, _≤_}
 use native.Mathlib.Nat.{sub-zero}
 use native.Mathlib.Omega.{arith}
 use lib.Seq.{getD-set-other}
-use Rattle.rules.specs.Base.{Bool, true, false, List, [], _∷_, ℕ, _+_, _-_, _^_, length, set, each, sum}
-use Rattle.theory.specs.Types.{Entry, Record, Settings, Held, Mapped, Unmapped, Slot, Is, NoSlot}
+use Rattle.rules.specs.Base.{Bool, false, List, [], _∷_, ℕ, _+_, _-_, _^_, length, sum}
+use Rattle.theory.specs.Types.{Entry, Record, Settings, Held, Mapped, Unmapped}
 use Rattle.disk_location.specs.Locations.{bitOf}
-use Rattle.rules.specs.BaseLaws.{All, all-map, same?}
+use Rattle.rules.specs.BaseLaws.{All, all-map}
 use Rattle.rules.specs.Ops.{Op, objectsOf, entriesOf, fileBytes}
 use Rattle.rules.specs.OpsLaws.{entries-of-rising}
-use Rattle.rules.specs.SettledLaws.{settled-all}
-use Rattle.rules.specs.SlotFile.{File, View, empty, holds}
-use Rattle.rules.specs.Table.{lookup, insertAll}
-use Rattle.rules.specs.TableLaws.{Has, lookup-has, orElse, lookup-insert-all, mapped-one}
-use Rattle.rules.specs.FileMap.{emptyRecord, recordAt, withLive, fileFor, lessLive}
+use Rattle.rules.specs.SlotFile.{File, empty, holds}
+use Rattle.rules.specs.Table.{lookup}
+use Rattle.rules.specs.TableLaws.{lookup-has, orElse, lookup-insert-all, mapped-one}
+use Rattle.rules.specs.FileMap.{emptyRecord, recordAt, withLive, lessLive}
 use Rattle.rules.specs.FileMapLaws.{not-empty}
 use Rattle.rules.specs.Install.{newRecord, fileHolding, losing, newSlot, newLsn, recordsWith, installed, installedAll, emptyOf}
 use Rattle.rules.specs.Reopen.{inRange}
-use Rattle.rules.specs.Maintenance.{foundIn, found}
 use Rattle.rules.specs.World.{World, recordsOf, mappings}
 use Rattle.rules.specs.WrittenLaws.{fileOfOps}
 use Rattle.theory.specs.Entries.{rising-absolute}
 use Rattle.theory.specs.Newest.{maskedAt}
 use Rattle.theory.specs.Places.{viewAt, isAt, record-holds, in-no-other, found-in-range}
 use Rattle.theory.specs.Losing.{liveAt, rowsFor, less-at, less-file}
-use Rattle.theory.specs.Picture.{Picture, viewsOf, pictureOf, Said, fileSays, added}
+use Rattle.theory.specs.Picture.{Picture, viewsOf, pictureOf, fileSays, added}
 use Rattle.theory.specs.Sound.{table-stands}
 use Rattle.theory.specs.Installed.{over, filed-added, stands-new, view-old}
 use Rattle.theory.specs.SoundWorld.{boundsOf, SoundWorld}
@@ -35,8 +31,6 @@ use Rattle.theory.specs.Adding.{Fitting, free-slot, addable, picture-ins
 use Rattle.theory.specs.Writing.{engine, sound-told}
 use Rattle.theory.specs.Pruning.{file-slot}
 use Rattle.theory.specs.Rewriting.{Rewritable, fits-file, still-said, one-fewer, installed-numbers}
-use Rattle.theory.specs.Moving.{all-append}
-use Rattle.theory.specs.Moved.{InRangeOf, found-inside, one-range}
 
 -- the id's location, if it has one, is not in slot k's file
 abbrev pub Elsewhere : World → ℕ → Op → Type 0
