@@ -10,7 +10,7 @@ use rules::State;
 ghost use mathlib.Core.Path.{_≡_};
 ghost use mathlib.Core.Bool.{false};
 ghost use mathlib.Core.List.{List, [], _∷_};
-ghost use Prim.Native.Nat.{ℕ, _*_, _<_};
+ghost use Prim.Native.Nat.{ℕ, _+_, _*_, _<_, _≤_};
 ghost use lib.ListN.{length};
 ghost use Rattle.numbers.specs.Choice.{pick};
 ghost use Rattle.rules.specs.FileMap.{emptyRecord, isEmpty, slotsWhere};
@@ -77,7 +77,7 @@ fn zero_label(
     left: u64,
 ) -> u64
     requires { ⌜ slot < 256 ⌝ }
-    requires { ⌜ (isEmpty r ≡ false → slot * «slot_bytes» < length (now heap)) ⌝ }
+    requires { ⌜ (isEmpty r ≡ false → slot * «slot_bytes» + 64 ≤ length (now heap)) ⌝ }
     ensures { λ n. ⌜ Made left (emptying «slot_bytes» (slotsWhere (isDead claims) slot (r ∷ []))) (now (heap .entry)) (now (heap .exit)) n ⌝ }
 {
     if is_dead(claims, slot, r) {
