@@ -15,6 +15,7 @@ pub or-false : (a b : Bool) → (a || b) ≡ false → (a ≡ false) × (b ≡ f
 or-false true b e = absurd (true≢false e)
 or-false false b e = (refl, e)
 
+-- and back
 pub or-clear : (a b : Bool) → a ≡ false → b ≡ false → (a || b) ≡ false
 or-clear a b p q = rw p q
 
@@ -23,6 +24,7 @@ pub and-true : (a b : Bool) → (a && b) ≡ true → (a ≡ true) × (b ≡ tru
 and-true true b e = (refl, e)
 and-true false b e = absurd (false≢true e)
 
+-- and back
 pub and-holds : (a b : Bool) → a ≡ true → b ≡ true → (a && b) ≡ true
 and-holds a b p q = rw p q
 
@@ -31,16 +33,24 @@ pub or-true : (a b : Bool) → (a || b) ≡ true → (a ≡ true) ⊎ (b ≡ tru
 or-true true b e = inl refl
 or-true false b e = inr e
 
+-- and back
 pub or-holds : (a b : Bool) → (a ≡ true) ⊎ (b ≡ true) → (a || b) ≡ true
 or-holds true b w = refl
 or-holds false b (inl p) = absurd (false≢true p)
 or-holds false b (inr q) = q
 
+-- some test of two does not hold
+pub and-false : (a b : Bool) → (a && b) ≡ false → (a ≡ false) ⊎ (b ≡ false)
+and-false true b e = inr e
+and-false false b e = inl refl
+
+-- both bounds hold
 pub within-true : (low high n : ℕ) → within low high n ≡ true → (low ≤ n) × (n ≤ high)
 within-true low high n e =
     let w = and-true (leb low n) (leb n high) e in
     (leb-true low n (w .0), leb-true n high (w .1))
 
+-- and back
 pub within-holds : (low high n : ℕ) → low ≤ n → n ≤ high → within low high n ≡ true
 within-holds low high n p q = and-holds (leb low n) (leb n high) (le-leb low n p) (le-leb n high q)
 
@@ -86,6 +96,7 @@ unfolding any
 any-false f [] e = tt
 any-false f (x ∷ xs) e = let w = or-false (f x) (any f xs) e in (w .0, any-false f xs (w .1))
 
+-- and back
 pub any-clear : {A : Type 0} (f : A → Bool) (xs : List A) → All (λ (x : A). f x ≡ false) xs → any f xs ≡ false
 unfolding any
 any-clear f [] a = refl
@@ -100,19 +111,23 @@ zeros-cons n ns = go (eqb n 0)
     go true = refl
     go false = refl
 
+-- all 0: the first and the rest
 pub zeros-true : (n : ℕ) (ns : List ℕ) → zeros (n ∷ ns) ≡ true → (n ≡ 0) × (zeros ns ≡ true)
 zeros-true n ns e =
     let w = and-true (eqb n 0) (zeros ns) (sym (zeros-cons n ns) ∙ e) in
     (eqb-true n 0 (w .0), w .1)
 
+-- and back
 pub zeros-holds : (n : ℕ) (ns : List ℕ) → n ≡ 0 → zeros ns ≡ true → zeros (n ∷ ns) ≡ true
 zeros-holds n ns p q = zeros-cons n ns ∙ and-holds (eqb n 0) (zeros ns) (eq-eqb n 0 p) q
 
+-- zeros are zeros
 pub zeros-replicate : (n : ℕ) → zeros (replicate n 0) ≡ true
 unfolding zeros any
 zeros-replicate zero = refl
 zeros-replicate (suc n) = zeros-holds 0 (replicate n 0) refl (zeros-replicate n)
 
+-- and only they
 pub zeros-is : (ns : List ℕ) → zeros ns ≡ true → ns ≡ replicate (length ns) 0
 zeros-is [] e = refl
 zeros-is (n ∷ ns) e =

@@ -65,6 +65,7 @@ put-stepped s id at o next fits e = go (numberIn 10 s at) refl e
             let w = number-said 10 s at size start p in
             (omega arith, omega (arith, w .1))
 
+-- every operation that is parsed is so
 pub operation-stepped : (s : List ℕ) (at : ℕ) (o : Op) (next : ℕ) → operationAt s at ≡ parsed o next → Stepped at o next
 unfolding operationAt idOf nextOf
 operation-stepped s at o next e = go (numberIn 10 s at) refl e
@@ -94,10 +95,12 @@ unfolding batchFrom
 batch-end zero s at h = rw (le-leb (length s) at h)
 batch-end (suc k) s at h = rw (le-leb (length s) at h)
 
+-- an operation not as above: so is the batch
 pub batch-bad : (k : ℕ) (s : List ℕ) (at : ℕ) → at < length s → operationAt s at ≡ malformed → batchFrom (suc k) s at ≡ notAsAbove
 unfolding batchFrom
 batch-bad k s at h e = rw (lt-leb (length s) at h, e)
 
+-- an operation, then the rest from behind it
 pub batch-next : (k : ℕ) (s : List ℕ) (at : ℕ) (o : Op) (next : ℕ) → at < length s → operationAt s at ≡ parsed o next → batchFrom (suc k) s at ≡ before o (batchFrom k s next)
 unfolding batchFrom
 batch-next k s at o next h e = rw (lt-leb (length s) at h, e)
@@ -135,6 +138,7 @@ ids-from (suc k) s at = go (either-way at (length s)) (operationAt s at) refl (i
     go (inl h) malformed e ih = rw (batch-bad k s at h e) tt
     go (inl h) (parsed o next) e ih = rw (batch-next k s at o next h e) (ids-before o (batchFrom k s next) (operation-stepped s at o next e .id) (ih next))
 
+-- every id of a batch has 64 bits
 pub batch-ids : (s : List ℕ) → IdsFit (opsOf (batchIn s))
 unfolding batchIn
 batch-ids s = ids-from (length s) s 0

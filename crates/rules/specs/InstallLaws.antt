@@ -29,6 +29,7 @@ pub record Room (slotSize emptyOnes : ℕ) (files : List (List Op)) : Type 0 whe
   pub fits : All (λ (f : List Op). 64 + length (fileBytes f) ≤ slotSize) files
   pub slots : length files ≤ emptyOnes
 
+-- 4 and 5 do not hold
 pub room-clear : (slotSize emptyOnes : ℕ) (files : List (List Op)) → NoneHolds (roomTests slotSize emptyOnes files) → Room slotSize emptyOnes files
 unfolding roomTests NoneHolds
 room-clear slotSize emptyOnes files n = record {
@@ -65,6 +66,7 @@ new-writable slotSize base lsn generation ops some ids large fits start last mas
 pub batch-lsn : (base : ℕ) → base < 2 ^ 62 → (maskedOf (base + 2 ^ 62) ≡ base) × (base + 2 ^ 62 < 2 ^ 63)
 batch-lsn base h = (masked-batch base h, omega arith)
 
+-- of a rewritten file
 pub plain-lsn : (base : ℕ) → base < 2 ^ 62 → (maskedOf (base + 0) ≡ base) × (base + 0 < 2 ^ 63)
 plain-lsn base h = let same : base + 0 ≡ base = omega arith in (ap maskedOf same ∙ masked-plain base h, omega arith)
 
@@ -84,6 +86,7 @@ records-with-length new w ops = length-set (losing _ ops (recordsOf w)) _ new �
 abbrev pub fiveOf : Record → Record
 fiveOf r = withLive r 0
 
+-- losing one live changes nothing else
 pub less-live-five : (k : Slot) (rs : List Record) (j : ℕ) → fiveOf (recordAt (lessLive k rs) j) ≡ fiveOf (recordAt rs j)
 less-live-five NoSlot rs j = refl
 less-live-five (Is k) rs j = go (same? j k) (either-way k (length rs))
@@ -96,6 +99,7 @@ less-live-five (Is k) rs j = go (same? j k) (either-way k (length rs))
     go (inl e) (inl h) = rw e (ap fiveOf (getD-set-same rs k less emptyRecord h))
     go (inl e) (inr h) = ap (λ (qs : List Record). fiveOf (recordAt qs j)) (set-out rs k less h)
 
+-- nor does losing many
 pub losing-five : (table : List Entry) (ops : List Op) (rs : List Record) (j : ℕ) → fiveOf (recordAt (losing table ops rs) j) ≡ fiveOf (recordAt rs j)
 unfolding losing
 losing-five table [] rs j = refl

@@ -28,6 +28,7 @@ pub record InBounds (slotBytes : ℕ) (r : Record) : Type 0 where
   pub end : maskedOf (r .lsn) + r .«trailer_offset» < 2 ^ 62
   pub generation : r .generation ≤ 255
 
+-- not out of bounds
 pub in-bounds : (slotBytes : ℕ) (r : Record) → outOfBounds slotBytes r ≡ false → InBounds slotBytes r
 unfolding outOfBounds
 in-bounds slotBytes r e =
@@ -46,6 +47,7 @@ in-bounds slotBytes r e =
       generation = ltb-false _ _ (w6 .1);
     }
 
+-- and back
 pub bounds-in : (slotBytes : ℕ) (r : Record) → InBounds slotBytes r → outOfBounds slotBytes r ≡ false
 unfolding outOfBounds
 bounds-in slotBytes r w =
@@ -73,6 +75,7 @@ groups-length (suc k) n = ⊎-elim
     (λ h. rw (groups-more k n h) (omega (arith, groups-length k (n / 128))))
     (either-way n 128)
 
+-- groups are bytes
 pub groups-bytes : (k n : ℕ) → Bytes (groupsOf k n)
 unfolding groupsOf
 groups-bytes zero n i = omega arith
@@ -125,6 +128,7 @@ pub label-length : (r : Record) → length (labelBytes r) ≡ 64
 unfolding labelBytes fiveBytes
 label-length r = padded-length 64 (fiveBytes r) (omega (arith, five-length r))
 
+-- of bytes
 pub label-bytes : (r : Record) → Bytes (labelBytes r)
 unfolding labelBytes padded
 label-bytes r =

@@ -134,6 +134,7 @@ agree [] (n ∷ ns) = false
 agree (m ∷ ms) [] = false
 agree (m ∷ ms) (n ∷ ns) = eqb m n && agree ms ns
 
+-- no line differs
 pub lines-hold : any (λ (l : Line). not (agree (l .ours) (l .paper))) lines ≡ false
 unfolding lines relativeGiven absoluteGiven any zeros keep each sum greatest padded putOperation operationAt batchFrom batchIn anyTooLarge outOfRange notTheStates badRecord badFrom conditionOne isEmpty noFiles slotsWhere emptySlots lowestEmpty leads leadFrom fileFor fileCount newRecord losing recordsWith storesFor tableWith nextWith installed installedAll roomTests positionTests labelBytes fiveIn labelIn outOfBounds lengthsInRange formFrom inForm usedIn usedEntries laidOut decimal listing worthIt cutOff joining splitFrom filesOf objectBytes storedAt objectsOf entriesOf fileBytes joined settled decide filesIn overlapping notRising latest latestFrom tableOf reopenTests mappedInto recordsFrom nextAfter opened reopenCall inRanges heapInRange sameSettings slotTests viewIn viewsIn made storesOf fileStores lookup insert insertAll listed trailerBytes trailerTests entriesFrom entriesIn tooManyIds writeTests written writeCall leBytes leValue groupsOf readGroups numberIn shiftBit shifts crcFrom crc32 objectSum maskedOf digitsIn
 lines-hold = refl

@@ -20,6 +20,7 @@ pub crc-below : (bs : List ℕ) → crc32 bs < 2 ^ 32
 unfolding crc32
 crc-below bs = omega arith
 
+-- an object's, too
 pub object-sum-below : (id : ℕ) (body : List ℕ) → objectSum id body < 2 ^ 32
 unfolding objectSum
 object-sum-below id body = crc-below ((leBytes 8 (length body) ++ leBytes 8 id) ++ body)
@@ -84,6 +85,7 @@ objects-end : (k position : ℕ) (bytes : List ℕ) → length bytes ≡ 0 → o
 objects-end k position [] e = objects-none k position
 objects-end k position (b ∷ bs) e = absurd (omega arith)
 
+-- the first object, then those behind it
 pub objects-next : (k position : ℕ) (bytes : List ℕ) → 0 < length bytes
     → objectsFrom (suc k) position bytes ≡ storedAt position bytes ∷ objectsFrom k (position + (20 + storedAt position bytes .size)) (drop (20 + storedAt position bytes .size) bytes)
 unfolding objectsFrom

@@ -34,10 +34,12 @@ pub content-length : (id : ℕ) (c : Content) → length (contentBytes id c) ≡
 content-length id (put body) = object-length id body
 content-length id delete = refl
 
+-- the first operation's bytes, then the others'
 pub objects-cons : (o : Op) (os : List Op) → objectsOf (o ∷ os) ≡ contentBytes (o .id) (o .content) ++ objectsOf os
 unfolding objectsOf each
 objects-cons o os = refl
 
+-- none
 pub objects-nil : objectsOf [] ≡ []
 unfolding objectsOf each
 objects-nil = refl
@@ -64,6 +66,7 @@ unfolding entriesOf
 entries-of-ids position [] = refl
 entries-of-ids position (o ∷ os) = ap (λ (ids : List ℕ). o .id ∷ ids) (entries-of-ids (position + sizeOf (o .content)) os)
 
+-- rising ids make rising entries
 pub entries-of-rising : (position f : ℕ) (ops : List Op) → RisingOps f ops → Rising f (entriesOf position ops)
 unfolding entriesOf
 entries-of-rising position f [] r = rise-end
@@ -135,6 +138,7 @@ abbrev pub storedHere : ℕ → ℕ → Content → ℕ → List Stored
 storedHere position id (put body) behind = storedObject position id body behind ∷ []
 storedHere position id delete behind = []
 
+-- operation by operation
 unfoldable pub storedOf : ℕ → List Op → List Stored
 storedOf position [] = []
 storedOf position (o ∷ os) = storedHere position (o .id) (o .content) (length (objectsOf os)) ++ storedOf (position + sizeOf (o .content)) os
@@ -157,6 +161,7 @@ objects-from-back k position (o ∷ os) f short n =
         objects-put k position (o .id) body (objectsOf os) (f .0) (omega arith)
         ∙ ap (λ (t : List Stored). storedObject position (o .id) body (length (objectsOf os)) ∷ t) (ih k (position + (20 + length body)) (omega arith))
 
+-- of the whole object bytes
 pub objects-back : (ops : List Op) → IdsFit ops → length (objectsOf ops) < 2 ^ 64 → objectsIn (objectsOf ops) ≡ storedOf 0 ops
 unfolding objectsIn
 objects-back ops f n = objects-from-back (length (objectsOf ops)) 0 ops f (omega arith) n

@@ -19,6 +19,7 @@ bytes-append [] ys p q i = q i
 bytes-append (x ∷ xs) ys p q zero = p 0
 bytes-append (x ∷ xs) ys p q (suc i) = bytes-append xs ys (λ j. p (suc j)) q i
 
+-- zeros are bytes
 pub bytes-zeros : (n : ℕ) → Bytes (replicate n 0)
 bytes-zeros zero i = omega arith
 bytes-zeros (suc n) zero = omega arith

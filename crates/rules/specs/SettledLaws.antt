@@ -30,18 +30,22 @@ lastOn (o ∷ os) x = orEarlier (lastOn os x) (saidBy o x)
 
 -- ---- the clauses of joined, by facts in the place of tests
 module _ (o p : Op) (ps : List Op) where
+  -- before later ids
   pub joined-before : o .id < p .id → joined o (p ∷ ps) ≡ o ∷ p ∷ ps
   unfolding joined
   joined-before h = rw (lt-ltb (o .id) (p .id) h)
 
+  -- overridden
   pub joined-same : o .id ≡ p .id → joined o (p ∷ ps) ≡ p ∷ ps
   unfolding joined
   joined-same h = rw (le-ltb (o .id) (p .id) (omega arith), eq-eqb (o .id) (p .id) h)
 
+  -- behind earlier ids
   pub joined-later : p .id < o .id → joined o (p ∷ ps) ≡ p ∷ joined o ps
   unfolding joined
   joined-later h = rw (le-ltb (o .id) (p .id) (omega arith), ne-eqb (o .id) (p .id) (λ e. omega arith))
 
+-- alone
 pub joined-none : (o : Op) → joined o [] ≡ o ∷ []
 unfolding joined
 joined-none o = refl
@@ -57,6 +61,7 @@ joined-rising f o (p ∷ ps) low (ops-rise a r) = go (λ h. joined-rising (suc (
     go ih (inr (inl h)) = rw (joined-same o p ps h) (ops-rise a r)
     go ih (inr (inr h)) = rw (joined-later o p ps h) (ops-rise a (ih h))
 
+-- "ids ascending", each once
 pub settled-rising : (ops : List Op) → RisingOps 0 (settled ops)
 unfolding settled
 settled-rising [] = ops-end
@@ -125,6 +130,7 @@ joined-all P o (p ∷ ps) h a = go (joined-all P o ps h (a .1)) (order (o .id) (
     go ih (inr (inl e)) = rw (joined-same o p ps e) a
     go ih (inr (inr l)) = rw (joined-later o p ps l) (a .0, ih)
 
+-- for a whole list
 pub settled-all : (P : Op → Type 0) (ops : List Op) → All P ops → All P (settled ops)
 unfolding settled
 settled-all P [] a = a

@@ -25,11 +25,13 @@ Fits es = (x l : ℕ) → Has es x l → (x < 2 ^ 64) × (l < 2 ^ 64)
 pub entry-length : (e : Entry) → length (entryBytes e) ≡ 16
 entry-length e = omega (arith, length-append (leBytes 8 (e .id)) (leBytes 8 (e .location)), le-length 8 (e .id), le-length 8 (e .location))
 
+-- 16 bytes an entry
 pub entries-length : (es : List Entry) → length (each entryBytes es) ≡ 16 * length es
 unfolding each
 entries-length [] = refl
 entries-length (e ∷ es) = omega (arith, length-append (entryBytes e) (each entryBytes es), entry-length e, entries-length es)
 
+-- count and entries
 pub listed-length : (es : List Entry) → length (listed es) ≡ 8 + 16 * length es
 unfolding listed
 listed-length es = omega (arith, length-append (leBytes 8 (length es)) (each entryBytes es), le-length 8 (length es), entries-length es)
@@ -66,6 +68,7 @@ entries-put k e rest idFits locationFits =
     let past : drop 16 ((a ++ b) ++ rest) ≡ rest = drop-at (a ++ b) rest 16 (entry-length e) in
     entries-next k ((a ++ b) ++ rest) some ∙ ap₂ (λ (d : Entry) (t : List ℕ). d ∷ entriesFrom k t) (entry-ext _ e idIs locationIs) past
 
+-- all entries that were written, whatever follows
 pub entries-back : (es : List Entry) (rest : List ℕ) → Fits es → entriesFrom (length es) (each entryBytes es ++ rest) ≡ es
 unfolding each
 entries-back [] rest f = entries-none rest

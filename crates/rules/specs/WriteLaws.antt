@@ -41,6 +41,7 @@ unfolding sum
 last-one base [] n h = absurd (not-suc-le-zero h)
 last-one base (o ∷ os) n h = let w = positions-clear base ((o ∷ os) ∷ []) n (omega arith) in omega arith
 
+-- a write that is not refused knows this
 pub write-accepted : (w : World) (bytes : List ℕ) → decide (writeTests w bytes) ≡ Done → Accepted w bytes
 unfolding writeTests NoneHolds tooManyIds
 write-accepted w bytes e =
