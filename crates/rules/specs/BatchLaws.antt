@@ -4,13 +4,12 @@ use mathlib.Core.Logic.{_⊎_, inl, inr}
 use Prim.Native.Nat.{_≤_, _<_}
 use native.Mathlib.Omega.{arith}
 use borrow.Author.Tests.{ltb-true, le-leb, lt-leb}
-use Rattle.rules.specs.Base.{Bool, true, false, List, [], _∷_, ℕ, zero, suc, _+_, _-_, _^_, length, take, drop, getD, leb, ltb, eqb, pick}
-use Rattle.rules.specs.BaseLaws.{All}
+use Rattle.rules.specs.Base.{Bool, true, false, List, [], ℕ, zero, suc, _+_, _-_, _^_, length, take, drop, getD, leb, ltb, eqb, pick}
 use Rattle.numbers.specs.GroupLaws.{either-way}
 use Rattle.numbers.specs.Groups.{Groups, said, bad, readGroups, bounded, numberIn, saying}
 use Rattle.numbers.specs.declared.Number.{Number}
 use Rattle.numbers.specs.declared.Number.the-variants.{Said, Malformed}
-use Rattle.rules.specs.Ops.{Content, put, delete, Op}
+use Rattle.rules.specs.Ops.{put, delete, Op}
 use Rattle.rules.specs.OpsLaws.{IdsFit}
 use Rattle.rules.specs.Batch.{Parsed, malformed, parsed, putOperation, operationAt, Batch, notAsAbove, operations, before, batchFrom, batchIn, opsOf}
 
@@ -71,7 +70,9 @@ unfolding operationAt idOf nextOf
 operation-stepped s at o next e = go (numberIn 10 s at) refl e
   where
     go : (n : Number) → numberIn 10 s at ≡ n
-        → saying malformed n (λ id tag. pick (leb (length s) tag) malformed (pick (eqb (getD s tag 0) 0) (parsed (record { id = id; content = delete }) (suc tag)) (pick (eqb (getD s tag 0) 1) (putOperation s id (suc tag)) malformed))) ≡ parsed o next
+        → saying malformed n (λ id tag. pick (leb (length s) tag) malformed
+        (pick (eqb (getD s tag 0) 0) (parsed (record { id = id; content = delete }) (suc tag))
+        (pick (eqb (getD s tag 0) 1) (putOperation s id (suc tag)) malformed))) ≡ parsed o next
         → Stepped at o next
     go Malformed p q = not-parsed q
     go (Said id tag) p q = here (leb (length s) tag) (eqb (getD s tag 0) 0) (eqb (getD s tag 0) 1) q

@@ -1,21 +1,20 @@
 -- What a call knows once 1 does not refuse it.
-use mathlib.Core.Path.{_≡_, refl, sym, ap, _∙_}
+use mathlib.Core.Path.{_≡_, refl, sym, _∙_}
 use mathlib.Core.Bool.{true≢false}
-use mathlib.Core.Logic.{_⊎_, inl, inr, ⊎-elim}
+use mathlib.Core.Logic.{_⊎_, ⊎-elim}
 use Prim.Native.Nat.{_≤_, _<_}
 use native.Mathlib.Omega.{arith}
 use native.Mathlib.Nat.{zero-add}
 use borrow.Author.Tests.{eqb-true, eqb-false, ltb-false, leb-false, eq-eqb, ne-eqb, le-ltb, lt-leb, not-false}
-use Rattle.rules.specs.Base.{Bool, true, false, not, _&&_, _||_, List, [], _∷_, ℕ, zero, suc, _+_, length, leb, ltb, eqb}
+use Rattle.rules.specs.Base.{true, false, List, [], _∷_, ℕ, zero, suc, _+_}
 use Rattle.rules.specs.Types.{Settings, Record, State}
 use Rattle.rules.specs.BaseLaws.{or-false, or-clear, and-true}
-use Rattle.rules.specs.Settings.{inRanges, slotsIn, heapInRange, sameSettings}
+use Rattle.rules.specs.Settings.{slotsIn}
 use Rattle.rules.specs.SettingsLaws.{InRanges, in-ranges, ranges-in, HeapInRange, heap-in-range, range-heap-in, same-settings, settings-same}
-use Rattle.rules.specs.Label.{outOfBounds}
 use Rattle.rules.specs.LabelLaws.{InBounds, in-bounds, bounds-in}
-use Rattle.rules.specs.Layout.{Buffers, lengthsInRange, capacityOf, inForm}
+use Rattle.rules.specs.Layout.{Buffers, capacityOf, inForm}
 use Rattle.rules.specs.LayoutLaws.{LengthsInRange, lengths-in-range, range-lengths-in}
-use Rattle.rules.specs.FileMap.{isEmpty, recordAt, emptyRecord}
+use Rattle.rules.specs.FileMap.{isEmpty, recordAt}
 use Rattle.rules.specs.FileMapLaws.{is-empty, empty-or-not}
 use Rattle.rules.specs.Condition1.{outOfRange, notTheStates, badRecord, badFrom, conditionOne}
 

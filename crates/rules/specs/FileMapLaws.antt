@@ -1,6 +1,5 @@
 -- The file map: empty records, lookups and live counts, in a reader's words.
 use mathlib.Core.Path.{_≡_, refl, sym, ap, _∙_}
-use mathlib.Core.Bool.{false≢true}
 use mathlib.Core.Logic.{_⊎_, inl, inr}
 use Prim.Native.Nat.{_≤_, _<_, min}
 use native.Mathlib.Nat.{zero-add, le-of-suc-le-suc, not-suc-le-zero, eq-or-lt-of-le, min-le-left, min-le-right, le-min}
@@ -10,10 +9,10 @@ use lib.ListN.{drop-of-length-le, length-set, length-take}
 use lib.Seq.{drop-cons, getD-take}
 use borrow.Author.Tests.{ne-eqb, lt-ltb, le-ltb, le-leb, lt-leb, leb-true, leb-false, eqb-true, eqb-false}
 use Rattle.numbers.specs.GroupLaws.{either-way}
-use Rattle.rules.specs.Base.{Bool, true, false, _&&_, List, [], _∷_, ℕ, zero, suc, _+_, _-_, _*_, length, getD, set, take, drop, leb, ltb, eqb, pick, any, zeros}
+use Rattle.rules.specs.Base.{Bool, true, false, _&&_, List, [], _∷_, ℕ, zero, suc, _+_, _-_, _*_, _^_, length, getD, take, drop, leb, ltb, eqb, pick, any, zeros}
 use Rattle.rules.specs.Types.{Record, Slot, Is, NoSlot}
 use Rattle.rules.specs.BaseLaws.{zeros-true, zeros-cons, order}
-use Rattle.rules.specs.FileMap.{emptyRecord, isEmpty, recordAt, withLive, slotsWhere, emptySlots, lowestEmpty, Lead, leads, leadFrom, fileFor, lessLive}
+use Rattle.rules.specs.FileMap.{emptyRecord, isEmpty, recordAt, slotsWhere, emptySlots, lowestEmpty, Lead, leads, leadFrom, fileFor, lessLive}
 
 -- "An empty record is all zeros.", and only that one
 pub empty-is : (r : Record) → isEmpty r ≡ true → r ≡ emptyRecord
@@ -45,7 +44,13 @@ empty-or-not r = go (isEmpty r) refl
     go true e = inl e
     go false e = inr e
 
--- ---- "File lookup": the steps of a loop over the records
+-- ---- "File lookup"
+-- on "raw, unmasked locations": a batch file of masked lsn 1 is above location 2
+pub lookup-is-raw : fileFor (record { lsn = 2 ^ 62 + 1; «trailer_offset» = 0; «file_size» = 0; «present_objects» = 0; generation = 0; live = 0 } ∷ []) 2 ≡ NoSlot
+unfolding fileFor leadFrom leads
+lookup-is-raw = refl
+
+-- ---- the steps of a loop over the records
 pub lead-next : (rs : List Record) (i location : ℕ) (b : Lead) → i < length rs
     → leadFrom (drop i rs) i location b ≡ leadFrom (drop (i + 1) rs) (i + 1) location (leads (recordAt rs i) i location b)
 unfolding leadFrom

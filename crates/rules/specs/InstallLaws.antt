@@ -1,27 +1,27 @@
 -- Adding files: what 4, 5 and 7 leave known, and what stays as it was.
-use mathlib.Core.Path.{_≡_, refl, sym, ap, _∙_}
+use mathlib.Core.Path.{_≡_, refl, ap, _∙_}
 use mathlib.Core.Logic.{_⊎_, inl, inr}
 use Prim.Native.Nat.{_≤_, _<_}
 use native.Mathlib.Omega.{arith}
 use borrow.Author.Tests.{ltb-false, lt-ltb}
-use lib.ListN.{length-set, length-map}
+use lib.ListN.{length-set}
 use lib.Seq.{getD-set-same, getD-set-other, set-out}
-use Rattle.rules.specs.Base.{Bool, true, false, _&&_, List, [], _∷_, _++_, map, ℕ, zero, suc, _+_, _-_, _*_, _^_, length, getD, set, leb, ltb, any, sum}
+use Rattle.rules.specs.Base.{List, [], _∷_, ℕ, _+_, _-_, _*_, _^_, length, set, ltb, sum}
 use Rattle.rules.specs.Types.{Entry, Record, Slot, Is, NoSlot}
 use Rattle.rules.specs.BaseLaws.{All, all-map, any-false, same?}
 use Rattle.numbers.specs.GroupLaws.{either-way}
 use Rattle.disk_location.specs.Locations.{maskedOf}
 use Rattle.disk_location.specs.LocationLaws.{masked-plain, masked-batch}
-use Rattle.rules.specs.Refusal.{Test, _gives_, NoneHolds}
+use Rattle.rules.specs.Refusal.{NoneHolds}
 use Rattle.rules.specs.Table.{lookup}
 use Rattle.rules.specs.FileMap.{emptyRecord, recordAt, withLive, lessLive, fileFor}
 use Rattle.rules.specs.FileMapLaws.{less-live-length, file-same}
 use Rattle.rules.specs.Ops.{Op, objectsOf, fileBytes}
 use Rattle.rules.specs.OpsLaws.{IdsFit, file-length}
-use Rattle.rules.specs.LabelLaws.{InBounds}
-use Rattle.rules.specs.WrittenLaws.{Writable}
-use Rattle.rules.specs.World.{World, recordsOf}
-use Rattle.rules.specs.Install.{newRecord, fileHolding, losing, recordsWith, roomTests, positionTests}
+use Rattle.rules.specs.SlotFile.{holds, viewsIn}
+use Rattle.rules.specs.WrittenLaws.{Writable, fileOfOps, views-made}
+use Rattle.rules.specs.World.{World, recordsOf, slotsOf}
+use Rattle.rules.specs.Install.{newRecord, fileHolding, losing, newSlot, newLsn, recordsWith, storesFor, installed, roomTests, positionTests}
 
 -- ---- 4, 5, 7 do not hold
 -- every file fits its slot, and there are slots for all
@@ -110,3 +110,12 @@ losing-five table (o ∷ os) rs j =
 pub losing-file : (table : List Entry) (ops : List Op) (rs : List Record) (location : ℕ) → fileFor (losing table ops rs) location ≡ fileFor rs location
 losing-file table ops rs location =
     file-same (losing table ops rs) rs (losing-length table ops rs) (λ j. ap (λ (r : Record). r .lsn) (losing-five table ops rs j)) location
+
+-- ---- the heap: the new slot's view alone changes, to the file of these operations
+pub installed-views : (bit generation : ℕ) (w : World) (ops : List Op) → Writable (w .settings .«slot_bytes») (newLsn bit w) generation ops
+    → newSlot w < slotsOf w → slotsOf w * w .settings .«slot_bytes» ≤ length (w .heap)
+    → viewsIn (slotsOf w) (w .settings .«slot_bytes») (installed bit generation w ops .heap)
+    ≡ set (viewsIn (slotsOf w) (w .settings .«slot_bytes») (w .heap)) (newSlot w) (holds (fileOfOps (newLsn bit w) generation ops))
+unfolding installed storesFor
+installed-views bit generation w ops able low whole =
+    views-made (slotsOf w) (w .settings .«slot_bytes») (w .heap) (newSlot w) (newLsn bit w) generation ops low whole able

@@ -1,16 +1,16 @@
 -- The label: its bounds as facts, its length, and that what was written is read back.
-use mathlib.Core.Path.{_≡_, refl, sym, ap, _∙_}
+use mathlib.Core.Path.{_≡_, refl, ap, _∙_}
 use mathlib.Core.List.{append-assoc}
-use mathlib.Core.Logic.{_⊎_, inl, inr, ⊎-elim}
+use mathlib.Core.Logic.{_⊎_, ⊎-elim}
 use Prim.Native.Nat.{_≤_, _<_}
 use native.Mathlib.Omega.{arith}
 use borrow.Author.Tests.{ltb-false, leb-false, eqb-false, le-ltb, lt-ltb, lt-leb, ne-eqb}
 use lib.ListN.{length-append}
 use lib.Seq.{drop-at}
-use Rattle.rules.specs.Base.{Bool, true, false, _||_, List, [], _∷_, _++_, ℕ, zero, suc, _+_, _-_, _*_, _/_, _%_, _^_, length, getD, drop, replicate, leb, ltb, eqb, pick, zeros, padded}
-use Rattle.rules.specs.Types.{Record, Label, Vacant, Five, Wrong}
+use Rattle.rules.specs.Base.{true, false, List, [], _∷_, _++_, ℕ, zero, suc, _+_, _-_, _/_, _%_, _^_, length, getD, drop, replicate, zeros, padded}
+use Rattle.rules.specs.Types.{Record, Five}
 use Rattle.numbers.specs.LittleEndian.{Bytes}
-use Rattle.numbers.specs.Groups.{groupsOf, numberIn, saying}
+use Rattle.numbers.specs.Groups.{groupsOf, numberIn}
 use Rattle.numbers.specs.GroupLaws.{either-way, groups-last, groups-more, round}
 use Rattle.numbers.specs.declared.Number.the-variants.{Said}
 use Rattle.disk_location.specs.Locations.{maskedOf}
@@ -121,7 +121,16 @@ fiveBytes r = groupsOf 10 (r .lsn) ++ (groupsOf 10 (r .«trailer_offset») ++ (g
 
 five-length : (r : Record) → length (fiveBytes r) ≤ 50
 unfolding fiveBytes
-five-length r = simp length-append (omega (arith, groups-length 10 (r .lsn), groups-length 10 (r .«trailer_offset»), groups-length 10 (r .«file_size»), groups-length 10 (r .«present_objects»), groups-length 10 (r .generation)))
+five-length r =
+    simp length-append
+    (omega (
+      arith,
+      groups-length 10 (r .lsn),
+      groups-length 10 (r .«trailer_offset»),
+      groups-length 10 (r .«file_size»),
+      groups-length 10 (r .«present_objects»),
+      groups-length 10 (r .generation),
+    ))
 
 -- "a 64-byte label"
 pub label-length : (r : Record) → length (labelBytes r) ≡ 64

@@ -1,14 +1,12 @@
 -- The table's buffers: lengths as facts, and that buffers laid out hold what was laid out.
 use mathlib.Core.Path.{_≡_, refl, sym, ap, ap₂, _∙_}
-use mathlib.Core.Bool.{false≢true}
-use mathlib.Core.List.{append-nil}
 use mathlib.Core.Logic.{_⊎_, inl, inr}
 use Prim.Native.Nat.{_≤_, _<_, zero-le}
 use native.Mathlib.Omega.{arith}
 use native.Mathlib.Nat.{suc-sub-suc, sub-zero}
-use borrow.Author.Tests.{eqb-true, eqb-false, eq-eqb, ne-eqb, leb-true, le-leb}
-use lib.ListN.{length-append, length-map, length-replicate}
-use Rattle.rules.specs.Base.{Bool, true, false, _&&_, List, [], _∷_, _++_, map, ℕ, zero, suc, _+_, _-_, length, replicate, leb, eqb, pick, within, zeros, padded}
+use borrow.Author.Tests.{eqb-true, eq-eqb, ne-eqb, leb-true, le-leb}
+use lib.ListN.{length-map}
+use Rattle.rules.specs.Base.{true, List, [], _∷_, _++_, map, ℕ, zero, suc, _+_, _-_, length, replicate, leb, eqb, zeros, padded}
 use Rattle.rules.specs.Types.{Entry}
 use Rattle.rules.specs.BaseLaws.{and-true, and-holds, within-true, within-holds, zero-or-more, zeros-is, zeros-replicate, padded-length}
 use Rattle.rules.specs.TableLaws.{Rising, rise, rise-end, Has}

@@ -1,10 +1,10 @@
 -- "Candidates .. are unclaimed files with live not 0, and ..", as facts.
-use mathlib.Core.Path.{_≡_, refl, sym, ap, _∙_}
+use mathlib.Core.Path.{_≡_}
 use mathlib.Core.Logic.{_⊎_, inl, inr}
 use Prim.Native.Nat.{_≤_, _<_}
 use native.Mathlib.Omega.{arith}
 use borrow.Author.Tests.{eqb-false, ne-eqb, not-true, ltb-true, lt-ltb, leb-true, le-leb}
-use Rattle.rules.specs.Base.{Bool, true, false, not, _&&_, _||_, ℕ, zero, suc, _*_, _/_, leb, ltb, eqb, larger}
+use Rattle.rules.specs.Base.{true, false, _&&_, ℕ, _*_, _/_, leb, ltb, larger}
 use Rattle.rules.specs.Types.{Record, Settings, Claims}
 use Rattle.rules.specs.BaseLaws.{and-true, and-holds, or-true, or-holds}
 use Rattle.rules.specs.Claims.{isClaimed}

@@ -8,7 +8,7 @@ use native.Mathlib.Nat.{not-suc-le-zero}
 use borrow.Author.Tests.{eq-eqb}
 use lib.ListN.{length-append, length-drop}
 use lib.Seq.{take-at, drop-at}
-use Rattle.rules.specs.Base.{Bool, true, false, not, List, [], _∷_, _++_, ℕ, zero, suc, _+_, _-_, _^_, length, take, drop, eqb}
+use Rattle.rules.specs.Base.{false, List, [], _∷_, _++_, ℕ, zero, suc, _+_, _-_, _^_, length, take, drop}
 use Rattle.numbers.specs.LittleEndian.{leBytes, leValue, le-length, le-round}
 use Rattle.checksum.specs.Checksum.{crc32, objectSum}
 use Rattle.rules.specs.BaseLaws.{zero-or-more}

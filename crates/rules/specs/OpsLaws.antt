@@ -1,24 +1,21 @@
 -- Operations, and the file that they make: lengths, positions, and that it is read back.
 use mathlib.Core.Path.{_≡_, refl, sym, ap, ap₂, _∙_, subst}
-use mathlib.Core.List.{append-assoc}
 use mathlib.Core.Logic.{_⊎_, inl, inr}
-use Prim.Native.Nat.{_≤_, _<_, zero-le}
+use Prim.Native.Nat.{_≤_, _<_}
 use native.Mathlib.Omega.{arith}
-use native.Mathlib.Nat.{add-zero}
-use borrow.Author.Tests.{lt-ltb, le-ltb, eq-eqb, ne-eqb}
 use lib.ListN.{length-append}
-use lib.Seq.{drop-append-add, drop-append-le, drop-at}
-use Rattle.rules.specs.Base.{Bool, true, false, List, [], _∷_, _++_, map, ℕ, zero, suc, _+_, _-_, _*_, _/_, _^_, length, drop, ltb, eqb, pick, any, each}
+use lib.Seq.{drop-append-add}
+use Rattle.rules.specs.Base.{Bool, true, false, List, [], _∷_, _++_, map, ℕ, zero, suc, _+_, _-_, _*_, _^_, length, drop, each}
 use Rattle.rules.specs.Types.{Entry}
-use Rattle.disk_location.specs.Locations.{positionOf, rawOf, bitOf}
+use Rattle.disk_location.specs.Locations.{positionOf, rawOf}
 use Rattle.disk_location.specs.LocationLaws.{position-raw}
-use Rattle.rules.specs.BaseLaws.{All, order, same?}
+use Rattle.rules.specs.BaseLaws.{All}
 use Rattle.rules.specs.TableLaws.{Rising, rise, rise-end, Has}
-use Rattle.rules.specs.Object.{objectBytes, Stored, storedAt, objectsFrom, objectsIn}
+use Rattle.rules.specs.Object.{objectBytes, Stored, objectsFrom, objectsIn}
 use Rattle.rules.specs.ObjectLaws.{object-length, storedObject, objects-none, objects-put}
 use Rattle.rules.specs.Trailer.{trailerBytes}
 use Rattle.rules.specs.TrailerLaws.{Fits, trailer-length}
-use Rattle.rules.specs.Ops.{Content, put, delete, Op, isDelete, sizeOf, contentBytes, objectsOf, entriesOf, fileBytes, joined, settled}
+use Rattle.rules.specs.Ops.{Content, put, delete, Op, isDelete, sizeOf, contentBytes, objectsOf, entriesOf, fileBytes}
 
 -- ids strictly rising, from a least one on
 pub data RisingOps : ℕ → List Op → Type 0 where

@@ -1,11 +1,11 @@
 -- Parts of lists of bytes: fields, and writes in another order. No word of the paper is here.
-use mathlib.Core.Path.{_≡_, refl, sym, ap, ap₂, _∙_}
+use mathlib.Core.Path.{_≡_, sym, ap, ap₂, _∙_}
 use mathlib.Core.List.{append-assoc}
 use Prim.Native.Nat.{_≤_, _<_}
 use native.Mathlib.Omega.{arith}
 use lib.ListN.{length-append, length-drop, take-append-drop}
 use lib.Seq.{take-at, drop-at, take-take, take-append-le, take-add, drop-append-le, drop-drop, length-take-le}
-use Rattle.rules.specs.Base.{List, [], _∷_, _++_, ℕ, zero, suc, _+_, _-_, _*_, length, getD, set, take, drop, replicate}
+use Rattle.rules.specs.Base.{List, [], _∷_, _++_, ℕ, zero, suc, _+_, _-_, length, set, take, drop, replicate}
 use Rattle.numbers.specs.LittleEndian.{Bytes}
 use Rattle.numbers.specs.Parts.{putAt, put-step, put-none}
 

@@ -40,7 +40,9 @@ located-given position delete = go (either-way position (2 ^ 63)) (eqb (rawOf po
     zero-raw : Test
     zero-raw = eqb (rawOf position delete) 0 gives Location
 
-    go : (position < 2 ^ 63) ⊎ (2 ^ 63 ≤ position) → (t : Bool) → eqb (rawOf position delete) 0 ≡ t → locatedGiven (locatedAt position delete) ≡ after (decide (leb (2 ^ 63) position gives Location ∷ eqb (rawOf position delete) 0 gives Location ∷ [])) refused (accepted (rawOf position delete ∷ []))
+    go : (position < 2 ^ 63) ⊎ (2 ^ 63 ≤ position) → (t : Bool) → eqb (rawOf position delete) 0 ≡ t
+        → locatedGiven (locatedAt position delete)
+        ≡ after (decide (leb (2 ^ 63) position gives Location ∷ eqb (rawOf position delete) 0 gives Location ∷ [])) refused (accepted (rawOf position delete ∷ []))
     go (inr h) t e = rw (le-ltb position (2 ^ 63) h, decide-first (leb (2 ^ 63) position) Location (zero-raw ∷ []) (le-leb (2 ^ 63) position h))
     go (inl h) true e =
         rw (lt-ltb position (2 ^ 63) h, decide-next (leb (2 ^ 63) position) Location (zero-raw ∷ []) (lt-leb (2 ^ 63) position h), decide-first (eqb (rawOf position delete) 0) Location [] e, e)

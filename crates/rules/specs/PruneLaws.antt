@@ -8,12 +8,12 @@ use native.Mathlib.Nat.{zero-add}
 use borrow.Author.Tests.{eqb-true, eq-eqb, not-true}
 use lib.ListN.{length-set}
 use lib.Seq.{getD-set-same, getD-set-other}
-use Rattle.rules.specs.Base.{Bool, true, false, not, _&&_, List, [], _∷_, map, ℕ, zero, suc, _+_, _*_, length, getD, set, eqb, pick}
+use Rattle.rules.specs.Base.{Bool, true, false, not, List, [], _∷_, map, ℕ, zero, suc, _+_, _*_, length, getD, set, pick}
 use Rattle.rules.specs.Types.{Record, Claims}
 use Rattle.rules.specs.BaseLaws.{and-true, same?}
 use Rattle.rules.specs.Claims.{isClaimed}
 use Rattle.rules.specs.FileMap.{emptyRecord, isEmpty, recordAt, slotsWhere}
-use Rattle.rules.specs.FileMapLaws.{Among, Passing, slot-passes, passes-slot}
+use Rattle.rules.specs.FileMapLaws.{Among, slot-passes, passes-slot}
 use Rattle.rules.specs.Stores.{Store, made}
 use Rattle.rules.specs.SlotFile.{View, empty, viewsIn}
 use Rattle.rules.specs.SlotLaws.{views-length}

@@ -5,8 +5,8 @@ use Prim.Native.Nat.{_≤_, _<_, zero-le}
 use native.Mathlib.Omega.{arith}
 use borrow.Author.Tests.{ltb-true, ltb-false, leb-false, lt-ltb, le-ltb, lt-leb, eq-eqb, ne-eqb}
 use lib.ListN.{length-append, length-map, length-replicate}
-use Rattle.rules.specs.Base.{Bool, true, false, _&&_, _||_, List, [], _∷_, _++_, map, ℕ, zero, suc, _+_, _-_, length, replicate, leb, ltb, eqb, pick, any}
-use Rattle.rules.specs.Types.{Entry, Record, Held, Mapped}
+use Rattle.rules.specs.Base.{Bool, true, false, _&&_, List, [], _∷_, map, ℕ, suc, _+_, _-_, length, replicate, leb, ltb, eqb, any}
+use Rattle.rules.specs.Types.{Entry, Record, Mapped}
 use Rattle.disk_location.specs.Locations.{maskedOf, positionOf}
 use Rattle.rules.specs.BaseLaws.{All, all-map, any-false, any-clear, or-false, or-clear, and-false, order}
 use Rattle.rules.specs.Table.{lookup}

@@ -1,19 +1,19 @@
 -- What a slot that holds a file tells: the file is its label's and trailer's, within 8's to 13's bounds.
-use mathlib.Core.Path.{_≡_, refl, sym, ap, _∙_}
-use mathlib.Core.Logic.{_⊎_, inl, inr}
-use Prim.Native.Nat.{_≤_, _<_}
+use mathlib.Core.Path.{_≡_, refl, ap}
+use mathlib.Core.Logic.{inl, inr}
+use Prim.Native.Nat.{_≤_}
 use native.Mathlib.Omega.{arith}
 use borrow.Author.Tests.{ltb-false, eqb-true, not-false}
-use Rattle.rules.specs.Base.{Bool, true, false, not, List, [], _∷_, _++_, ℕ, zero, suc, length, take, ltb, eqb, any}
+use Rattle.rules.specs.Base.{false, not, List, [], _∷_, ℕ, length, take, ltb, eqb, any}
 use Rattle.rules.specs.Types.{Entry, Record, Label, Vacant, Five, Wrong, Answer, Done, Refused, EntryPosition, PresentCount}
 use Rattle.disk_location.specs.Locations.{positionOf}
-use Rattle.rules.specs.Refusal.{Test, _gives_, decide, after, NoneHolds, clear-when, none-first, none-rest}
+use Rattle.rules.specs.Refusal.{_gives_, decide, after, NoneHolds, clear-when, none-first, none-rest}
 use Rattle.rules.specs.BaseLaws.{All, any-false}
 use Rattle.rules.specs.TableLaws.{Has}
 use Rattle.rules.specs.Trailer.{trailerTests}
-use Rattle.rules.specs.Label.{labelIn, outOfBounds}
+use Rattle.rules.specs.Label.{labelIn}
 use Rattle.rules.specs.LabelLaws.{InBounds, in-bounds}
-use Rattle.rules.specs.SlotFile.{objectPart, trailerPart, trailerEntries, File, View, empty, damaged, holds, slotTests, viewBy, viewIn}
+use Rattle.rules.specs.SlotFile.{objectPart, trailerPart, trailerEntries, File, empty, damaged, holds, slotTests, viewBy, viewIn}
 
 -- the file in a slot
 pub record Seen (slot : List ℕ) (f : File) : Type 0 where

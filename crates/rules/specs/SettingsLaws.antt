@@ -1,12 +1,12 @@
 -- "Settings": the ranges as facts.
-use mathlib.Core.Path.{_≡_, refl, sym, ap, _∙_}
+use mathlib.Core.Path.{_≡_, refl}
 use Prim.Native.Nat.{_≤_, _<_}
 use native.Mathlib.Nat.{div-add-mod', suc-mul, mul-le-mul-right}
 use native.Mathlib.Omega.{arith}
 use borrow.Author.Tests.{eqb-true, eq-eqb}
-use Rattle.rules.specs.Base.{Bool, true, _&&_, ℕ, zero, suc, _+_, _*_, _/_, _%_, eqb, within}
+use Rattle.rules.specs.Base.{true, ℕ, _+_, _*_, _%_, eqb}
 use Rattle.rules.specs.Types.{Settings}
-use Rattle.rules.specs.BaseLaws.{and-true, and-holds, within-true, within-holds}
+use Rattle.rules.specs.BaseLaws.{and-true, within-true, within-holds}
 use Rattle.rules.specs.Settings.{inRanges, slotsIn, heapInRange, sameSettings}
 
 -- the column "Range"
@@ -117,4 +117,12 @@ same-settings s t e =
 -- and back
 pub settings-same : (s : Settings) → sameSettings s s ≡ true
 unfolding sameSettings
-settings-same s = simp (eq-eqb (s .«slot_bytes») _ refl, eq-eqb (s .«file_compaction_percent») _ refl, eq-eqb (s .«min_compaction_files») _ refl, eq-eqb (s .«target_file_size») _ refl, eq-eqb (s .«small_file_cleanup_threshold») _ refl, eq-eqb (s .«max_object_size») _ refl)
+settings-same s =
+    simp (
+      eq-eqb (s .«slot_bytes») _ refl,
+      eq-eqb (s .«file_compaction_percent») _ refl,
+      eq-eqb (s .«min_compaction_files») _ refl,
+      eq-eqb (s .«target_file_size») _ refl,
+      eq-eqb (s .«small_file_cleanup_threshold») _ refl,
+      eq-eqb (s .«max_object_size») _ refl,
+    )

@@ -4,7 +4,7 @@ use mathlib.Core.Logic.{_⊎_, inl, inr}
 use Prim.Native.Nat.{_≤_, _<_, zero-le}
 use native.Mathlib.Omega.{arith}
 use borrow.Author.Tests.{lt-ltb, le-ltb, le-leb, lt-leb, eq-eqb, ne-eqb}
-use Rattle.rules.specs.Base.{Bool, true, false, _&&_, List, [], _∷_, _++_, map, ℕ, zero, suc, _+_, length, leb, ltb, eqb}
+use Rattle.rules.specs.Base.{Bool, true, false, _&&_, List, [], _∷_, ℕ, suc, _+_, length}
 use Rattle.rules.specs.Types.{Entry, Held, Mapped, Unmapped}
 use Rattle.rules.specs.BaseLaws.{order, same?}
 use Rattle.rules.specs.Table.{lookup, insert, insertAll, unmapped, full}

@@ -1,17 +1,17 @@
 -- The trailer: its length, and that what was written is read back.
 use mathlib.Core.Path.{_≡_, refl, sym, ap, ap₂, _∙_}
 use mathlib.Core.List.{append-assoc, append-nil}
-use mathlib.Core.Logic.{_⊎_, inl, inr}
+use mathlib.Core.Logic.{inl, inr}
 use Prim.Native.Nat.{_≤_, _<_}
 use native.Mathlib.Omega.{arith}
 use borrow.Author.Tests.{eq-eqb, le-ltb}
 use lib.ListN.{length-append}
 use lib.Seq.{take-at, drop-at, drop-drop}
-use Rattle.rules.specs.Base.{Bool, true, false, not, List, [], _∷_, _++_, ℕ, zero, suc, _+_, _*_, _^_, length, take, drop, ltb, eqb, each}
-use Rattle.rules.specs.Types.{Entry, Done}
+use Rattle.rules.specs.Base.{not, List, [], _∷_, _++_, ℕ, suc, _+_, _*_, _^_, length, take, drop, eqb, each}
+use Rattle.rules.specs.Types.{Entry}
 use Rattle.numbers.specs.LittleEndian.{leBytes, leValue, le-length, le-round}
 use Rattle.checksum.specs.Checksum.{crc32}
-use Rattle.rules.specs.Refusal.{decide, NoneHolds, decide-clear}
+use Rattle.rules.specs.Refusal.{NoneHolds}
 use Rattle.rules.specs.PartLaws.{field}
 use Rattle.rules.specs.ObjectLaws.{crc-below}
 use Rattle.rules.specs.TableLaws.{Has, entry-ext}

@@ -1,19 +1,23 @@
 -- What an accepted write knows.
-use mathlib.Core.Path.{_≡_, refl, sym, ap, _∙_}
+use mathlib.Core.Path.{_≡_}
 use Prim.Native.Nat.{_≤_, _<_}
 use native.Mathlib.Omega.{arith}
 use native.Mathlib.Nat.{not-suc-le-zero}
 use borrow.Author.Tests.{ltb-false}
-use Rattle.rules.specs.Base.{Bool, false, List, [], _∷_, _++_, ℕ, zero, suc, _+_, _^_, length, ltb, sum}
+use Rattle.rules.specs.Base.{false, List, [], _∷_, ℕ, _+_, _^_, length, sum}
 use Rattle.rules.specs.Types.{Done, TableRoom}
-use Rattle.rules.specs.Refusal.{Test, _gives_, decide, NoneHolds, clear-when, none-first, none-rest}
+use Rattle.rules.specs.Refusal.{_gives_, decide, NoneHolds, clear-when, none-first, none-rest}
 use Rattle.rules.specs.Ops.{Op, objectsOf, entriesOf, fileBytes, settled}
 use Rattle.rules.specs.Batch.{batchIn, isMalformed, opsOf, anyTooLarge}
 use Rattle.rules.specs.Table.{insertAll}
 use Rattle.rules.specs.Layout.{capacityOf}
+use Rattle.rules.specs.BatchLaws.{batch-ids}
+use Rattle.rules.specs.SettledLaws.{settled-all}
 use Rattle.rules.specs.Condition1.{refused1}
-use Rattle.rules.specs.Install.{roomTests, emptyOf, positionTests}
-use Rattle.rules.specs.InstallLaws.{Room, room-clear, positions-clear}
+use Rattle.rules.specs.Condition1Laws.{passed}
+use Rattle.rules.specs.WrittenLaws.{Writable}
+use Rattle.rules.specs.Install.{newLsn, roomTests, emptyOf, positionTests}
+use Rattle.rules.specs.InstallLaws.{Room, room-clear, positions-clear, batch-lsn, new-writable}
 use Rattle.rules.specs.Write.{newFiles, tooManyIds, writeTests}
 use Rattle.rules.specs.World.{World, mappings}
 
@@ -60,3 +64,15 @@ write-accepted w bytes e =
       ids = ltb-false _ _ (m .0);
       last = last-one (w .state .«next_position») ops (m .1);
     }
+
+-- so its file can be written
+pub write-writable : (w : World) (bytes : List ℕ) → Accepted w bytes → 0 < length (opsIn bytes) → Writable (w .settings .«slot_bytes») (newLsn (2 ^ 62) w) 0 (opsIn bytes)
+write-writable w bytes a some =
+    let p = passed (w .settings) (length (w .heap)) (w .table) (w .state) (a .passed) in
+    let high = p .limits .settings .slot-high in
+    let last = a .last some in
+    let base = w .state .«next_position» in
+    let lsn = batch-lsn base (omega arith) in
+    new-writable (w .settings .«slot_bytes») base (base + 2 ^ 62) 0 (opsIn bytes) some
+    (settled-all (λ (o : Op). o .id < 2 ^ 64) (opsOf (batchIn bytes)) (batch-ids bytes))
+    (omega arith) (a .fits some) (p .next) last (lsn .0) (lsn .1) (omega arith)

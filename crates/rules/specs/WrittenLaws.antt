@@ -1,29 +1,29 @@
 -- A file that was written is seen in its slot as it was given, and its objects are read back.
-use mathlib.Core.Path.{_≡_, refl, sym, ap, ap₂, _∙_}
+use mathlib.Core.Path.{_≡_, refl, sym, ap, _∙_}
 use mathlib.Core.List.{append-assoc}
-use mathlib.Core.Logic.{_⊎_, inl, inr}
+use mathlib.Core.Logic.{inl, inr}
 use Prim.Native.Nat.{_≤_, _<_}
 use native.Mathlib.Omega.{arith}
 use native.Mathlib.Nat.{sub-zero}
 use borrow.Author.Tests.{le-ltb, eq-eqb}
 use lib.ListN.{length-append, take-append-drop}
 use lib.Seq.{take-at, drop-at, take-append-seam, drop-append-seam, drop-append-le}
-use Rattle.rules.specs.Base.{Bool, true, false, not, List, [], _∷_, _++_, ℕ, zero, suc, _+_, _-_, _*_, _^_, length, set, take, drop, ltb, eqb, any}
-use Rattle.rules.specs.Types.{Entry, Record, Five, Done, EntryPosition, PresentCount, LabelBytes}
+use Rattle.rules.specs.Base.{false, not, List, [], _∷_, _++_, ℕ, _+_, _-_, _*_, _^_, length, set, take, drop, ltb, any}
+use Rattle.rules.specs.Types.{Entry}
 use Rattle.numbers.specs.Parts.{front, putAt, front-length}
 use Rattle.disk_location.specs.Locations.{positionOf}
-use Rattle.rules.specs.Refusal.{Test, _gives_, decide, NoneHolds, decide-clear, none-append}
+use Rattle.rules.specs.Refusal.{NoneHolds, decide-clear, none-append}
 use Rattle.rules.specs.TableLaws.{Has}
-use Rattle.rules.specs.Object.{objectBytes, Stored, storedAt, badChecksum}
+use Rattle.rules.specs.Object.{objectBytes, storedAt}
 use Rattle.rules.specs.ObjectLaws.{storedObject, stored-back, stored-good}
 use Rattle.rules.specs.Trailer.{trailerBytes, trailerTests, entriesIn}
 use Rattle.rules.specs.TrailerLaws.{trailer-clear, trailer-back}
-use Rattle.rules.specs.Ops.{Content, put, Op, objectsOf, entriesOf, fileBytes}
+use Rattle.rules.specs.Ops.{put, Op, objectsOf, entriesOf, fileBytes}
 use Rattle.rules.specs.OpsLaws.{IdsFit, file-length, entries-of-length, entries-of-fits, entries-of-inside, Stands, stands-bytes, stands-inside}
-use Rattle.rules.specs.Label.{labelBytes, labelIn, outOfBounds}
+use Rattle.rules.specs.Label.{labelBytes, outOfBounds}
 use Rattle.rules.specs.LabelLaws.{InBounds, bounds-in, lsn-some, LabelFits, label-length, label-back}
 use Rattle.rules.specs.FileMap.{withLive}
-use Rattle.rules.specs.SlotFile.{slotBytes, File, View, empty, holds, slotTests, viewIn, viewsIn}
+use Rattle.rules.specs.SlotFile.{slotBytes, File, empty, holds, slotTests, viewIn, viewsIn}
 use Rattle.rules.specs.SlotLaws.{slot-length, slots-apart, views-written, view-emptied}
 use Rattle.rules.specs.PartLaws.{put-one}
 use Rattle.rules.specs.Stores.{made, fileStores}

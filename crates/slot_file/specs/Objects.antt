@@ -1,8 +1,10 @@
 -- Objects as the code answers them, and the walk over them.
 use mathlib.Core.Path.{_≡_, refl, ap, _∙_}
+use mathlib.Core.Bool.{Bool, true, false}
 use mathlib.Core.List.{List, [], _∷_}
 use Prim.Native.Nat.{ℕ, zero, suc, _+_, _≤_, _<_}
 use native.Mathlib.Omega.{arith}
+use borrow.Author.Tests.{ltb-true, ltb-false}
 use lib.Dec.{ltb}
 use lib.ListN.{length, drop, length-drop, drop-of-length-le}
 use lib.Seq.{drop-drop}
@@ -81,3 +83,42 @@ objects-end objects position h = rw (drop-of-length-le objects {i = position} h)
     none : (k : ℕ) → objectsFrom k position [] ≡ []
     none zero = refl
     none (suc k) = refl
+
+-- ---- what a step tells of the walk
+step-inside : (objects : List ℕ) (position : ℕ) → position < length objects
+    → stepOf (objectsAt objects position)
+    ≡ pick (ltb (length (drop position objects)) 20) HeaderCut (Here (headerOf (storedAt position (drop position objects))))
+unfolding storedAt
+step-inside objects position h = ap stepOf (objects-next objects position h)
+
+-- an object whose header is whole
+pub record Walked (objects : List ℕ) (position : ℕ) (h : Header) : Type 0 where
+  pub inside : position + 20 ≤ length objects
+  pub header : h ≡ headerOf (storedAt position (drop position objects))
+
+-- the object bytes end in the middle of a header
+pub record CutOff (objects : List ℕ) (position : ℕ) : Type 0 where
+  pub begins : position < length objects
+  pub short : length objects < position + 20
+
+-- what a step's answer says
+abbrev pub Told : List ℕ → ℕ → Step → Type 0
+Told objects position End = length objects ≤ position
+Told objects position HeaderCut = CutOff objects position
+Told objects position (Here h) = Walked objects position h
+
+pub step-told : (objects : List ℕ) (position : ℕ) → Told objects position (stepOf (objectsAt objects position))
+step-told objects position = go (ltb position (length objects)) (ltb (length (drop position objects)) 20) refl refl
+  where
+    go : (begins short : Bool) → ltb position (length objects) ≡ begins → ltb (length (drop position objects)) 20 ≡ short
+        → Told objects position (stepOf (objectsAt objects position))
+    go false short p q =
+        let past = ltb-false position (length objects) p in
+        rw (objects-end objects position past) past
+    go true true p q =
+        let begins = ltb-true position (length objects) p in
+        rw (step-inside objects position begins, q)
+        (record { begins = begins; short = omega (arith, ltb-true (length (drop position objects)) 20 q, length-drop position objects) })
+    go true false p q =
+        rw (step-inside objects position (ltb-true position (length objects) p), q)
+        (record { inside = omega (arith, ltb-false (length (drop position objects)) 20 q, length-drop position objects); header = refl })

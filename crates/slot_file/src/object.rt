@@ -46,8 +46,8 @@ pub fn bad_checksum(bytes: &[u8], position: u64, h: Header) -> bool
 {
     let start = position as usize + 20;
     let end = start + h.size as usize;
-    let right = checksum::object_sum(h.id, &bytes[start..end]);
-    h.checksum != right as u64
+    let right = checksum::object_sum(h.id, &bytes[start..end]) as u64;
+    h.checksum != right
 }
 
 // The object bytes walked by their lengths: what stands at a position. The next object is 20 + size further on.

@@ -45,6 +45,7 @@ pub fn put(heap: &mut [u8], start: usize, r: Record, left: u64) -> u64
     ensures { λ x. ⌜ Made left (labelStores start (labelBytes r)) (now (heap .entry)) (now (heap .exit)) x ⌝ }
 {
     let label = bytes_of(r);
-    let behind = stores::put_bytes(heap, start + 1, &label[1..], left);
-    stores::put_bytes(heap, start, &label[..1], behind)
+    let second = start + 1;
+    let behind = stores::put_bytes(heap, second, &label[1..64], left);
+    stores::put_bytes(heap, start, &label[0..1], behind)
 }

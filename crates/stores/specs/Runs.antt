@@ -64,7 +64,7 @@ stores-append at (x ∷ xs) ys =
     let past : suc at + length xs ≡ at + suc (length xs) = omega arith in
     ap (λ (ss : List Store). record { at = at; byte = x } ∷ ss) (rw (← past) (stores-append (suc at) xs ys))
 
-stores-take : (k at : ℕ) (bs : List ℕ) → take k (storesOf at bs) ≡ storesOf at (take k bs)
+pub stores-take : (k at : ℕ) (bs : List ℕ) → take k (storesOf at bs) ≡ storesOf at (take k bs)
 unfolding storesOf
 stores-take zero at bs = refl
 stores-take (suc k) at [] = refl

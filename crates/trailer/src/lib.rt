@@ -30,12 +30,13 @@ pub fn check(trailer: &[u8]) -> Answer
         return Answer::Refused(Refusal::TrailerShort);
     }
     let stored = little_endian::get(trailer, 4);
-    let sum = checksum::sum(&trailer[4..]);
-    if stored != sum as u64 {
+    let sum = checksum::sum(&trailer[4..]) as u64;
+    if stored != sum {
         return Answer::Refused(Refusal::Checksum);
     }
-    let room = (trailer.len() - 12) / 16;
-    if (room as u64) < count(trailer) {
+    let n = count(trailer);
+    let room = ((trailer.len() - 12) / 16) as u64;
+    if room < n {
         return Answer::Refused(Refusal::EntryCount);
     }
     Answer::Done

@@ -34,8 +34,8 @@ part-sum-end c = search needs
 sum-requires : tie.Need-sum-requires
 sum-requires c κs = search needs
 
-cast-if2 : tie.Need-cast-if2
-cast-if2 c = search needs
+cast-sum : tie.Need-cast-sum
+cast-sum c = search needs
 
 -- the stored and the right checksum
 record Found (s : List ℕ) (was sum : ℕ) : Type 0 where
@@ -54,11 +54,11 @@ returns-2 c =
     let w = found (c .before) in
     rw (le-ltb _ 20 (w .long), ne-eqb _ _ (λ e. c .if2 .taken (w .stored ∙ e ∙ sym (w .right)))) refl
 
-sub-room : tie.Need-sub-room
-sub-room c = search needs
-
 count-requires : tie.Need-count-requires
 count-requires c κs = search needs
+
+sub-room : tie.Need-sub-room
+sub-room c = search needs
 
 returns-3 : tie.Need-returns-3
 unfolding decide trailerTests
@@ -88,9 +88,9 @@ check-spec =
     part-sum-start
     part-sum-end
     sum-requires
-    cast-if2
+    cast-sum
     returns-2
-    sub-room
     count-requires
+    sub-room
     returns-3
     returns-4)

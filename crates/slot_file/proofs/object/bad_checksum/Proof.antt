@@ -56,8 +56,8 @@ part-object-sum-end c =
 object-sum-requires : tie.Need-object-sum-requires
 object-sum-requires c κs = search needs
 
-cast-result : tie.Need-cast-result
-cast-result c = search needs
+cast-right : tie.Need-cast-right
+cast-right c = search needs
 
 returns : tie.Need-returns
 unfolding storedAt badChecksum
@@ -83,5 +83,5 @@ bad-checksum-spec =
     part-object-sum-start
     part-object-sum-end
     object-sum-requires
-    cast-result
+    cast-right
     returns)
