@@ -1,6 +1,5 @@
 // The file of a batch, straight into the heap: objects and trailer by walks over the operations that count, then the label.
 // Each writer makes as many stores of the file's run as `left` reaches, and answers how many are left.
-use batch::Cursor;
 use batch::Operation;
 use batch::Step;
 use disk_location::RelativeDiskLocation;
