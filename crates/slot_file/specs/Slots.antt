@@ -1,0 +1,61 @@
+-- What a slot shows, as the code answers it.
+use mathlib.Core.Path.{_≡_, refl, ap, _∙_}
+use mathlib.Core.Bool.{true, false, not}
+use mathlib.Core.List.{List, [], _∷_, _++_}
+use Prim.Native.Nat.{ℕ, _+_, _-_, _≤_}
+use native.Mathlib.Omega.{arith}
+use lib.Dec.{eqb}
+use lib.ListN.{length, take, drop}
+use lib.Seq.{take-add, drop-at, length-take-le}
+use Rattle.rules.specs.declared.Record.{Record}
+use Rattle.rules.specs.declared.Refusal.the-variants.{EntryPosition, PresentCount}
+use Rattle.rules.specs.declared.Refusal.{Refusal}
+use Rattle.rules.specs.declared.Answer.the-variants.{Done, Refused}
+use Rattle.rules.specs.Refusal.{Test, _gives_, decide, decide-append, clear-when}
+use Rattle.numbers.specs.Choice.{pick}
+use Rattle.rules.specs.Trailer.{trailerTests, entriesIn, countIn}
+use Rattle.rules.specs.SlotFile.{View, empty, damaged, holds}
+use Rattle.trailer.specs.Entries.{someOver, entries-count, clear-fits}
+use Rattle.slot_file.specs.declared.SlotAnswer.{SlotAnswer}
+use Rattle.slot_file.specs.declared.SlotAnswer.the-variants.{Empty, Damaged, Holds}
+
+-- a view's answer: of a file the label's numbers; its entries and objects stay in the slot
+abbrev pub shownBy : View → SlotAnswer
+shownBy empty = Empty
+shownBy (damaged r) = Damaged r
+shownBy (holds f) = Holds (f .label)
+
+-- 9 to 13, of a file's trailer bytes
+unfoldable pub entryTests : Record → List ℕ → List Test
+entryTests r trailer =
+    trailerTests trailer
+    ++ (someOver (r .«trailer_offset») (entriesIn trailer) gives EntryPosition
+    ∷ not (eqb (r .«present_objects») (length (entriesIn trailer))) gives PresentCount
+    ∷ [])
+
+-- where the first tests refuse, the rest is not asked
+refused-first : (xs ys : List Test) (r : Refusal) → decide xs ≡ Refused r → decide (xs ++ ys) ≡ Refused r
+unfolding decide
+refused-first [] ys r e = absurd (let z : _≡_ {A = ℕ} 0 1 = cc in omega arith)
+refused-first (true gives q ∷ xs) ys r e = e
+refused-first (false gives q ∷ xs) ys r e = refused-first xs ys r e
+
+module _ (r : Record) (trailer : List ℕ) where
+  pub entry-refused : (n : Refusal) → decide (trailerTests trailer) ≡ Refused n → decide (entryTests r trailer) ≡ Refused n
+  unfolding entryTests
+  entry-refused n e = refused-first (trailerTests trailer) _ n e
+
+  -- 9, 10 and 11 are clear: 12 and 13 decide
+  pub entry-clear : decide (trailerTests trailer) ≡ Done
+      → decide (entryTests r trailer)
+      ≡ pick (someOver (r .«trailer_offset») (entriesIn trailer)) (Refused EntryPosition)
+      (pick (not (eqb (r .«present_objects») (countIn trailer))) (Refused PresentCount) Done)
+  unfolding entryTests decide
+  entry-clear e = decide-append (trailerTests trailer) _ (clear-when (trailerTests trailer) e) ∙ rw (entries-count trailer (clear-fits trailer e)) refl
+
+-- the file of a slot, cut at its object bytes
+pub cut-behind : (m n : ℕ) (l : List ℕ) → m ≤ n → m ≤ length l → drop m (take n l) ≡ take (n - m) (drop m l)
+cut-behind m n l h fit =
+    let whole : n ≡ m + (n - m) = omega arith in
+    let parts : take n l ≡ take m l ++ take (n - m) (drop m l) = ap (λ (k : ℕ). take k l) whole ∙ take-add m (n - m) l in
+    ap (drop m) parts ∙ drop-at (take m l) (take (n - m) (drop m l)) m (length-take-le m l fit)
