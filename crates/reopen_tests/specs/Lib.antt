@@ -1,0 +1,5 @@
+pub mod Types
+pub mod Labels
+pub mod Ascending
+pub mod Shown
+pub mod Overlaps
