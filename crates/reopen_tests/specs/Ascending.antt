@@ -3,7 +3,7 @@ use mathlib.Core.Path.{_≡_, refl}
 use Prim.Native.Nat.{_<_}
 use native.Mathlib.Omega.{arith}
 use borrow.Author.Tests.{ltb-true, ne-eqb}
-use Rattle.rules.specs.Base.{Bool, true, false, _&&_, _||_, List, [], _∷_, ℕ, leb, ltb, eqb, any}
+use Rattle.rules.specs.Base.{Bool, true, false, _&&_, List, [], _∷_, ℕ, leb, ltb, eqb, any}
 use Rattle.rules.specs.BaseLaws.{and-true, or-clear, All, all-map, any-clear}
 use Rattle.reopen_tests.specs.Types.{Entry}
 use Rattle.rules.specs.SlotFile.{File}

@@ -1,7 +1,7 @@
 -- The labels of the slots, and 14 on them.
-use Rattle.rules.specs.Base.{Bool, false, not, _&&_, _||_, List, [], _∷_, _++_, map, ℕ, _-_, length, replicate, any, each}
-use Rattle.reopen_tests.specs.Types.{Record, Refusal, Answer, Done, Refused}
-use Rattle.rules.specs.Refusal.{decide, after}
+use Rattle.rules.specs.Base.{Bool, false, not, _&&_, _||_, List, [], _∷_, _++_, map, _-_, length, replicate, any, each}
+use Rattle.reopen_tests.specs.Types.{Record, Answer, Done, Refused}
+use Rattle.rules.specs.Refusal.{decide}
 use Rattle.rules.specs.FileMap.{emptyRecord, isEmpty, noFiles}
 use Rattle.rules.specs.SlotFile.{View, empty, damaged, holds}
 use Rattle.rules.specs.Reopen.{viewTests, meets}
@@ -31,11 +31,14 @@ labelOf (holds f) = f .label
 unfoldable pub labelsOf : List View → List Record
 labelsOf views = map labelOf views ++ replicate (256 - length views) emptyRecord
 
--- "Per non-empty slot, ascending: 8, 9, 10, 11, 12, 13."; where they are clear, the labels
+-- an answer, with the labels where it is no refusal
+abbrev pub surveyBy : Answer → List View → Survey
+surveyBy Done views = record { answer = Done; files = record { records = labelsOf views } }
+surveyBy (Refused r) views = record { answer = Refused r; files = record { records = noFiles } }
+
+-- "Per non-empty slot, ascending: 8, 9, 10, 11, 12, 13."
 unfoldable pub surveyed : List View → Survey
-surveyed views =
-    after (decide (each viewTests views)) (λ (r : Refusal). record { answer = Refused r; files = record { records = noFiles } })
-    (record { answer = Done; files = record { records = labelsOf views } })
+surveyed views = surveyBy (decide (each viewTests views)) views
 
 -- two files whose ranges share a position
 abbrev pub clash : Record → Record → Bool

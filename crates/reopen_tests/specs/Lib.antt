@@ -3,3 +3,4 @@ pub mod Labels
 pub mod Ascending
 pub mod Shown
 pub mod Overlaps
+pub mod Tests

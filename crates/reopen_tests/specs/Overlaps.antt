@@ -1,5 +1,5 @@
 -- 14 on the labels is 14 on the files.
-use mathlib.Core.Path.{_≡_, refl, sym, ap₂, _∙_}
+use mathlib.Core.Path.{_≡_, refl, sym, ap₂}
 use mathlib.Core.Bool.{Bool, true, false, not, _&&_, _||_}
 use Rattle.rules.specs.Base.{List, [], _∷_, _++_, map, ℕ, zero, suc, _-_, length, replicate, any, each}
 use Rattle.rules.specs.BaseLaws.{All}
@@ -7,7 +7,7 @@ use Rattle.rules.specs.LabelLaws.{InBounds, lsn-some}
 use Rattle.rules.specs.FileMap.{emptyRecord, isEmpty}
 use Rattle.rules.specs.FileMapLaws.{is-empty, not-empty}
 use Rattle.rules.specs.SlotFile.{File, View, empty, damaged, holds}
-use Rattle.rules.specs.Reopen.{fileOf, filesIn, meets, overlapping}
+use Rattle.rules.specs.Reopen.{filesIn, meets, overlapping}
 use Rattle.reopen_tests.specs.Types.{Record}
 use Rattle.reopen_tests.specs.Labels.{labelOf, labelsOf, clash, overlaps}
 use Rattle.reopen_tests.specs.Shown.{Sound}

@@ -7,10 +7,10 @@ use native.Mathlib.Omega.{arith}
 use native.Mathlib.Nat.{suc-mul, not-suc-le-zero, le-of-suc-le-suc}
 use lib.ListN.{length-drop}
 use lib.Seq.{length-take-le}
-use Rattle.rules.specs.Base.{Bool, true, false, List, [], _∷_, _++_, map, ℕ, zero, suc, _+_, _-_, _*_, length, getD, take, drop, replicate, any, each}
+use Rattle.rules.specs.Base.{true, false, List, [], _∷_, _++_, map, ℕ, zero, suc, _+_, _*_, length, getD, take, drop, each}
 use Rattle.rules.specs.BaseLaws.{All}
-use Rattle.reopen_tests.specs.Types.{Record, Entry, Refusal, Answer, Done, Refused, Label, Vacant, Five, Wrong}
-use Rattle.rules.specs.Refusal.{Test, _gives_, decide, after, NoneHolds, clear-when, decide-clear, none-first, none-rest}
+use Rattle.reopen_tests.specs.Types.{Record, Refusal, Answer, Done, Refused, Label, Vacant, Five, Wrong}
+use Rattle.rules.specs.Refusal.{decide, NoneHolds, clear-when, decide-clear, none-first, none-rest}
 use Rattle.rules.specs.Trailer.{countIn, trailerTests}
 use Rattle.rules.specs.Label.{labelIn}
 use Rattle.rules.specs.LabelLaws.{InBounds, in-bounds, lsn-some}

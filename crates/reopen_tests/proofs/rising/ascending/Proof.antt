@@ -1,15 +1,13 @@
-use mathlib.Core.Path.{sym, ap, _∙_}
-use Rattle.trailer.specs.Entries.{noEntry, entries-count}
+use mathlib.Core.Path.{sym, ap, _∙_, _≡_}
+use Rattle.trailer.specs.Entries.{entries-count}
 use Rattle.rules.specs.declared.Entry.{Entry}
 use Rattle.reopen_tests.proofs.Turns.{ascending-none, ascending-start, ascending-stop, ascending-next, ascending-end}
 use lib.ListN.{drop}
 use Rattle.rules.specs.Trailer.{countIn, entriesIn}
 use Rattle.reopen_tests.specs.Ascending.{ascending, ascendingFrom}
-use Prim.Native.Nat.{ℕ, _+_, _≤_, _<_, _-_}
-use mathlib.Core.Path.{_≡_}
+use Prim.Native.Nat.{ℕ, _+_, _≤_, _-_}
 use native.Mathlib.Omega.{arith}
 use borrow.Author.Needs.{needs}
-use lib.ListN.{length, getD, set, length-set}
 use Rattle.reopen_tests.proofs.rising.ascending.Statement.{statement}
 use Rattle.reopen_tests.proofs.rising.ascending.Tie as tie
 

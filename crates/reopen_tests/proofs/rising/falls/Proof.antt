@@ -1,11 +1,6 @@
 use mathlib.Core.Path.{sym, _∙_}
 use Rattle.rules.specs.Trailer.{entriesIn}
 use Rattle.reopen_tests.specs.Ascending.{ascending-rises}
-use Prim.Native.Nat.{ℕ, _+_, _≤_, _<_, _-_}
-use mathlib.Core.Path.{_≡_}
-use native.Mathlib.Omega.{arith}
-use borrow.Author.Needs.{needs}
-use lib.ListN.{length, getD, set, length-set}
 use borrow.Author.Needs.{needs}
 use Rattle.reopen_tests.proofs.rising.falls.Statement.{statement}
 use Rattle.reopen_tests.proofs.rising.falls.Tie as tie

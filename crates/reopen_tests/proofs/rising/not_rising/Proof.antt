@@ -1,5 +1,5 @@
-use mathlib.Core.Path.{sym, refl, _∙_}
-use Prim.Native.Nat.{zero-le}
+use mathlib.Core.Path.{sym, refl, _∙_, _≡_}
+use Prim.Native.Nat.{zero-le, _≤_, _-_}
 use lib.ListN.{drop}
 use Rattle.rules.specs.Base.{any}
 use Rattle.rules.specs.SlotFile.{viewsIn}
@@ -7,12 +7,9 @@ use Rattle.rules.specs.SlotLaws.{slots-apart, views-length}
 use Rattle.rules.specs.Reopen.{filesIn}
 use Rattle.reopen_tests.specs.Ascending.{fileFalls}
 use Rattle.reopen_tests.specs.Shown.{shown-at}
-use Rattle.reopen_tests.proofs.Turns.{mapped-length, slot-here, slot-later, slot-end, slot-read}
-use Prim.Native.Nat.{ℕ, _+_, _≤_, _<_, _-_}
-use mathlib.Core.Path.{_≡_}
+use Rattle.reopen_tests.proofs.Turns.{slot-here, slot-later, slot-end, slot-read}
 use native.Mathlib.Omega.{arith}
 use borrow.Author.Needs.{needs}
-use lib.ListN.{length, getD, set, length-set}
 use Rattle.reopen_tests.proofs.rising.not_rising.Statement.{statement}
 use Rattle.reopen_tests.proofs.rising.not_rising.Tie as tie
 

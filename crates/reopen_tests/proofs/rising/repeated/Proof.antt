@@ -1,17 +1,14 @@
-use mathlib.Core.Path.{sym, ap, _∙_}
-use Rattle.trailer.specs.Entries.{entries-count}
+use mathlib.Core.Path.{sym, ap, _∙_, _≡_}
+use Rattle.trailer.specs.Entries.{entries-count, noEntry}
 use Rattle.rules.specs.declared.Entry.{Entry}
 use Rattle.reopen_tests.proofs.Turns.{any-here, any-later, any-end}
-use lib.ListN.{drop}
+use lib.ListN.{drop, getD}
 use Rattle.rules.specs.Base.{any}
 use Rattle.rules.specs.Trailer.{countIn, entriesIn}
 use Rattle.reopen_tests.specs.Ascending.{repeats}
-use Rattle.trailer.specs.Entries.{noEntry}
-use Prim.Native.Nat.{ℕ, _+_, _≤_, _<_, _-_}
-use mathlib.Core.Path.{_≡_}
+use Prim.Native.Nat.{_+_, _≤_, _-_}
 use native.Mathlib.Omega.{arith}
 use borrow.Author.Needs.{needs}
-use lib.ListN.{length, getD, set, length-set}
 use Rattle.reopen_tests.proofs.rising.repeated.Statement.{statement}
 use Rattle.reopen_tests.proofs.rising.repeated.Tie as tie
 

@@ -1,11 +1,6 @@
 use mathlib.Core.Path.{refl, ap₂}
 use lib.Dec.{leb}
 use borrow.Author.Tests.{eq-eqb, ne-eqb}
-use Prim.Native.Nat.{ℕ, _+_, _≤_, _<_, _-_}
-use mathlib.Core.Path.{_≡_}
-use native.Mathlib.Omega.{arith}
-use borrow.Author.Needs.{needs}
-use lib.ListN.{length, getD, set, length-set}
 use borrow.Author.Needs.{needs}
 use Rattle.reopen_tests.proofs.rising.repeats.Statement.{statement}
 use Rattle.reopen_tests.proofs.rising.repeats.Tie as tie

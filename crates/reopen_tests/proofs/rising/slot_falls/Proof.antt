@@ -6,11 +6,7 @@ use Rattle.rules.specs.Reopen.{notRising}
 use Rattle.reopen_tests.specs.Ascending.{fileFalls}
 use Rattle.reopen_tests.specs.Shown.{fileSeen, shown-empty, shown-file, file-of}
 use Rattle.reopen_tests.proofs.Turns.{any-one}
-use Prim.Native.Nat.{ℕ, _+_, _≤_, _<_, _-_}
-use mathlib.Core.Path.{_≡_}
-use native.Mathlib.Omega.{arith}
-use borrow.Author.Needs.{needs}
-use lib.ListN.{length, getD, set, length-set}
+use Prim.Native.Nat.{ℕ}
 use borrow.Author.Needs.{needs}
 use Rattle.reopen_tests.proofs.rising.slot_falls.Statement.{statement}
 use Rattle.reopen_tests.proofs.rising.slot_falls.Tie as tie

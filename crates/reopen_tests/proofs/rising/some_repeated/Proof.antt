@@ -1,15 +1,12 @@
-use mathlib.Core.Path.{sym, refl, _∙_}
-use Prim.Native.Nat.{zero-le}
+use mathlib.Core.Path.{sym, refl, _∙_, _≡_}
+use Prim.Native.Nat.{zero-le, _≤_, _-_}
 use lib.ListN.{drop}
 use Rattle.rules.specs.Trailer.{countIn, entriesIn}
 use Rattle.rules.specs.Reopen.{notRising}
 use Rattle.trailer.specs.Entries.{entries-count}
 use Rattle.reopen_tests.proofs.Turns.{rising-here, rising-later, rising-end}
-use Prim.Native.Nat.{ℕ, _+_, _≤_, _<_, _-_}
-use mathlib.Core.Path.{_≡_}
 use native.Mathlib.Omega.{arith}
 use borrow.Author.Needs.{needs}
-use lib.ListN.{length, getD, set, length-set}
 use Rattle.reopen_tests.proofs.rising.some_repeated.Statement.{statement}
 use Rattle.reopen_tests.proofs.rising.some_repeated.Tie as tie
 

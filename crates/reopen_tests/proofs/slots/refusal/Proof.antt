@@ -1,9 +1,4 @@
 use mathlib.Core.Path.{refl}
-use Prim.Native.Nat.{ℕ, _+_, _≤_, _<_, _-_}
-use mathlib.Core.Path.{_≡_}
-use native.Mathlib.Omega.{arith}
-use borrow.Author.Needs.{needs}
-use lib.ListN.{length, getD, set, length-set}
 use borrow.Author.Needs.{needs}
 use Rattle.reopen_tests.proofs.slots.refusal.Statement.{statement}
 use Rattle.reopen_tests.proofs.slots.refusal.Tie as tie

@@ -1,12 +1,8 @@
-use mathlib.Core.Path.{ap}
-use Prim.Native.Nat.{_*_}
+use mathlib.Core.Path.{ap, _≡_}
+use Prim.Native.Nat.{_*_, ℕ, _+_, _-_}
 use lib.ListN.{take, drop}
 use Rattle.rules.specs.SlotFile.{slotBytes}
-use Prim.Native.Nat.{ℕ, _+_, _≤_, _<_, _-_}
-use mathlib.Core.Path.{_≡_}
 use native.Mathlib.Omega.{arith}
-use borrow.Author.Needs.{needs}
-use lib.ListN.{length, getD, set, length-set}
 use borrow.Author.Needs.{needs}
 use Rattle.reopen_tests.proofs.slots.slot_at.Statement.{statement}
 use Rattle.reopen_tests.proofs.slots.slot_at.Tie as tie

@@ -1,20 +1,16 @@
-use mathlib.Core.Path.{sym, ap, refl, _∙_}
-use Prim.Native.Nat.{zero-le}
+use mathlib.Core.Path.{sym, ap, refl, _∙_, _≡_}
+use Prim.Native.Nat.{zero-le, _≤_, _-_}
 use Rattle.rules.specs.SlotLaws.{slots-apart, views-length}
-use Rattle.reopen_tests.proofs.SurveyTurns.{labels-start, labels-next, labels-end, survey-here, survey-later, survey-end, said-refusal, said-label, surveyed-refused, surveyed-clear}
-use lib.ListN.{drop}
+use Rattle.reopen_tests.proofs.SurveyTurns.{labels-start, labels-next, labels-end, survey-here, survey-later, survey-end, said-refusal, said-label, surveyed-refused, surveyed-clear, labelsTo}
+use lib.ListN.{drop, set}
 use mathlib.Core.List.{List}
 use Rattle.rules.specs.declared.Record.{Record}
 use Rattle.rules.specs.Base.{each}
 use Rattle.rules.specs.Refusal.{decide}
 use Rattle.rules.specs.SlotFile.{viewsIn}
 use Rattle.rules.specs.Reopen.{viewTests}
-use Rattle.reopen_tests.proofs.SurveyTurns.{labelsTo}
-use Prim.Native.Nat.{ℕ, _+_, _≤_, _<_, _-_}
-use mathlib.Core.Path.{_≡_}
 use native.Mathlib.Omega.{arith}
 use borrow.Author.Needs.{needs}
-use lib.ListN.{length, getD, set, length-set}
 use Rattle.reopen_tests.proofs.slots.survey.Statement.{statement}
 use Rattle.reopen_tests.proofs.slots.survey.Tie as tie
 
@@ -46,8 +42,8 @@ refusal-requires c κs = search needs
 enum-known-r : tie.Need-enum-known-r Inv-loop μ-loop
 enum-known-r c = search needs
 
-no-files-requires-2 : tie.Need-no-files-requires-2 Inv-loop μ-loop
-no-files-requires-2 c κs = search needs
+refused-requires : tie.Need-refused-requires Inv-loop μ-loop
+refused-requires c κs = search needs
 
 returns : tie.Need-returns Inv-loop μ-loop
 returns c =
@@ -57,7 +53,7 @@ returns c =
     let low = c .before .before .before .before .before .before .before .loop-test .taken in
     let said = sym (said-refusal (a .n) (a .size) (a .heap .now) k low _ (c .before .before .before .before .before .before .slot-at .ensures) _ (c .before .before .before .before .before .check .ensures)) ∙ sym (c .before .before .before .before .refusal .ensures) ∙ c .before .before .r .given .1 in
     let all = sym (c .before .before .before .before .before .before .before .before .loop .inv .2) ∙ survey-here views k (omega (arith, views-length (a .n) (a .size) (a .heap .now))) _ said in
-    surveyed-refused views _ _ all (c .no-files2 .ensures)
+    c .refused .ensures ∙ surveyed-refused views _ all
 
 enum-told : tie.Need-enum-told Inv-loop μ-loop
 enum-told c = search needs
@@ -65,8 +61,8 @@ enum-told c = search needs
 label-requires : tie.Need-label-requires Inv-loop μ-loop
 label-requires c κs = search needs
 
-mul-t15 : tie.Need-mul-t15 Inv-loop μ-loop
-mul-t15 c = search needs
+mul-t13 : tie.Need-mul-t13 Inv-loop μ-loop
+mul-t13 c = search needs
 
 element-set-from-files : tie.Need-element-set-from-files Inv-loop μ-loop
 element-set-from-files c = search needs
@@ -108,11 +104,11 @@ survey-spec =
     check-requires
     refusal-requires
     enum-known-r
-    no-files-requires-2
+    refused-requires
     returns
     enum-told
     label-requires
-    mul-t15
+    mul-t13
     element-set-from-files
     add-k
     loop-less
