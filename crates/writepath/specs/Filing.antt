@@ -21,11 +21,10 @@ use Rattle.rules.specs.Install.{installed, installedAll, newSlot}
 use Rattle.rules.specs.Write.{writeTests, written, writeCall}
 use Rattle.rules.specs.WriteLaws.{Accepted, write-accepted}
 use Rattle.rules.specs.World.{World, leaving, answerGiven, accepted, unchanged}
-use Rattle.location_table.specs.Tables.{table}
 use Rattle.batch.specs.Reading.{opsIn}
 use Rattle.batch.specs.ReadingLaws.{ops-of}
 use Rattle.batch_file.specs.Steps.{Sized}
-use Rattle.writepath.specs.Plans.{filed, planOf}
+use Rattle.writepath.specs.Plans.{filed, planOf, plan-refused, plan-done}
 use Rattle.writepath.specs.declared.plan.Plan.{Plan}
 use Rattle.writepath.specs.declared.plan.Plan.the-variants.{Refused, Nothing, File}
 
@@ -42,14 +41,7 @@ pub record Filed (s : Settings) (t : State) (heap : List ℕ) (b : Buffers) (byt
 -- ---- what a plan says of the call
 -- by what was decided
 module _ (w : World) (bytes : List ℕ) where
-  plan-refused : (r : Refusal) → decide (writeTests w bytes) ≡ answer.Refused r → planOf w bytes ≡ Refused r
-  unfolding planOf
-  plan-refused r e = after-refused (decide (writeTests w bytes)) r Refused _ e
-
-  plan-done : decide (writeTests w bytes) ≡ answer.Done → planOf w bytes ≡ filed (newSlot w) (settled (opsOf (batchIn bytes)))
-  unfolding planOf
-  plan-done e = after-done (decide (writeTests w bytes)) Refused _ e
-
+  -- a batch that is not refused
   filed-kept : (slot : ℕ) (ops : List Op) (r : Refusal) → filed slot ops ≡ Refused r → ⊥
   filed-kept slot [] r e = let z : _≡_ {A = ℕ} 0 1 = cc in omega arith
   filed-kept slot (o ∷ os) r e = let z : _≡_ {A = ℕ} 0 1 = cc in omega arith
@@ -58,17 +50,19 @@ module _ (w : World) (bytes : List ℕ) where
   pub call-refused : (r : Refusal) → planOf w bytes ≡ Refused r → leaving (answerGiven (answer.Refused r)) w ≡ writeCall w bytes
   unfolding writeCall
   call-refused r e = ⊎-elim
-      (λ d. absurd (filed-kept (newSlot w) (settled (opsOf (batchIn bytes))) r (sym (plan-done d) ∙ e)))
-      (λ d. let same : d .0 ≡ r = refusal-one (sym (plan-refused (d .0) (d .1)) ∙ e) in
+      (λ d. absurd (filed-kept (newSlot w) (settled (opsOf (batchIn bytes))) r (sym (plan-done w bytes d) ∙ e)))
+      (λ d. let same : d .0 ≡ r = refusal-one (sym (plan-refused w bytes (d .0) (d .1)) ∙ e) in
       sym (after-refused (decide (writeTests w bytes)) r (unchanged w) _ (d .1 ∙ ap answer.Refused same)))
       (done-or-refused (decide (writeTests w bytes)))
     where
       refusal-one : {q r : Refusal} → Refused q ≡ Refused r → q ≡ r
       refusal-one e = cc
 
+  -- any other plan: no refusal was given
   accepted-when : (p : Plan) → planOf w bytes ≡ p → ((r : Refusal) → p ≡ Refused r → ⊥) → decide (writeTests w bytes) ≡ answer.Done
-  accepted-when p e n = ⊎-elim (λ d. d) (λ d. absurd (n (d .0) (sym e ∙ plan-refused (d .0) (d .1)))) (done-or-refused (decide (writeTests w bytes)))
+  accepted-when p e n = ⊎-elim (λ d. d) (λ d. absurd (n (d .0) (sym e ∙ plan-refused w bytes (d .0) (d .1)))) (done-or-refused (decide (writeTests w bytes)))
 
+  -- so the call does what it says
   call-done : decide (writeTests w bytes) ≡ answer.Done → leaving (accepted []) (written w (settled (opsOf (batchIn bytes)))) ≡ writeCall w bytes
   unfolding writeCall
   call-done d = sym (after-done (decide (writeTests w bytes)) (unchanged w) _ d)
@@ -78,24 +72,28 @@ module _ (w : World) (bytes : List ℕ) where
   unfolding written installedAll
   call-kept e =
       let d = accepted-when Nothing e (λ r q. let z : _≡_ {A = ℕ} 0 1 = cc in omega arith) in
-      ap (leaving (accepted [])) (sym (none (settled (opsOf (batchIn bytes))) (sym (plan-done d) ∙ e))) ∙ call-done d
+      ap (leaving (accepted [])) (sym (none (settled (opsOf (batchIn bytes))) (sym (plan-done w bytes d) ∙ e))) ∙ call-done d
     where
       none : (ops : List Op) → filed (newSlot w) ops ≡ Nothing → written w ops ≡ w
       none [] e = refl
       none (o ∷ os) e = absurd (let z : _≡_ {A = ℕ} 0 1 = cc in omega arith)
 
   module _ (slot count total : ℕ) (e : planOf w bytes ≡ File slot count total) where
+    -- no refusal was given
     done : decide (writeTests w bytes) ≡ answer.Done
     done = accepted-when (File slot count total) e (λ r q. let z : _≡_ {A = ℕ} 0 1 = cc in omega arith)
 
+    -- so this is known
     knows : Accepted w bytes
     knows = write-accepted w bytes done
 
+    -- of the operations of the walk
     same : settled (opsOf (batchIn bytes)) ≡ settled (opsIn bytes)
     same = ap settled (ops-of bytes (knows .parsed))
 
+    -- which say the plan
     shown : filed (newSlot w) (settled (opsIn bytes)) ≡ File slot count total
-    shown = ap (filed (newSlot w)) (sym same) ∙ sym (plan-done done) ∙ e
+    shown = ap (filed (newSlot w)) (sym same) ∙ sym (plan-done w bytes done) ∙ e
 
     -- a file
     pub call-written : (after : World) → after ≡ installed (2 ^ 62) 0 w (settled (opsIn bytes)) → leaving (answerGiven answer.Done) after ≡ writeCall w bytes
@@ -106,6 +104,7 @@ module _ (w : World) (bytes : List ℕ) where
         one [] q = absurd (let z : _≡_ {A = ℕ} 0 1 = cc in omega arith)
         one (o ∷ os) q = refl
 
+    -- its numbers
     numbers : (ops : List Op) → filed (newSlot w) ops ≡ File slot count total → (slot ≡ newSlot w) × (count ≡ length ops) × (total ≡ length (objectsOf ops)) × (0 < length ops)
     numbers [] q = absurd (let z : _≡_ {A = ℕ} 0 1 = cc in omega arith)
     numbers (o ∷ os) q = (cc, cc, cc, omega arith)

@@ -5,12 +5,12 @@ use Prim.Native.Nat.{_≤_, _<_}
 use native.Mathlib.Omega.{arith}
 use borrow.Author.Tests.{lt-ltb, le-ltb}
 use Rattle.numbers.specs.GroupLaws.{either-way}
-use Rattle.rules.specs.Base.{Bool, true, false, _||_, List, [], _∷_, _++_, ℕ, _+_, _^_, length, getD, ltb, any, sum}
+use Rattle.rules.specs.Base.{Bool, true, false, _||_, List, [], _∷_, _++_, ℕ, _+_, _^_, length, getD, drop, ltb, any, sum}
 use Rattle.rules.specs.declared.Refusal.{Refusal}
 use Rattle.rules.specs.declared.Refusal.the-variants.{Limits, SlotRoom, NoEmptySlot, TableRoom, PositionsSpent}
 use Rattle.rules.specs.declared.Record.{Record}
 use Rattle.rules.specs.declared.Answer.the-variants as answer
-use Rattle.rules.specs.Refusal.{Test, _gives_, decide, NoneHolds, clear-when, decide-none, decide-first, decide-next, decide-early, decide-late, after-refused, after-done}
+use Rattle.rules.specs.Refusal.{Test, _gives_, decide, NoneHolds, clear-when, decide-none, decide-first, decide-next, decide-early, decide-late}
 use Rattle.rules.specs.Ops.{Op, objectsOf, entriesOf, fileBytes, settled}
 use Rattle.rules.specs.OpsLaws.{objects-nil, file-length}
 use Rattle.rules.specs.Batch.{batchIn, opsOf}
@@ -29,7 +29,7 @@ use Rattle.batch.specs.ReadingLaws.{ops-of}
 use Rattle.batch.specs.Sizes.{sizesOf}
 use Rattle.batch.specs.SizeLaws.{fits-told, large-told}
 use Rattle.batch.specs.declared.Room.the-variants.{Fits, TooLarge}
-use Rattle.writepath.specs.Plans.{filed, planOf, batchTests}
+use Rattle.writepath.specs.Plans.{filed, planOf, batchTests, plan-refused, plan-done}
 use Rattle.writepath.specs.declared.plan.Plan.the-variants.{Refused, Nothing, File}
 
 -- 4 to 7 for the one file of a batch that is not empty
@@ -41,16 +41,18 @@ fileTests w ops =
     ∷ ltb (2 ^ 62) (w .state .«next_position» + (length (objectsOf ops) + 1)) gives PositionsSpent
     ∷ []
 
--- what 4 to 7 are for a batch that passed 1 to 3
+-- 4 to 7 for a batch that passed 1 to 3
 lateTests : World → List Op → List Test
 lateTests w ops =
     roomTests (w .settings .«slot_bytes») (emptyOf w) (newFiles ops)
     ++ (tooManyIds (capacityOf (w .table)) (mappings w) ops gives TableRoom ∷ positionTests (w .state .«next_position») (newFiles ops))
 
+-- one file is all files
 or-none : (b : Bool) → (b || false) ≡ b
 or-none true = refl
 or-none false = refl
 
+-- 4 to 7 of a batch that is not empty
 late-some : (w : World) (ops : List Op) → 0 < length ops → decide (lateTests w ops) ≡ decide (fileTests w ops)
 unfolding lateTests roomTests positionTests any sum
 late-some w [] h = absurd (omega arith)
@@ -59,14 +61,16 @@ late-some w (o ∷ os) h =
     (or-none (ltb (w .settings .«slot_bytes») (64 + length (fileBytes (o ∷ os)))))
     (omega arith)
 
+-- and of an empty one: a table in form has no more ids than entries
 late-none : (w : World) → decide (lateTests w []) ≡ answer.Done
 unfolding lateTests roomTests positionTests any tooManyIds entriesOf insertAll decide
 late-none w = rw (le-ltb (emptyOf w) 0 (omega arith), le-ltb (capacityOf (w .table)) (length (mappings w)) (used-length (w .table)))
 
--- slots that are empty, and the lowest of them
+-- the lowest empty slot is none of the heap's: there is none
 free-none : (n : ℕ) (rs : List Record) → n ≤ lowestEmpty n rs → length (emptySlots n rs) < 1
 free-none n rs h = ⊎-elim (λ l. absurd (let w = lowest-empty n rs l in omega (arith, w .place))) (λ l. omega arith) (either-way 0 (length (emptySlots n rs)))
 
+-- the lowest is one of the heap's: there is one
 free-some : (n : ℕ) (rs : List Record) → lowestEmpty n rs < n → 1 ≤ length (emptySlots n rs)
 unfolding lowestEmpty
 free-some n rs h = go (emptySlots n rs) h
@@ -80,10 +84,12 @@ large-some : (ops : List Op) → 76 < 64 + length (fileBytes ops) → 0 < length
 large-some [] h = absurd (omega (arith, file-length [], ap length objects-nil))
 large-some (o ∷ os) h = omega arith
 
+-- a batch that is not empty makes a file
 filed-some : (slot : ℕ) (ops : List Op) → 0 < length ops → filed slot ops ≡ File slot (length ops) (length (objectsOf ops))
 filed-some slot [] h = absurd (omega arith)
 filed-some slot (o ∷ os) h = refl
 
+-- an empty one makes none
 filed-none : (slot : ℕ) (ops : List Op) → length ops ≡ 0 → (ops ≡ []) × (filed slot ops ≡ Nothing)
 filed-none slot [] h = (refl, refl)
 filed-none slot (o ∷ os) h = absurd (omega arith)
@@ -91,8 +97,7 @@ filed-none slot (o ∷ os) h = absurd (omega arith)
 module _ (w : World) (bytes : List ℕ) where
   -- a refusal that is given
   given : (r : Refusal) → decide (writeTests w bytes) ≡ answer.Refused r → Refused r ≡ planOf w bytes
-  unfolding planOf
-  given r e = sym (after-refused (decide (writeTests w bytes)) r Refused _ e)
+  given r e = sym (plan-refused w bytes r e)
 
   -- 1
   pub plan-1 : refused1 w ≡ true → Refused Limits ≡ planOf w bytes
@@ -100,6 +105,7 @@ module _ (w : World) (bytes : List ℕ) where
   plan-1 e = given Limits (decide-first (refused1 w) Limits _ e)
 
   module _ (first : refused1 w ≡ false) where
+    -- 1 does not hold: 2 to 7 are left
     rest : decide (writeTests w bytes) ≡ decide (batchTests (w .settings) bytes ++ lateTests w (settled (opsOf (batchIn bytes))))
     unfolding writeTests lateTests
     rest = decide-next (refused1 w) Limits _ first
@@ -109,19 +115,18 @@ module _ (w : World) (bytes : List ℕ) where
     plan-batch r e = given r (rest ∙ decide-early (batchTests (w .settings) bytes) _ r e)
 
     module _ (second : decide (batchTests (w .settings) bytes) ≡ answer.Done) where
-      ops : List Op
-      ops = settled (opsIn bytes)
-
+      -- 2 does not hold: the operations are those of the walk
       same : settled (opsOf (batchIn bytes)) ≡ settled (opsIn bytes)
       unfolding NoneHolds
       same = ap settled (ops-of bytes (clear-when (batchTests (w .settings) bytes) second .0))
 
+      -- nor does 3: 4 to 7 are left
       late : decide (writeTests w bytes) ≡ decide (lateTests w (settled (opsIn bytes)))
       late = rest ∙ decide-late (batchTests (w .settings) bytes) _ second ∙ ap (λ (os : List Op). decide (lateTests w os)) same
 
+      -- none is given
       done : decide (writeTests w bytes) ≡ answer.Done → filed (newSlot w) (settled (opsIn bytes)) ≡ planOf w bytes
-      unfolding planOf
-      done e = sym (after-done (decide (writeTests w bytes)) Refused _ e ∙ ap (filed (newSlot w)) same)
+      done e = sym (plan-done w bytes e ∙ ap (filed (newSlot w)) same)
 
       -- "An empty batch succeeds and changes nothing."
       pub plan-none : length (settled (opsIn bytes)) ≡ 0 → Nothing ≡ planOf w bytes
@@ -138,10 +143,12 @@ module _ (w : World) (bytes : List ℕ) where
           given SlotRoom (late ∙ late-some w (settled (opsIn bytes)) some ∙ decide-first _ SlotRoom _ (lt-ltb _ _ over))
 
       module _ (count total : ℕ) (fit : sizesOf (w .settings .«slot_bytes») (settled (opsIn bytes)) ≡ Fits count total) (some : 0 < count) where
+        -- what the sizes tell
         told : (64 + length (fileBytes (settled (opsIn bytes))) ≤ w .settings .«slot_bytes») × (count ≡ length (settled (opsIn bytes))) × (total ≡ length (objectsOf (settled (opsIn bytes))))
         told = fits-told _ (settled (opsIn bytes)) count total fit
 
-        behind-4 : decide (writeTests w bytes) ≡ decide (ltb (emptyOf w) 1 gives NoEmptySlot ∷ tooManyIds (capacityOf (w .table)) (mappings w) (settled (opsIn bytes)) gives TableRoom ∷ ltb (2 ^ 62) (w .state .«next_position» + (length (objectsOf (settled (opsIn bytes))) + 1)) gives PositionsSpent ∷ [])
+        -- 4 does not hold: 5 to 7 are left
+        behind-4 : decide (writeTests w bytes) ≡ decide (drop 1 (fileTests w (settled (opsIn bytes))))
         behind-4 = late ∙ late-some w (settled (opsIn bytes)) (omega (arith, told .1)) ∙ decide-next _ SlotRoom _ (le-ltb _ _ (told .0))
 
         -- 5
@@ -149,7 +156,8 @@ module _ (w : World) (bytes : List ℕ) where
         plan-5 h = given NoEmptySlot (behind-4 ∙ decide-first _ NoEmptySlot _ (lt-ltb _ _ (free-none (slotsOf w) (recordsOf w) h)))
 
         module _ (free : newSlot w < slotsOf w) where
-          behind-5 : decide (writeTests w bytes) ≡ decide (tooManyIds (capacityOf (w .table)) (mappings w) (settled (opsIn bytes)) gives TableRoom ∷ ltb (2 ^ 62) (w .state .«next_position» + (length (objectsOf (settled (opsIn bytes))) + 1)) gives PositionsSpent ∷ [])
+          -- nor does 5
+          behind-5 : decide (writeTests w bytes) ≡ decide (drop 2 (fileTests w (settled (opsIn bytes))))
           behind-5 = behind-4 ∙ decide-next _ NoEmptySlot _ (le-ltb _ _ (free-some (slotsOf w) (recordsOf w) free))
 
           -- 6
@@ -157,6 +165,7 @@ module _ (w : World) (bytes : List ℕ) where
           plan-6 e = given TableRoom (behind-5 ∙ decide-first _ TableRoom _ e)
 
           module _ (room : tooManyIds (capacityOf (w .table)) (mappings w) (settled (opsIn bytes)) ≡ false) where
+            -- nor does 6
             behind-6 : decide (writeTests w bytes) ≡ decide (ltb (2 ^ 62) (w .state .«next_position» + (total + 1)) gives PositionsSpent ∷ [])
             behind-6 =
                 behind-5 ∙ decide-next _ TableRoom _ room

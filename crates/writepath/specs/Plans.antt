@@ -1,11 +1,12 @@
 -- What a batch comes to: the refusal that is given, nothing, or a file.
 use mathlib.Core.Path.{_≡_}
-use Rattle.rules.specs.Base.{false, List, [], _∷_, ℕ, length, any}
+use Rattle.rules.specs.Base.{false, List, [], _∷_, ℕ, length}
+use Rattle.rules.specs.declared.Refusal.{Refusal}
 use Rattle.rules.specs.declared.Refusal.the-variants.{BatchBytes, ObjectSize}
 use Rattle.rules.specs.declared.Settings.{Settings}
 use Rattle.rules.specs.declared.State.{State}
 use Rattle.rules.specs.declared.Answer.the-variants as answer
-use Rattle.rules.specs.Refusal.{Test, _gives_, decide, after}
+use Rattle.rules.specs.Refusal.{Test, _gives_, decide, after, after-refused, after-done}
 use Rattle.rules.specs.Ops.{Op, objectsOf, settled}
 use Rattle.rules.specs.Batch.{batchIn, isMalformed, opsOf, anyTooLarge}
 use Rattle.rules.specs.Layout.{Buffers}
@@ -33,3 +34,13 @@ batchTests s bytes = isMalformed (batchIn bytes) gives BatchBytes ∷ anyTooLarg
 pub record Parsed (s : Settings) (t : State) (heap : List ℕ) (b : Buffers) (bytes : List ℕ) : Type 0 where
   pub passed : conditionOne s (length heap) b t ≡ false
   pub parsed : decide (batchTests s bytes) ≡ answer.Done
+
+-- a refusal that is given is the plan
+pub plan-refused : (w : World) (bytes : List ℕ) (r : Refusal) → decide (writeTests w bytes) ≡ answer.Refused r → planOf w bytes ≡ Refused r
+unfolding planOf
+plan-refused w bytes r e = after-refused (decide (writeTests w bytes)) r Refused _ e
+
+-- where none is given, the operations say
+pub plan-done : (w : World) (bytes : List ℕ) → decide (writeTests w bytes) ≡ answer.Done → planOf w bytes ≡ filed (newSlot w) (settled (opsOf (batchIn bytes)))
+unfolding planOf
+plan-done w bytes e = after-done (decide (writeTests w bytes)) Refused _ e

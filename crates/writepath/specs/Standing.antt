@@ -18,7 +18,7 @@ use Rattle.rules.specs.OpsLaws.{objects-length, entries-of-length, entries-of-r
 use Rattle.rules.specs.SettledLaws.{settled-rising}
 use Rattle.rules.specs.Label.{labelBytes}
 use Rattle.rules.specs.LabelLaws.{label-length}
-use Rattle.rules.specs.Trailer.{absolute, countIn, entriesIn, trailerBytes}
+use Rattle.rules.specs.Trailer.{countIn, entriesIn, trailerBytes}
 use Rattle.rules.specs.TrailerLaws.{trailer-length, trailer-back, count-back}
 use Rattle.rules.specs.Table.{insertAll}
 use Rattle.rules.specs.TableLaws.{Rising, rise, rise-end}
