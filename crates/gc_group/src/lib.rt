@@ -1,0 +1,4 @@
+// One group of maintenance (`src/gc.rs`): which files it has, their checks, and what is found in them.
+
+pub mod check;
+pub mod plan;
