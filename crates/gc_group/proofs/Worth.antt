@@ -1,5 +1,5 @@
 -- "live × 100 / max(present, 1) .. strictly below the percentage, or both ..", test by test.
-use mathlib.Core.Path.{_≡_, refl, sym, ap, _∙_}
+use mathlib.Core.Path.{_≡_, sym}
 use mathlib.Core.Logic.{inl}
 use Prim.Native.Nat.{_≤_, _<_}
 use borrow.Author.Tests.{le-ltb, le-leb, lt-leb}

@@ -7,7 +7,7 @@ use native.Mathlib.Omega.{arith}
 use borrow.Author.Tests.{lt-ltb, le-ltb, le-leb, lt-leb, leb-false, ltb-false}
 use lib.ListN.{length-drop}
 use Rattle.numbers.specs.GroupLaws.{either-way}
-use Rattle.rules.specs.Base.{List, [], _∷_, _++_, ℕ, suc, _+_, _*_, _^_, length, getD, drop, leb, ltb, pick, keep, each}
+use Rattle.rules.specs.Base.{List, [], _∷_, _++_, ℕ, _+_, _^_, length, drop, pick, keep, each}
 use Rattle.rules.specs.declared.Entry.{Entry}
 use Rattle.rules.specs.declared.Record.{Record}
 use Rattle.rules.specs.declared.Refusal.{Refusal}
@@ -48,7 +48,7 @@ unfolding groupTests groupChecks
 group-tests w slots files = refl
 
 -- what each kept element gives
-each-keep : {A B : Type 0} (p : A → Bool) (f : A → List B) (xs : List A) → each f (keep p xs) ≡ each (λ (x : A). pick (p x) (f x) []) xs
+pub each-keep : {A B : Type 0} (p : A → Bool) (f : A → List B) (xs : List A) → each f (keep p xs) ≡ each (λ (x : A). pick (p x) (f x) []) xs
 unfolding each keep
 each-keep p f [] = refl
 each-keep p f (x ∷ xs) = go (p x) (each-keep p f xs)

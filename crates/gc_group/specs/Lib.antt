@@ -1,3 +1,6 @@
 pub mod Plan
 pub mod Source
 pub mod Checks
+pub mod Clear
+pub mod Marks
+pub mod MarkLaws

@@ -1,11 +1,12 @@
 -- What a group is read from: the slots, their records and the table; and what is known of them once refusal 1 is decided.
-use mathlib.Core.Path.{_≡_, refl, sym, ap, _∙_}
-use mathlib.Core.Bool.{Bool, true, false, true≢false}
+use mathlib.Core.Path.{_≡_, refl, _∙_}
+use mathlib.Core.Bool.{Bool, true, false}
 use mathlib.Core.Logic.{_⊎_, inl, inr, ⊎-elim}
-use Prim.Native.Nat.{_≤_, _<_, _/_, _%_, zero-le}
+use Prim.Native.Nat.{_≤_, _<_, zero-le}
 use native.Mathlib.Omega.{arith}
 use lib.Dec.{lit<}
-use lib.ListN.{List·getD-eq-default}
+use native.Mathlib.Nat.{min-le-left}
+use lib.ListN.{List·getD-eq-default, length-take}
 use Rattle.numbers.specs.GroupLaws.{either-way}
 use Rattle.disk_location.specs.Locations.{maskedOf}
 use Rattle.rules.specs.Base.{List, ℕ, _+_, _-_, _*_, _^_, length, getD, pick}
@@ -15,7 +16,7 @@ use Rattle.rules.specs.declared.Settings.{Settings}
 use Rattle.rules.specs.declared.State.{State}
 use Rattle.rules.specs.declared.Claims.{Claims}
 use Rattle.rules.specs.Layout.{Buffers}
-use Rattle.rules.specs.SlotFile.{slotBytes}
+use Rattle.rules.specs.SlotFile.{slotBytes, fileIn, objectPart}
 use Rattle.rules.specs.FileMap.{emptyRecord, isEmpty, recordAt, fileCount}
 use Rattle.rules.specs.FileMapLaws.{empty-is, empty-or-not}
 use Rattle.rules.specs.LabelLaws.{InBounds}
@@ -108,3 +109,7 @@ ready s claims heapLen b t generation w n g = record {
   files = passed-lie s heapLen b t w;
   standing = λ k e. planned-within s claims heapLen b t w k (omega arith);
 }
+
+-- a file has no more object bytes than its record says
+pub part-length : (r : Record) (slot : List ℕ) → length (objectPart r slot) ≤ r .«trailer_offset»
+part-length r slot = rw (length-take (r .«trailer_offset») (fileIn r slot)) (min-le-left (r .«trailer_offset») (length (fileIn r slot)))

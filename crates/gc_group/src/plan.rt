@@ -9,7 +9,6 @@ ghost use Prim.Native.Nat.{_<_};
 ghost use lib.ListN.{length};
 ghost use Rattle.rules.specs.Base.{larger};
 ghost use Rattle.rules.specs.SettingsLaws.{InRanges};
-ghost use Rattle.rules.specs.FileMap.{fileCount};
 ghost use Rattle.rules.specs.Maintenance.{worthIt, newGeneration, isCandidate};
 ghost use Rattle.file_map.specs.Records.{Small, Bounded};
 ghost use Rattle.gc_group.specs.Plan.{planFor, planOf, planned};

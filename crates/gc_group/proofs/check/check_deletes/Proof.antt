@@ -1,24 +1,15 @@
-use Prim.Native.Nat.{ℕ, _+_, _≤_, _<_, _-_}
-use mathlib.Core.Path.{_≡_}
+use Prim.Native.Nat.{_+_, _≤_, _<_, _-_, zero-le}
+use mathlib.Core.Path.{_≡_, refl, sym, ap, _∙_}
 use mathlib.Core.List.{_++_}
 use native.Mathlib.Omega.{arith}
 use borrow.Author.Needs.{needs}
-use lib.ListN.{length, getD, set, length-set}
+use lib.ListN.{length, getD, drop}
 use Rattle.gc_group.proofs.check.check_deletes.Statement.{statement}
 use Rattle.gc_group.proofs.check.check_deletes.Tie as tie
-use Rattle.gc_group.proofs.check.check_deletes.Reads as reads
-use Rattle.gc_group.proofs.check.check_deletes.Lts as lts
-use Rattle.gc_group.proofs.check.check_entry.Reads as check-entry-reads
-use Rattle.trailer.proofs.count.Reads as count-reads
-use Rattle.trailer.proofs.entry.Reads as entry-reads
-use mathlib.Core.Path.{refl, sym, ap, _∙_}
-use Prim.Native.Nat.{zero-le}
-use lib.ListN.{drop}
 use Rattle.rules.specs.Base.{each}
 use Rattle.rules.specs.TurnLaws.{each-next, each-end}
 use Rattle.rules.specs.declared.Entry.{Entry}
-use Rattle.rules.specs.declared.Answer.the-variants.{Refused}
-use Rattle.rules.specs.Refusal.{Test, decide, decide-none, decide-early, decide-late}
+use Rattle.rules.specs.Refusal.{decide, decide-none, decide-early, decide-late}
 use Rattle.rules.specs.Trailer.{countIn, entriesIn}
 use Rattle.trailer.specs.Entries.{noEntry, entries-count}
 use Rattle.location_table.specs.LayoutLaws.{used}
@@ -32,19 +23,15 @@ Inv-loop trailer lsn ids locations n k₀ k =
 abbrev μ-loop : tie.MeasureT-loop
 μ-loop trailer lsn ids locations n k₀ k = n - k
 
--- src/check.rt:107:9
 count-requires : tie.Need-count-requires Inv-loop μ-loop
 count-requires c κs = search needs
 
--- src/check.rt:109:5
 loop-holds : tie.Need-loop-holds Inv-loop μ-loop
 loop-holds c = (c .count .ensures, zero-le, refl)
 
--- src/check.rt:110:27
 entry-requires : tie.Need-entry-requires Inv-loop μ-loop
 entry-requires c κs = search needs
 
--- src/check.rt:110:15
 check-entry-requires : tie.Need-check-entry-requires Inv-loop μ-loop
 check-entry-requires c κs = search needs
 
@@ -63,11 +50,9 @@ looked c =
     let inside : l .k < length es = omega (arith, l .inv .0, entries-count (start .args .trailer .now) (start .pre .0), c .before .before .loop-test .taken) in
     (inside, each-next es (l .k) noEntry inside f, ap (λ (e : Entry). decide (f e)) (sym (c .before .entry .ensures)) ∙ sym (c .check-entry .ensures), l .inv .2)
 
--- src/check.rt:111:29
 enum-known-refusal : tie.Need-enum-known-refusal Inv-loop μ-loop
 enum-known-refusal c = search needs
 
--- src/check.rt:111:41
 returns : tie.Need-returns Inv-loop μ-loop
 returns c =
     let w = looked (c .before .before .before) in
@@ -76,22 +61,18 @@ returns c =
 enum-told : tie.Need-enum-told Inv-loop μ-loop
 enum-told c = search needs
 
--- src/check.rt:114:9
 add-k : tie.Need-add-k Inv-loop μ-loop
 add-k c = search needs
 
--- src/check.rt:109:5
 loop-less : tie.Need-loop-less Inv-loop μ-loop
 loop-less c = search needs
 
--- src/check.rt:109:5
 loop-again : tie.Need-loop-again Inv-loop μ-loop
 loop-again c =
     let w = looked (c .before .before) in
     let l = c .before .before .before .before .before .loop in
     (l .inv .0, omega arith, sym (decide-late _ _ (w .2 ∙ c .enum-told .given .1)) ∙ ap decide (sym (w .1)) ∙ w .3)
 
--- src/check.rt:102:1
 returns-2 : tie.Need-returns-2 Inv-loop μ-loop
 returns-2 c =
     let l = c .before .loop in

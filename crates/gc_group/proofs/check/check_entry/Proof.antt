@@ -1,18 +1,8 @@
-use Prim.Native.Nat.{ℕ, _+_, _≤_, _<_, _-_}
-use mathlib.Core.Path.{_≡_}
-use native.Mathlib.Omega.{arith}
-use borrow.Author.Needs.{needs}
-use lib.ListN.{length, getD, set, length-set}
+use Prim.Native.Nat.{_+_, _-_}
+use mathlib.Core.Path.{_≡_, sym, ap, _∙_}
 use borrow.Author.Needs.{needs}
 use Rattle.gc_group.proofs.check.check_entry.Statement.{statement}
 use Rattle.gc_group.proofs.check.check_entry.Tie as tie
-use Rattle.gc_group.proofs.check.check_entry.Reads as reads
-use Rattle.gc_group.proofs.check.check_entry.Lts as lts
-use Rattle.disk_location.proofs.Located.number.Reads as number-reads
-use Rattle.disk_location.proofs.RelativeDiskLocation.is_delete.Reads as is-delete-reads
-use Rattle.disk_location.proofs.RelativeDiskLocation.to_absolute.Reads as to-absolute-reads
-use Rattle.gc_group.proofs.check.unmapped.Reads as unmapped-reads
-use mathlib.Core.Path.{sym, ap, _∙_}
 use mathlib.Core.Bool.{Bool, true}
 use borrow.Author.Tests.{not-true, not-false}
 use Rattle.numbers.specs.Choice.{pick}
@@ -23,25 +13,20 @@ use Rattle.rules.specs.declared.Refusal.the-variants.{NotThere}
 use Rattle.location_table.specs.LayoutLaws.{used}
 use Rattle.gc_group.specs.Checks.{entry-object, entry-great, entry-mapped, located-number}
 
--- src/check.rt:89:9
 is-delete-requires : tie.Need-is-delete-requires
 is-delete-requires c κs = search needs
 
--- src/check.rt:90:9
 returns : tie.Need-returns
 returns c =
     let a = c .before .before .before .before .args in
     sym (entry-object (a .lsn) (used (a .ids .now) (a .locations .now)) (a .e) (sym (c .before .is-delete .ensures) ∙ not-true _ (c .if1 .taken)))
 
--- src/check.rt:92:8
 to-absolute-requires : tie.Need-to-absolute-requires
 to-absolute-requires c κs = search needs
 
--- src/check.rt:92:8
 number-requires : tie.Need-number-requires
 number-requires c κs = search needs
 
--- src/check.rt:93:9
 -- a delete, and whether its sum is too great
 looked : (c : tie.After-number) → let a = c .before .before .before .before .before .before .args in
     (deleteOf (a .e .location) ≡ true) × (c .number .result ≡ told (locatedAt (positionOf (a .e .location) + a .lsn) true) .number)
@@ -56,11 +41,9 @@ returns-2 c =
     let a = c .before .before .before .before .before .before .before .args in
     sym (entry-great (a .lsn) (used (a .ids .now) (a .locations .now)) (a .e) (w .0) (located-number _ .1 (λ z. c .if2 .taken (w .1 ∙ z))))
 
--- src/check.rt:95:8
 unmapped-requires : tie.Need-unmapped-requires
 unmapped-requires c κs = search needs
 
--- src/check.rt:96:9
 returns-3 : tie.Need-returns-3
 returns-3 c =
     let low = c .before .before in
@@ -70,7 +53,6 @@ returns-3 c =
     entry-mapped (a .lsn) (used (a .ids .now) (a .locations .now)) (a .e) (w .0) (located-number _ .0 (sym (w .1) ∙ low .if2 .left))
     ∙ ap (λ (t : Bool). pick t (Refused NotThere) Done) (sym (c .before .unmapped .ensures) ∙ c .if3 .taken))
 
--- src/check.rt:84:1
 returns-4 : tie.Need-returns-4
 returns-4 c =
     let low = c .before .before in

@@ -1,22 +1,10 @@
-use Prim.Native.Nat.{ℕ, _+_, _≤_, _<_, _-_}
-use mathlib.Core.Path.{_≡_}
-use native.Mathlib.Omega.{arith}
-use borrow.Author.Needs.{needs}
-use lib.ListN.{length, getD, set, length-set}
+use Prim.Native.Nat.{ℕ, _-_}
+use mathlib.Core.Path.{_≡_, sym, ap, _∙_}
 use borrow.Author.Needs.{needs}
 use Rattle.gc_group.proofs.check.check_file.Statement.{statement}
 use Rattle.gc_group.proofs.check.check_file.Tie as tie
-use Rattle.gc_group.proofs.check.check_file.Reads as reads
-use Rattle.gc_group.proofs.check.check_file.Lts as lts
-use Rattle.gc_group.proofs.check.check_deletes.Reads as check-deletes-reads
-use Rattle.gc_group.proofs.check.check_objects.Reads as check-objects-reads
-use Rattle.slot_file.proofs.slot.object_part.Reads as object-part-reads
-use Rattle.slot_file.proofs.slot.trailer_part.Reads as trailer-part-reads
-use Rattle.trailer.proofs.check.Reads as check-reads
-use mathlib.Core.Path.{sym, ap, _∙_}
 use mathlib.Core.List.{List}
 use Rattle.rules.specs.Base.{each}
-use Rattle.rules.specs.declared.Answer.the-variants.{Done, Refused}
 use Rattle.rules.specs.Refusal.{decide}
 use Rattle.rules.specs.Object.{objectsIn}
 use Rattle.rules.specs.Trailer.{trailerTests, entriesIn}
@@ -37,19 +25,15 @@ objects-are c =
     let a = c .before .before .before .before .before .before .before .before .before .args in
     ap (λ (s : List ℕ). decide (each (movedTests (a .limit) (used (a .ids .now) (a .locations .now))) (objectsIn s))) (sym (c .before .object-part .ensures)) ∙ sym (c .check-objects .ensures)
 
--- src/check.rt:127:9
 trailer-part-requires : tie.Need-trailer-part-requires
 trailer-part-requires c κs = search needs
 
--- src/check.rt:128:11
 check-requires : tie.Need-check-requires
 check-requires c κs = search needs
 
--- src/check.rt:129:25
 enum-known-refusal : tie.Need-enum-known-refusal
 enum-known-refusal c = search needs
 
--- src/check.rt:129:37
 returns : tie.Need-returns
 returns c =
     let checked = c .before .before .before in
@@ -59,19 +43,15 @@ returns c =
 enum-told : tie.Need-enum-told
 enum-told c = search needs
 
--- src/check.rt:132:25
 object-part-requires : tie.Need-object-part-requires
 object-part-requires c κs = search needs
 
--- src/check.rt:132:11
 check-objects-requires : tie.Need-check-objects-requires
 check-objects-requires c κs = search needs
 
--- src/check.rt:133:25
 enum-known-refusal-2 : tie.Need-enum-known-refusal-2
 enum-known-refusal-2 c = search needs
 
--- src/check.rt:133:37
 returns-2 : tie.Need-returns-2
 returns-2 c =
     let walked = c .before .before .before in
@@ -83,14 +63,12 @@ returns-2 c =
 enum-told-2 : tie.Need-enum-told-2
 enum-told-2 c = search needs
 
--- src/check.rt:136:5
 check-deletes-requires : tie.Need-check-deletes-requires
 check-deletes-requires c κs =
     let walked = c .before .before in
     let checked = walked .before .before .before .before in
     (clear-fits _ (sym (checked .check .ensures) ∙ walked .before .before .enum-told .given .1), checked .before .before .before .before .before .pre .1)
 
--- src/check.rt:122:1
 returns-3 : tie.Need-returns-3
 returns-3 c =
     let walked = c .before .before .before in

@@ -1,18 +1,12 @@
-use Prim.Native.Nat.{ℕ, _+_, _≤_, _<_, _-_}
-use mathlib.Core.Path.{_≡_}
+use Prim.Native.Nat.{ℕ, _≤_, _<_, _-_}
+use mathlib.Core.Path.{_≡_, sym, ap, _∙_, subst}
 use native.Mathlib.Omega.{arith}
 use borrow.Author.Needs.{needs}
-use lib.ListN.{length, getD, set, length-set}
+use lib.ListN.{length, drop}
 use Rattle.gc_group.proofs.check.check_group.Statement.{statement}
 use Rattle.gc_group.proofs.check.check_group.Tie as tie
-use Rattle.gc_group.proofs.check.check_group.Reads as reads
-use Rattle.gc_group.proofs.check.check_group.Lts as lts
-use Rattle.gc_group.proofs.check.check_file.Reads as check-file-reads
-use Rattle.gc_group.proofs.check.slot_at.Reads as slot-at-reads
-use mathlib.Core.Path.{sym, ap, ap₂, _∙_}
 use mathlib.Core.Logic.{⊎-elim}
 use mathlib.Core.List.{List}
-use lib.ListN.{drop}
 use Rattle.rules.specs.declared.Answer.{Answer}
 use Rattle.rules.specs.Refusal.{decide}
 use Rattle.rules.specs.FileMap.{recordAt}
@@ -21,9 +15,8 @@ use Rattle.rules.specs.SlotLaws.{slot-length}
 use Rattle.rules.specs.Maintenance.{fileTests}
 use Rattle.location_table.specs.LayoutLaws.{used}
 use Rattle.gc_group.specs.Plan.{planned, plannedFrom, planned-here, planned-next, planned-start, planned-end}
-use Rattle.gc_group.specs.Source.{Source, source, Lies}
+use Rattle.gc_group.specs.Source.{source, Lies}
 use Rattle.gc_group.specs.Checks.{groupChecks, group-refused, group-on, group-none}
-use mathlib.Core.Path.{subst}
 
 abbrev Inv-loop : tie.InvT-loop
 Inv-loop s heap plan generation ids locations m i₀ i =
@@ -33,37 +26,30 @@ Inv-loop s heap plan generation ids locations m i₀ i =
 abbrev μ-loop : tie.MeasureT-loop
 μ-loop s heap plan generation ids locations m i₀ i = 256 - i
 
--- src/check.rt:157:5
 loop-holds : tie.Need-loop-holds Inv-loop μ-loop
 loop-holds c =
     let a = c .before .before .before .before .args in
     let from = source (a .s .«slot_bytes») (a .heap .now) (a .t3 .records) (used (a .ids .now) (a .locations .now)) in
     (omega arith, ap (λ (ks : List ℕ). decide (groupChecks (a .s .«max_object_size») from ks)) (sym (planned-start (a .plan .now) (a .generation))))
 
--- src/check.rt:158:12
 mul-if1 : tie.Need-mul-if1 Inv-loop μ-loop
 mul-if1 c = search needs
 
--- src/check.rt:158:12
 shared-slice-read-if1 : tie.Need-shared-slice-read-if1 Inv-loop μ-loop
 shared-slice-read-if1 c = search needs
 
--- src/check.rt:159:30
 slot-at-requires : tie.Need-slot-at-requires Inv-loop μ-loop
 slot-at-requires c κs =
     let at = c .before .before .before in
     let start = at .before .before .before .before .before in
     start .pre .0 .standing (at .loop .i) (c .if1 .taken)
 
--- src/check.rt:159:62
 mul-check-file : tie.Need-mul-check-file Inv-loop μ-loop
 mul-check-file c = search needs
 
--- src/check.rt:159:62
 element-copy-out-check-file : tie.Need-element-copy-out-check-file Inv-loop μ-loop
 element-copy-out-check-file c = search needs
 
--- src/check.rt:159:19
 check-file-requires : tie.Need-check-file-requires Inv-loop μ-loop
 check-file-requires c κs =
     let chosen = c .before .before in
@@ -85,11 +71,9 @@ checked c =
     ap (λ (bytes : List ℕ). decide (fileTests (a .s .«max_object_size») (used (a .ids .now) (a .locations .now)) (recordAt (a .t3 .records) (at .loop .i)) bytes)) (sym (c .before .before .slot-at .ensures))
     ∙ sym (c .check-file .ensures)
 
--- src/check.rt:160:33
 enum-known-refusal : tie.Need-enum-known-refusal Inv-loop μ-loop
 enum-known-refusal c = search needs
 
--- src/check.rt:160:45
 returns : tie.Need-returns Inv-loop μ-loop
 returns c =
     let done = c .before .before .before in
@@ -107,15 +91,12 @@ returns c =
 enum-told : tie.Need-enum-told Inv-loop μ-loop
 enum-told c = search needs
 
--- src/check.rt:164:9
 add-i : tie.Need-add-i Inv-loop μ-loop
 add-i c = search needs
 
--- src/check.rt:157:5
 loop-less : tie.Need-loop-less Inv-loop μ-loop
 loop-less c = search needs
 
--- src/check.rt:157:5
 loop-again : tie.Need-loop-again Inv-loop μ-loop
 loop-again c =
     let at = c .before .before .before in
@@ -135,7 +116,6 @@ loop-again c =
           (c .if1 .came) ∙ at .loop .inv .1,
     )
 
--- src/check.rt:151:1
 returns-2 : tie.Need-returns-2 Inv-loop μ-loop
 returns-2 c =
     let at = c .before in

@@ -1,20 +1,13 @@
-use Prim.Native.Nat.{ℕ, _+_, _≤_, _<_, _-_}
-use mathlib.Core.Path.{_≡_}
+use Prim.Native.Nat.{_+_, _≤_, _-_, zero-le}
+use mathlib.Core.Path.{_≡_, sym, ap, _∙_}
 use native.Mathlib.Omega.{arith}
 use borrow.Author.Needs.{needs}
-use lib.ListN.{length, getD, set, length-set}
+use lib.ListN.{length}
 use Rattle.gc_group.proofs.check.check_objects.Statement.{statement}
 use Rattle.gc_group.proofs.check.check_objects.Tie as tie
-use Rattle.gc_group.proofs.check.check_objects.Reads as reads
-use Rattle.gc_group.proofs.check.check_objects.Lts as lts
-use Rattle.gc_group.proofs.check.check_object.Reads as check-object-reads
-use Rattle.slot_file.proofs.object.step.Reads as step-reads
-use mathlib.Core.Path.{refl, sym, ap, _∙_}
-use Prim.Native.Nat.{zero-le}
 use mathlib.Core.List.{List}
-use lib.ListN.{drop}
 use Rattle.rules.specs.Base.{each}
-use Rattle.rules.specs.Object.{Stored, storedAt, objectsIn}
+use Rattle.rules.specs.Object.{Stored, objectsIn}
 use Rattle.rules.specs.Refusal.{decide}
 use Rattle.rules.specs.Maintenance.{movedTests}
 use Rattle.slot_file.specs.Objects.{Walked, objectsAt, objects-start}
@@ -29,21 +22,17 @@ Inv-loop objects ids locations limit position₀ position =
 abbrev μ-loop : tie.MeasureT-loop
 μ-loop objects ids locations limit position₀ position = length objects - position
 
--- src/check.rt:70:5
 loop-holds : tie.Need-loop-holds Inv-loop μ-loop
 loop-holds c =
     let a = c .before .before .before .args in
     (zero-le, ap (λ (os : List Stored). decide (each (movedTests (a .limit) (used (a .ids .now) (a .locations .now))) os)) (objects-start (a .objects .now)))
 
--- src/check.rt:71:15
 step-requires : tie.Need-step-requires Inv-loop μ-loop
 step-requires c κs = search needs
 
--- src/check.rt:72:26
 enum-told : tie.Need-enum-told Inv-loop μ-loop
 enum-told c = search needs
 
--- src/check.rt:72:26
 returns : tie.Need-returns Inv-loop μ-loop
 returns c =
     let at = c .before .before .before in
@@ -51,11 +40,9 @@ returns c =
     let past = told-by (a .objects .now) (at .loop .position) _ (sym (c .before .before .step .ensures) ∙ c .enum-told .given .1) in
     sym (walk-end (a .limit) (used (a .ids .now) (a .locations .now)) (a .objects .now) (at .loop .position) past) ∙ at .loop .inv .1
 
--- src/check.rt:73:55
 enum-told-2 : tie.Need-enum-told-2 Inv-loop μ-loop
 enum-told-2 c = search needs
 
--- src/check.rt:73:32
 returns-2 : tie.Need-returns-2 Inv-loop μ-loop
 returns-2 c =
     let at = c .before .before .before in
@@ -63,7 +50,6 @@ returns-2 c =
     let cut = told-by (a .objects .now) (at .loop .position) _ (sym (c .before .before .step .ensures) ∙ c .enum-told2 .given .1) in
     sym (walk-cut (a .limit) (used (a .ids .now) (a .locations .now)) (a .objects .now) (at .loop .position) cut) ∙ at .loop .inv .1
 
--- src/check.rt:74:24
 enum-known-h : tie.Need-enum-known-h Inv-loop μ-loop
 enum-known-h c = search needs
 
@@ -87,15 +73,12 @@ further c =
     let passes = sym (c .before .before .before .check-object .ensures) ∙ c .before .enum-told3 .given .1 in
     (walk-inside (a .limit) table (a .objects .now) (at .loop .position) _ (walked whole) passes, walk-on (a .limit) table (a .objects .now) (at .loop .position) _ (walked whole) passes)
 
--- src/check.rt:75:23
 check-object-requires : tie.Need-check-object-requires Inv-loop μ-loop
 check-object-requires c κs = (walked c, c .before .before .before .before .before .before .before .before .pre)
 
--- src/check.rt:76:37
 enum-known-refusal : tie.Need-enum-known-refusal Inv-loop μ-loop
 enum-known-refusal c = search needs
 
--- src/check.rt:76:49
 returns-3 : tie.Need-returns-3 Inv-loop μ-loop
 returns-3 c =
     let whole = c .before .before .before .before in
@@ -108,19 +91,15 @@ returns-3 c =
 enum-told-3 : tie.Need-enum-told-3 Inv-loop μ-loop
 enum-told-3 c = search needs
 
--- src/check.rt:79:29
 add-position : tie.Need-add-position Inv-loop μ-loop
 add-position c = omega (arith, further c .0)
 
--- src/check.rt:79:17
 add-position-2 : tie.Need-add-position-2 Inv-loop μ-loop
 add-position-2 c = omega (arith, further c .0)
 
--- src/check.rt:70:5
 loop-less : tie.Need-loop-less Inv-loop μ-loop
 loop-less c = omega (arith, further c .0)
 
--- src/check.rt:70:5
 loop-again : tie.Need-loop-again Inv-loop μ-loop
 loop-again c =
     let w = further c in

@@ -1,39 +1,27 @@
-use Prim.Native.Nat.{ℕ, _+_, _≤_, _<_, _-_}
-use mathlib.Core.Path.{_≡_}
+use Prim.Native.Nat.{ℕ, _+_, _-_, _*_}
+use mathlib.Core.Path.{_≡_, ap}
 use native.Mathlib.Omega.{arith}
 use borrow.Author.Needs.{needs}
-use lib.ListN.{length, getD, set, length-set}
-use borrow.Author.Needs.{needs}
+use lib.ListN.{take, drop}
 use Rattle.gc_group.proofs.check.slot_at.Statement.{statement}
 use Rattle.gc_group.proofs.check.slot_at.Tie as tie
-use Rattle.gc_group.proofs.check.slot_at.Reads as reads
-use Rattle.gc_group.proofs.check.slot_at.Lts as lts
 use Rattle.rules.specs.SlotFile.{slotBytes}
-use mathlib.Core.Path.{ap}
-use lib.ListN.{take, drop}
-use Prim.Native.Nat.{_*_}
 
--- src/check.rt:143:17
 mul-start : tie.Need-mul-start
 mul-start c = search needs
 
--- src/check.rt:144:15
 add-end : tie.Need-add-end
 add-end c = search needs
 
--- src/check.rt:145:5
 sub-result : tie.Need-sub-result
 sub-result c = search needs
 
--- src/check.rt:145:5
 part-result-start : tie.Need-part-result-start
 part-result-start c = search needs
 
--- src/check.rt:145:5
 part-result-end : tie.Need-part-result-end
 part-result-end c = search needs
 
--- src/check.rt:138:1
 returns : tie.Need-returns
 unfolding slotBytes
 returns c =

@@ -1,24 +1,17 @@
-use Prim.Native.Nat.{ℕ, _+_, _≤_, _<_, _-_}
-use mathlib.Core.Path.{_≡_}
+use Prim.Native.Nat.{_-_}
+use mathlib.Core.Path.{sym, ap}
 use native.Mathlib.Omega.{arith}
-use borrow.Author.Needs.{needs}
-use lib.ListN.{length, getD, set, length-set}
 use Rattle.gc_group.proofs.plan.at_least_one.Statement.{statement}
 use Rattle.gc_group.proofs.plan.at_least_one.Tie as tie
-use Rattle.gc_group.proofs.plan.at_least_one.Reads as reads
-use Rattle.gc_group.proofs.plan.at_least_one.Lts as lts
-use mathlib.Core.Path.{sym, ap}
 use mathlib.Core.Bool.{Bool}
 use borrow.Author.Tests.{le-leb, lt-leb}
 use Rattle.rules.specs.Base.{pick}
 
--- src/plan.rt:22:9
 returns : tie.Need-returns
 returns c =
     let n = c .before .args .n in
     (sym (ap (λ (b : Bool). pick b 1 n) (le-leb n 1 (c .if1 .taken))), omega arith)
 
--- src/plan.rt:18:1
 returns-2 : tie.Need-returns-2
 returns-2 c =
     let n = c .before .args .n in

@@ -1,15 +1,11 @@
-use Prim.Native.Nat.{ℕ, _+_, _≤_, _<_, _-_}
-use mathlib.Core.Path.{_≡_}
+use Prim.Native.Nat.{_+_, _≤_, _-_}
+use mathlib.Core.Path.{_≡_, ap}
 use native.Mathlib.Omega.{arith}
 use borrow.Author.Needs.{needs}
-use lib.ListN.{length, getD, set, length-set}
+use lib.ListN.{length, drop}
 use Rattle.gc_group.proofs.plan.group_count.Statement.{statement}
 use Rattle.gc_group.proofs.plan.group_count.Tie as tie
-use Rattle.gc_group.proofs.plan.group_count.Reads as reads
-use Rattle.gc_group.proofs.plan.group_count.Lts as lts
-use mathlib.Core.Path.{sym, ap, _∙_}
 use mathlib.Core.Logic.{⊎-elim}
-use lib.ListN.{drop}
 use Rattle.gc_group.specs.Plan.{planned, plannedFrom, planned-here, planned-next, planned-start, planned-end}
 
 abbrev Inv-loop : tie.InvT-loop
@@ -18,31 +14,24 @@ Inv-loop plan generation n₀ i₀ n i = (i ≤ length plan) × (n ≤ i) × (le
 abbrev μ-loop : tie.MeasureT-loop
 μ-loop plan generation n₀ i₀ n i = length plan - i
 
--- src/plan.rt:107:5
 loop-holds : tie.Need-loop-holds Inv-loop μ-loop
 loop-holds c = (omega arith, omega arith, omega (arith, ap length (planned-start (c .args .plan .now) (c .args .generation))))
 
--- src/plan.rt:108:12
 mul-if1 : tie.Need-mul-if1 Inv-loop μ-loop
 mul-if1 c = search needs
 
--- src/plan.rt:108:12
 shared-slice-read-if1 : tie.Need-shared-slice-read-if1 Inv-loop μ-loop
 shared-slice-read-if1 c = search needs
 
--- src/plan.rt:109:13
 add-n : tie.Need-add-n Inv-loop μ-loop
 add-n c = search needs
 
--- src/plan.rt:111:9
 add-i : tie.Need-add-i Inv-loop μ-loop
 add-i c = search needs
 
--- src/plan.rt:107:5
 loop-less : tie.Need-loop-less Inv-loop μ-loop
 loop-less c = search needs
 
--- src/plan.rt:107:5
 loop-again : tie.Need-loop-again Inv-loop μ-loop
 loop-again c =
     let at = c .before .before .before in
@@ -52,7 +41,6 @@ loop-again c =
     (λ w. (omega arith, omega arith, omega (arith, ap length (planned-next (a .plan .now) (a .generation) (at .loop .i) (omega arith) (w .0 .left)))))
     (c .if1 .came)
 
--- src/plan.rt:102:1
 returns : tie.Need-returns Inv-loop μ-loop
 returns c =
     let at = c .before in

@@ -1,34 +1,21 @@
-use Prim.Native.Nat.{ℕ, _+_, _≤_, _<_, _-_}
-use mathlib.Core.Path.{_≡_}
-use native.Mathlib.Omega.{arith}
-use borrow.Author.Needs.{needs}
-use lib.ListN.{length, getD, set, length-set}
+use Prim.Native.Nat.{_-_}
+use mathlib.Core.Path.{sym, _∙_}
 use borrow.Author.Needs.{needs}
 use Rattle.gc_group.proofs.plan.is_candidate.Statement.{statement}
 use Rattle.gc_group.proofs.plan.is_candidate.Tie as tie
-use Rattle.gc_group.proofs.plan.is_candidate.Reads as reads
-use Rattle.gc_group.proofs.plan.is_candidate.Lts as lts
-use Rattle.claims.proofs.is_claimed.Reads as is-claimed-reads
-use Rattle.file_map.proofs.is_empty.Reads as is-empty-reads
-use Rattle.gc_group.proofs.plan.worth_it.Reads as worth-it-reads
-use mathlib.Core.Path.{sym, ap, _∙_}
 use borrow.Author.Tests.{eq-eqb, ne-eqb}
 use Rattle.rules.specs.Maintenance.{isCandidate}
 
--- src/plan.rt:60:8
 is-empty-requires : tie.Need-is-empty-requires
 is-empty-requires c κs = search needs
 
--- src/plan.rt:61:9
 returns : tie.Need-returns
 unfolding isCandidate
 returns c = let e = sym (c .before .is-empty .ensures) ∙ c .if1 .taken in rw e
 
--- src/plan.rt:63:8
 is-claimed-requires : tie.Need-is-claimed-requires
 is-claimed-requires c κs = search needs
 
--- src/plan.rt:64:9
 returns-2 : tie.Need-returns-2
 unfolding isCandidate
 returns-2 c =
@@ -36,7 +23,6 @@ returns-2 c =
     let f = sym (c .before .is-claimed .ensures) ∙ c .if2 .taken in
     rw (e, f)
 
--- src/plan.rt:67:9
 returns-3 : tie.Need-returns-3
 unfolding isCandidate
 returns-3 c =
@@ -45,11 +31,9 @@ returns-3 c =
     let f = sym (unclaimed .before .is-claimed .ensures) ∙ unclaimed .if2 .left in
     rw (e, f, eq-eqb _ 0 (c .if3 .taken))
 
--- src/plan.rt:69:5
 worth-it-requires : tie.Need-worth-it-requires
 worth-it-requires c κs = search needs
 
--- src/plan.rt:54:1
 returns-4 : tie.Need-returns-4
 unfolding isCandidate
 returns-4 c =

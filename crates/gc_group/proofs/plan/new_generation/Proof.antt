@@ -1,31 +1,22 @@
-use Prim.Native.Nat.{ℕ, _+_, _≤_, _<_, _-_}
-use mathlib.Core.Path.{_≡_}
+use Prim.Native.Nat.{_-_, suc}
+use mathlib.Core.Path.{sym, ap, _∙_}
 use native.Mathlib.Omega.{arith}
-use borrow.Author.Needs.{needs}
-use lib.ListN.{length, getD, set, length-set}
 use borrow.Author.Needs.{needs}
 use Rattle.gc_group.proofs.plan.new_generation.Statement.{statement}
 use Rattle.gc_group.proofs.plan.new_generation.Tie as tie
-use Rattle.gc_group.proofs.plan.new_generation.Reads as reads
-use Rattle.gc_group.proofs.plan.new_generation.Lts as lts
 use native.Mathlib.Numerals.{add-one}
-use Prim.Native.Nat.{suc}
-use mathlib.Core.Path.{sym, ap, _∙_}
 use mathlib.Core.Bool.{Bool}
 use borrow.Author.Tests.{le-leb, lt-leb}
 use Rattle.rules.specs.Base.{pick}
 
--- src/plan.rt:48:9
 returns : tie.Need-returns
 returns c =
     let g = c .before .args .g in
     sym (ap (λ (b : Bool). pick b 3 (suc g)) (le-leb 3 (suc g) (omega arith)))
 
--- src/plan.rt:50:5
 add-result : tie.Need-add-result
 add-result c = search needs
 
--- src/plan.rt:44:1
 returns-2 : tie.Need-returns-2
 returns-2 c =
     let g = c .before .args .g in

@@ -1,17 +1,11 @@
-use Prim.Native.Nat.{ℕ, _+_, _≤_, _<_, _-_}
-use mathlib.Core.Path.{_≡_}
+use Prim.Native.Nat.{ℕ, _≤_, _-_}
+use mathlib.Core.Path.{_≡_, refl, sym, ap, _∙_}
 use native.Mathlib.Omega.{arith}
 use borrow.Author.Needs.{needs}
-use lib.ListN.{length, getD, set, length-set}
+use lib.ListN.{length, getD, set, length-set, replicate, length-replicate}
 use Rattle.gc_group.proofs.plan.plan.Statement.{statement}
 use Rattle.gc_group.proofs.plan.plan.Tie as tie
-use Rattle.gc_group.proofs.plan.plan.Reads as reads
-use Rattle.gc_group.proofs.plan.plan.Lts as lts
-use Rattle.file_map.proofs.counts.Reads as counts-reads
-use Rattle.gc_group.proofs.plan.plan_for.Reads as plan-for-reads
-use mathlib.Core.Path.{refl, sym, ap, _∙_}
 use mathlib.Core.List.{List}
-use lib.ListN.{replicate, length-replicate}
 use Rattle.rules.specs.declared.Counts.{Counts}
 use Rattle.rules.specs.FileMap.{fileCount, recordAt}
 use Rattle.rules.specs.Counts.{countsOf}
@@ -28,49 +22,39 @@ abbrev μ-loop : tie.MeasureT-loop
 all-records : (start : tie.Start Inv-loop μ-loop) → length (start .args .t3 .records) ≡ 256
 all-records start = search (mapped-length, needs)
 
--- src/plan.rt:91:17
 counts-requires : tie.Need-counts-requires Inv-loop μ-loop
 counts-requires c κs = search needs
 
--- src/plan.rt:94:5
 loop-holds : tie.Need-loop-holds Inv-loop μ-loop
 unfolding countsOf
 loop-holds c =
     let start = c .before in
     (omega arith, refl, ap (λ (n : Counts). n .files) (c .counts .ensures), filled-start (planOf (start .args .s) (start .args .claims) (start .args .t3 .records)) (replicate 256 0))
 
--- src/plan.rt:95:53
 mul-plan-for : tie.Need-mul-plan-for Inv-loop μ-loop
 mul-plan-for c = search needs
 
--- src/plan.rt:95:53
 element-copy-out-plan-for : tie.Need-element-copy-out-plan-for Inv-loop μ-loop
 element-copy-out-plan-for c = search needs
 
--- src/plan.rt:95:16
 plan-for-requires : tie.Need-plan-for-requires Inv-loop μ-loop
 plan-for-requires c κs =
     let at = c .before .before in
     let start = at .before .before in
     (start .pre .0, (start .pre .1 (at .loop .i), omega arith))
 
--- src/plan.rt:95:9
 mul-p : tie.Need-mul-p Inv-loop μ-loop
 mul-p c = search needs
 
--- src/plan.rt:95:9
 array-write-p : tie.Need-array-write-p Inv-loop μ-loop
 array-write-p c = search needs
 
--- src/plan.rt:96:9
 add-i : tie.Need-add-i Inv-loop μ-loop
 add-i c = search needs
 
--- src/plan.rt:94:5
 loop-less : tie.Need-loop-less Inv-loop μ-loop
 loop-less c = search needs
 
--- src/plan.rt:94:5
 loop-again : tie.Need-loop-again Inv-loop μ-loop
 unfolding planFor
 loop-again c =
@@ -90,7 +74,6 @@ loop-again c =
       ap (λ (v : ℕ). set (at .loop .p) i v) new ∙ ap (λ (s : List ℕ). set s i (getD to i 0)) (at .loop .inv .3) ∙ filled-next to i (replicate 256 0) (omega arith) (omega arith),
     )
 
--- src/plan.rt:86:1
 returns : tie.Need-returns Inv-loop μ-loop
 returns c =
     let at = c .before in

@@ -1,51 +1,38 @@
-use Prim.Native.Nat.{ℕ, _+_, _≤_, _<_, _-_}
-use mathlib.Core.Path.{_≡_}
+use Prim.Native.Nat.{_-_}
 use native.Mathlib.Omega.{arith}
-use borrow.Author.Needs.{needs}
-use lib.ListN.{length, getD, set, length-set}
 use borrow.Author.Needs.{needs}
 use Rattle.gc_group.proofs.plan.worth_it.Statement.{statement}
 use Rattle.gc_group.proofs.plan.worth_it.Tie as tie
-use Rattle.gc_group.proofs.plan.worth_it.Reads as reads
-use Rattle.gc_group.proofs.plan.worth_it.Lts as lts
-use Rattle.gc_group.proofs.plan.at_least_one.Reads as at-least-one-reads
 use native.Mathlib.Nat.{mul-le-mul-right}
 use Rattle.gc_group.proofs.Worth.{worth-share, worth-few, worth-many}
 
--- src/plan.rt:33:17
 mul-share : tie.Need-mul-share
 mul-share c = search needs
 
--- src/plan.rt:33:32
 at-least-one-requires : tie.Need-at-least-one-requires
 at-least-one-requires c κs = search needs
 
--- src/plan.rt:33:17
 div-share : tie.Need-div-share
 div-share c = search needs
 
--- src/plan.rt:35:9
 returns : tie.Need-returns
 returns c =
     let at = c .before .before in
     let a = at .before .before .args in
     worth-share (a .s) (a .files) (a .r) (at .at-least-one .result) (at .at-least-one .ensures .0) (c .if1 .taken)
 
--- src/plan.rt:38:9
 returns-2 : tie.Need-returns-2
 returns-2 c =
     let at = c .before .before .before .before in
     let a = at .before .before .args in
     worth-few (a .s) (a .files) (a .r) (at .at-least-one .result) (at .at-least-one .ensures .0) (c .before .before .if1 .left) (c .if2 .taken)
 
--- src/plan.rt:40:5
 mul-result : tie.Need-mul-result
 mul-result c =
     let start = c .before .before .before .before .before .before .before .before in
     let m = start .args .s .«min_compaction_files» in
     omega (arith, mul-le-mul-right m (start .pre .1 .size), start .pre .0 .files-high)
 
--- src/plan.rt:28:1
 returns-3 : tie.Need-returns-3
 returns-3 c =
     let few = c .before .before .before in
