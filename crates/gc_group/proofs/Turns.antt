@@ -6,7 +6,7 @@ use native.Mathlib.Numerals.{add-one}
 use native.Mathlib.Omega.{arith}
 use lib.ListN.{drop-of-length-le}
 use lib.Seq.{take-suc, set-at, length-take-le, take-all, drop-cons}
-use Rattle.rules.specs.Base.{List, [], _∷_, _++_, ℕ, zero, suc, _+_, length, getD, take, drop, set, replicate}
+use Rattle.rules.specs.Base.{List, [], _∷_, _++_, ℕ, suc, _+_, length, getD, take, drop, set}
 
 -- what is written before place i, and what stood from there on
 unfoldable pub filled : List ℕ → ℕ → List ℕ → List ℕ
@@ -29,9 +29,3 @@ filled-next to i from h m =
 pub filled-end : (to : List ℕ) (i : ℕ) (from : List ℕ) → length to ≤ i → length from ≤ i → filled to i from ≡ to
 unfolding filled
 filled-end to i from h m = rw (drop-of-length-le from m, take-all i to h) (append-nil to)
-
--- zeros, and behind them
-pub zero-at : (n i : ℕ) → getD (replicate {A = ℕ} n 0) i 0 ≡ 0
-zero-at zero i = refl
-zero-at (suc n) zero = refl
-zero-at (suc n) (suc i) = zero-at n i

@@ -4,3 +4,4 @@ pub mod Checks
 pub mod Clear
 pub mod Marks
 pub mod MarkLaws
+pub mod MovedLaws

@@ -29,11 +29,7 @@ use Rattle.rules.specs.World.{World, mappings}
 use Rattle.location_table.specs.EntryLaws.{noEntry, Rising, rise, rising-lt, lookup-here, lookup-next}
 use Rattle.gc_group.specs.Source.{Source, sourceOf, fileAt, bytesAt}
 use Rattle.gc_group.specs.Checks.{each-keep}
-use Rattle.gc_group.specs.Marks.{foundFile, idsOf, among, current, objectId, deleteId, marked, marksFrom, marksOf, contentAt, markedOps, marksSet}
-
--- "Objects and deletes at their id's current location", of the file in slot k
-abbrev pub foundAt : Source → ℕ → List Op
-foundAt s k = foundFile (s .table) (fileAt s k) (bytesAt s k)
+use Rattle.gc_group.specs.Marks.{foundFile, foundAt, idsOf, among, current, objectId, deleteId, marked, marksFrom, marksOf, contentAt, markedOps, marksSet}
 
 -- ---- every element, of lists that are made from lists
 module _ {A : Type 0} where
@@ -58,18 +54,58 @@ all-true : {A : Type 0} (xs : List A) → All (λ (x : A). Unit {0}) xs
 all-true [] = tt
 all-true (x ∷ xs) = (tt, all-true xs)
 
+-- ---- what holds of all that is found in a slot: of its objects, and of its deletes
+module _ (s : Source) (k : ℕ) (P : Op → Type 0) (Q : Stored → Type 0) where
+  abbrev table : List Entry
+  table = s .table
+
+  abbrev r : Record
+  r = fileAt s k
+
+  abbrev slot : List ℕ
+  slot = bytesAt s k
+
+  abbrev isCurrent : Stored → Bool
+  isCurrent o = mappedTo (lookup table (o .id)) (rawOf (r .lsn + o .position) false)
+
+  abbrev moved : Stored → Op
+  moved o = record { id = o .id; content = put (o .body) }
+
+  abbrev isDelete : Entry → Bool
+  isDelete e = deleteOf (e .location)
+
+  abbrev isHeld : Entry → Bool
+  isHeld e = mappedTo (lookup table (e .id)) (absolute (r .lsn) e .location)
+
+  abbrev deleted : Entry → Op
+  deleted e = record { id = e .id; content = delete }
+
+  pub found-each : All Q (objectsIn (objectPart r slot)) → ((o : Stored) → Q o → isCurrent o ≡ true → P (moved o))
+      → ((e : Entry) → isDelete e ≡ true → isHeld e ≡ true → P (deleted e)) → All P (foundAt s k)
+  unfolding objectsFound deletesFound deletesOf
+  found-each all object gone =
+      all-append P (objectsFound table r slot) (deletesFound table r slot)
+      (all-made P moved (keep isCurrent (objectsIn (objectPart r slot)))
+      (all-map (λ (o : Stored). Q o × (isCurrent o ≡ true)) (λ (o : Stored). P (moved o)) (keep isCurrent (objectsIn (objectPart r slot))) (λ o w. object o (w .0) (w .1))
+      (all-keep Q isCurrent (objectsIn (objectPart r slot)) all)))
+      (all-made P deleted (keep isHeld (keep isDelete (trailerEntries r slot)))
+      (all-map (λ (e : Entry). (Unit {0} × (isDelete e ≡ true)) × (isHeld e ≡ true)) (λ (e : Entry). P (deleted e)) (keep isHeld (keep isDelete (trailerEntries r slot)))
+      (λ e w. gone e (w .0 .1) (w .1))
+      (all-keep (λ (e : Entry). Unit {0} × (isDelete e ≡ true)) isHeld (keep isDelete (trailerEntries r slot))
+      (all-keep (λ (e : Entry). Unit {0}) isDelete (trailerEntries r slot) (all-true (trailerEntries r slot))))))
+
 -- ---- what is found stands in the table, and its content is what its slot has there
 pub record Stands (s : Source) (k : ℕ) (o : Op) : Type 0 where
   pub location : ℕ
   pub mapped : lookup (s .table) (o .id) ≡ Mapped location
   pub content : o .content ≡ contentAt s location k
 
-mapped-to : (h : Held) (l : ℕ) → mappedTo h l ≡ true → h ≡ Mapped l
+pub mapped-to : (h : Held) (l : ℕ) → mappedTo h l ≡ true → h ≡ Mapped l
 mapped-to (Mapped m) l e = ap Mapped (eqb-true m l e)
 mapped-to Unmapped l e = absurd (let z : _≡_ {A = ℕ} 0 1 = cc in omega arith)
 
 -- an object of the walk is what stands at its position
-abbrev AtPosition : List ℕ → Stored → Type 0
+abbrev pub AtPosition : List ℕ → Stored → Type 0
 AtPosition objects o = o ≡ storedAt (o .position) (drop (o .position) objects)
 
 objects-from : (n position : ℕ) (objects : List ℕ) → length objects ≤ position + n → All (AtPosition objects) (objectsAt objects position)
@@ -84,7 +120,7 @@ objects-from (suc n) position objects h = go (either-way position (length object
         subst (All (AtPosition objects)) (sym (objects-next objects position inside))
         (refl, ih (position + (20 + storedAt position (drop position objects) .size)) (omega arith))
 
-objects-stand : (objects : List ℕ) → All (AtPosition objects) (objectsIn objects)
+pub objects-stand : (objects : List ℕ) → All (AtPosition objects) (objectsIn objects)
 objects-stand objects = subst (All (AtPosition objects)) (objects-start objects) (objects-from (length objects) 0 objects (omega arith))
 
 -- "Objects .. at their id's current location"
@@ -113,47 +149,9 @@ found-delete s k e d h =
       content = rw (delete-raw (positionOf (e .location) + fileAt s k .lsn) (deleteOf (e .location)), d) refl;
     }
 
+-- so all that is found stands
 pub found-stands : (s : Source) (k : ℕ) → All (Stands s k) (foundAt s k)
-unfolding objectsFound deletesFound deletesOf
-found-stands s k = all-append (Stands s k) (objectsFound (s .table) r slot) (deletesFound (s .table) r slot) objects deletes
-  where
-    r : Record
-    r = fileAt s k
-
-    slot : List ℕ
-    slot = bytesAt s k
-
-    current : Stored → Bool
-    current o = mappedTo (lookup (s .table) (o .id)) (rawOf (r .lsn + o .position) false)
-
-    moved : Stored → Op
-    moved o = record { id = o .id; content = put (o .body) }
-
-    objects : All (Stands s k) (objectsFound (s .table) r slot)
-    objects =
-        all-made (Stands s k) moved (keep current (objectsIn (objectPart r slot)))
-        (all-map (λ (o : Stored). AtPosition (objectPart r slot) o × (current o ≡ true)) (λ (o : Stored). Stands s k (moved o)) (keep current (objectsIn (objectPart r slot)))
-        (λ o w. found-object s k o (w .0) (w .1))
-        (all-keep (AtPosition (objectPart r slot)) current (objectsIn (objectPart r slot)) (objects-stand (objectPart r slot))))
-
-    isDelete : Entry → Bool
-    isDelete e = deleteOf (e .location)
-
-    IsDelete : Entry → Type 0
-    IsDelete e = Unit {0} × (isDelete e ≡ true)
-
-    held : Entry → Bool
-    held e = mappedTo (lookup (s .table) (e .id)) (absolute (r .lsn) e .location)
-
-    deleted : Entry → Op
-    deleted e = record { id = e .id; content = delete }
-
-    deletes : All (Stands s k) (deletesFound (s .table) r slot)
-    deletes =
-        all-made (Stands s k) deleted (keep held (keep isDelete (trailerEntries r slot)))
-        (all-map (λ (e : Entry). IsDelete e × (held e ≡ true)) (λ (e : Entry). Stands s k (deleted e)) (keep held (keep isDelete (trailerEntries r slot)))
-        (λ e w. found-delete s k e (w .0 .1) (w .1))
-        (all-keep IsDelete held (keep isDelete (trailerEntries r slot)) (all-keep (λ (e : Entry). Unit {0}) isDelete (trailerEntries r slot) (all-true (trailerEntries r slot)))))
+found-stands s k = found-each s k (Stands s k) (AtPosition (objectPart (fileAt s k) (bytesAt s k))) (objects-stand (objectPart (fileAt s k) (bytesAt s k))) (found-object s k) (found-delete s k)
 
 -- ---- what the last operation says, by the marks
 -- an id with a mark: nothing, or its content in the slot of the mark
@@ -191,7 +189,7 @@ among-here : (x n : ℕ) (ns : List ℕ) → n ≡ x → among x (n ∷ ns) ≡ 
 unfolding any
 among-here x n ns e = rw (eq-eqb n x e) refl
 
-among-next : (x n : ℕ) (ns : List ℕ) → (n ≡ x → ⊥) → among x (n ∷ ns) ≡ among x ns
+pub among-next : (x n : ℕ) (ns : List ℕ) → (n ≡ x → ⊥) → among x (n ∷ ns) ≡ among x ns
 unfolding any
 among-next x n ns e = rw (ne-eqb n x e) refl
 
@@ -357,6 +355,12 @@ unfolding found
 marked-found w slots n r h = marked-settled (sourceOf w) slots n r h
 
 -- ---- how many
+-- no mark is set at first
+pub blank-at : (n i : ℕ) → getD (replicate {A = ℕ} n 0) i 0 ≡ 0
+blank-at zero i = refl
+blank-at (suc n) zero = refl
+blank-at (suc n) (suc i) = blank-at n i
+
 -- marks behind the table are not counted, and none is set there
 marks-past : (m : ℕ) (ids : List ℕ) (es : List Entry) (ms : List ℕ) → drop (length es) (marked m ids es ms) ≡ drop (length es) ms
 unfolding marked

@@ -41,22 +41,28 @@ marked m ids [] marks = marks
 marked m ids (e ∷ es) [] = []
 marked m ids (e ∷ es) (n ∷ ns) = pick (among (e .id) ids) m n ∷ marked m ids es ns
 
+-- the same, of the file in slot k
+abbrev pub foundAt : Source → ℕ → List Op
+foundAt s k = foundFile (s .table) (fileAt s k) (bytesAt s k)
+
 -- slot by slot: "as last found"
 unfoldable pub marksFrom : Source → List ℕ → List ℕ → List ℕ
 marksFrom s [] marks = marks
-marksFrom s (k ∷ ks) marks = marksFrom s ks (marked (suc k) (idsOf (foundFile (s .table) (fileAt s k) (bytesAt s k))) (s .table) marks)
+marksFrom s (k ∷ ks) marks = marksFrom s ks (marked (suc k) (idsOf (foundAt s k)) (s .table) marks)
 
 -- the n marks of a group
 unfoldable pub marksOf : Source → ℕ → List ℕ → List ℕ
 marksOf s n slots = marksFrom s slots (replicate n 0)
 
--- the body of what stands at a position of a file's objects
-abbrev pub bodyAt : Record → List ℕ → ℕ → List ℕ
-bodyAt r slot position = storedAt position (drop position (objectPart r slot)) .body
+-- what stands at an absolute location in the file of slot k
+abbrev pub objectOf : Source → ℕ → ℕ → Stored
+objectOf s location k =
+    let position = positionOf location - fileAt s k .lsn in
+    storedAt position (drop position (objectPart (fileAt s k) (bytesAt s k)))
 
--- what slot k has at an absolute location
+-- its content
 unfoldable pub contentAt : Source → ℕ → ℕ → Content
-contentAt s location k = pick (deleteOf location) delete (put (bodyAt (fileAt s k) (bytesAt s k) (positionOf location - fileAt s k .lsn)))
+contentAt s location k = pick (deleteOf location) delete (put (objectOf s location k .body))
 
 -- the marked entries in table order, each with its content in the slot of its mark
 unfoldable pub markedOps : Source → List Entry → List ℕ → List Op
