@@ -1,0 +1,3 @@
+pub mod Tally
+pub mod TotalLaws
+pub mod BoundLaws
