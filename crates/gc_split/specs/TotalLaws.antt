@@ -85,26 +85,26 @@ totals-swap slotSize k fs gs =
 
 -- ---- a split and its tally
 -- a shard's own numbers
-abbrev shardSize : Shard → ℕ
+abbrev pub shardSize : Shard → ℕ
 shardSize s = s .size
 
-abbrev shardTotal : Shard → ℕ
+abbrev pub shardTotal : Shard → ℕ
 shardTotal s = length (objectsOf (s .ops))
 
-abbrev shardCount : Shard → ℕ
+abbrev pub shardCount : Shard → ℕ
 shardCount s = length (s .ops)
 
 -- the tally has the split's sizes, which are the object bytes', its counts and its fragments' totals
-record Told (slotSize entries : ℕ) (s : Split) (t : Tally) : Type 0 where
-  sizes : t .sizes ≡ map shardSize (s .shards)
-  objects : t .sizes ≡ map shardTotal (s .shards)
-  counts : t .counts ≡ map shardCount (s .shards)
-  totals : t .totals ≡ totalsFor slotSize entries (s .fragments)
+pub record Told (slotSize entries : ℕ) (s : Split) (t : Tally) : Type 0 where
+  pub sizes : t .sizes ≡ map shardSize (s .shards)
+  pub objects : t .sizes ≡ map shardTotal (s .shards)
+  pub counts : t .counts ≡ map shardCount (s .shards)
+  pub totals : t .totals ≡ totalsFor slotSize entries (s .fragments)
 
 no-objects : shardTotal noEntries ≡ 0
 no-objects = ap length objects-nil
 
-size-at : (slotSize k : ℕ) (s : Split) (t : Tally) → Told slotSize k s t → (n : ℕ) → getD (t .sizes) n 0 ≡ getD (s .shards) n noEntries .size
+pub size-at : (slotSize k : ℕ) (s : Split) (t : Tally) → Told slotSize k s t → (n : ℕ) → getD (t .sizes) n 0 ≡ getD (s .shards) n noEntries .size
 size-at slotSize k s t told n = ap (λ (l : List ℕ). getD l n 0) (told .sizes) ∙ List·getD-map shardSize (s .shards) n noEntries
 
 total-at : (slotSize k : ℕ) (s : Split) (t : Tally) → Told slotSize k s t → (n : ℕ) → getD (t .sizes) n 0 ≡ shardTotal (getD (s .shards) n noEntries)
@@ -118,16 +118,16 @@ count-at slotSize k s t told n = ap (λ (l : List ℕ). getD l n 0) (told .count
 set-told : (f : Shard → ℕ) (xs : List ℕ) (ss : List Shard) (n x : ℕ) (s : Shard) → xs ≡ map f ss → x ≡ f s → set xs n x ≡ map f (set ss n s)
 set-told f xs ss n x s e d = ap₂ (λ (l : List ℕ) (y : ℕ). set l n y) e d ∙ sym (map-set f ss n s)
 
--- by the same test
-either-told : (slotSize k : ℕ) (a b : Bool) (s u : Split) (t v : Tally) → a ≡ b → Told slotSize k s t → Told slotSize k u v → Told slotSize k (pick a s u) (pick b t v)
-either-told slotSize k true b s u t v e cut stay = rw (← e) cut
-either-told slotSize k false b s u t v e cut stay = rw (← e) stay
+-- what a split and its tally have, cut or not, they have by the same test
+pub either-has : (R : Split → Tally → Type 0) (a b : Bool) (s u : Split) (t v : Tally) → a ≡ b → (b ≡ true → R s t) → R u v → R (pick a s u) (pick b t v)
+either-has R true b s u t v e cut stay = rw (← e) (cut (sym e))
+either-has R false b s u t v e cut stay = rw (← e) stay
 
-cut-told : (target slotSize k n : ℕ) (s : Split) (t : Tally) → Told slotSize k s t → Told slotSize k (cutOff target n s) (cutting target slotSize n t)
+pub cut-told : (target slotSize k n : ℕ) (s : Split) (t : Tally) → Told slotSize k s t → Told slotSize k (cutOff target n s) (cutting target slotSize n t)
 unfolding cutOff cutting
 cut-told target slotSize k n s t told =
-    either-told slotSize k _ _ _ s _ t (ap (ltb target) (sym (size-at slotSize k s t told n)))
-    (record {
+    either-has (Told slotSize k) _ _ _ s _ t (ap (ltb target) (sym (size-at slotSize k s t told n)))
+    (λ cut. record {
       sizes = set-told shardSize (t .sizes) (s .shards) n 0 noEntries (told .sizes) refl;
       objects = set-told shardTotal (t .sizes) (s .shards) n 0 noEntries (told .objects) (sym no-objects);
       counts = set-told shardCount (t .counts) (s .shards) n 0 noEntries (told .counts) refl;
@@ -137,7 +137,7 @@ cut-told target slotSize k n s t told =
     })
     told
 
-join-told : (slotSize k n : ℕ) (o : Op) (s : Split) (t : Tally) → Told slotSize k s t → Told slotSize (k + 1) (joining o n s) (entering n (sizeOf (o .content)) t)
+pub join-told : (slotSize k n : ℕ) (o : Op) (s : Split) (t : Tally) → Told slotSize k s t → Told slotSize (k + 1) (joining o n s) (entering n (sizeOf (o .content)) t)
 unfolding joining entering totalsFor
 join-told slotSize k n o s t told = record {
   sizes = set-told shardSize (t .sizes) (s .shards) n _ _ (told .sizes) (ap (λ (z : ℕ). z + sizeOf (o .content)) (size-at slotSize k s t told n));
@@ -148,7 +148,7 @@ join-told slotSize k n o s t told = record {
   totals = ap (λ (u : Totals). record { entries = u .entries + 1; files = u .files; positions = u .positions; large = u .large }) (told .totals);
 }
 
-split-told : (target slotSize k : ℕ) (ops : List Op) (s : Split) (t : Tally) → Told slotSize k s t
+pub split-told : (target slotSize k : ℕ) (ops : List Op) (s : Split) (t : Tally) → Told slotSize k s t
     → Told slotSize (k + length ops) (splitFrom target ops s) (tallyFrom target slotSize ops t)
 unfolding splitFrom tallyFrom taking
 split-told target slotSize k [] s t told = let e : k + 0 ≡ k = omega arith in rw e told
@@ -179,7 +179,7 @@ rests-told slotSize k (s ∷ ss) fs = go (s .ops) (rests-told slotSize k ss)
         ∙ ih (fs ++ ((o ∷ os) ∷ []))
         ∙ ap (totalsFor slotSize k) (append-assoc fs ((o ∷ os) ∷ []) rest))
 
-empty-told : (slotSize : ℕ) → Told slotSize 0 (record { shards = replicate 65 noEntries; fragments = [] }) emptyTally
+pub empty-told : (slotSize : ℕ) → Told slotSize 0 (record { shards = replicate 65 noEntries; fragments = [] }) emptyTally
 unfolding totalsFor sum any
 empty-told slotSize = record {
   sizes = map-replicate shardSize 65 noEntries;

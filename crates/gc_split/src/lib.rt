@@ -163,11 +163,11 @@ pub fn close_rests(sizes: &[u64], counts: &[u64], totals: Totals, slot_bytes: u6
 }
 
 // What is left of a shard takes the next place, if there is anything.
-fn put_rest(rests: &mut [u64], left: usize, count: u64, piece: u64) -> usize
+fn put_rest(rests: &mut [u64], left: usize, entries: u64, piece: u64) -> usize
     requires { ⌜ left < length (now rests) ⌝ }
-    ensures { λ r. ⌜ (r ≡ left + length (restOf count piece)) × (now (rests .exit) ≡ putAt (now (rests .entry)) left (restOf count piece)) ⌝ }
+    ensures { λ r. ⌜ (r ≡ left + length (restOf entries piece)) × (now (rests .exit) ≡ putAt (now (rests .entry)) left (restOf entries piece)) ⌝ }
 {
-    if count == 0 {
+    if entries == 0 {
         return left;
     }
     rests[left] = piece;

@@ -15,7 +15,7 @@ use Rattle.gc_split.proofs.put_rest.Tie as tie
 returns : tie.Need-returns
 unfolding restOf
 returns c =
-    rw (eq-eqb (c .before .args .count) 0 (c .if1 .taken)) (omega arith, sym (put-none (c .before .args .rests .now) (c .before .args .left)))
+    rw (eq-eqb (c .before .args .entries) 0 (c .if1 .taken)) (omega arith, sym (put-none (c .before .args .rests .now) (c .before .args .left)))
 
 mul-rests : tie.Need-mul-rests
 mul-rests c = search needs
@@ -35,7 +35,7 @@ returns-2 c =
     let rests = c .before .args .rests .now in
     let left = c .before .args .left in
     let room : left < length rests = omega arith in
-    rw (ne-eqb (c .before .args .count) 0 (c .if1 .left))
+    rw (ne-eqb (c .before .args .entries) 0 (c .if1 .left))
     (refl, sym (sym (put-step rests left (c .before .args .piece) [] room) ∙ put-none (set rests left (c .before .args .piece)) (left + 1)))
 
 pub put-rest-spec : {M : Type 1} → statement M
