@@ -3,7 +3,7 @@ use native.Mathlib.Omega.{arith}
 use borrow.Author.Needs.{needs}
 use Rattle.rules.specs.Ops.{fileBytes, settled}
 use Rattle.rules.specs.Label.{labelBytes}
-use Rattle.slot_writer.specs.Labels.{file-made}
+use Rattle.slot_writer.specs.Files.{file-then-label}
 use Rattle.batch.specs.Reading.{opsIn}
 use Rattle.batch_file.proofs.Lent.{lent-made}
 use Rattle.batch_file.proofs.write_file.Statement.{statement}
@@ -37,7 +37,7 @@ returns c =
     let start = first .before .before .before .before in
     let a = start .args in
     let file = fileBytes (settled (opsIn (a .batch .now))) in
-    file-made (a .start) (labelBytes (a .new)) file
+    file-then-label (a .start) (labelBytes (a .new)) file
     (lent-made _ _ file (a .start + 64) _ _ (omega (arith, start .pre .1)) (first .put-file .ensures))
     (second .put .ensures)
 
