@@ -1,0 +1,29 @@
+// The public calls of document 01 in one place (`src/lib.rs`). Each is a total function: no `requires`, an answer for every input.
+
+// "Reopen"
+pub use recovery::Reopened;
+pub use recovery::reopen;
+
+// "Write"
+pub use writepath::Written;
+pub use writepath::write;
+
+// "Read": the body's part of the lent heap, and the answer beside it.
+pub use readpath::read;
+pub use readpath::read_answer;
+
+// "Claim, release", "Counts"
+pub use claims::ClaimAnswer;
+pub use claims::claim;
+pub use claims::counts;
+pub use claims::release;
+
+// "Prune"
+pub use prune::PruneAnswer;
+pub use prune::prune;
+
+// "Table": load, store, compare-and-store, store-if-greater.
+pub use location_table::compare_and_store;
+pub use location_table::load;
+pub use location_table::store;
+pub use location_table::store_if_greater;
