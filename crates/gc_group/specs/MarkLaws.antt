@@ -7,7 +7,7 @@ use native.Mathlib.Omega.{arith}
 use lib.ListN.{length-replicate}
 use borrow.Author.Tests.{eq-eqb, ne-eqb, eqb-true}
 use Rattle.rules.specs.Base.{Bool, true, false, _||_, List, [], _∷_, _++_, map, ℕ, zero, suc, _+_, _-_, _^_, length, getD, drop, set, replicate, eqb, pick, any, keep, each, sum}
-use Rattle.rules.specs.BaseLaws.{All, all-map, same?, order}
+use Rattle.rules.specs.BaseLaws.{All, all-map, same?}
 use Rattle.rules.specs.declared.Entry.{Entry}
 use Rattle.rules.specs.declared.Record.{Record}
 use Rattle.rules.specs.declared.Held.{Held}

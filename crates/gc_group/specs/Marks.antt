@@ -15,6 +15,10 @@ use Rattle.gc_group.specs.Source.{Source, fileAt, bytesAt}
 abbrev pub foundFile : List Entry → Record → List ℕ → List Op
 foundFile table r slot = objectsFound table r slot ++ deletesFound table r slot
 
+-- the same, of the file in slot k
+abbrev pub foundAt : Source → ℕ → List Op
+foundAt s k = foundFile (s .table) (fileAt s k) (bytesAt s k)
+
 -- the ids of operations
 abbrev pub idsOf : List Op → List ℕ
 idsOf ops = map (λ (o : Op). o .id) ops
@@ -40,10 +44,6 @@ unfoldable pub marked : ℕ → List ℕ → List Entry → List ℕ → List �
 marked m ids [] marks = marks
 marked m ids (e ∷ es) [] = []
 marked m ids (e ∷ es) (n ∷ ns) = pick (among (e .id) ids) m n ∷ marked m ids es ns
-
--- the same, of the file in slot k
-abbrev pub foundAt : Source → ℕ → List Op
-foundAt s k = foundFile (s .table) (fileAt s k) (bytesAt s k)
 
 -- slot by slot: "as last found"
 unfoldable pub marksFrom : Source → List ℕ → List ℕ → List ℕ

@@ -1,5 +1,6 @@
 -- "Candidates, fixed as the call starts": a number for each slot, so that the groups stay while files are rewritten.
-use mathlib.Core.Path.{_≡_, refl, sym, ap, _∙_}
+use mathlib.Core.Path.{_≡_, refl, sym, ap, _∙_, subst}
+use mathlib.Core.Logic.{_⊎_, inl, inr}
 use Prim.Native.Nat.{_≤_, _<_}
 use native.Mathlib.Nat.{not-suc-le-zero, le-of-suc-le-suc, zero-add}
 use native.Mathlib.Numerals.{add-one}
@@ -8,6 +9,8 @@ use lib.ListN.{drop-of-length-le}
 use lib.Seq.{drop-cons}
 use borrow.Author.Tests.{eq-eqb, ne-eqb}
 use Rattle.rules.specs.Base.{Bool, true, false, _&&_, List, [], _∷_, ℕ, zero, suc, _+_, length, getD, drop, eqb, pick}
+use Rattle.numbers.specs.GroupLaws.{either-way}
+use Rattle.rules.specs.BaseLaws.{All, same?}
 use Rattle.rules.specs.declared.Record.{Record}
 use Rattle.rules.specs.declared.Settings.{Settings}
 use Rattle.rules.specs.declared.Claims.{Claims}
@@ -99,3 +102,20 @@ planned-start plan generation = refl
 pub planned-end : (plan : List ℕ) (generation i : ℕ) → length plan ≤ i → plannedFrom i (drop i plan) generation ≡ []
 unfolding plannedFrom
 planned-end plan generation i h = rw (drop-of-length-le plan {i = i} h) refl
+
+-- ---- each slot of a group has its number
+from-all : (plan : List ℕ) (generation n i : ℕ) → length plan ≤ i + n → All (λ (k : ℕ). (k < length plan) × (getD plan k 0 ≡ generation)) (plannedFrom i (drop i plan) generation)
+from-all plan generation zero i h = rw (planned-end plan generation i (omega arith)) tt
+from-all plan generation (suc n) i h = go (either-way i (length plan)) (same? (getD plan i 0) generation) (from-all plan generation n (i + 1) (omega arith))
+  where
+    Numbered : ℕ → Type 0
+    Numbered k = (k < length plan) × (getD plan k 0 ≡ generation)
+
+    go : (i < length plan) ⊎ (length plan ≤ i) → (getD plan i 0 ≡ generation) ⊎ (getD plan i 0 ≡ generation → ⊥)
+        → All Numbered (plannedFrom (i + 1) (drop (i + 1) plan) generation) → All Numbered (plannedFrom i (drop i plan) generation)
+    go (inr past) e ih = rw (planned-end plan generation i past) tt
+    go (inl inside) (inl e) ih = subst (All Numbered) (sym (planned-here plan generation i inside e)) ((inside, e), ih)
+    go (inl inside) (inr e) ih = subst (All Numbered) (sym (planned-next plan generation i inside e)) ih
+
+pub planned-all : (plan : List ℕ) (generation : ℕ) → All (λ (k : ℕ). (k < length plan) × (getD plan k 0 ≡ generation)) (planned plan generation)
+planned-all plan generation = subst (All (λ (k : ℕ). (k < length plan) × (getD plan k 0 ≡ generation))) (sym (planned-start plan generation)) (from-all plan generation (length plan) 0 (omega arith))

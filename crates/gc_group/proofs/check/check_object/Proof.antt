@@ -15,7 +15,7 @@ returns : tie.Need-returns
 returns c =
     let start = c .before .before .before .before .before in
     let a = start .args in
-    sym (moved-large (a .limit) (used (a .ids .now) (a .locations .now)) (a .objects .now) (a .position) (a .h) (start .pre .0) (c .if1 .taken))
+    sym (moved-large (a .limit) (used (a .ids .now) (a .locations .now)) (a .objects .now) (a .position) (a .h) (start .pre .0) (omega arith))
 
 unmapped-requires : tie.Need-unmapped-requires
 unmapped-requires c κs = search needs
