@@ -17,7 +17,7 @@ use ghost.Atoms.{Atoms, sem}
 use contract.Monad.{Fun, fact}
 use contract.Lifetimes.{Lfts}
 use contract.Running.{givenOf, tables, tablesOf}
-use types.Kit.{Given, Item, ‵, raw, _⊛_, some, later, ⋆, mean, _$_, _∵_, !, qed, by, move, keep, drop, use1, use3, split, join, pick, rewrite, fsplit, fsplit3, fjoin, fjoin3, feqI, suffices, frame, await, done}
+use types.Kit.{Given, Item, ‵, raw, _⊛_, some, later, ⋆, _$_, _∵_, !, qed, by, move, drop, use1, use3, split, join, pick, rewrite, fsplit, fsplit3, fjoin, fjoin3, feqI, suffices, frame, await, done}
 use types.Run.{look, look-raw, init, store-raw, forget, stop, hop, fld, from, load, and-then, no-more, of-opd, land, assigns, returns, enter, alloc1, alloc0, params1, pass1, pass0, free1, free0}
 use types.Part.{whole, sub, look-in}
 use types.SemTy.{Body}
@@ -25,13 +25,14 @@ use sound.WpLaws.{FmC, fmOf, WpFn-mono}
 use denote.RattleType.{RattleType, owns}
 use denote.Laws.{Is, shows}
 use denote.Memory.{mem}
-use denote.Plain.{uint-vals, uint-tells, uint-makes}
+use denote.Plain.{uint-vals, uint-tells, uint-makes, uint-copy}
 use denote.Builtin.{u8, u64}
 use denote.Ref.{RefT, MutRef, ptr-vals, mut-tells}
 use denote.Slice.{sliceVal, ShrSlice, Room, slice-vals, shr-slice-tells, shr-slice-copy}
 use denote.Signature.{plain}
-use denote.Steps.{only, opens, closes, owned, peeks, heard, nothing}
+use denote.Steps.{only, opens, closes, owned, peeks, heard}
 use denote.Struct.Steps.{spelt}
+use denote.Struct.Struct.{Copies, twices}
 use denote.Struct.Laws as LL
 use denote.Triple.Statement.{Contract, Triple}
 use denote.Triple.Call.{calls-at}
@@ -94,9 +95,9 @@ module _ {M : Type 1} (𝓤 : URA M) (H : Heap 𝓤) (A : Atoms 𝓤) (at-mem : 
 
   -- of its `ensured`, the clause alone
   of-says : (κs : Lfts 3) (s : Settings) (st : State) (h : Claims) (bs is ls : Bytes) (n : ℕ) (r : Outcome)
-      → ent 𝓤 (ensured 𝓤 H A of.ended (of.clauses 𝓤 H A at-mem run) κs (s, (st, (h, (bs, (is, (ls, (n, tt))))))) tt r) (fact 𝓤 (Says s st h bs is ls n (r .number) (r .claims)))
+      → ent 𝓤 (ensured 𝓤 H A of.ended (of.clauses 𝓤 H A at-mem run) κs (h, (s, (st, (bs, (is, (ls, (n, tt))))))) tt r) (fact 𝓤 (Says s st h bs is ls n (r .number) (r .claims)))
   of-says κs s st h bs is ls n r =
-      exE 𝓤 _ (λ ws. snd∗ 𝓤 (sem 𝓤 H A (lasts of.ended κs (s, (st, (h, (bs, (is, (ls, (n, tt))))))) ws)) (fact 𝓤 (Says s st h bs is ls n (r .number) (r .claims))))
+      exE 𝓤 _ (λ ws. snd∗ 𝓤 (sem 𝓤 H A (lasts of.ended κs (h, (s, (st, (bs, (is, (ls, (n, tt))))))) ws)) (fact 𝓤 (Says s st h bs is ls n (r .number) (r .claims))))
 
 module _ {M : Type 1} (𝓤 : URA M) (H : Heap 𝓤) (A : Atoms 𝓤) (W : Given 𝓤 H A) (at-mem : Memory → SProp 𝓤) (run : Routine → Fun 𝓤) (κ κ₁ κ₂ κ₃ : Lft) (q q₁ q₂ q₃ : Share) (b o : ℕ) (γ : GName) (h : Claims)
     (s : Settings) (s-is : Is S.the-row s (LL.vals S.the-type S′.the-laws s)) (st : State) (st-is : Is Q.the-row st (LL.vals Q.the-type Q′.the-laws st))
@@ -121,60 +122,45 @@ module _ {M : Type 1} (𝓤 : URA M) (H : Heap 𝓤) (A : Atoms 𝓤) (W : Given
   abbrev mach : Claims → Val
   mach c = LL.val T.the-type T′.the-laws c
 
-  -- the slices' tokens, and what the slices own
+  -- the slices' tokens
   abbrev Toks : Item 𝓤
   Toks = ‵ (flft κ₁ q₁) ⊛ ‵ (flft κ₂ q₂) ⊛ ‵ (flft κ₃ q₃) ⊛ ‵ ftrue
 
-  abbrev Shr : Lft → (R : RattleType) → RefT (List (R .Denot)) → Fml
-  Shr ϰ R y = ShrSlice (named 0) ϰ R .own y (slice-vals y)
+  -- what all parameters but the first own. Each is Copy: one copy is passed on, the other kept for the exit
+  abbrev others : List RattleType
+  others = S.the-row ∷ Q.the-row ∷ ShrSlice (named 1) κ₁ u8 ∷ ShrSlice (named 2) κ₂ u64 ∷ ShrSlice (named 3) κ₃ u64 ∷ u64 ∷ []
 
-  abbrev Three : Fml
-  Three = fsep (Shr κ₁ u8 bs) (fsep (Shr κ₂ u64 is) (Shr κ₃ u64 ls))
+  abbrev Others : Fml
+  Others = owns others (x .1) (at .1)
 
-  abbrev Rest : Fml
-  Rest = owns (S.the-row ∷ Q.the-row ∷ ShrSlice (named 1) κ₁ u8 ∷ ShrSlice (named 2) κ₂ u64 ∷ ShrSlice (named 3) κ₃ u64 ∷ u64 ∷ []) (x .1) (at .1)
-
-  -- a `&[T]` is Copy: one copy is passed on, the other kept for the exit
-  twice : ent 𝓤 (sem 𝓤 H A Rest) (mean 𝓤 H A (‵ Three ⊛ ‵ Three))
-  twice =
-      qed W (‵ Rest ∷ []) ∵ fsplit ! $ drop ! $ fsplit ! $ drop ! $
-      fsplit ! $ use1 W (‵ (Shr κ₁ u8 bs) ⊛ ‵ (Shr κ₁ u8 bs)) (shr-slice-copy 𝓤 H A W (named 0) κ₁ u8 .twice bs (vr bs ∷ [])) $ split ! $ move ! (2 ∷ []) $
-      fsplit ! $ use1 W (‵ (Shr κ₂ u64 is) ⊛ ‵ (Shr κ₂ u64 is)) (shr-slice-copy 𝓤 H A W (named 0) κ₂ u64 .twice is (vr is ∷ [])) $ split ! $ move ! (2 ∷ []) $
-      fsplit ! $ use1 W (‵ (Shr κ₃ u64 ls) ⊛ ‵ (Shr κ₃ u64 ls)) (shr-slice-copy 𝓤 H A W (named 0) κ₃ u64 .twice ls (vr ls ∷ [])) $ split ! $
-      keep ! (5 ∷ 3 ∷ 0 ∷ 6 ∷ 4 ∷ 1 ∷ []) $ fjoin3 ! $ frame ! $ fjoin3 ! $ done !
+  copies : Copies 𝓤 H A others
+  copies =
+      (LL.copy S.the-type S′.the-copy 𝓤 H A W, (LL.copy Q.the-type Q′.the-copy 𝓤 H A W, (shr-slice-copy 𝓤 H A W (named 1) κ₁ u8, (shr-slice-copy 𝓤 H A W (named 2) κ₂ u64, (shr-slice-copy 𝓤 H A W (named 3) κ₃ u64, (uint-copy 𝓤 H A W w64, tt))))))
 
   abbrev Post : Val → SProp 𝓤
   Post = walkOf 𝓤 H A f.ended stayed (f.clauses 𝓤 H A at-mem run) .post (((κ, (κ₁, (κ₂, (κ₃, tt)))), (q, (q₁, (q₂, (q₃, tt)))), tt, x, at), tt)
 
-  exits : (h′ : Claims) (m : ℕ) → m < 2 ^ 64 → Says s st h bs is ls n m h′ → ent 𝓤 (⋆ 𝓤 H A (‵ (fobs γ (T.the-row .coded .code h′)) ∷ ‵ (fbor κ (Body (mem T.the-row) b o γ)) ∷ ‵ (flft κ q) ∷ Toks ∷ ‵ Three ∷ [])) (Post (vint w64 m))
+  exits : (h′ : Claims) (m : ℕ) → m < 2 ^ 64 → Says s st h bs is ls n m h′ → ent 𝓤 (⋆ 𝓤 H A (‵ (fobs γ (T.the-row .coded .code h′)) ∷ ‵ (fbor κ (Body (mem T.the-row) b o γ)) ∷ ‵ (flft κ q) ∷ Toks ∷ ‵ Others ∷ [])) (Post (vint w64 m))
   exits h′ m m-fits e =
-      qed W (‵ (fobs γ (T.the-row .coded .code h′)) ∷ ‵ (fbor κ (Body (mem T.the-row) b o γ)) ∷ ‵ (flft κ q) ∷ Toks ∷ ‵ Three ∷ []) ∵
+      qed W (‵ (fobs γ (T.the-row .coded .code h′)) ∷ ‵ (fbor κ (Body (mem T.the-row) b o γ)) ∷ ‵ (flft κ q) ∷ Toks ∷ ‵ Others ∷ []) ∵
       suffices ! _ (ends-at 𝓤 H A f.ended stayed (f.clauses 𝓤 H A at-mem run) W (((κ, (κ₁, (κ₂, (κ₃, tt)))), (q, (q₁, (q₂, (q₃, tt)))), tt, x, at), tt) (vint w64 m) m
       (h′, (tt, (tt, (tt, (tt, (tt, (tt, tt))))))) (tt, (tt, (tt, (tt, (tt, (tt, (tt, tt)))))))) $ says ! e $ move ! (2 ∷ 3 ∷ []) $ join ! $
-      frame ! $ feqI ! (List Val) (vptr b o ∷ []) (vptr b o ∷ []) refl $ fjoin3 ! $ move ! (1 ∷ []) $ fsplit3 ! $
-      -- [the three slices; the reference]
-      nothing ! $ owned ! u64 (Is u64) (uint-makes 𝓤 H A W w64) n _ (refl, fits) $ fjoin ! $ move ! (3 ∷ 0 ∷ []) $ fjoin ! $ move ! (2 ∷ 0 ∷ []) $ fjoin ! $ move ! (1 ∷ 0 ∷ []) $ fjoin ! $
-      owned ! Q.the-row (Is Q.the-row) (LL.makes Q.the-type Q′.the-plain 𝓤 H A) st _ st-is $ fjoin ! $ owned ! S.the-row (Is S.the-row) (LL.makes S.the-type S′.the-plain 𝓤 H A) s _ s-is $ fjoin ! $
-      move ! (1 ∷ 0 ∷ []) $ fjoin ! $ owned ! u64 (Is u64) (uint-makes 𝓤 H A W w64) m _ (refl, m-fits) $ move ! (1 ∷ 0 ∷ []) $ done !
+      frame ! $ feqI ! (List Val) (vptr b o ∷ []) (vptr b o ∷ []) refl $ fjoin3 ! $ fjoin ! $
+      owned ! u64 (Is u64) (uint-makes 𝓤 H A W w64) m _ (refl, m-fits) $ move ! (1 ∷ 0 ∷ []) $ done !
 
   -- what the callee's triple binds outside, and that it is had: a record of plain data is made anew
   abbrev to-of : Of 𝓤 H A at-mem run .Ghost
-  to-of = (((κ₁, (κ₂, (κ₃, tt))), (q₁, (q₂, (q₃, tt))), tt, (s, (st, (h, (bs, (is, (ls, (n, tt))))))), (vs ∷ [], (vst ∷ [], (mach h ∷ [], (vr bs ∷ [], (vr is ∷ [], (vr ls ∷ [], (vint w64 n ∷ [], tt)))))))), tt)
+  to-of = (((κ₁, (κ₂, (κ₃, tt))), (q₁, (q₂, (q₃, tt))), tt, (h, (s, (st, (bs, (is, (ls, (n, tt))))))), (mach h ∷ [], (vs ∷ [], (vst ∷ [], (vr bs ∷ [], (vr is ∷ [], (vr ls ∷ [], (vint w64 n ∷ [], tt)))))))), tt)
 
-  goes-of : ent 𝓤 (⋆ 𝓤 H A (‵ (T.the-row .own h (mach h ∷ [])) ∷ ‵ Three ∷ Toks ∷ [])) (Of 𝓤 H A at-mem run .pre to-of)
-  goes-of =
-      qed W (‵ (T.the-row .own h (mach h ∷ [])) ∷ ‵ Three ∷ Toks ∷ []) ∵ move ! (1 ∷ []) $ fsplit3 ! $
-      -- [the three slices; the claim record; the tokens]
-      nothing ! $ owned ! u64 (Is u64) (uint-makes 𝓤 H A W w64) n _ (refl, fits) $ fjoin ! $ move ! (3 ∷ 0 ∷ []) $ fjoin ! $ move ! (2 ∷ 0 ∷ []) $ fjoin ! $ move ! (1 ∷ 0 ∷ []) $ fjoin ! $ move ! (1 ∷ 0 ∷ []) $ fjoin ! $
-      owned ! Q.the-row (Is Q.the-row) (LL.makes Q.the-type Q′.the-plain 𝓤 H A) st _ st-is $ fjoin ! $ owned ! S.the-row (Is S.the-row) (LL.makes S.the-type S′.the-plain 𝓤 H A) s _ s-is $ fjoin ! $
-      move ! (1 ∷ 0 ∷ []) $ join ! $ frame ! $ done !
+  goes-of : ent 𝓤 (⋆ 𝓤 H A (‵ (T.the-row .own h (mach h ∷ [])) ∷ ‵ Others ∷ Toks ∷ [])) (Of 𝓤 H A at-mem run .pre to-of)
+  goes-of = qed W (‵ (T.the-row .own h (mach h ∷ [])) ∷ ‵ Others ∷ Toks ∷ []) ∵ fjoin ! $ move ! (1 ∷ 0 ∷ []) $ join ! $ frame ! $ done !
 
   module _ (C : Calls 𝓤 H) (Λ : Loops 𝓤 H) (fm : FmC 𝓤 H (W .laws) C) (known : Triple 𝓤 (C #of) (Of 𝓤 H A at-mem run)) where
     walk : ent 𝓤 (onEntry 𝓤 H A f.signature (κ, (κ₁, (κ₂, (κ₃, tt)))) (q, (q₁, (q₂, (q₃, tt)))) x at) (WpFn 𝓤 H C Λ code.function (vptr b o ∷ vs ∷ vst ∷ vr bs ∷ vr is ∷ vr ls ∷ vint w64 n ∷ []) Post)
     walk =
-        qed W ((‵ (flft κ q) ⊛ Toks) ∷ ‵ (fsep (MutRef (named 0) κ T.the-row .own (x .0) (at .0)) Rest) ∷ []) ∵ split ! $ move ! (2 ∷ []) $ fsplit ! $ fsplit3 ! $ drop ! $
-        move ! (2 ∷ []) $ use1 W (‵ Three ⊛ ‵ Three) twice $ split ! $ move ! (2 ∷ 3 ∷ 4 ∷ 0 ∷ 1 ∷ []) $
-        -- [obs; the borrow; the token; the slices, twice; their tokens]
+        qed W ((‵ (flft κ q) ⊛ Toks) ∷ ‵ (fsep (MutRef (named 0) κ T.the-row .own (x .0) (at .0)) Others) ∷ []) ∵ split ! $ move ! (2 ∷ []) $ fsplit ! $ fsplit3 ! $ drop ! $
+        move ! (2 ∷ []) $ use1 W (‵ Others ⊛ ‵ Others) (twices 𝓤 H A W others copies (x .1) (at .1)) $ split ! $ move ! (2 ∷ 3 ∷ 4 ∷ 0 ∷ 1 ∷ []) $
+        -- [obs; the borrow; the token; the other parameters, twice; their tokens]
         enter ! C Λ code.function (vptr b o ∷ vs ∷ vst ∷ vr bs ∷ vr is ∷ vr ls ∷ vint w64 n ∷ []) _ $
         alloc1 ! (λ l₀. alloc1 ! (λ l₁. alloc1 ! (λ l₂. alloc1 ! (λ l₃. alloc1 ! (λ l₄. alloc1 ! (λ l₅. alloc1 ! (λ l₆. alloc1 ! (λ l₇. alloc1 ! (λ l₈. alloc1 ! (λ l₉. alloc0 ! $ params1 ! $
         pass1 ! (init ! 16 refl (tt, tt)) $ pass1 ! (init ! 14 refl (LL.lawful S.the-type S′.the-laws 𝓤 H A W .typed s _ s-is .0)) $ pass1 ! (init ! 12 refl (LL.lawful Q.the-type Q′.the-laws 𝓤 H A W .typed st _ st-is .0)) $
@@ -182,20 +168,20 @@ module _ {M : Type 1} (𝓤 : URA M) (H : Heap 𝓤) (A : Atoms 𝓤) (W : Given
         pass1 ! (init ! 4 refl (tt, record { fits = fits })) $ pass0 ! $
         move ! (20 ∷ 21 ∷ 22 ∷ []) $ opens ! tt T.the-row {h = h} b o (λ us. spelt ! T.the-row (Is T.the-row) (shows 𝓤 H A T.the-row) (LL.vals T.the-type T′.the-laws) (LL.tells T.the-type T′.the-laws) fullShare h us b o $
         move ! (1 ∷ []) $ peeks ! T.the-row (Is T.the-row) (shows 𝓤 H A T.the-row) h (mach h ∷ []) (λ h-is. drop ! $
-        -- [the record's cell; the open borrow; obs; auth; _9; …; _8; …; .. ; room for _0; …; the slices, twice; their tokens]
+        -- [the record's cell; the open borrow; obs; auth; _9; …; _8; …; .. ; room for _0; …; the other parameters, twice; their tokens]
         assigns ! (of-opd ! (load ! (from ! (hop ! (look ! 20 refl) (stop !))) (look-raw ! 0 refl))) (from ! (stop !)) (init ! 6 refl (LL.lawful T.the-type T′.the-laws 𝓤 H A W .typed h _ h-is .0)) $
         owned ! T.the-row (Is T.the-row) (LL.makes T.the-type T′.the-plain 𝓤 H A) h _ h-is $ move ! (0 ∷ 25 ∷ 27 ∷ []) $ use3 W (raw (Of 𝓤 H A at-mem run .pre to-of)) goes-of $
         calls-at ! fm (Of 𝓤 H A at-mem run) known to-of
-        (and-then ! (load ! (from ! (stop !)) (look ! 19 refl)) (and-then ! (load ! (from ! (stop !)) (look ! 17 refl)) (and-then ! (load ! (from ! (stop !)) (look ! 7 refl)) (and-then ! (load ! (from ! (stop !)) (look ! 15 refl))
+        (and-then ! (load ! (from ! (stop !)) (look ! 7 refl)) (and-then ! (load ! (from ! (stop !)) (look ! 19 refl)) (and-then ! (load ! (from ! (stop !)) (look ! 17 refl)) (and-then ! (load ! (from ! (stop !)) (look ! 15 refl))
         (and-then ! (load ! (from ! (stop !)) (look ! 13 refl)) (and-then ! (load ! (from ! (stop !)) (look ! 11 refl)) (and-then ! (load ! (from ! (stop !)) (look ! 9 refl)) (no-more !)))))))) (λ v.
-        use1 W (later (some (λ (r : Outcome). (Toks ⊛ ‵ (O.the-row .own r (v ∷ []))) ⊛ raw (ensured 𝓤 H A of.ended (of.clauses 𝓤 H A at-mem run) (κ₁, (κ₂, (κ₃, tt))) (s, (st, (h, (bs, (is, (ls, (n, tt))))))) tt r)))) (id⊢ 𝓤 _) $ await ! tt $ pick ! (λ r.
+        use1 W (later (some (λ (r : Outcome). (Toks ⊛ ‵ (O.the-row .own r (v ∷ []))) ⊛ raw (ensured 𝓤 H A of.ended (of.clauses 𝓤 H A at-mem run) (κ₁, (κ₂, (κ₃, tt))) (h, (s, (st, (bs, (is, (ls, (n, tt))))))) tt r)))) (id⊢ 𝓤 _) $ await ! tt $ pick ! (λ r.
         split ! $ move ! (1 ∷ []) $ use1 W (raw (fact 𝓤 (Says s st h bs is ls n (r .number) (r .claims)))) (of-says 𝓤 H A at-mem run (κ₁, (κ₂, (κ₃, tt))) s st h bs is ls n r) $ heard ! (Says s st h bs is ls n (r .number) (r .claims)) (λ e. split ! $ move ! (1 ∷ []) $
         peeks ! O.the-row (Is O.the-row) (shows 𝓤 H A O.the-row) r (v ∷ []) (λ r-is. drop ! $
         -- [their tokens; the record's cell; the open borrow; obs; auth; room for _9; …; _8; …; ..]
         land ! (from ! (stop !)) (init ! 5 refl (LL.lawful O.the-type O′.the-laws 𝓤 H A W .typed r _ r-is .0)) $ rewrite ! 5 (λ (u : Val). ‵ (fat fullShare O′.mir l₉ 0 u)) (ap only (LL.tells O.the-type O′.the-laws r (v ∷ []) r-is)) refl $
         assigns ! (of-opd ! (load ! (from ! (fld ! refl (stop !))) (look-in ! 5 (sub ! 1 refl (whole !))))) (from ! (hop ! (look ! 21 refl) (stop !))) (store-raw ! 1 refl (LL.lawful T.the-type T′.the-laws 𝓤 H A W .typed (r .claims) _ (LL.owed O.the-type O′.the-laws r _ r-is .1 .0) .0)) $
         owned ! T.the-row (Is T.the-row) (LL.makes T.the-type T′.the-plain 𝓤 H A) (r .claims) _ (LL.owed O.the-type O′.the-laws r _ r-is .1 .0) $ move ! (2 ∷ 0 ∷ 3 ∷ 4 ∷ 5 ∷ []) $ closes ! tt T.the-row (r .claims) (mach (r .claims) ∷ []) b o $
-        -- [obs; the borrow; the token; their tokens; _9; …; _8; …; ..; room for _0; …; the slices]
+        -- [obs; the borrow; the token; their tokens; _9; …; _8; …; ..; room for _0; …; the other parameters]
         assigns ! (of-opd ! (load ! (from ! (fld ! refl (stop !))) (look-in ! 4 (sub ! 0 refl (whole !))))) (from ! (stop !)) (init ! 22 refl (tt, record { fits = LL.owed O.the-type O′.the-laws r _ r-is .0 .1 })) $
         returns ! (look ! 22 refl) $ forget ! 4 refl $ forget ! 6 refl $ forget ! 8 refl $ forget ! 10 refl $ forget ! 12 refl $ forget ! 14 refl $ forget ! 16 refl $ forget ! 18 refl $ forget ! 20 refl $ forget ! 22 refl $
         move ! (22 ∷ 23 ∷ []) $ free1 ! $ move ! (20 ∷ 21 ∷ []) $ free1 ! $ move ! (18 ∷ 19 ∷ []) $ free1 ! $ move ! (16 ∷ 17 ∷ []) $ free1 ! $ move ! (14 ∷ 15 ∷ []) $ free1 ! $ move ! (12 ∷ 13 ∷ []) $ free1 ! $
