@@ -1,8 +1,17 @@
 -- An answer with no values, by its number alone: 0, or a refusal's.
+use mathlib.Core.Path.{_≡_, sym, ap, _∙_}
 use Prim.Native.Nat.{ℕ}
-use mathlib.Core.List.{[]}
-use Rattle.rules.specs.World.{Given}
+use mathlib.Core.List.{List, []}
+use Rattle.rules.specs.declared.Claims.{Claims}
+use Rattle.rules.specs.declared.Settings.{Settings}
+use Rattle.rules.specs.declared.State.{State}
+use Rattle.rules.specs.World.{Given, After, world, leaving}
 
 -- what a call that gives nothing but its success answers
 abbrev pub numbered : ℕ → Given
 numbered n = record { number = n; values = [] }
+
+-- any two results that a contract of a call in place admits are equal: the number, and the claim record
+pub one-result : (a : After) (s : Settings) (state : State) (heap ids locations : List ℕ) (n m : ℕ) (c d : Claims)
+    → leaving (numbered n) (world s state c heap ids locations) ≡ a → leaving (numbered m) (world s state d heap ids locations) ≡ a → (n ≡ m) × (c ≡ d)
+one-result a s state heap ids locations n m c d p q = (ap (λ (e : After). e .answer .number) (p ∙ sym q), ap (λ (e : After). e .world .claims) (p ∙ sym q))

@@ -13,7 +13,7 @@ ghost use Rattle.claims_in_place.specs.Numbered.{numbered};
 
 // ---- by value
 // The table "No. | Condition".
-pub fn refusal_number(r: Refusal) -> u64
+fn refusal_number(r: Refusal) -> u64
     ensures { λ n. ⌜ n ≡ numberOf r ⌝ }
 {
     match r {
@@ -41,8 +41,8 @@ pub fn refusal_number(r: Refusal) -> u64
     }
 }
 
-// 0 for success.
-pub fn number(a: Answer) -> u64
+// The number of an answer: 0 for success.
+fn number(a: Answer) -> u64
     ensures { λ n. ⌜ numbered n ≡ answerGiven a ⌝ }
 {
     match a {
@@ -52,16 +52,16 @@ pub fn number(a: Answer) -> u64
 }
 
 // A call's number, and the claim record after it.
-pub struct Outcome {
-    pub number: u64,
-    pub claims: Claims,
+struct Outcome {
+    number: u64,
+    claims: Claims,
 }
 
 // The claim by value, its answer as a number.
-pub fn claimed(
+fn claimed(
+    claims: Claims,
     s: Settings,
     state: State,
-    claims: Claims,
     heap: &[u8],
     ids: &[u64],
     locations: &[u64],
@@ -79,10 +79,10 @@ pub fn claimed(
 }
 
 // The release by value, its answer as a number.
-pub fn released(
+fn released(
+    claims: Claims,
     s: Settings,
     state: State,
-    claims: Claims,
     heap: &[u8],
     ids: &[u64],
     locations: &[u64],
@@ -113,7 +113,7 @@ pub fn claim(
     ensures { λ r. ⌜ leaving (numbered r) (world s state (now (claims .exit)) (now (heap .entry)) (now (ids .entry)) (now (locations .entry))) ≡ claimCall (world s state (now (claims .entry)) (now (heap .entry)) (now (ids .entry)) (now (locations .entry))) slot ⌝ }
 {
     let was = *claims;
-    let next = claimed(s, state, was, heap, ids, locations, slot);
+    let next = claimed(was, s, state, heap, ids, locations, slot);
     *claims = next.claims;
     next.number
 }
@@ -131,7 +131,7 @@ pub fn release(
     ensures { λ r. ⌜ leaving (numbered r) (world s state (now (claims .exit)) (now (heap .entry)) (now (ids .entry)) (now (locations .entry))) ≡ releaseCall (world s state (now (claims .entry)) (now (heap .entry)) (now (ids .entry)) (now (locations .entry))) slot ⌝ }
 {
     let was = *claims;
-    let next = released(s, state, was, heap, ids, locations, slot);
+    let next = released(was, s, state, heap, ids, locations, slot);
     *claims = next.claims;
     next.number
 }
