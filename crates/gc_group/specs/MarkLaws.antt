@@ -25,8 +25,9 @@ use Rattle.rules.specs.Ops.{Content, put, delete, Op, settled}
 use Rattle.rules.specs.OpsLaws.{RisingOps, ops-end, ops-rise}
 use Rattle.rules.specs.SettledLaws.{Last, silent, last, orEarlier, saidBy, lastOn, settled-rising, settled-last, last-below, ops-ext}
 use Rattle.rules.specs.Maintenance.{objectsFound, deletesOf, deletesFound, found}
+use Rattle.rules.specs.TableLaws.{Rising, rise, lookup-here, lookup-next}
 use Rattle.rules.specs.World.{World, mappings}
-use Rattle.location_table.specs.EntryLaws.{noEntry, Rising, rise, rising-lt, lookup-here, lookup-next}
+use Rattle.location_table.specs.EntryLaws.{noEntry, rising-lt}
 use Rattle.gc_group.specs.Source.{Source, sourceOf, fileAt, bytesAt}
 use Rattle.gc_group.specs.Checks.{each-keep}
 use Rattle.gc_group.specs.Marks.{foundFile, foundAt, idsOf, among, current, objectId, deleteId, marked, marksFrom, marksOf, contentAt, markedOps, marksSet}
@@ -305,7 +306,7 @@ pub marked-rising : (s : Source) (f : ℕ) (es : List Entry) (ms : List ℕ) →
 unfolding markedOps
 marked-rising s f [] ms r = ops-end
 marked-rising s f (e ∷ es) [] r = ops-end
-marked-rising s f (e ∷ es) (m ∷ ms) (rise a b r) = go (eqb m 0) (marked-rising s (suc (e .id)) es ms r)
+marked-rising s f (e ∷ es) (m ∷ ms) (rise a r) = go (eqb m 0) (marked-rising s (suc (e .id)) es ms r)
   where
     go : (t : Bool) → RisingOps (suc (e .id)) (markedOps s es ms)
         → RisingOps f (pick t (markedOps s es ms) (record { id = e .id; content = contentAt s (e .location) (m - 1) } ∷ markedOps s es ms))
@@ -317,7 +318,7 @@ marked-last : (s : Source) (f : ℕ) (es : List Entry) (ms : List ℕ) → Risin
 unfolding markedOps lastOn lookup markAt
 marked-last s f [] ms r x = refl
 marked-last s f (e ∷ es) [] r x = sym (word-zero s (lookup (e ∷ es) x))
-marked-last s f (e ∷ es) (m ∷ ms) (rise a b r) x = go (marked-last s (suc (e .id)) es ms r x) (same? (e .id) x)
+marked-last s f (e ∷ es) (m ∷ ms) (rise a r) x = go (marked-last s (suc (e .id)) es ms r x) (same? (e .id) x)
   where
     op : Op
     op = record { id = e .id; content = contentAt s (e .location) (m - 1) }
@@ -407,7 +408,7 @@ mark-below : (m x : ℕ) (ids : List ℕ) (f : ℕ) (es : List Entry) (ms : List
 unfolding marked
 mark-below m x ids f [] ms r h = refl
 mark-below m x ids f (e ∷ es) [] r h = refl
-mark-below m x ids f (e ∷ es) (n ∷ ns) (rise a b r) h =
+mark-below m x ids f (e ∷ es) (n ∷ ns) (rise a r) h =
     ap₂ (λ (t : Bool) (l : List ℕ). pick t m n ∷ l) (among-next (e .id) x ids (λ q. omega arith)) (mark-below m x ids (suc (e .id)) es ns r (omega arith))
 
 -- the entry of the first id is marked
@@ -417,7 +418,7 @@ unfolding marked
 mark-first m x ids f [] ms i r h q = absurd (not-suc-le-zero h)
 mark-first m x ids f (e ∷ es) [] zero r h q = refl
 mark-first m x ids f (e ∷ es) [] (suc i) r h q = refl
-mark-first m x ids f (e ∷ es) (n ∷ ns) zero (rise a b r) h q =
+mark-first m x ids f (e ∷ es) (n ∷ ns) zero (rise a r) h q =
     ap₂ (λ (v : ℕ) (l : List ℕ). v ∷ l)
     (ap (λ (t : Bool). pick t m n) (among-here (e .id) x ids (sym q)) ∙ same (among (e .id) ids))
     (mark-below m x ids (suc (e .id)) es ns r (omega arith))
@@ -425,8 +426,8 @@ mark-first m x ids f (e ∷ es) (n ∷ ns) zero (rise a b r) h q =
     same : (t : Bool) → m ≡ pick t m m
     same true = refl
     same false = refl
-mark-first m x ids f (e ∷ es) (n ∷ ns) (suc i) (rise a b r) h q =
-    let less : e .id < x = omega (arith, rising-lt f (e ∷ es) (rise a b r) 0 (suc i) (omega arith) h, q) in
+mark-first m x ids f (e ∷ es) (n ∷ ns) (suc i) (rise a r) h q =
+    let less : e .id < x = omega (arith, rising-lt f (e ∷ es) (rise a r) 0 (suc i) (omega arith) h, q) in
     ap₂ (λ (t : Bool) (l : List ℕ). pick t m n ∷ l) (among-next (e .id) x ids (λ z. omega arith)) (mark-first m x ids (suc (e .id)) es ns i r (le-of-suc-le-suc h) q)
 
 -- no mark for no id

@@ -21,10 +21,10 @@ use Rattle.rules.specs.Object.{Stored, storedAt, objectsIn}
 use Rattle.rules.specs.Trailer.{absolute}
 use Rattle.rules.specs.SlotFile.{objectPart}
 use Rattle.rules.specs.Table.{lookup, mappedTo}
-use Rattle.rules.specs.TableLaws.{mapped-one}
+use Rattle.rules.specs.TableLaws.{Rising, mapped-one}
 use Rattle.rules.specs.Ops.{put, delete, Op}
 use Rattle.rules.specs.Maintenance.{fileTests}
-use Rattle.location_table.specs.EntryLaws.{noEntry, Rising, rising-lt, place-found, found-tells}
+use Rattle.location_table.specs.EntryLaws.{noEntry, rising-lt, place-found, found-tells}
 use Rattle.gc_group.specs.Source.{Source, fileAt, bytesAt}
 use Rattle.gc_group.specs.Checks.{groupChecks, Whole}
 use Rattle.gc_group.specs.Clear.{clear-each, file-whole}

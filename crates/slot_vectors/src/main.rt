@@ -242,8 +242,28 @@ fn cut_off() {
     end_line();
 }
 
+// Slots of 192 bytes, one behind the other.
+fn show_slots(slots: &[u8]) {
+    let n = slots.len() / 192;
+    let mut k: usize = 0;
+    while k < n {
+        let at = k * 192;
+        let end = at + 192;
+        show_slot(&slots[at..end]);
+        k += 1;
+    }
+}
+
+// Files that the original wrote, and damaged copies of each: tests/oracle/slots.py made them, with the answers of its model.
+fn of_the_original() {
+    let mut slots = io::large_buffer();
+    let n = io::read_full(0, &mut slots);
+    show_slots(&slots[..n]);
+}
+
 fn main() {
     whole();
     wrong_numbers();
     cut_off();
+    of_the_original();
 }
