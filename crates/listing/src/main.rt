@@ -1,0 +1,121 @@
+// The listing: line P10's batch written to a fresh store, and a line for each of its files.
+use libc::STDOUT_FILENO;
+use rules::Claims;
+use rules::FileMap;
+use rules::Record;
+use rules::Settings;
+use rules::State;
+
+fn text(s: &[u8]) {
+    io::write_all(STDOUT_FILENO, s);
+}
+
+fn number(n: u64, end: &[u8]) {
+    io::print_decimal(STDOUT_FILENO, n);
+    text(end);
+}
+
+// An empty record has no line.
+fn show_file(slot: u64, r: Record) {
+    if file_map::is_empty(r) {
+        return;
+    }
+    number(slot, b" ");
+    number(r.lsn, b" ");
+    number(r.generation, b" ");
+    number(r.present_objects, b" ");
+    number(r.live, b" ");
+    number(r.file_size, b"\n");
+}
+
+fn show_files(files: FileMap) {
+    let mut slot: usize = 0;
+    while slot < 256 {
+        show_file(slot as u64, files.records[slot]);
+        slot += 1;
+    }
+}
+
+fn show(files: FileMap, used: u64) {
+    text(b"slot lsn gen present live size\n");
+    show_files(files);
+    text(b"ids ");
+    number(used, b"\n");
+}
+
+// A store that refusal 1 bars has no listing.
+fn list(settings: Settings, state: State, heap: &[u8], ids: &[u64], locations: &[u64]) {
+    if limits::refused(settings, heap.len() as u64, ids, locations, state) {
+        return;
+    }
+    let used = location_table::used(ids, locations) as u64;
+    let files = state.files;
+    show(files, used);
+}
+
+// "Port's default"
+fn defaults() -> Settings {
+    Settings {
+        slot_bytes: 4096,
+        file_compaction_percent: 75,
+        min_compaction_files: 2,
+        target_file_size: 2048,
+        small_file_cleanup_threshold: 64,
+        max_object_size: 1024,
+    }
+}
+
+// What a host has before its first reopening.
+fn no_state(settings: Settings) -> State {
+    State {
+        settings: settings,
+        heap_len: 0,
+        table_len: 0,
+        files: file_map::no_files(),
+        next_position: 0,
+    }
+}
+
+fn no_claims() -> Claims {
+    Claims {
+        a: 0,
+        b: 0,
+        c: 0,
+        d: 0,
+    }
+}
+
+fn written(
+    settings: Settings,
+    heap: &mut [u8],
+    ids: &mut [u64],
+    locations: &mut [u64],
+    batch: &[u8],
+) -> State {
+    let fresh = recovery::reopen(
+        settings,
+        no_state(settings),
+        no_claims(),
+        heap,
+        ids,
+        locations,
+    );
+    let opened = fresh.state;
+    let after = writepath::write(settings, opened, heap, ids, locations, batch);
+    after.state
+}
+
+fn main() {
+    let mut heap = io::buffer();
+    let mut ids = [0u64; 4];
+    let mut locations = [0u64; 4];
+    let settings = defaults();
+    let state = written(
+        settings,
+        &mut heap,
+        &mut ids,
+        &mut locations,
+        b"\x07\x01\x01\x41\x09\x00",
+    );
+    list(settings, state, &heap, &ids, &locations);
+}
