@@ -1,8 +1,16 @@
 -- "Positions"
-use Rattle.rules.specs.Base.{Bool, [], _∷_, ℕ, _+_, _^_, leb, eqb}
+use mathlib.Core.Path.{_≡_, refl}
+use mathlib.Core.Logic.{_⊎_, inl, inr}
+use Prim.Native.Nat.{_≤_, _<_}
+use borrow.Author.Tests.{lt-ltb, le-ltb, le-leb, lt-leb}
+use Rattle.rules.specs.Base.{Bool, true, false, List, [], _∷_, ℕ, _+_, _^_, leb, eqb}
 use Rattle.rules.specs.Types.{Location}
-use Rattle.disk_location.specs.Locations.{positionOf, deleteOf, rawOf}
-use Rattle.rules.specs.Refusal.{Test, _gives_, decide, after}
+use Rattle.numbers.specs.GroupLaws.{either-way}
+use Rattle.disk_location.specs.Locations.{positionOf, deleteOf, rawOf, locatedAt}
+use Rattle.disk_location.specs.declared.Located.{Located}
+use Rattle.disk_location.specs.declared.Located.the-variants.{At, Refused}
+use Rattle.rules.specs.Refusal.{Test, _gives_, decide, after, decide-first, decide-next, decide-none}
+use Rattle.rules.specs.Answers.{inverse-one}
 use Rattle.rules.specs.World.{Given, accepted, refused}
 
 -- "A raw location is twice the position, plus 1 for a delete."; "relative raw 0 is fine"
@@ -18,3 +26,39 @@ absoluteGiven position delete =
 -- "A relative location plus a file's lsn is an absolute one."
 unfoldable pub toAbsoluteGiven : ℕ → ℕ → Given
 toAbsoluteGiven raw lsn = absoluteGiven (positionOf raw + lsn) (deleteOf raw)
+
+-- ---- disk_location's answer: its number and value for each case
+abbrev pub locatedGiven : Located → Given
+locatedGiven (At l) = accepted (l .0 ∷ [])
+locatedGiven Refused = refused Location
+
+-- its contracts say what the paper says
+pub located-given : (position : ℕ) (delete : Bool) → locatedGiven (locatedAt position delete) ≡ absoluteGiven position delete
+unfolding absoluteGiven
+located-given position delete = go (either-way position (2 ^ 63)) (eqb (rawOf position delete) 0) refl
+  where
+    zero-raw : Test
+    zero-raw = eqb (rawOf position delete) 0 gives Location
+
+    go : (position < 2 ^ 63) ⊎ (2 ^ 63 ≤ position) → (t : Bool) → eqb (rawOf position delete) 0 ≡ t → locatedGiven (locatedAt position delete) ≡ after (decide (leb (2 ^ 63) position gives Location ∷ eqb (rawOf position delete) 0 gives Location ∷ [])) refused (accepted (rawOf position delete ∷ []))
+    go (inr h) t e = rw (le-ltb position (2 ^ 63) h, decide-first (leb (2 ^ 63) position) Location (zero-raw ∷ []) (le-leb (2 ^ 63) position h))
+    go (inl h) true e =
+        rw (lt-ltb position (2 ^ 63) h, decide-next (leb (2 ^ 63) position) Location (zero-raw ∷ []) (lt-leb (2 ^ 63) position h), decide-first (eqb (rawOf position delete) 0) Location [] e, e)
+    go (inl h) false e =
+        rw (lt-ltb position (2 ^ 63) h, decide-next (leb (2 ^ 63) position) Location (zero-raw ∷ []) (lt-leb (2 ^ 63) position h), decide-next (eqb (rawOf position delete) 0) Location [] e, decide-none, e)
+
+pub to-absolute-given : (raw lsn : ℕ) → locatedGiven (locatedAt (positionOf raw + lsn) (deleteOf raw)) ≡ toAbsoluteGiven raw lsn
+unfolding toAbsoluteGiven
+to-absolute-given raw lsn = located-given (positionOf raw + lsn) (deleteOf raw)
+
+-- its values alone say which answer it is
+abbrev pub locatedOf : List ℕ → Located
+locatedOf [] = Refused
+locatedOf (v ∷ vs) = At (record { 0 = v })
+
+pub located-one : (a b : Located) → locatedGiven a ≡ locatedGiven b → a ≡ b
+located-one = inverse-one locatedGiven (λ (g : Given). locatedOf (g .values)) go
+  where
+    go : (a : Located) → locatedOf (locatedGiven a .values) ≡ a
+    go (At l) = refl
+    go Refused = refl

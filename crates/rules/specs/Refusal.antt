@@ -2,6 +2,7 @@
 use Rattle.rules.specs.Base.{Bool, true, false, List, [], _∷_, _++_, ℕ, pick}
 use Rattle.rules.specs.Types.{Refusal, Limits, BatchBytes, ObjectSize, SlotRoom, NoEmptySlot, TableRoom, PositionsSpent, LabelBytes, TrailerShort, Checksum, EntryCount, EntryPosition, PresentCount, Overlap, NotRising, CutShort, OtherId, NotThere, EqualLocation, Location, Claim, Answer, Done, Refused}
 use mathlib.Core.Path.{_≡_, refl, sym, ap, _∙_}
+use mathlib.Core.Logic.{_⊎_, inl, inr}
 use native.Mathlib.Omega.{arith}
 
 -- the table "No. | Condition"
@@ -58,6 +59,11 @@ unfolding decide NoneHolds
 decide-append [] ys n = refl
 decide-append (b gives r ∷ ts) ys n = rw (n .0) (decide-append ts ys (n .1))
 
+pub none-append : (xs ys : List Test) → NoneHolds xs → NoneHolds ys → NoneHolds (xs ++ ys)
+unfolding NoneHolds
+none-append [] ys n m = m
+none-append (b gives r ∷ ts) ys n m = (n .0, none-append ts ys (n .1) m)
+
 pub given-when : (earlier : List Test) (r : Refusal) (later : List Test) → NoneHolds earlier → decide (earlier ++ (true gives r ∷ later)) ≡ Refused r
 unfolding decide
 given-when earlier r later n = decide-append earlier (true gives r ∷ later) n
@@ -82,3 +88,41 @@ unfolding decide NoneHolds
 clear-when [] e = tt
 clear-when (true gives q ∷ ts) e = absurd (let z : _≡_ {A = ℕ} 0 1 = cc in omega arith)
 clear-when (false gives q ∷ ts) e = (refl, clear-when ts e)
+
+-- ---- the steps that code takes
+pub decide-none : decide [] ≡ Done
+unfolding decide
+decide-none = refl
+
+-- the first condition holds: its refusal
+pub decide-first : (b : Bool) (r : Refusal) (ts : List Test) → b ≡ true → decide (b gives r ∷ ts) ≡ Refused r
+unfolding decide
+decide-first b r ts e = rw e
+
+-- it does not: the rest decides
+pub decide-next : (b : Bool) (r : Refusal) (ts : List Test) → b ≡ false → decide (b gives r ∷ ts) ≡ decide ts
+unfolding decide
+decide-next b r ts e = rw e
+
+-- a first part that refuses decides
+pub decide-early : (xs ys : List Test) (r : Refusal) → decide xs ≡ Refused r → decide (xs ++ ys) ≡ Refused r
+unfolding decide
+decide-early [] ys r e = absurd (let z : _≡_ {A = ℕ} 0 1 = cc in omega arith)
+decide-early (true gives q ∷ xs) ys r e = e
+decide-early (false gives q ∷ xs) ys r e = decide-early xs ys r e
+
+-- one that clears leaves it to the rest
+pub decide-late : (xs ys : List Test) → decide xs ≡ Done → decide (xs ++ ys) ≡ decide ys
+decide-late xs ys e = decide-append xs ys (clear-when xs e)
+
+-- what follows a refusal, and what follows none
+pub after-refused : {A : Type 0} (a : Answer) (r : Refusal) (refused : Refusal → A) (accepted : A) → a ≡ Refused r → after a refused accepted ≡ refused r
+after-refused a r refused accepted e = rw e
+
+pub after-done : {A : Type 0} (a : Answer) (refused : Refusal → A) (accepted : A) → a ≡ Done → after a refused accepted ≡ accepted
+after-done a refused accepted e = rw e
+
+-- by cases on an answer
+pub done-or-refused : (a : Answer) → (a ≡ Done) ⊎ ((r : Refusal) × (a ≡ Refused r))
+done-or-refused Done = inl refl
+done-or-refused (Refused r) = inr (r, refl)

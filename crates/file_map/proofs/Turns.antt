@@ -1,0 +1,202 @@
+-- One turn of each loop over the records, and its end.
+use mathlib.Core.Path.{_≡_, refl, sym, ap, _∙_}
+use mathlib.Core.Bool.{Bool, true, false}
+use mathlib.Core.List.{List, [], _∷_, _++_, map, append-assoc, append-nil}
+use Prim.Native.Nat.{ℕ, zero, suc, _+_, _*_, _-_, _/_, _<_, _≤_}
+use native.Mathlib.Numerals.{add-one}
+use native.Mathlib.Omega.{arith}
+use native.Mathlib.Nat.{zero-add, add-zero, add-assoc, min-eq-left}
+use lib.ListN.{take, length-take, getD, set, length, drop, drop-of-length-le, length-map}
+use lib.Seq.{take-suc, set-at, length-take-le, take-all, drop-cons, getD-take, getD-at}
+use lib.Dec.{eqb}
+use borrow.Author.Tests.{lt-ltb, le-ltb, le-leb, lt-leb, eq-eqb, ne-eqb}
+use Rattle.numbers.specs.Choice.{pick}
+use Rattle.rules.specs.Base.{sum}
+use Rattle.rules.specs.declared.Record.{Record}
+use Rattle.rules.specs.declared.Counts.{Counts}
+use Rattle.rules.specs.declared.Slot.{Slot}
+use Rattle.rules.specs.declared.Slot.the-variants.{Is, NoSlot}
+use Rattle.rules.specs.FileMap.{emptyRecord, isEmpty, recordAt, withLive, slotsWhere, emptySlots, lowestEmpty, Lead, fileCount}
+use Rattle.rules.specs.FileMapLaws.{where-here, where-next}
+use Rattle.rules.specs.Counts.{countsOf}
+use Rattle.file_map.specs.Lists.{withLives, leadsLsn, leadLsn, slotOf}
+
+-- an array of structs in a goal is a list under a map: its length
+pub mapped-length : (X Y : Type 0) (f : X → Y) (l : List X) (n : ℕ) → length (map f l) ≡ n → length l ≡ n
+mapped-length X Y f l n p = sym (len l) ∙ p
+  where
+    len : (l : List X) → length (map f l) ≡ length l
+    len [] = refl
+    len (x ∷ xs) = ap suc (len xs)
+
+next : (rs : List Record) (i : ℕ) → i < length rs → drop i rs ≡ recordAt rs i ∷ drop (i + 1) rs
+next rs i h = rw (add-one, drop-cons rs i emptyRecord)
+
+-- ---- the empty slots from i on, of the first n
+abbrev pub emptyFrom : ℕ → ℕ → List Record → List ℕ
+emptyFrom n i rs = slotsWhere (λ (k : ℕ) (r : Record). isEmpty r) i (drop i (take n rs))
+
+module _ (n i : ℕ) (rs : List Record) (h : i < n) (m : n ≤ length rs) where
+  rest : drop i (take n rs) ≡ recordAt rs i ∷ drop (i + 1) (take n rs)
+  rest = next (take n rs) i (rw (length-take-le n rs m) h) ∙ ap (λ (r : Record). r ∷ drop (i + 1) (take n rs)) (getD-take n rs i emptyRecord h)
+
+  pub empty-here : isEmpty (recordAt rs i) ≡ true → emptyFrom n i rs ≡ i ∷ emptyFrom n (i + 1) rs
+  empty-here e =
+      ap (slotsWhere (λ (k : ℕ) (r : Record). isEmpty r) i) rest
+      ∙ where-here (λ (k : ℕ) (r : Record). isEmpty r) i (recordAt rs i) (drop (i + 1) (take n rs)) e
+      ∙ ap (λ (k : ℕ). i ∷ slotsWhere (λ (k : ℕ) (r : Record). isEmpty r) k (drop (i + 1) (take n rs))) (sym (add-one i))
+
+  pub empty-next : isEmpty (recordAt rs i) ≡ false → emptyFrom n i rs ≡ emptyFrom n (i + 1) rs
+  empty-next e =
+      ap (slotsWhere (λ (k : ℕ) (r : Record). isEmpty r) i) rest
+      ∙ where-next (λ (k : ℕ) (r : Record). isEmpty r) i (recordAt rs i) (drop (i + 1) (take n rs)) e
+      ∙ ap (λ (k : ℕ). slotsWhere (λ (k : ℕ) (r : Record). isEmpty r) k (drop (i + 1) (take n rs))) (sym (add-one i))
+
+pub empty-start : (n : ℕ) (rs : List Record) → emptySlots n rs ≡ emptyFrom n 0 rs
+unfolding emptySlots
+empty-start n rs = refl
+
+pub empty-end : (n i : ℕ) (rs : List Record) → n ≤ i → n ≤ length rs → emptyFrom n i rs ≡ []
+unfolding slotsWhere
+empty-end n i rs h m = ap (slotsWhere (λ (k : ℕ) (r : Record). isEmpty r) i) (drop-of-length-le (take n rs) {i = i} (rw (length-take-le n rs m) h))
+
+pub lowest-start : (n : ℕ) (rs : List Record) → lowestEmpty n rs ≡ getD (emptyFrom n 0 rs) 0 n
+unfolding lowestEmpty
+lowest-start n rs = ap (λ (ks : List ℕ). getD ks 0 n) (empty-start n rs)
+
+-- ---- the lead among lsns
+module _ (ns : List ℕ) (i location : ℕ) (b : Lead) where
+  pub lead-next : i < length ns → leadLsn (drop i ns) i location b ≡ leadLsn (drop (i + 1) ns) (i + 1) location (leadsLsn (getD ns i 0) i location b)
+  unfolding leadLsn
+  lead-next h = rw (drop-cons ns i 0 h, add-one i)
+
+  pub lead-end : length ns ≤ i → leadLsn (drop i ns) i location b ≡ b
+  unfolding leadLsn
+  lead-end h = rw (drop-of-length-le ns h)
+
+module _ (n i location : ℕ) (b : Lead) where
+  pub leads-took : b .lsn < n → n ≤ location / 2 → leadsLsn n i location b ≡ record { lsn = n; slot = i }
+  unfolding leadsLsn
+  leads-took h k = simp (lt-ltb _ _ h, le-leb (2 * n) location (omega arith))
+
+  pub leads-far : b .lsn < n → location / 2 < n → leadsLsn n i location b ≡ b
+  unfolding leadsLsn
+  leads-far h k = simp (lt-ltb _ _ h, lt-leb (2 * n) location (omega arith))
+
+  pub leads-less : n ≤ b .lsn → leadsLsn n i location b ≡ b
+  unfolding leadsLsn
+  leads-less h = simp (le-ltb _ _ h)
+
+pub slot-none : (b : Lead) → b .lsn ≡ 0 → slotOf b ≡ NoSlot
+unfolding slotOf
+slot-none b h = simp (eq-eqb _ _ h)
+
+pub slot-some : (b : Lead) → (b .lsn ≡ 0 → ⊥) → slotOf b ≡ Is (b .slot)
+unfolding slotOf
+slot-some b h = simp (ne-eqb _ _ h)
+
+pub lead-same : {a b a′ b′ : ℕ} → a ≡ a′ → b ≡ b′ → _≡_ {A = Lead} (record { lsn = a; slot = b }) (record { lsn = a′; slot = b′ })
+lead-same p q = rw (p, q)
+
+-- ---- the counts, some records having been counted
+unfoldable pub countsFrom : ℕ → ℕ → ℕ → ℕ → List Record → Counts
+countsFrom a b p l rs = record {
+  files = a + fileCount rs;
+  bytes = b + sum (λ (r : Record). r .«file_size») rs;
+  present = p + sum (λ (r : Record). r .«present_objects») rs;
+  live = l + sum (λ (r : Record). r .live) rs;
+}
+
+sum-next : (f : Record → ℕ) (rs : List Record) (i : ℕ) → i < length rs → sum f (drop i rs) ≡ f (recordAt rs i) + sum f (drop (i + 1) rs)
+unfolding sum
+sum-next f rs i h = rw (next rs i h)
+
+sum-end : (f : Record → ℕ) (rs : List Record) (i : ℕ) → length rs ≤ i → sum f (drop i rs) ≡ 0
+unfolding sum
+sum-end f rs i h = rw (drop-of-length-le rs h)
+
+pub counts-start : (rs : List Record) → countsOf rs ≡ countsFrom 0 0 0 0 rs
+unfolding countsFrom countsOf
+counts-start rs = simp zero-add
+
+pub counts-next : (rs : List Record) (i a b p l files : ℕ) → i < length rs → files ≡ a + pick (isEmpty (recordAt rs i)) 0 1
+    → countsFrom a b p l (drop i rs)
+    ≡ countsFrom files (b + recordAt rs i .«file_size») (p + recordAt rs i .«present_objects») (l + recordAt rs i .live) (drop (i + 1) rs)
+unfolding countsFrom fileCount
+counts-next rs i a b p l files h e =
+    rw e
+    (simp (
+      sum-next (λ (r : Record). pick (isEmpty r) 0 1) rs i h,
+      sum-next (λ (r : Record). r .«file_size») rs i h,
+      sum-next (λ (r : Record). r .«present_objects») rs i h,
+      sum-next (λ (r : Record). r .live) rs i h,
+      add-assoc,
+    ))
+
+pub counts-end : (rs : List Record) (i a b p l : ℕ) → length rs ≤ i → countsFrom a b p l (drop i rs) ≡ record { files = a; bytes = b; present = p; live = l }
+unfolding countsFrom fileCount
+counts-end rs i a b p l h =
+    simp (
+      sum-end (λ (r : Record). pick (isEmpty r) 0 1) rs i h,
+      sum-end (λ (r : Record). r .«file_size») rs i h,
+      sum-end (λ (r : Record). r .«present_objects») rs i h,
+      sum-end (λ (r : Record). r .live) rs i h,
+      add-zero,
+    )
+
+-- ---- a number of each record copied into an array: what stands before i, and zeros
+unfoldable pub copied : (Record → ℕ) → List Record → ℕ → List ℕ → List ℕ
+copied f rs i ns = map f (take i rs) ++ drop i ns
+
+map-snoc : (f : Record → ℕ) (xs : List Record) (r : Record) → map f (xs ++ (r ∷ [])) ≡ map f xs ++ (f r ∷ [])
+map-snoc f [] r = refl
+map-snoc f (x ∷ xs) r = ap (λ (l : List ℕ). f x ∷ l) (map-snoc f xs r)
+
+pub copied-start : (f : Record → ℕ) (rs : List Record) (ns : List ℕ) → ns ≡ copied f rs 0 ns
+unfolding copied
+copied-start f rs ns = refl
+
+pub copied-next : (f : Record → ℕ) (rs : List Record) (i : ℕ) (ns : List ℕ) → i < length rs → i < length ns
+    → set (copied f rs i ns) i (f (recordAt rs i)) ≡ copied f rs (i + 1) ns
+unfolding copied
+copied-next f rs i ns h m =
+    let front : length (map f (take i rs)) ≡ i = length-map (take i rs) f ∙ length-take-le i rs (omega arith) in
+    ap (λ (l : List ℕ). set (map f (take i rs) ++ l) i (f (recordAt rs i))) (drop-cons ns i 0 m)
+    ∙ set-at (map f (take i rs)) _ (drop (suc i) ns) (f (recordAt rs i)) i front
+    ∙ sym (append-assoc (map f (take i rs)) (f (recordAt rs i) ∷ []) (drop (suc i) ns))
+    ∙ ap (λ (l : List ℕ). l ++ drop (suc i) ns) (sym (map-snoc f (take i rs) (recordAt rs i)) ∙ ap (map f) (sym (take-suc rs i emptyRecord h)))
+    ∙ ap (λ (n : ℕ). map f (take n rs) ++ drop n ns) (sym (add-one i))
+
+pub copied-end : (f : Record → ℕ) (rs : List Record) (i : ℕ) (ns : List ℕ) → length rs ≤ i → length ns ≤ i → copied f rs i ns ≡ map f rs
+unfolding copied
+copied-end f rs i ns h m = rw (drop-of-length-le ns m, take-all i rs h) (append-nil (map f rs))
+
+-- ---- live counts put into the records up to i
+unfoldable pub livesTo : ℕ → List Record → List ℕ → List Record
+livesTo i rs ls = withLives rs (take i ls)
+
+pub lives-start : (rs : List Record) (ls : List ℕ) → rs ≡ livesTo 0 rs ls
+unfolding livesTo withLives
+lives-start [] ls = refl
+lives-start (r ∷ rs) ls = refl
+
+at-i : (rs : List Record) (ls : List ℕ) (i : ℕ) → i < length rs → i < length ls
+    → (recordAt (livesTo i rs ls) i ≡ recordAt rs i) × (set (livesTo i rs ls) i (withLive (recordAt rs i) (getD ls i 0)) ≡ livesTo (suc i) rs ls)
+unfolding livesTo withLives
+at-i [] ls i h m = absurd (omega arith)
+at-i (r ∷ rs) [] i h m = absurd (omega arith)
+at-i (r ∷ rs) (l ∷ ls) zero h m = (refl, ap (λ (s : List Record). withLive r l ∷ s) (lives-start rs ls))
+at-i (r ∷ rs) (l ∷ ls) (suc i) h m =
+    let w = at-i rs ls i (omega arith) (omega arith) in
+    (w .0, ap (λ (s : List Record). withLive r l ∷ s) (w .1))
+
+pub lives-read : (rs : List Record) (ls : List ℕ) (i : ℕ) → i < length rs → i < length ls → recordAt (livesTo i rs ls) i ≡ recordAt rs i
+lives-read rs ls i h m = at-i rs ls i h m .0
+
+pub lives-next : (rs : List Record) (ls : List ℕ) (i : ℕ) → i < length rs → i < length ls
+    → set (livesTo i rs ls) i (withLive (recordAt rs i) (getD ls i 0)) ≡ livesTo (i + 1) rs ls
+lives-next rs ls i h m = at-i rs ls i h m .1 ∙ ap (λ (n : ℕ). livesTo n rs ls) (sym (add-one i))
+
+pub lives-end : (rs : List Record) (ls : List ℕ) (i : ℕ) → length ls ≤ i → livesTo i rs ls ≡ withLives rs ls
+unfolding livesTo
+lives-end rs ls i h = ap (withLives rs) (take-all i ls h)

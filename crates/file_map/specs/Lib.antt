@@ -1,0 +1,3 @@
+pub mod Records
+pub mod Lists
+pub mod ListLaws

@@ -1,0 +1,270 @@
+// The file map (`src/file_map.rs`): 256 records by value, and the flat lists of lsns and live counts that a call on many ids works on.
+use rules::Counts;
+use rules::FileMap;
+use rules::Record;
+use rules::Slot;
+ghost use mathlib.Core.Path.{_≡_};
+ghost use mathlib.Core.List.{map};
+ghost use Prim.Native.Nat.{ℕ, _<_, _≤_};
+ghost use lib.ListN.{getD, set, length};
+ghost use Rattle.rules.specs.FileMap.{emptyRecord, isEmpty, recordAt, withLive, noFiles, emptySlots, lowestEmpty, fileFor, lessLive};
+ghost use Rattle.rules.specs.Label.{outOfBounds};
+ghost use Rattle.rules.specs.Counts.{countsOf};
+ghost use Rattle.rules.specs.declared.Slot.the-variants.{Is};
+ghost use Rattle.file_map.specs.Records.{labelled, fresh, Bounded};
+ghost use Rattle.file_map.specs.Lists.{lsnsOf, livesOf, withLives, lsnAt, lessAt};
+
+// ---- a record: made in one place for each origin
+// "An empty record is all zeros."
+pub fn empty() -> Record
+    ensures { λ r. ⌜ r ≡ emptyRecord ⌝ }
+{
+    labelled(0, 0, 0, 0, 0)
+}
+
+// A label's five numbers, no live count yet.
+pub fn labelled(lsn: u64, offset: u64, size: u64, present: u64, generation: u64) -> Record
+    ensures { λ r. ⌜ r ≡ labelled lsn offset size present generation ⌝ }
+{
+    Record {
+        lsn: lsn,
+        trailer_offset: offset,
+        file_size: size,
+        present_objects: present,
+        generation: generation,
+        live: 0,
+    }
+}
+
+// The same file with another live count.
+pub fn with_live(r: Record, live: u64) -> Record
+    ensures { λ s. ⌜ s ≡ withLive r live ⌝ }
+{
+    let mut s = r;
+    s.live = live;
+    s
+}
+
+// "the new file has all its entries live"
+pub fn fresh(lsn: u64, offset: u64, size: u64, entries: u64, generation: u64) -> Record
+    ensures { λ r. ⌜ r ≡ fresh lsn offset size entries generation ⌝ }
+{
+    with_live(labelled(lsn, offset, size, entries, generation), entries)
+}
+
+pub fn is_empty(r: Record) -> bool
+    ensures { λ b. ⌜ b ≡ isEmpty r ⌝ }
+{
+    if r.lsn != 0 {
+        return false;
+    }
+    if r.trailer_offset != 0 {
+        return false;
+    }
+    if r.file_size != 0 {
+        return false;
+    }
+    if r.present_objects != 0 {
+        return false;
+    }
+    if r.generation != 0 {
+        return false;
+    }
+    r.live == 0
+}
+
+// 8's bounds; S is in its range where this is asked.
+pub fn out_of_bounds(slot_bytes: u64, r: Record) -> bool
+    requires { ⌜ (64 ≤ «slot_bytes») × («slot_bytes» ≤ 1048576) ⌝ }
+    ensures { λ b. ⌜ b ≡ outOfBounds «slot_bytes» r ⌝ }
+{
+    if slot_bytes - 64 < r.file_size {
+        return true;
+    }
+    if r.file_size < r.trailer_offset {
+        return true;
+    }
+    let masked = disk_location::masked(r.lsn);
+    if masked == 0 {
+        return true;
+    }
+    if 1 << 63 <= r.lsn {
+        return true;
+    }
+    if 1 << 62 <= masked + r.trailer_offset {
+        return true;
+    }
+    255 < r.generation
+}
+
+// ---- the map
+// "256 records, every one empty at first"
+pub fn no_files() -> FileMap
+    ensures { λ m. ⌜ m .records ≡ noFiles ⌝ }
+{
+    let e = empty();
+    FileMap { records: [e; 256] }
+}
+
+// A slot's record replaced: a file added, or emptied.
+pub fn with_record(m: FileMap, slot: usize, r: Record) -> FileMap
+    requires { ⌜ slot < 256 ⌝ }
+    ensures { λ n. ⌜ n .records ≡ set (m .records) slot r ⌝ }
+{
+    let mut n = m;
+    n.records[slot] = r;
+    n
+}
+
+// "the lowest empty slot" of the heap's n; n where there is none.
+pub fn lowest_empty(m: FileMap, n: usize) -> usize
+    requires { ⌜ n ≤ 256 ⌝ }
+    ensures { λ k. ⌜ k ≡ lowestEmpty n (m .records) ⌝ }
+{
+    let mut i: usize = 0;
+    while i < n {
+        if is_empty(m.records[i]) {
+            return i;
+        }
+        i += 1;
+    }
+    n
+}
+
+// How many of the heap's n slots are empty.
+pub fn empty_count(m: FileMap, n: usize) -> usize
+    requires { ⌜ n ≤ 256 ⌝ }
+    ensures { λ k. ⌜ k ≡ length (emptySlots n (m .records)) ⌝ }
+{
+    let mut count: usize = 0;
+    let mut i: usize = 0;
+    while i < n {
+        if is_empty(m.records[i]) {
+            count += 1;
+        }
+        i += 1;
+    }
+    count
+}
+
+// "Files, bytes, present, live, summed over files."
+pub fn counts(m: FileMap) -> Counts
+    requires { ⌜ Bounded (m .records) ⌝ }
+    ensures { λ c. ⌜ c ≡ countsOf (m .records) ⌝ }
+{
+    let mut files: u64 = 0;
+    let mut bytes: u64 = 0;
+    let mut present: u64 = 0;
+    let mut live: u64 = 0;
+    let mut i: usize = 0;
+    while i < 256 {
+        let r = m.records[i];
+        if !is_empty(r) {
+            files += 1;
+        }
+        bytes += r.file_size;
+        present += r.present_objects;
+        live += r.live;
+        i += 1;
+    }
+    Counts {
+        files: files,
+        bytes: bytes,
+        present: present,
+        live: live,
+    }
+}
+
+// ---- flat lists: a call on many ids copies the map once, not once for each id
+pub fn lsns(m: FileMap) -> [u64; 256]
+    ensures { λ r. ⌜ r ≡ lsnsOf (m .records) ⌝ }
+{
+    let mut r = [0u64; 256];
+    let mut i: usize = 0;
+    while i < 256 {
+        r[i] = m.records[i].lsn;
+        i += 1;
+    }
+    r
+}
+
+pub fn lives(m: FileMap) -> [u64; 256]
+    ensures { λ r. ⌜ r ≡ livesOf (m .records) ⌝ }
+{
+    let mut r = [0u64; 256];
+    let mut i: usize = 0;
+    while i < 256 {
+        r[i] = m.records[i].live;
+        i += 1;
+    }
+    r
+}
+
+pub fn with_lives(m: FileMap, lives: &[u64]) -> FileMap
+    requires { ⌜ length (now lives) ≡ 256 ⌝ }
+    ensures { λ n. ⌜ n .records ≡ withLives (m .records) (now (lives .entry)) ⌝ }
+{
+    let mut n = m;
+    let mut i: usize = 0;
+    while i < 256 {
+        n.records[i] = with_live(n.records[i], lives[i]);
+        i += 1;
+    }
+    n
+}
+
+// "the file with the greatest own location not above the one sought, the lowest slot of equals": a file's own raw location is twice its lsn, the batch bit in it.
+pub fn lsn_at(lsns: &[u64], location: u64) -> Slot
+    ensures { λ r. ⌜ r ≡ lsnAt (now (lsns .entry)) location ⌝ }
+{
+    let mut best: u64 = 0;
+    let mut slot: usize = 0;
+    let mut i: usize = 0;
+    while i < lsns.len() {
+        let lsn = lsns[i];
+        if best < lsn {
+            if lsn <= location / 2 {
+                best = lsn;
+                slot = i;
+            }
+        }
+        i += 1;
+    }
+    if best == 0 {
+        return Slot::NoSlot;
+    }
+    Slot::Is(slot as u64)
+}
+
+// "loses one live (0 stays 0, and a location with no file takes none)"
+pub fn less_at(lives: &mut [u64], slot: Slot)
+    requires { ⌜ ((k : ℕ) → slot ≡ Is k → k < length (now lives)) ⌝ }
+    ensures { λ _. ⌜ now (lives .exit) ≡ lessAt slot (now (lives .entry)) ⌝ }
+{
+    match slot {
+        Slot::Is(k) => {
+            let i = k as usize;
+            if lives[i] != 0 {
+                lives[i] = lives[i] - 1;
+            }
+        }
+        Slot::NoSlot => {}
+    }
+}
+
+// ---- one lookup, one count: by the flat lists
+pub fn file_for(m: FileMap, location: u64) -> Slot
+    ensures { λ r. ⌜ r ≡ fileFor (m .records) location ⌝ }
+{
+    let l = lsns(m);
+    lsn_at(&l, location)
+}
+
+pub fn less_live(m: FileMap, slot: Slot) -> FileMap
+    requires { ⌜ ((k : ℕ) → slot ≡ Is k → k < 256) ⌝ }
+    ensures { λ n. ⌜ n .records ≡ lessLive slot (m .records) ⌝ }
+{
+    let mut l = lives(m);
+    less_at(&mut l, slot);
+    with_lives(m, &l)
+}

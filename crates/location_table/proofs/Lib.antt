@@ -1,0 +1,3 @@
+pub mod Search
+pub mod Shifts
+pub mod FormTurns

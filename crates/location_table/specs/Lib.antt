@@ -1,0 +1,5 @@
+pub mod Places
+pub mod Tables
+pub mod EntryLaws
+pub mod LayoutLaws
+pub mod StoreLaws

@@ -1,0 +1,38 @@
+-- The two lent buffers as one table, and what the functions below the four calls do to it.
+use mathlib.Core.Path.{_≡_}
+use Rattle.rules.specs.Base.{Bool, true, not, List, _∷_, _++_, ℕ, zero, suc, _-_, length, getD, set, take, drop, pick}
+use Rattle.rules.specs.Layout.{Buffers, inForm, capacityOf, usedEntries}
+use Rattle.rules.specs.Table.{full}
+use Rattle.rules.specs.World.{Given}
+use Rattle.rules.specs.TableCalls.{TableAfter, withStored}
+
+-- "two equal-length u64 buffers: ids, locations"
+abbrev pub table : List ℕ → List ℕ → Buffers
+table ids locations = record { ids = ids; locations = locations }
+
+-- what a table call left, as its result and the lent buffers give it
+abbrev pub leaving : Given → List ℕ → List ℕ → TableAfter
+leaving answer ids locations = record { answer = answer; table = table ids locations }
+
+-- what a call that is not refused with 1 knows of the table
+pub record Formed (b : Buffers) : Type 0 where
+  pub even : length (b .ids) ≡ length (b .locations)
+  pub form : inForm b ≡ true
+
+-- the least id that may stand at i
+unfoldable pub leastAt : List ℕ → ℕ → ℕ
+leastAt ids zero = 0
+leastAt ids (suc k) = suc (getD ids k 0)
+
+-- entry k replaced
+abbrev pub withPair : Buffers → ℕ → ℕ → ℕ → Buffers
+withPair b k id location = record { ids = set (b .ids) k id; locations = set (b .locations) k location }
+
+-- v at k, what stood at k to n - 1 one place further
+unfoldable pub inserted : List ℕ → ℕ → ℕ → ℕ → List ℕ
+inserted s k n v = take k s ++ (v ∷ (take (n - k) (drop k s) ++ drop (suc n) s))
+
+-- what a store leaves and says: nothing changes for "a new id in a full table"
+pub record StoredIn (b : Buffers) (id location : ℕ) (room : Bool) (after : Buffers) : Type 0 where
+  pub answer : room ≡ not (full (usedEntries b) (capacityOf b) id)
+  pub left : after ≡ pick (full (usedEntries b) (capacityOf b) id) b (withStored b id location)

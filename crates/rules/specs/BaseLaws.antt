@@ -1,0 +1,109 @@
+-- Laws of tests and lists: no word of the paper is here.
+use mathlib.Core.Path.{_≡_, refl, sym, ap, ap₂, _∙_}
+use mathlib.Core.Bool.{true≢false, false≢true}
+use mathlib.Core.Logic.{_⊎_, inl, inr}
+use Prim.Native.Nat.{_≤_, _<_}
+use native.Mathlib.Nat.{eq-or-lt-of-le}
+use native.Mathlib.Omega.{arith}
+use lib.ListN.{length-append, length-replicate}
+use borrow.Author.Tests.{ltb-true, ltb-false, leb-true, eqb-true, eqb-false, le-leb, eq-eqb, not-true, not-false}
+use Rattle.rules.specs.Base.{Bool, true, false, not, _&&_, _||_, List, [], _∷_, _++_, ℕ, zero, suc, _+_, _-_, length, replicate, leb, ltb, eqb, within, any, zeros, padded}
+
+-- ---- tests
+-- no test of a chain of `||` holds
+pub or-false : (a b : Bool) → (a || b) ≡ false → (a ≡ false) × (b ≡ false)
+or-false true b e = absurd (true≢false e)
+or-false false b e = (refl, e)
+
+pub or-clear : (a b : Bool) → a ≡ false → b ≡ false → (a || b) ≡ false
+or-clear a b p q = rw p q
+
+-- every test of a chain of `&&` holds
+pub and-true : (a b : Bool) → (a && b) ≡ true → (a ≡ true) × (b ≡ true)
+and-true true b e = (refl, e)
+and-true false b e = absurd (false≢true e)
+
+pub and-holds : (a b : Bool) → a ≡ true → b ≡ true → (a && b) ≡ true
+and-holds a b p q = rw p q
+
+-- some test of two holds
+pub or-true : (a b : Bool) → (a || b) ≡ true → (a ≡ true) ⊎ (b ≡ true)
+or-true true b e = inl refl
+or-true false b e = inr e
+
+pub or-holds : (a b : Bool) → (a ≡ true) ⊎ (b ≡ true) → (a || b) ≡ true
+or-holds true b w = refl
+or-holds false b (inl p) = absurd (false≢true p)
+or-holds false b (inr q) = q
+
+pub within-true : (low high n : ℕ) → within low high n ≡ true → (low ≤ n) × (n ≤ high)
+within-true low high n e =
+    let w = and-true (leb low n) (leb n high) e in
+    (leb-true low n (w .0), leb-true n high (w .1))
+
+pub within-holds : (low high n : ℕ) → low ≤ n → n ≤ high → within low high n ≡ true
+within-holds low high n p q = and-holds (leb low n) (leb n high) (le-leb low n p) (le-leb n high q)
+
+-- by cases on the order of two numbers
+pub order : (a b : ℕ) → (a < b) ⊎ ((a ≡ b) ⊎ (b < a))
+order a b = go (ltb a b) refl
+  where
+    go : (t : Bool) → ltb a b ≡ t → (a < b) ⊎ ((a ≡ b) ⊎ (b < a))
+    go true h = inl (ltb-true a b h)
+    go false h = inr (equal (eq-or-lt-of-le (ltb-false a b h)))
+      where
+        equal : (b ≡ a) ⊎ (b < a) → (a ≡ b) ⊎ (b < a)
+        equal (inl e) = inl (sym e)
+        equal (inr l) = inr l
+
+-- by cases on their equality
+pub same? : (a b : ℕ) → (a ≡ b) ⊎ (a ≡ b → ⊥)
+same? a b = go (eqb a b) refl
+  where
+    go : (t : Bool) → eqb a b ≡ t → (a ≡ b) ⊎ (a ≡ b → ⊥)
+    go true h = inl (eqb-true a b h)
+    go false h = inr (eqb-false a b h)
+
+-- a number is 0 or more
+pub zero-or-more : (n : ℕ) → (n ≡ 0) ⊎ (0 < n)
+zero-or-more zero = inl refl
+zero-or-more (suc n) = inr (omega arith)
+
+-- ---- lists
+-- every element is such
+abbrev pub All : {A : Type 0} → (A → Type 0) → List A → Type 0
+All P [] = Unit {0}
+All P (x ∷ xs) = P x × All P xs
+
+-- ---- zeros
+pub zeros-cons : (n : ℕ) (ns : List ℕ) → zeros (n ∷ ns) ≡ (eqb n 0 && zeros ns)
+unfolding zeros any
+zeros-cons n ns = go (eqb n 0)
+  where
+    go : (t : Bool) → not (not t || any (λ (m : ℕ). not (eqb m 0)) ns) ≡ (t && not (any (λ (m : ℕ). not (eqb m 0)) ns))
+    go true = refl
+    go false = refl
+
+pub zeros-true : (n : ℕ) (ns : List ℕ) → zeros (n ∷ ns) ≡ true → (n ≡ 0) × (zeros ns ≡ true)
+zeros-true n ns e =
+    let w = and-true (eqb n 0) (zeros ns) (sym (zeros-cons n ns) ∙ e) in
+    (eqb-true n 0 (w .0), w .1)
+
+pub zeros-holds : (n : ℕ) (ns : List ℕ) → n ≡ 0 → zeros ns ≡ true → zeros (n ∷ ns) ≡ true
+zeros-holds n ns p q = zeros-cons n ns ∙ and-holds (eqb n 0) (zeros ns) (eq-eqb n 0 p) q
+
+pub zeros-replicate : (n : ℕ) → zeros (replicate n 0) ≡ true
+unfolding zeros any
+zeros-replicate zero = refl
+zeros-replicate (suc n) = zeros-holds 0 (replicate n 0) refl (zeros-replicate n)
+
+pub zeros-is : (ns : List ℕ) → zeros ns ≡ true → ns ≡ replicate (length ns) 0
+zeros-is [] e = refl
+zeros-is (n ∷ ns) e =
+    let w = zeros-true n ns e in
+    ap₂ (λ (x : ℕ) (xs : List ℕ). x ∷ xs) (w .0) (zeros-is ns (w .1))
+
+-- padded to n, it has n
+pub padded-length : (n : ℕ) (ns : List ℕ) → length ns ≤ n → length (padded n ns) ≡ n
+unfolding padded
+padded-length n ns h = omega (arith, length-append ns (replicate (n - length ns) 0), length-replicate {A = ℕ} (n - length ns) 0)

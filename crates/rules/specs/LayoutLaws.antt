@@ -1,0 +1,183 @@
+-- The table's buffers: lengths as facts, and that buffers laid out hold what was laid out.
+use mathlib.Core.Path.{_≡_, refl, sym, ap, ap₂, _∙_}
+use mathlib.Core.Bool.{false≢true}
+use mathlib.Core.List.{append-nil}
+use mathlib.Core.Logic.{_⊎_, inl, inr}
+use Prim.Native.Nat.{_≤_, _<_, zero-le}
+use native.Mathlib.Omega.{arith}
+use native.Mathlib.Nat.{suc-sub-suc, sub-zero}
+use borrow.Author.Tests.{eqb-true, eqb-false, eq-eqb, ne-eqb, leb-true, le-leb}
+use lib.ListN.{length-append, length-map, length-replicate}
+use Rattle.rules.specs.Base.{Bool, true, false, _&&_, List, [], _∷_, _++_, map, ℕ, zero, suc, _+_, _-_, length, replicate, leb, eqb, pick, within, zeros, padded}
+use Rattle.rules.specs.Types.{Entry}
+use Rattle.rules.specs.BaseLaws.{and-true, and-holds, within-true, within-holds, zero-or-more, zeros-is, zeros-replicate, padded-length}
+use Rattle.rules.specs.TableLaws.{Rising, rise, rise-end, Has}
+use Rattle.rules.specs.Layout.{Buffers, lengthsInRange, capacityOf, formFrom, inForm, usedIn, usedEntries, laidOut}
+
+-- "two equal-length u64 buffers"; "table entries 1..65,536"
+pub record LengthsInRange (b : Buffers) : Type 0 where
+  pub equal : length (b .ids) ≡ length (b .locations)
+  pub some : 1 ≤ length (b .ids)
+  pub most : length (b .ids) ≤ 65536
+
+pub lengths-in-range : (b : Buffers) → lengthsInRange b ≡ true → LengthsInRange b
+unfolding lengthsInRange
+lengths-in-range b e =
+    let w = and-true (eqb (length (b .ids)) (length (b .locations))) _ e in
+    let n = within-true _ _ _ (w .1) in
+    record { equal = eqb-true _ _ (w .0); some = n .0; most = n .1 }
+
+pub range-lengths-in : (b : Buffers) → LengthsInRange b → lengthsInRange b ≡ true
+unfolding lengthsInRange
+range-lengths-in b w = rw (eq-eqb (length (b .ids)) (length (b .locations)) (w .equal), within-holds 1 65536 (length (b .ids)) (w .some) (w .most))
+
+-- ---- laid out
+-- each buffer has n entries
+pub laid-out-ids : (n : ℕ) (es : List Entry) → length es ≤ n → length (laidOut n es .ids) ≡ n
+unfolding laidOut
+laid-out-ids n es h = padded-length n (map (λ (e : Entry). e .id) es) (omega (arith, length-map es (λ (e : Entry). e .id)))
+
+pub laid-out-locations : (n : ℕ) (es : List Entry) → length es ≤ n → length (laidOut n es .locations) ≡ n
+unfolding laidOut
+laid-out-locations n es h = padded-length n (map (λ (e : Entry). e .location) es) (omega (arith, length-map es (λ (e : Entry). e .location)))
+
+-- "location 0 means unused": none of these is
+abbrev pub Used : List Entry → Type 0
+Used es = (x l : ℕ) → Has es x l → 0 < l
+
+-- the clauses of usedIn and formFrom, by facts in the place of tests
+module _ (i : ℕ) (is : List ℕ) (l : ℕ) (ls : List ℕ) where
+  used-more : 0 < l → usedIn (i ∷ is) (l ∷ ls) ≡ record { id = i; location = l } ∷ usedIn is ls
+  unfolding usedIn
+  used-more h = rw (ne-eqb l 0 (λ z. omega arith))
+
+  form-more : (least : ℕ) → 0 < l → least ≤ i → formFrom (suc i) is ls ≡ true → formFrom least (i ∷ is) (l ∷ ls) ≡ true
+  unfolding formFrom
+  form-more least h low e = rw (ne-eqb l 0 (λ z. omega arith), le-leb least i low) e
+
+used-zeros : (k : ℕ) → usedIn (replicate k 0) (replicate k 0) ≡ []
+unfolding usedIn
+used-zeros zero = refl
+used-zeros (suc k) = refl
+
+form-zeros : (least k : ℕ) → formFrom least (replicate k 0) (replicate k 0) ≡ true
+unfolding formFrom
+form-zeros least zero = zeros-replicate 0
+form-zeros least (suc k) = and-holds (zeros (0 ∷ replicate k 0)) (zeros (replicate k 0)) (zeros-replicate (suc k)) (zeros-replicate k)
+
+used-back : (es : List Entry) (k : ℕ) → Used es → usedIn (map (λ (e : Entry). e .id) es ++ replicate k 0) (map (λ (e : Entry). e .location) es ++ replicate k 0) ≡ es
+used-back [] k u = used-zeros k
+used-back (e ∷ es) k u = used-more (e .id) _ (e .location) _ (u (e .id) (e .location) (inl (refl, refl))) ∙ ap (λ (xs : List Entry). e ∷ xs) (used-back es k (λ x l h. u x l (inr h)))
+
+form-back : (f : ℕ) (es : List Entry) (k : ℕ) → Used es → Rising f es → formFrom f (map (λ (e : Entry). e .id) es ++ replicate k 0) (map (λ (e : Entry). e .location) es ++ replicate k 0) ≡ true
+form-back f [] k u r = form-zeros f k
+form-back f (e ∷ es) k u (rise a r) = form-more (e .id) _ (e .location) _ f (u (e .id) (e .location) (inl (refl, refl))) a (form-back (suc (e .id)) es k (λ x l h. u x l (inr h)) r)
+
+same-rest : (n : ℕ) (es : List Entry) → n - length (map (λ (e : Entry). e .location) es) ≡ n - length (map (λ (e : Entry). e .id) es)
+same-rest n es = simp length-map
+
+-- buffers that were laid out hold just these entries
+pub used-laid-out : (n : ℕ) (es : List Entry) → Used es → usedEntries (laidOut n es) ≡ es
+unfolding usedEntries laidOut padded
+used-laid-out n es u = rw (same-rest n es) (used-back es (n - length (map (λ (e : Entry). e .id) es)) u)
+
+-- and are in form
+pub form-laid-out : (n : ℕ) (es : List Entry) → Used es → Rising 0 es → inForm (laidOut n es) ≡ true
+unfolding inForm laidOut padded
+form-laid-out n es u r = rw (same-rest n es) (form-back 0 es (n - length (map (λ (e : Entry). e .id) es)) u r)
+
+-- ---- and the other way round: buffers in form
+-- what a used place says
+module _ (i : ℕ) (is : List ℕ) (l : ℕ) (ls : List ℕ) where
+  used-stop : l ≡ 0 → usedIn (i ∷ is) (l ∷ ls) ≡ []
+  unfolding usedIn
+  used-stop z = rw z
+
+  form-stop : (least : ℕ) → l ≡ 0 → formFrom least (i ∷ is) (l ∷ ls) ≡ true → (zeros (i ∷ is) ≡ true) × (zeros ls ≡ true)
+  unfolding formFrom
+  form-stop least z e = and-true _ _ (rw z at e)
+
+  form-next : (least : ℕ) → 0 < l → formFrom least (i ∷ is) (l ∷ ls) ≡ true → (least ≤ i) × (formFrom (suc i) is ls ≡ true)
+  unfolding formFrom
+  form-next least h e =
+      let w = and-true (leb least i) (formFrom (suc i) is ls) (rw (ne-eqb l 0 (λ z. omega arith)) at e) in
+      (leb-true least i (w .0), w .1)
+
+-- their used entries have locations
+used-in : (is ls : List ℕ) → Used (usedIn is ls)
+unfolding usedIn
+used-in [] ls x k h = absurd h
+used-in (i ∷ is) [] x k h = absurd h
+used-in (i ∷ is) (l ∷ ls) x k h = go (zero-or-more l) (used-in is ls x k)
+  where
+    go : (l ≡ 0) ⊎ (0 < l) → (Has (usedIn is ls) x k → 0 < k) → 0 < k
+    go (inl z) ih = absurd (rw (used-stop i is l ls z) at h)
+    go (inr p) ih = first (rw (used-more i is l ls p) at h)
+      where
+        first : ((i ≡ x) × (l ≡ k)) ⊎ Has (usedIn is ls) x k → 0 < k
+        first (inl q) = omega (arith, q .1)
+        first (inr q) = ih q
+
+pub used-located : (b : Buffers) → Used (usedEntries b)
+unfolding usedEntries
+used-located b = used-in (b .ids) (b .locations)
+
+-- are no more than the buffers
+used-short : (is ls : List ℕ) → length (usedIn is ls) ≤ length is
+unfolding usedIn
+used-short [] ls = zero-le
+used-short (i ∷ is) [] = zero-le
+used-short (i ∷ is) (l ∷ ls) = go (zero-or-more l) (used-short is ls)
+  where
+    go : (l ≡ 0) ⊎ (0 < l) → length (usedIn is ls) ≤ length is → length (usedIn (i ∷ is) (l ∷ ls)) ≤ suc (length is)
+    go (inl z) ih = rw (used-stop i is l ls z) zero-le
+    go (inr p) ih = rw (used-more i is l ls p) (omega arith)
+
+pub used-length : (b : Buffers) → length (usedEntries b) ≤ capacityOf b
+unfolding usedEntries
+used-length b = used-short (b .ids) (b .locations)
+
+-- rise, in form
+form-rises : (f : ℕ) (is ls : List ℕ) → formFrom f is ls ≡ true → Rising f (usedIn is ls)
+unfolding usedIn
+form-rises f [] ls e = rise-end
+form-rises f (i ∷ is) [] e = rise-end
+form-rises f (i ∷ is) (l ∷ ls) e = go (zero-or-more l) (form-rises (suc i) is ls)
+  where
+    go : (l ≡ 0) ⊎ (0 < l) → (formFrom (suc i) is ls ≡ true → Rising (suc i) (usedIn is ls)) → Rising f (usedIn (i ∷ is) (l ∷ ls))
+    go (inl z) ih = rw (used-stop i is l ls z) rise-end
+    go (inr p) ih = let w = form-next i is l ls f p e in rw (used-more i is l ls p) (rise (w .0) (ih (w .1)))
+
+pub form-rising : (b : Buffers) → inForm b ≡ true → Rising 0 (usedEntries b)
+unfolding usedEntries inForm
+form-rising b e = form-rises 0 (b .ids) (b .locations) e
+
+-- and laid out again are the same buffers
+again : (f : ℕ) (is ls : List ℕ) → formFrom f is ls ≡ true → length is ≡ length ls
+    → (padded (length is) (map (λ (e : Entry). e .id) (usedIn is ls)) ≡ is) × (padded (length is) (map (λ (e : Entry). e .location) (usedIn is ls)) ≡ ls)
+unfolding usedIn padded
+again f [] [] e n = (refl, refl)
+again f [] (l ∷ ls) e n = absurd (omega arith)
+again f (i ∷ is) [] e n = absurd (omega arith)
+again f (i ∷ is) (l ∷ ls) e n = go (zero-or-more l) (again (suc i) is ls)
+  where
+    go : (l ≡ 0) ⊎ (0 < l)
+        → (formFrom (suc i) is ls ≡ true → length is ≡ length ls
+        → (padded (length is) (map (λ (e : Entry). e .id) (usedIn is ls)) ≡ is) × (padded (length is) (map (λ (e : Entry). e .location) (usedIn is ls)) ≡ ls))
+        → (padded (suc (length is)) (map (λ (e : Entry). e .id) (usedIn (i ∷ is) (l ∷ ls))) ≡ i ∷ is)
+        × (padded (suc (length is)) (map (λ (e : Entry). e .location) (usedIn (i ∷ is) (l ∷ ls))) ≡ l ∷ ls)
+    go (inl z) ih =
+        let w = form-stop i is l ls f z e in
+        let m : length is ≡ length ls = omega arith in
+        rw (used-stop i is l ls z, sub-zero) (sym (zeros-is (i ∷ is) (w .0)), ap₂ (λ (x : ℕ) (xs : List ℕ). x ∷ xs) (sym z) (ap (λ (k : ℕ). replicate k 0) m ∙ sym (zeros-is ls (w .1))))
+    go (inr p) ih =
+        let w = form-next i is l ls f p e in
+        let v = ih (w .1) (omega arith) in
+        simp (used-more i is l ls p, suc-sub-suc)
+        (ap (λ (xs : List ℕ). i ∷ xs) (v .0), ap (λ (xs : List ℕ). l ∷ xs) (v .1))
+
+pub laid-out-used : (b : Buffers) → inForm b ≡ true → length (b .ids) ≡ length (b .locations) → laidOut (capacityOf b) (usedEntries b) ≡ b
+unfolding usedEntries inForm laidOut
+laid-out-used b e n =
+    let w = again 0 (b .ids) (b .locations) e n in
+    λ i. record { ids = w .0 i; locations = w .1 i }

@@ -1,0 +1,193 @@
+-- A file that was written is seen in its slot as it was given, and its objects are read back.
+use mathlib.Core.Path.{_≡_, refl, sym, ap, ap₂, _∙_}
+use mathlib.Core.List.{append-assoc}
+use mathlib.Core.Logic.{_⊎_, inl, inr}
+use Prim.Native.Nat.{_≤_, _<_}
+use native.Mathlib.Omega.{arith}
+use native.Mathlib.Nat.{sub-zero}
+use borrow.Author.Tests.{le-ltb, eq-eqb}
+use lib.ListN.{length-append}
+use lib.Seq.{take-at, drop-at, take-append-seam, drop-append-seam, drop-append-le}
+use Rattle.rules.specs.Base.{Bool, true, false, not, List, [], _∷_, _++_, ℕ, zero, suc, _+_, _-_, _*_, _^_, length, set, take, drop, ltb, eqb, any}
+use Rattle.rules.specs.Types.{Entry, Record, Five, Done, EntryPosition, PresentCount, LabelBytes}
+use Rattle.numbers.specs.Parts.{front, putAt, front-length}
+use Rattle.disk_location.specs.Locations.{positionOf}
+use Rattle.rules.specs.Refusal.{Test, _gives_, decide, NoneHolds, decide-clear, none-append}
+use Rattle.rules.specs.TableLaws.{Has}
+use Rattle.rules.specs.Object.{objectBytes, Stored, storedAt, badChecksum}
+use Rattle.rules.specs.ObjectLaws.{storedObject, stored-back, stored-good}
+use Rattle.rules.specs.Trailer.{trailerBytes, trailerTests, entriesIn}
+use Rattle.rules.specs.TrailerLaws.{trailer-clear, trailer-back}
+use Rattle.rules.specs.Ops.{Content, put, Op, objectsOf, entriesOf, fileBytes}
+use Rattle.rules.specs.OpsLaws.{IdsFit, file-length, entries-of-length, entries-of-fits, entries-of-inside, Stands, stands-bytes, stands-inside}
+use Rattle.rules.specs.Label.{labelBytes, labelIn, outOfBounds}
+use Rattle.rules.specs.LabelLaws.{InBounds, bounds-in, lsn-some, LabelFits, label-length, label-back}
+use Rattle.rules.specs.FileMap.{withLive}
+use Rattle.rules.specs.SlotFile.{slotBytes, File, View, empty, holds, slotTests, viewIn, viewsIn}
+use Rattle.rules.specs.SlotLaws.{slot-length, slots-apart, views-written, view-emptied}
+use Rattle.rules.specs.PartLaws.{put-one}
+use Rattle.rules.specs.Stores.{made, fileStores}
+use Rattle.rules.specs.StoreLaws.{file-made}
+use Rattle.rules.specs.Install.{newRecord}
+use Rattle.rules.specs.Read.{objectTests}
+
+-- operations that make a file in a slot of S bytes
+pub record Writable (S lsn generation : ℕ) (ops : List Op) : Type 0 where
+  pub some : 0 < length ops
+  pub ids : IdsFit ops
+  pub slot : S < 2 ^ 64
+  pub bounds : InBounds S (newRecord lsn generation ops)
+
+-- label and file, as they are written into a slot
+abbrev pub slotFile : ℕ → ℕ → List Op → List ℕ
+slotFile lsn generation ops = labelBytes (newRecord lsn generation ops) ++ fileBytes ops
+
+-- the file that is seen there
+abbrev pub fileOfOps : ℕ → ℕ → List Op → File
+fileOfOps lsn generation ops = record { label = withLive (newRecord lsn generation ops) 0; entries = entriesOf 0 ops; objects = objectsOf ops }
+
+-- 12 does not hold where no entry is over T
+none-over : (offset : ℕ) (es : List Entry) → ((x l : ℕ) → Has es x l → positionOf l ≤ 0 + offset) → any (λ (e : Entry). ltb offset (positionOf (e .location))) es ≡ false
+unfolding any
+none-over offset [] low = refl
+none-over offset (e ∷ es) low =
+    let here = low (e .id) (e .location) (inl (refl, refl)) in
+    rw (le-ltb offset (positionOf (e .location)) (omega arith)) (none-over offset es (λ x l h. low x l (inr h)))
+
+module _ (S lsn generation : ℕ) (ops : List Op) (w : Writable S lsn generation ops) where
+  -- it fits: "64 + file_size" is not over S
+  pub written-fits : length (slotFile lsn generation ops) ≤ S
+  unfolding newRecord
+  written-fits =
+      let size = w .bounds .size in
+      let many = w .some in
+      omega (arith, length-append (labelBytes (newRecord lsn generation ops)) (fileBytes ops), label-length (newRecord lsn generation ops), file-length ops)
+
+  label-fits : LabelFits (newRecord lsn generation ops)
+  unfolding newRecord
+  label-fits =
+      let size = w .bounds .size in
+      let offset = w .bounds .offset in
+      let low = w .bounds .lsn in
+      let g = w .bounds .generation in
+      let s = w .slot in
+      let n = file-length ops in
+      record { lsn = omega arith; offset = omega arith; size = omega arith; present = omega arith; generation = omega arith }
+
+  module _ (slot : List ℕ) (l : length slot ≡ S) where
+    behind : List ℕ
+    behind = drop (length (slotFile lsn generation ops)) slot
+
+    whole : front (slotFile lsn generation ops) slot ≡ labelBytes (newRecord lsn generation ops) ++ (fileBytes ops ++ behind)
+    unfolding front behind
+    whole = append-assoc (labelBytes (newRecord lsn generation ops)) (fileBytes ops) _
+
+    label-part : take 64 (front (slotFile lsn generation ops) slot) ≡ labelBytes (newRecord lsn generation ops)
+    label-part = ap (take 64) whole ∙ take-at (labelBytes (newRecord lsn generation ops)) (fileBytes ops ++ behind) 64 (label-length (newRecord lsn generation ops))
+
+    -- "a 64-byte label, then the file"
+    pub file-part : take (length (fileBytes ops)) (drop 64 (front (slotFile lsn generation ops) slot)) ≡ fileBytes ops
+    file-part =
+        ap (take (length (fileBytes ops))) (ap (drop 64) whole ∙ drop-at (labelBytes (newRecord lsn generation ops)) (fileBytes ops ++ behind) 64 (label-length (newRecord lsn generation ops)))
+        ∙ take-append-seam (fileBytes ops) behind
+
+    object-part : take (length (objectsOf ops)) (take (length (fileBytes ops)) (drop 64 (front (slotFile lsn generation ops) slot))) ≡ objectsOf ops
+    unfolding fileBytes
+    object-part = ap (take (length (objectsOf ops))) file-part ∙ take-append-seam (objectsOf ops) (trailerBytes (entriesOf 0 ops))
+
+    trailer-part : drop (length (objectsOf ops)) (take (length (fileBytes ops)) (drop 64 (front (slotFile lsn generation ops) slot))) ≡ trailerBytes (entriesOf 0 ops)
+    unfolding fileBytes
+    trailer-part = ap (drop (length (objectsOf ops))) file-part ∙ drop-append-seam (objectsOf ops) (trailerBytes (entriesOf 0 ops))
+
+    few : length (entriesOf 0 ops) < 2 ^ 64
+    unfolding newRecord
+    few = let n : length ops < 2 ^ 64 = label-fits .present in omega (arith, entries-of-length 0 ops)
+
+    entries-part : entriesIn (drop (length (objectsOf ops)) (take (length (fileBytes ops)) (drop 64 (front (slotFile lsn generation ops) slot)))) ≡ entriesOf 0 ops
+    unfolding newRecord
+    entries-part =
+        let end = w .bounds .end in
+        ap entriesIn trailer-part ∙ trailer-back (entriesOf 0 ops) few (entries-of-fits 0 ops (w .ids) (omega arith))
+
+    -- none of 8 to 13 refuses it
+    slot-clear : NoneHolds (slotTests (withLive (newRecord lsn generation ops) 0) (front (slotFile lsn generation ops) slot))
+    unfolding slotTests NoneHolds newRecord outOfBounds
+    slot-clear =
+        let n : length (front (slotFile lsn generation ops) slot) ≡ S = front-length slot (slotFile lsn generation ops) (omega (arith, written-fits)) ∙ l in
+        let many = w .some in
+        let t = drop (length (objectsOf ops)) (take (length (fileBytes ops)) (drop 64 (front (slotFile lsn generation ops) slot))) in (
+          rw n (bounds-in S (newRecord lsn generation ops) (w .bounds)),
+          none-append (trailerTests t) _ (rw trailer-part (trailer-clear (entriesOf 0 ops) (omega (arith, entries-of-length 0 ops)) few)) (
+            rw entries-part (none-over (length (objectsOf ops)) (entriesOf 0 ops) (λ x k h. entries-of-inside 0 ops x k h .1)),
+            (rw (entries-part, eq-eqb (length ops) (length (entriesOf 0 ops)) (sym (entries-of-length 0 ops))), tt),
+          ),
+        )
+
+    -- the slot holds the file that was written
+    pub view-written : viewIn (front (slotFile lsn generation ops) slot) ≡ holds (fileOfOps lsn generation ops)
+    unfolding viewIn newRecord
+    view-written =
+        rw (
+          label-part,
+          label-back (newRecord lsn generation ops) (lsn-some S (newRecord lsn generation ops) (w .bounds)) label-fits,
+          decide-clear _ slot-clear,
+          entries-part,
+          object-part,
+        )
+
+-- ---- in the heap
+-- a file's stores put label and file at the front of its slot
+pub slot-made : (size : ℕ) (heap : List ℕ) (k lsn generation : ℕ) (ops : List Op) → k * size + size ≤ length heap → Writable size lsn generation ops
+    → made (fileStores (k * size) (labelBytes (newRecord lsn generation ops)) (fileBytes ops)) heap ≡ putAt heap (k * size) (slotFile lsn generation ops)
+slot-made size heap k lsn generation ops within w =
+    let label = labelBytes (newRecord lsn generation ops) in
+    let fit = written-fits size lsn generation ops w in
+    file-made (k * size) label (fileBytes ops) heap (label-length (newRecord lsn generation ops)) (omega (arith, length-append label (fileBytes ops), label-length (newRecord lsn generation ops)))
+
+-- a file's stores change the view of its slot alone, to the file that was written
+pub views-made : (n size : ℕ) (heap : List ℕ) (k lsn generation : ℕ) (ops : List Op) → k < n → n * size ≤ length heap → Writable size lsn generation ops
+    → viewsIn n size (made (fileStores (k * size) (labelBytes (newRecord lsn generation ops)) (fileBytes ops)) heap)
+    ≡ set (viewsIn n size heap) k (holds (fileOfOps lsn generation ops))
+views-made n size heap k lsn generation ops low whole w =
+    let fit = written-fits size lsn generation ops w in
+    let within : k * size + size ≤ length heap = omega (arith, slots-apart size k n low) in
+    ap (viewsIn n size) (slot-made size heap k lsn generation ops within w)
+    ∙ views-written n size heap k (slotFile lsn generation ops) low whole fit
+    ∙ ap (set (viewsIn n size heap) k) (view-written size lsn generation ops w (slotBytes size heap k) (slot-length size heap k within))
+
+-- a first label byte set to 0 empties the view of its slot, and no other
+pub views-emptied : (n size : ℕ) (heap : List ℕ) (k : ℕ) → k < n → n * size ≤ length heap → 0 < size
+    → viewsIn n size (set heap (k * size) 0) ≡ set (viewsIn n size heap) k empty
+views-emptied n size heap k low whole some =
+    ap (viewsIn n size) (put-one heap (k * size) 0 (omega (arith, slots-apart size k n low)))
+    ∙ views-written n size heap k (0 ∷ []) low whole (omega arith)
+    ∙ ap (set (viewsIn n size heap) k) (view-emptied (slotBytes size heap k))
+
+-- ---- objects
+-- an object stands in its file, at its position, as it was put
+pub object-written : (ops : List Op) (x : ℕ) (body : List ℕ) (p : ℕ) → Stands 0 ops x (put body) p → x < 2 ^ 64 → length body < 2 ^ 64
+    → (behind : ℕ) × (storedAt p (drop p (fileBytes ops)) ≡ storedObject p x body behind)
+unfolding fileBytes
+object-written ops x body p h id size =
+    let v = stands-bytes 0 ops x body p h in
+    let low : p ≤ length (objectsOf ops) = omega (arith, stands-inside 0 ops x (put body) p h .1) in
+    let here : drop p (objectsOf ops) ≡ objectBytes x body ++ v .0 = ap (λ (n : ℕ). drop n (objectsOf ops)) (sym (sub-zero p)) ∙ v .1 in
+    let t = trailerBytes (entriesOf 0 ops) in (
+      length (v .0 ++ t),
+      ap (storedAt p) (drop-append-le p (objectsOf ops) t low ∙ ap (λ (s : List ℕ). s ++ t) here ∙ append-assoc (objectBytes x body) (v .0) t)
+          ∙ stored-back p x body (v .0 ++ t) id size,
+    )
+
+-- none of 16, 10, 17 refuses it
+pub read-clear : (p x : ℕ) (body : List ℕ) (behind : ℕ) → NoneHolds (objectTests x (storedObject p x body behind))
+unfolding objectTests NoneHolds
+read-clear p x body behind = (
+  le-ltb (20 + length body + behind) 20 (omega arith),
+  (
+    le-ltb (20 + length body + behind) (20 + length body) (omega arith),
+    (
+      stored-good p x body behind,
+      (ap not (eq-eqb x x refl), tt),
+    ),
+  ),
+)
