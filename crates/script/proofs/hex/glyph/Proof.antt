@@ -1,6 +1,5 @@
 use borrow.Author.Needs.{needs}
 use borrow.Author.Tests.{lt-ltb, le-ltb}
-use native.Mathlib.Omega.{arith}
 use Rattle.script.specs.Hex.{glyphOf}
 use Rattle.script.proofs.hex.glyph.Statement.{statement}
 use Rattle.script.proofs.hex.glyph.Tie as tie

@@ -1,5 +1,4 @@
 use native.Mathlib.Omega.{arith}
-use borrow.Author.Needs.{needs}
 use borrow.Author.Tests.{le-leb, lt-leb}
 use Rattle.script.specs.Hex.{nibbleOf}
 use Rattle.script.proofs.hex.nibble.Statement.{statement}

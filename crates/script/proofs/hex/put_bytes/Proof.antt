@@ -1,21 +1,13 @@
-use mathlib.Core.Path.{refl, ap}
-use Rattle.numbers.specs.Parts.{put-front, put-step, put-none}
-use Prim.Native.Nat.{_*_, _/_}
-use mathlib.Core.Path.{sym, _∙_}
-use lib.ListN.{drop}
-use Rattle.numbers.specs.Parts.{front, putAt}
+use mathlib.Core.Path.{refl, ap, sym, _∙_, _≡_}
+use Rattle.numbers.specs.Parts.{put-front, put-step, put-none, front, putAt}
+use Prim.Native.Nat.{_*_, _/_, ℕ, _+_, _≤_, _-_}
+use lib.ListN.{drop, length, set}
 use Rattle.script.specs.Hex.{bytesOf}
 use Rattle.script.proofs.Turns.{pair-turn, pair-end}
-use Prim.Native.Nat.{ℕ, _+_, _≤_, _<_, _-_}
-use mathlib.Core.Path.{_≡_}
 use native.Mathlib.Omega.{arith}
 use borrow.Author.Needs.{needs}
-use lib.ListN.{length, getD, set, length-set}
 use Rattle.script.proofs.hex.put_bytes.Statement.{statement}
 use Rattle.script.proofs.hex.put_bytes.Tie as tie
-use Rattle.script.proofs.hex.put_bytes.Reads as reads
-use Rattle.script.proofs.hex.put_bytes.Lts as lts
-use Rattle.script.proofs.hex.pair.Reads as pair-reads
 
 abbrev Inv-loop : tie.InvT-loop
 Inv-loop word out₀ n k₀ out k = (length out ≡ length out₀) × (k ≤ length word / 2) × (putAt out k (bytesOf (drop (k * 2) word)) ≡ front (bytesOf word) out₀)
@@ -23,43 +15,33 @@ Inv-loop word out₀ n k₀ out k = (length out ≡ length out₀) × (k ≤ len
 abbrev μ-loop : tie.MeasureT-loop
 μ-loop word out₀ n k₀ out k = length word / 2 - k
 
--- src/hex.rt:68:5
 loop-holds : tie.Need-loop-holds Inv-loop μ-loop
 loop-holds c = (refl, omega arith, put-front _ _)
 
--- src/hex.rt:69:17
 mul-i : tie.Need-mul-i Inv-loop μ-loop
 mul-i c = search needs
 
--- src/hex.rt:70:23
 shared-slice-read-pair : tie.Need-shared-slice-read-pair Inv-loop μ-loop
 shared-slice-read-pair c = search needs
 
--- src/hex.rt:70:37
 add-pair : tie.Need-add-pair Inv-loop μ-loop
 add-pair c = search needs
 
--- src/hex.rt:70:32
 shared-slice-read-pair-2 : tie.Need-shared-slice-read-pair-2 Inv-loop μ-loop
 shared-slice-read-pair-2 c = search needs
 
--- src/hex.rt:70:18
 pair-requires : tie.Need-pair-requires Inv-loop μ-loop
 pair-requires c κs = search needs
 
--- src/hex.rt:70:9
 slice-write-out : tie.Need-slice-write-out Inv-loop μ-loop
 slice-write-out c = search needs
 
--- src/hex.rt:71:9
 add-k : tie.Need-add-k Inv-loop μ-loop
 add-k c = search needs
 
--- src/hex.rt:68:5
 loop-less : tie.Need-loop-less Inv-loop μ-loop
 loop-less c = search needs
 
--- src/hex.rt:68:5
 loop-again : tie.Need-loop-again Inv-loop μ-loop
 loop-again c =
     let l = c .before .before .before .before in
@@ -72,11 +54,9 @@ loop-again c =
           ∙ l .loop .inv .2,
     )
 
--- src/hex.rt:62:1
 same-length : tie.Need-same-length Inv-loop μ-loop
 same-length c = search needs
 
--- src/hex.rt:62:1
 returns : tie.Need-returns Inv-loop μ-loop
 returns c =
     let l = c .before in

@@ -1,21 +1,13 @@
-use mathlib.Core.Path.{refl, ap}
-use Rattle.numbers.specs.Parts.{put-front, put-step, put-none}
-use Prim.Native.Nat.{_*_}
-use mathlib.Core.Path.{sym, _∙_}
-use lib.ListN.{drop}
-use Rattle.numbers.specs.Parts.{front, putAt}
+use mathlib.Core.Path.{refl, ap, sym, _∙_, _≡_}
+use Rattle.numbers.specs.Parts.{put-front, put-none, front, putAt}
+use Prim.Native.Nat.{_*_, _+_, _≤_, _-_}
+use lib.ListN.{drop, length, length-set}
 use Rattle.script.specs.Hex.{textOf}
 use Rattle.script.proofs.Turns.{text-turn, text-end, put-two}
-use Prim.Native.Nat.{ℕ, _+_, _≤_, _<_, _-_}
-use mathlib.Core.Path.{_≡_}
 use native.Mathlib.Omega.{arith}
 use borrow.Author.Needs.{needs}
-use lib.ListN.{length, getD, set, length-set}
 use Rattle.script.proofs.hex.put_text.Statement.{statement}
 use Rattle.script.proofs.hex.put_text.Tie as tie
-use Rattle.script.proofs.hex.put_text.Reads as reads
-use Rattle.script.proofs.hex.put_text.Lts as lts
-use Rattle.script.proofs.hex.glyph.Reads as glyph-reads
 
 abbrev Inv-loop : tie.InvT-loop
 Inv-loop bytes out₀ k₀ out k = (length out ≡ length out₀) × (k ≤ length bytes) × (putAt out (k * 2) (textOf (drop k bytes)) ≡ front (textOf bytes) out₀)
@@ -23,47 +15,36 @@ Inv-loop bytes out₀ k₀ out k = (length out ≡ length out₀) × (k ≤ leng
 abbrev μ-loop : tie.MeasureT-loop
 μ-loop bytes out₀ k₀ out k = length bytes - k
 
--- src/hex.rt:88:5
 loop-holds : tie.Need-loop-holds Inv-loop μ-loop
 loop-holds c = (refl, omega arith, put-front _ _)
 
--- src/hex.rt:89:17
 shared-slice-read-b : tie.Need-shared-slice-read-b Inv-loop μ-loop
 shared-slice-read-b c = search needs
 
--- src/hex.rt:90:17
 mul-i : tie.Need-mul-i Inv-loop μ-loop
 mul-i c = search needs
 
--- src/hex.rt:91:18
 glyph-requires : tie.Need-glyph-requires Inv-loop μ-loop
 glyph-requires c κs = omega (arith, c .shared-slice-known2 .given (c .before .before .loop .k))
 
--- src/hex.rt:91:9
 slice-write-out : tie.Need-slice-write-out Inv-loop μ-loop
 slice-write-out c = search needs
 
--- src/hex.rt:92:22
 glyph-requires-2 : tie.Need-glyph-requires-2 Inv-loop μ-loop
 glyph-requires-2 c κs = search needs
 
--- src/hex.rt:92:13
 add-out : tie.Need-add-out Inv-loop μ-loop
 add-out c = search needs
 
--- src/hex.rt:92:9
 slice-write-out-2 : tie.Need-slice-write-out-2 Inv-loop μ-loop
 slice-write-out-2 c = let l = c .before .before .before .before in omega (arith, length-set (l .loop .out) (l .loop .k * 2) (c .before .glyph .result), l .loop .inv .0)
 
--- src/hex.rt:93:9
 add-k : tie.Need-add-k Inv-loop μ-loop
 add-k c = search needs
 
--- src/hex.rt:88:5
 loop-less : tie.Need-loop-less Inv-loop μ-loop
 loop-less c = search needs
 
--- src/hex.rt:88:5
 loop-again : tie.Need-loop-again Inv-loop μ-loop
 loop-again c =
     let l = c .before .before .before .before in
@@ -77,11 +58,9 @@ loop-again c =
           ∙ l .loop .inv .2),
     )
 
--- src/hex.rt:83:1
 same-length : tie.Need-same-length Inv-loop μ-loop
 same-length c = search needs
 
--- src/hex.rt:83:1
 returns : tie.Need-returns Inv-loop μ-loop
 returns c =
     let l = c .before in

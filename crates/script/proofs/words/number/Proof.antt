@@ -1,16 +1,11 @@
-use mathlib.Core.Path.{sym, _∙_}
-use lib.ListN.{drop}
+use mathlib.Core.Path.{sym, _∙_, _≡_}
+use lib.ListN.{drop, length}
 use Rattle.script.proofs.Digits.{saidFrom, number-none, said-whole, said-turn, said-end, stopped, went}
-use Prim.Native.Nat.{ℕ, _+_, _≤_, _<_, _-_}
-use mathlib.Core.Path.{_≡_}
+use Prim.Native.Nat.{_≤_, _-_}
 use native.Mathlib.Omega.{arith}
 use borrow.Author.Needs.{needs}
-use lib.ListN.{length, getD, set, length-set}
 use Rattle.script.proofs.words.number.Statement.{statement}
 use Rattle.script.proofs.words.number.Tie as tie
-use Rattle.script.proofs.words.number.Reads as reads
-use Rattle.script.proofs.words.number.Lts as lts
-use Rattle.script.proofs.words.longer.Reads as longer-reads
 
 abbrev Inv-loop : tie.InvT-loop
 Inv-loop word n₀ i₀ n i = (i ≤ length word) × (saidFrom n (drop i word) ≡ saidFrom 0 word)
@@ -18,53 +13,42 @@ Inv-loop word n₀ i₀ n i = (i ≤ length word) × (saidFrom n (drop i word) �
 abbrev μ-loop : tie.MeasureT-loop
 μ-loop word n₀ i₀ n i = length word - i
 
--- src/words.rt:84:9
 returns : tie.Need-returns Inv-loop μ-loop
 returns c = sym (number-none _ (c .if1 .taken))
 
--- src/words.rt:88:5
 loop-holds : tie.Need-loop-holds Inv-loop μ-loop
 loop-holds c = search needs
 
--- src/words.rt:89:45
 shared-slice-read-longer : tie.Need-shared-slice-read-longer Inv-loop μ-loop
 shared-slice-read-longer c = search needs
 
--- src/words.rt:89:35
 longer-requires : tie.Need-longer-requires Inv-loop μ-loop
 longer-requires c κs = search needs
 
--- src/words.rt:89:27
 enum-known-more : tie.Need-enum-known-more Inv-loop μ-loop
 enum-known-more c = search needs
 
--- src/words.rt:90:13
 enum-told : tie.Need-enum-told Inv-loop μ-loop
 enum-told c = search needs
 
--- src/words.rt:90:13
 returns-2 : tie.Need-returns-2 Inv-loop μ-loop
 returns-2 c =
     let l = c .before .before .before .before .before in
     let w = l .before .before .before .args .word .now in
     sym (sym (said-whole w (omega arith)) ∙ sym (l .loop .inv .1) ∙ said-turn w (l .loop .n) (l .loop .i) (omega arith) ∙ stopped _ _ (sym (c .before .before .longer .ensures) ∙ c .enum-told .given .1))
 
--- src/words.rt:93:9
 add-i : tie.Need-add-i Inv-loop μ-loop
 add-i c = search needs
 
--- src/words.rt:88:5
 loop-less : tie.Need-loop-less Inv-loop μ-loop
 loop-less c = search needs
 
--- src/words.rt:88:5
 loop-again : tie.Need-loop-again Inv-loop μ-loop
 loop-again c =
     let l = c .before .before .before .before .before .before in
     let w = l .before .before .before .args .word .now in
     (omega arith, sym (went _ _ _ (sym (c .before .before .before .longer .ensures) ∙ c .before .more .given .1)) ∙ sym (said-turn w (l .loop .n) (l .loop .i) (omega arith)) ∙ l .loop .inv .1)
 
--- src/words.rt:80:1
 returns-3 : tie.Need-returns-3 Inv-loop μ-loop
 returns-3 c =
     let l = c .before in

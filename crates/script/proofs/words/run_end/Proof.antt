@@ -1,21 +1,15 @@
-use Prim.Native.Nat.{suc}
-use mathlib.Core.Path.{sym, ap, _∙_}
+use Prim.Native.Nat.{suc, _+_, _≤_, _-_}
+use mathlib.Core.Path.{sym, ap, _∙_, _≡_}
 use mathlib.Core.Bool.{Bool, true, false, Bool·beq}
 use borrow.Author.Tests.{not-true, not-false}
 use Rattle.numbers.specs.Choice.{pick}
-use lib.ListN.{drop}
+use lib.ListN.{drop, length, getD}
 use Rattle.script.specs.Words.{isBlank, runOf}
 use Rattle.script.proofs.Turns.{run-turn, run-end}
-use Prim.Native.Nat.{ℕ, _+_, _≤_, _<_, _-_}
-use mathlib.Core.Path.{_≡_}
 use native.Mathlib.Omega.{arith}
 use borrow.Author.Needs.{needs}
-use lib.ListN.{length, getD, set, length-set}
 use Rattle.script.proofs.words.run_end.Statement.{statement}
 use Rattle.script.proofs.words.run_end.Tie as tie
-use Rattle.script.proofs.words.run_end.Reads as reads
-use Rattle.script.proofs.words.run_end.Lts as lts
-use Rattle.script.proofs.words.is_blank.Reads as is-blank-reads
 
 abbrev Inv-loop : tie.InvT-loop
 Inv-loop text from blank i₀ i = (from ≤ i) × (i ≤ length text) × (i + runOf blank (drop i text) ≡ from + runOf blank (drop from text))
@@ -23,19 +17,15 @@ Inv-loop text from blank i₀ i = (from ≤ i) × (i ≤ length text) × (i + ru
 abbrev μ-loop : tie.MeasureT-loop
 μ-loop text from blank i₀ i = length text - i
 
--- src/words.rt:38:5
 loop-holds : tie.Need-loop-holds Inv-loop μ-loop
 loop-holds c = search needs
 
--- src/words.rt:39:21
 shared-slice-read-is-blank : tie.Need-shared-slice-read-is-blank Inv-loop μ-loop
 shared-slice-read-is-blank c = search needs
 
--- src/words.rt:39:12
 is-blank-requires : tie.Need-is-blank-requires Inv-loop μ-loop
 is-blank-requires c κs = search needs
 
--- src/words.rt:40:13
 returns : tie.Need-returns Inv-loop μ-loop
 returns c =
     let l = c .before .before .before .before in
@@ -45,15 +35,12 @@ returns c =
     let over : runOf (a .blank) (drop (l .loop .i) s) ≡ 0 = run-turn (a .blank) s (l .loop .i) (omega arith) ∙ ap (λ (t : Bool). pick t (suc (runOf (a .blank) (drop (l .loop .i + 1) s))) 0) test in
     (omega (arith, l .loop .inv .2), l .loop .inv .0, l .loop .inv .1)
 
--- src/words.rt:42:9
 add-i : tie.Need-add-i Inv-loop μ-loop
 add-i c = search needs
 
--- src/words.rt:38:5
 loop-less : tie.Need-loop-less Inv-loop μ-loop
 loop-less c = search needs
 
--- src/words.rt:38:5
 loop-again : tie.Need-loop-again Inv-loop μ-loop
 loop-again c =
     let l = c .before .before .before .before in
@@ -63,7 +50,6 @@ loop-again c =
     let more : runOf (a .blank) (drop (l .loop .i) s) ≡ suc (runOf (a .blank) (drop (l .loop .i + 1) s)) = run-turn (a .blank) s (l .loop .i) (omega arith) ∙ ap (λ (t : Bool). pick t (suc (runOf (a .blank) (drop (l .loop .i + 1) s))) 0) test in
     (omega arith, omega arith, omega (arith, l .loop .inv .2))
 
--- src/words.rt:33:1
 returns-2 : tie.Need-returns-2 Inv-loop μ-loop
 returns-2 c =
     let l = c .before in

@@ -1,0 +1,32 @@
+// The calls, one function to a command: the call on the lent buffers, then its answer.
+use crate::say;
+use rules::CompareAnswer;
+use rules::LoadAnswer;
+
+pub fn load(ids: &[u64], locations: &[u64], id: u64) {
+    match location_table::load(ids, locations, id) {
+        LoadAnswer::At(raw) => say::named(b"ok", raw),
+        LoadAnswer::NoLocation => say::text(b"nothing\n"),
+        LoadAnswer::LoadRefused(r) => say::refused(r),
+    }
+}
+
+pub fn store(ids: &mut [u64], locations: &mut [u64], id: u64, raw: u64) {
+    say::answer(location_table::store(ids, locations, id, raw));
+}
+
+pub fn cas(ids: &mut [u64], locations: &mut [u64], id: u64, old: u64, raw: u64) {
+    match location_table::compare_and_store(ids, locations, id, old, raw) {
+        CompareAnswer::Swapped => say::ok(),
+        CompareAnswer::Differs(current) => say::named(b"differs", current),
+        CompareAnswer::CompareRefused(r) => say::refused(r),
+    }
+}
+
+pub fn max(ids: &mut [u64], locations: &mut [u64], id: u64, raw: u64) {
+    match location_table::store_if_greater(ids, locations, id, raw) {
+        LoadAnswer::At(held) => say::named(b"ok", held),
+        LoadAnswer::NoLocation => say::text(b"ok nothing\n"),
+        LoadAnswer::LoadRefused(r) => say::refused(r),
+    }
+}
