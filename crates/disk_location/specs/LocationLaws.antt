@@ -1,30 +1,81 @@
--- What the definitions of `Loc` amount to.
-use mathlib.Core.Path.{_≡_, refl, sym, ap, _∙_}
+-- What the definitions of positions amount to.
+use mathlib.Core.Path.{_≡_, sym, ap, _∙_}
 use mathlib.Core.Bool.{Bool, true, false}
-use mathlib.Core.List.{List, [], _∷_}
-use Prim.Native.Nat.{ℕ, zero, suc, _+_, _-_, _*_, _/_, _%_, _^_, _<_, _≤_}
+use Prim.Native.Nat.{ℕ, zero, suc, _+_, _/_, _%_, _^_, _<_, _≤_}
 use native.Mathlib.Omega.{arith}
-use native.Mathlib.Nat.{pow-suc, le-of-suc-le-suc}
-use lib.Pow.{pow-mono, pow-pos}
-use lib.Dec.{eqb, lit<}
-use mathlib.Core.Logic.{⊎-elim}
+use native.Mathlib.Nat.{pow-suc}
+use borrow.Author.Tests.{lt-ltb, le-ltb, eq-eqb, ne-eqb}
+use lib.Dec.{lit<}
 use Rattle.disk_location.specs.declared.Located.the-variants.{At, Refused}
-use Rattle.disk_location.specs.Locations.{maskedOf, positionOf, deleteOf, rawOf, locatedAt, digitsIn, shardOf}
+use Rattle.disk_location.specs.declared.RelativeLocated.the-variants as relative
+use Rattle.disk_location.specs.Locations.{maskedOf, batchOf, hasBatch, positionOf, deleteOf, rawOf, locatedAt, relativeAt, digitsIn}
 
--- a position below 2^62 is what is left when the batch bit is cleared, whether it was there or not
-pub masked-plain : (x : ℕ) → x < 2 ^ 62 → maskedOf x ≡ x
-unfolding maskedOf
-masked-plain x h = omega arith
-
-pub masked-batch : (x : ℕ) → x < 2 ^ 62 → maskedOf (x + 2 ^ 62) ≡ x
-unfolding maskedOf
-masked-batch x h = omega arith
-
+-- a position is read back from its raw location
 pub position-raw : (p : ℕ) (d : Bool) → positionOf (rawOf p d) ≡ p
 position-raw p true = omega arith
 position-raw p false = omega arith
 
--- x has its digits, and no fewer bits hold it
+-- and so is the delete mark
+pub delete-raw : (p : ℕ) (d : Bool) → deleteOf (rawOf p d) ≡ d
+delete-raw p true = eq-eqb (rawOf p true % 2) 1 (omega arith)
+delete-raw p false = ne-eqb (rawOf p false % 2) 1 (λ e. omega arith)
+
+-- a raw location says one position and one mark only
+pub raw-injective : (p q : ℕ) (d e : Bool) → rawOf p d ≡ rawOf q e → (p ≡ q) × (d ≡ e)
+raw-injective p q d e h = (
+  sym (position-raw p d) ∙ ap positionOf h ∙ position-raw q e,
+  sym (delete-raw p d) ∙ ap deleteOf h ∙ delete-raw q e,
+)
+
+-- raw locations are ordered as their positions are, whatever the marks
+pub raw-order : (p q : ℕ) (d e : Bool) → p < q → rawOf p d < rawOf q e
+raw-order p q true true h = omega arith
+raw-order p q true false h = omega arith
+raw-order p q false true h = omega arith
+raw-order p q false false h = omega arith
+
+-- 20 exactly where the position is 2^63 or more or the raw location 0, else the location: absolute ..
+pub located-large : (p : ℕ) (d : Bool) → 2 ^ 63 ≤ p → locatedAt p d ≡ Refused
+located-large p d h = rw (le-ltb p (2 ^ 63) h)
+
+pub located-none : (p : ℕ) (d : Bool) → p < 2 ^ 63 → rawOf p d ≡ 0 → locatedAt p d ≡ Refused
+located-none p d h z = rw (lt-ltb p (2 ^ 63) h, eq-eqb (rawOf p d) 0 z)
+
+pub located-at : (p : ℕ) (d : Bool) → p < 2 ^ 63 → (rawOf p d ≡ 0 → ⊥) → locatedAt p d ≡ At (record { 0 = rawOf p d })
+located-at p d h some = rw (lt-ltb p (2 ^ 63) h, ne-eqb (rawOf p d) 0 some)
+
+-- .. and relative, where raw 0 is fine
+pub relative-large : (p : ℕ) (d : Bool) → 2 ^ 63 ≤ p → relativeAt p d ≡ relative.Refused
+relative-large p d h = rw (le-ltb p (2 ^ 63) h)
+
+pub relative-at : (p : ℕ) (d : Bool) → p < 2 ^ 63 → relativeAt p d ≡ relative.At (record { 0 = rawOf p d })
+relative-at p d h = rw (lt-ltb p (2 ^ 63) h)
+
+-- a position below 2^62 is what is left when the batch bit is cleared: where it was not there ..
+pub masked-plain : (x : ℕ) → x < 2 ^ 62 → maskedOf x ≡ x
+unfolding maskedOf
+masked-plain x h = omega arith
+
+-- .. and where it was
+pub masked-batch : (x : ℕ) → x < 2 ^ 62 → maskedOf (x + 2 ^ 62) ≡ x
+unfolding maskedOf
+masked-batch x h = omega arith
+
+-- with the bit a position below 2^62 is that much greater
+pub batch-plain : (x : ℕ) → x < 2 ^ 62 → batchOf x ≡ x + 2 ^ 62
+unfolding batchOf
+batch-plain x h = ap (λ (m : ℕ). m + 2 ^ 62) (masked-plain x h)
+
+-- the bit set is the bit there, and cleared again it leaves what clearing it left before
+pub batch-has : (x : ℕ) → hasBatch (batchOf x) ≡ true
+unfolding batchOf maskedOf
+batch-has x = eq-eqb (batchOf x / 2 ^ 62 % 2) 1 (omega arith)
+
+pub batch-masked : (x : ℕ) → maskedOf (batchOf x) ≡ maskedOf x
+unfolding batchOf maskedOf
+batch-masked x = omega arith
+
+-- x has its digits ..
 pub digits-hold : (k x : ℕ) → x < 2 ^ k → x < 2 ^ digitsIn k x
 unfolding digitsIn
 digits-hold zero x h = h
@@ -32,6 +83,7 @@ digits-hold (suc k) zero h = lit< tt
 digits-hold (suc k) (suc n) h =
     omega (arith, pow-suc 2 (digitsIn k (suc n / 2)), digits-hold k (suc n / 2) (omega (arith, pow-suc 2 k)))
 
+-- .. and no fewer bits hold it
 pub digits-least : (k x j : ℕ) → x < 2 ^ j → digitsIn k x ≤ j
 unfolding digitsIn
 digits-least zero x j h = omega arith
@@ -39,22 +91,3 @@ digits-least (suc k) zero j h = omega arith
 digits-least (suc k) (suc n) zero h = absurd (omega arith)
 digits-least (suc k) (suc n) (suc j) h =
     omega (arith, digits-least k (suc n / 2) j (omega (arith, pow-suc 2 j)))
-
--- P1, P2, P3, P8 as one computed statement
-pub rows : List Bool
-rows =
-    eqb (rawOf 5 false) 10 ∷ eqb (rawOf 5 true) 11 ∷ eqb (shardOf 0) 0 ∷ eqb (shardOf 1) 1 ∷ eqb (shardOf 60) 6
-    ∷ eqb (shardOf 255) 8 ∷ eqb (shardOf 256) 9 ∷ eqb (maskedOf (2 ^ 62 + 1)) 1 ∷ []
-
-pub all : List Bool → Bool
-all [] = true
-all (true ∷ bs) = all bs
-all (false ∷ bs) = false
-
-pub table-holds : all rows ≡ true
-unfolding rows all digitsIn maskedOf
-table-holds = refl
-
-pub refusals : (locatedAt 0 false ≡ Refused) × (locatedAt 0 true ≡ At (record { 0 = 1 })) × (locatedAt (2 ^ 63) false ≡ Refused)
-    × (locatedAt (2 ^ 63 - 1) true ≡ At (record { 0 = 2 ^ 64 - 1 }))
-refusals = (refl, refl, refl, refl)

@@ -1,13 +1,18 @@
+// Locations: a position, doubled, with the delete mark in the lowest bit; the batch bit; the shard number.
+
 ghost use mathlib.Core.Path.{_≡_};
-ghost use mathlib.Core.Bool.{Bool, true, false};
-ghost use Prim.Native.Nat.{ℕ, _+_, _*_, _/_, _%_, _^_, _<_, _≤_};
-ghost use lib.Dec.{eqb};
-ghost use Rattle.disk_location.specs.Locations.{maskedOf, positionOf, deleteOf, rawOf, locatedAt, shardOf};
+ghost use Prim.Native.Nat.{_+_, _^_, _<_};
+ghost use Rattle.disk_location.specs.Locations.{positionOf, deleteOf, rawOf, locatedAt, relativeAt, told, relativeTold, maskedOf, batchOf, hasBatch, shardOf};
 
 const BATCH: u64 = 1 << 62;
 
+// What no position reaches: 2^63.
+const POSITIONS: u64 = 1 << 63;
+
+// A raw location that counts from its file's lsn.
 pub struct RelativeDiskLocation(pub u64);
 
+// A raw location in the whole store.
 pub struct DiskLocation(pub u64);
 
 pub enum Located {
@@ -15,18 +20,9 @@ pub enum Located {
     Refused,
 }
 
-// The position with the batch bit cleared.
-pub fn masked(x: u64) -> u64
-    ensures { λ r. ⌜ r ≡ maskedOf x ⌝ }
-{
-    x & !BATCH
-}
-
-// How many bits the length needs.
-pub fn shard(x: u64) -> u32
-    ensures { λ r. ⌜ r ≡ shardOf x ⌝ }
-{
-    64 - u64::leading_zeros(x)
+pub enum RelativeLocated {
+    At(RelativeDiskLocation),
+    Refused,
 }
 
 fn half(raw: u64) -> u64
@@ -51,7 +47,58 @@ fn shifted(position: u64, delete: bool) -> u64
     position << 1
 }
 
+impl Located {
+    // The paper's number: 20 for a refusal, 0 for a location.
+    pub fn number(self) -> u64
+        ensures { λ r. ⌜ r ≡ told self .number ⌝ }
+    {
+        match self {
+            Located::At(_) => 0,
+            Located::Refused => 20,
+        }
+    }
+
+    // The raw location, 0 for a refusal.
+    pub fn raw(self) -> u64
+        ensures { λ r. ⌜ r ≡ told self .raw ⌝ }
+    {
+        match self {
+            Located::At(location) => location.raw(),
+            Located::Refused => 0,
+        }
+    }
+}
+
+impl RelativeLocated {
+    pub fn number(self) -> u64
+        ensures { λ r. ⌜ r ≡ relativeTold self .number ⌝ }
+    {
+        match self {
+            RelativeLocated::At(_) => 0,
+            RelativeLocated::Refused => 20,
+        }
+    }
+
+    pub fn raw(self) -> u64
+        ensures { λ r. ⌜ r ≡ relativeTold self .raw ⌝ }
+    {
+        match self {
+            RelativeLocated::At(location) => location.raw(),
+            RelativeLocated::Refused => 0,
+        }
+    }
+}
+
 impl RelativeDiskLocation {
+    pub fn new(position: u64, delete: bool) -> RelativeLocated
+        ensures { λ r. ⌜ r ≡ relativeAt position delete ⌝ }
+    {
+        if position < POSITIONS {
+            return RelativeLocated::At(RelativeDiskLocation(shifted(position, delete)));
+        }
+        RelativeLocated::Refused
+    }
+
     pub fn position(self) -> u64
         ensures { λ r. ⌜ r ≡ positionOf (self .0) ⌝ }
     {
@@ -70,12 +117,13 @@ impl RelativeDiskLocation {
         odd(self.0)
     }
 
-    pub fn to_absolute(self, base: u64) -> Located
-        ensures { λ r. ⌜ r ≡ locatedAt (positionOf (self .0) + base) (deleteOf (self .0)) ⌝ }
+    // The same place, counted from the start of the store, in a file of that lsn.
+    pub fn to_absolute(self, lsn: u64) -> Located
+        ensures { λ r. ⌜ r ≡ locatedAt (positionOf (self .0) + lsn) (deleteOf (self .0)) ⌝ }
     {
         let at = half(self.0);
-        if base < 9223372036854775808 - at {
-            return DiskLocation::new(at + base, odd(self.0));
+        if lsn < POSITIONS - at {
+            return DiskLocation::new(at + lsn, odd(self.0));
         }
         Located::Refused
     }
@@ -85,7 +133,7 @@ impl DiskLocation {
     pub fn new(position: u64, delete: bool) -> Located
         ensures { λ r. ⌜ r ≡ locatedAt position delete ⌝ }
     {
-        if position < 9223372036854775808 {
+        if position < POSITIONS {
             let raw = shifted(position, delete);
             if raw == 0 {
                 return Located::Refused;
@@ -114,16 +162,30 @@ impl DiskLocation {
     }
 }
 
-// A fresh batch's lsn.
-pub fn with_batch(base: u64) -> u64
-    requires { ⌜ base < 2 ^ 62 ⌝ }
-    ensures { λ r. ⌜ r ≡ base + 2 ^ 62 ⌝ }
+// The position with the batch bit cleared.
+pub fn masked(x: u64) -> u64
+    ensures { λ r. ⌜ r ≡ maskedOf x ⌝ }
 {
-    base | BATCH
+    x & !BATCH
 }
 
-pub fn has_batch(lsn: u64) -> bool
-    ensures { λ r. ⌜ r ≡ eqb (lsn / 2 ^ 62 % 2) 1 ⌝ }
+// The position with the batch bit set: a fresh batch's lsn.
+pub fn with_batch(x: u64) -> u64
+    ensures { λ r. ⌜ r ≡ batchOf x ⌝ }
 {
-    lsn >> 62 & 1 == 1
+    x | BATCH
+}
+
+// Whether the batch bit is set.
+pub fn has_batch(x: u64) -> bool
+    ensures { λ r. ⌜ r ≡ hasBatch x ⌝ }
+{
+    x >> 62 & 1 == 1
+}
+
+// How many bits the length needs.
+pub fn shard(length: u64) -> u32
+    ensures { λ r. ⌜ r ≡ shardOf length ⌝ }
+{
+    64 - u64::leading_zeros(length)
 }

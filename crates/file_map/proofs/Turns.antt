@@ -18,6 +18,7 @@ use Rattle.rules.specs.declared.Slot.{Slot}
 use Rattle.rules.specs.declared.Slot.the-variants.{Is, NoSlot}
 use Rattle.rules.specs.FileMap.{emptyRecord, isEmpty, recordAt, withLive, slotsWhere, emptySlots, lowestEmpty, Lead, fileCount}
 use Rattle.rules.specs.FileMapLaws.{where-here, where-next}
+use Rattle.rules.specs.TurnLaws.{left-next, sum-next, sum-end}
 use Rattle.rules.specs.Counts.{countsOf}
 use Rattle.file_map.specs.Lists.{withLives, leadsLsn, leadLsn, slotOf}
 
@@ -29,16 +30,13 @@ mapped-length X Y f l n p = sym (len l) ∙ p
     len [] = refl
     len (x ∷ xs) = ap suc (len xs)
 
-next : (rs : List Record) (i : ℕ) → i < length rs → drop i rs ≡ recordAt rs i ∷ drop (i + 1) rs
-next rs i h = rw (add-one, drop-cons rs i emptyRecord)
-
 -- ---- the empty slots from i on, of the first n
 abbrev pub emptyFrom : ℕ → ℕ → List Record → List ℕ
 emptyFrom n i rs = slotsWhere (λ (k : ℕ) (r : Record). isEmpty r) i (drop i (take n rs))
 
 module _ (n i : ℕ) (rs : List Record) (h : i < n) (m : n ≤ length rs) where
   rest : drop i (take n rs) ≡ recordAt rs i ∷ drop (i + 1) (take n rs)
-  rest = next (take n rs) i (rw (length-take-le n rs m) h) ∙ ap (λ (r : Record). r ∷ drop (i + 1) (take n rs)) (getD-take n rs i emptyRecord h)
+  rest = left-next (take n rs) i emptyRecord (rw (length-take-le n rs m) h) ∙ ap (λ (r : Record). r ∷ drop (i + 1) (take n rs)) (getD-take n rs i emptyRecord h)
 
   pub empty-here : isEmpty (recordAt rs i) ≡ true → emptyFrom n i rs ≡ i ∷ emptyFrom n (i + 1) rs
   empty-here e =
@@ -107,14 +105,6 @@ countsFrom a b p l rs = record {
   live = l + sum (λ (r : Record). r .live) rs;
 }
 
-sum-next : (f : Record → ℕ) (rs : List Record) (i : ℕ) → i < length rs → sum f (drop i rs) ≡ f (recordAt rs i) + sum f (drop (i + 1) rs)
-unfolding sum
-sum-next f rs i h = rw (next rs i h)
-
-sum-end : (f : Record → ℕ) (rs : List Record) (i : ℕ) → length rs ≤ i → sum f (drop i rs) ≡ 0
-unfolding sum
-sum-end f rs i h = rw (drop-of-length-le rs h)
-
 pub counts-start : (rs : List Record) → countsOf rs ≡ countsFrom 0 0 0 0 rs
 unfolding countsFrom countsOf
 counts-start rs = simp zero-add
@@ -126,10 +116,10 @@ unfolding countsFrom fileCount
 counts-next rs i a b p l files h e =
     rw e
     (simp (
-      sum-next (λ (r : Record). pick (isEmpty r) 0 1) rs i h,
-      sum-next (λ (r : Record). r .«file_size») rs i h,
-      sum-next (λ (r : Record). r .«present_objects») rs i h,
-      sum-next (λ (r : Record). r .live) rs i h,
+      sum-next rs i emptyRecord h (λ (r : Record). pick (isEmpty r) 0 1),
+      sum-next rs i emptyRecord h (λ (r : Record). r .«file_size»),
+      sum-next rs i emptyRecord h (λ (r : Record). r .«present_objects»),
+      sum-next rs i emptyRecord h (λ (r : Record). r .live),
       add-assoc,
     ))
 
@@ -137,10 +127,10 @@ pub counts-end : (rs : List Record) (i a b p l : ℕ) → length rs ≤ i → co
 unfolding countsFrom fileCount
 counts-end rs i a b p l h =
     simp (
-      sum-end (λ (r : Record). pick (isEmpty r) 0 1) rs i h,
-      sum-end (λ (r : Record). r .«file_size») rs i h,
-      sum-end (λ (r : Record). r .«present_objects») rs i h,
-      sum-end (λ (r : Record). r .live) rs i h,
+      sum-end rs i h (λ (r : Record). pick (isEmpty r) 0 1),
+      sum-end rs i h (λ (r : Record). r .«file_size»),
+      sum-end rs i h (λ (r : Record). r .«present_objects»),
+      sum-end rs i h (λ (r : Record). r .live),
       add-zero,
     )
 

@@ -1,25 +1,19 @@
 -- The two buffers and the used entries in them.
 use mathlib.Core.Path.{_≡_, refl, sym, ap, _∙_}
 use mathlib.Core.Logic.{_⊎_, inl, inr}
-use Rattle.rules.specs.Base.{Bool, true, false, _&&_, List, [], _∷_, _++_, map, ℕ, zero, suc, _-_, length, getD, take, drop, set, replicate, leb, eqb, pick, any, zeros, padded, within}
-use Prim.Native.Nat.{_+_, _<_, _≤_, suc-le-suc, zero-le}
+use Rattle.rules.specs.Base.{true, false, _&&_, List, [], _∷_, _++_, map, ℕ, zero, suc, _-_, length, getD, replicate, leb, zeros, any, padded}
+use Prim.Native.Nat.{_<_, _≤_}
 use native.Mathlib.Nat.{le-of-suc-le-suc, not-suc-le-zero, sub-zero, suc-sub-suc}
 use native.Mathlib.Omega.{arith}
-use lib.ListN.{length-append, length-replicate, length-map, List·getD-eq-default}
-use borrow.Author.Tests.{leb-true, eqb-true, le-leb, eq-eqb, ne-eqb}
+use lib.ListN.{length-append, length-map, List·getD-eq-default}
+use borrow.Author.Tests.{eq-eqb, ne-eqb}
+use Rattle.rules.specs.BaseLaws.{order, same?, and-true}
 use Rattle.rules.specs.declared.Entry.{Entry}
 use Rattle.rules.specs.Layout.{Buffers, lengthsInRange, formFrom, inForm, usedIn, usedEntries, laidOut}
+use Rattle.rules.specs.TableLaws.{Rising}
+use Rattle.rules.specs.LayoutLaws.{Used, lengths-in-range, used-located, used-length, form-rising, laid-out-used, laid-out-ids, laid-out-locations, form-laid-out}
 use Rattle.location_table.specs.Tables.{table, Formed}
-use Rattle.location_table.specs.EntryLaws.{noEntry, order, Rising, rise, rise-end, rising-location}
-
-zero? : (n : ℕ) → (n ≡ 0) ⊎ (n ≡ 0 → ⊥)
-zero? zero = inl refl
-zero? (suc n) = inr (λ q. omega arith)
-
--- two tests that both hold
-both : (t u : Bool) → t && u ≡ true → (t ≡ true) × (u ≡ true)
-both true u h = (refl, h)
-both false u h = absurd (let z : _≡_ {A = ℕ} 0 1 = cc in omega arith)
+use Rattle.location_table.specs.EntryLaws.{noEntry, has-at}
 
 pub zeros-next : (n : ℕ) (ns : List ℕ) → n ≡ 0 → zeros (n ∷ ns) ≡ zeros ns
 unfolding zeros any
@@ -28,19 +22,6 @@ zeros-next n ns h = simp (eq-eqb _ _ h)
 pub zeros-not : (n : ℕ) (ns : List ℕ) → (n ≡ 0 → ⊥) → zeros (n ∷ ns) ≡ false
 unfolding zeros any
 zeros-not n ns h = simp (ne-eqb _ _ h)
-
-zeros-are : (ns : List ℕ) → zeros ns ≡ true → ns ≡ replicate (length ns) 0
-zeros-are [] h = refl
-zeros-are (n ∷ ns) h = go (zeros-are ns) (zero? n)
-  where
-    go : (zeros ns ≡ true → ns ≡ replicate (length ns) 0) → (n ≡ 0) ⊎ (n ≡ 0 → ⊥) → n ∷ ns ≡ 0 ∷ replicate (length ns) 0
-    go ih (inl q) = rw q (ap (λ (l : List ℕ). 0 ∷ l) (ih (sym (zeros-next n ns q) ∙ h)))
-    go ih (inr q) = absurd (let e : false ≡ true = sym (zeros-not n ns q) ∙ h in let z : _≡_ {A = ℕ} 0 1 = cc in omega arith)
-
-zeros-replicate : (n : ℕ) → zeros (replicate n 0) ≡ true
-unfolding zeros any
-zeros-replicate zero = refl
-zeros-replicate (suc n) = zeros-next 0 (replicate n 0) refl ∙ zeros-replicate n
 
 -- ---- each case of the definitions, with a fact in the place of its test
 module _ (i : ℕ) (is : List ℕ) (l : ℕ) (ls : List ℕ) where
@@ -65,7 +46,7 @@ at-id : (is ls : List ℕ) (k : ℕ) → k < length (usedIn is ls) → getD is k
 unfolding usedIn
 at-id [] ls k h = absurd (not-suc-le-zero h)
 at-id (i ∷ is) [] k h = absurd (not-suc-le-zero h)
-at-id (i ∷ is) (l ∷ ls) k h = go (at-id is ls) k h (zero? l)
+at-id (i ∷ is) (l ∷ ls) k h = go (at-id is ls) k h (same? l 0)
   where
     go : ((k : ℕ) → k < length (usedIn is ls) → getD is k 0 ≡ getD (usedIn is ls) k noEntry .id)
         → (k : ℕ) → k < length (usedIn (i ∷ is) (l ∷ ls)) → (l ≡ 0) ⊎ (l ≡ 0 → ⊥)
@@ -78,7 +59,7 @@ at-location : (is ls : List ℕ) (k : ℕ) → k < length (usedIn is ls) → get
 unfolding usedIn
 at-location [] ls k h = absurd (not-suc-le-zero h)
 at-location (i ∷ is) [] k h = absurd (not-suc-le-zero h)
-at-location (i ∷ is) (l ∷ ls) k h = go (at-location is ls) k h (zero? l)
+at-location (i ∷ is) (l ∷ ls) k h = go (at-location is ls) k h (same? l 0)
   where
     go : ((k : ℕ) → k < length (usedIn is ls) → getD ls k 0 ≡ getD (usedIn is ls) k noEntry .location)
         → (k : ℕ) → k < length (usedIn (i ∷ is) (l ∷ ls)) → (l ≡ 0) ⊎ (l ≡ 0 → ⊥)
@@ -95,10 +76,6 @@ padded-cons n ns m = rw suc-sub-suc
 padded-nil : (m : ℕ) → padded m [] ≡ replicate m 0
 unfolding padded
 padded-nil m = rw sub-zero
-
-pub length-padded : (ns : List ℕ) (m : ℕ) → length ns ≤ m → length (padded m ns) ≡ m
-unfolding padded
-length-padded ns m h = simp (length-append, length-replicate) (omega arith)
 
 -- past the end of what is padded stand zeros
 padded-past : (ns : List ℕ) (m k : ℕ) → length ns ≤ k → getD (padded m ns) k 0 ≡ 0
@@ -119,70 +96,6 @@ padded-past (n ∷ ns) zero (suc k) h = over n ns k (le-of-suc-le-suc h)
         let z : zero - suc (length ns) ≡ 0 = omega arith in
         rw z (List·getD-eq-default ((n ∷ ns) ++ []) 0 {n = suc k} (simp length-append (omega arith)))
 
--- ---- what the form says of the buffers
-record Shape (f : ℕ) (is ls : List ℕ) (es : List Entry) : Type 0 where
-  rising : Rising f es
-  ids-are : is ≡ padded (length is) (map (λ (e : Entry). e .id) es)
-  locations-are : ls ≡ padded (length is) (map (λ (e : Entry). e .location) es)
-  fits : length es ≤ length is
-
-shape : (f : ℕ) (is ls : List ℕ) → length is ≡ length ls → formFrom f is ls ≡ true → Shape f is ls (usedIn is ls)
-unfolding formFrom usedIn
-shape f [] [] n h = record { rising = rise-end; ids-are = sym (padded-nil 0); locations-are = sym (padded-nil 0); fits = zero-le }
-shape f [] (l ∷ ls) n h = absurd (let z : _≡_ {A = ℕ} 0 1 = omega arith in omega arith)
-shape f (i ∷ is) [] n h = absurd (let z : _≡_ {A = ℕ} 0 1 = cc in omega arith)
-shape f (i ∷ is) (l ∷ ls) n h = go (λ g. shape (suc i) is ls (omega arith) g) (zero? l)
-  where
-    pos : (l : ℕ) → (l ≡ 0 → ⊥) → 0 < l
-    pos zero q = absurd (q refl)
-    pos (suc l) q = suc-le-suc zero-le
-
-    go : (formFrom (suc i) is ls ≡ true → Shape (suc i) is ls (usedIn is ls)) → (l ≡ 0) ⊎ (l ≡ 0 → ⊥) → Shape f (i ∷ is) (l ∷ ls) (usedIn (i ∷ is) (l ∷ ls))
-    go ih (inl q) =
-        let z = both (zeros (i ∷ is)) (zeros ls) (sym (form-stop i is l ls f q) ∙ h) in
-        rw (used-stop i is l ls q) (record {
-          rising = rise-end;
-          ids-are = zeros-are (i ∷ is) (z .0) ∙ sym (padded-nil (length (i ∷ is)));
-          locations-are = zeros-are (l ∷ ls) (zeros-next l ls q ∙ z .1) ∙ ap (λ (m : ℕ). replicate m 0) (sym n) ∙ sym (padded-nil (length (i ∷ is)));
-          fits = zero-le;
-        })
-    go ih (inr q) =
-        let z = both (leb f i) (formFrom (suc i) is ls) (sym (form-more i is l ls f q) ∙ h) in
-        let t = ih (z .1) in
-        rw (used-more i is l ls q) (record {
-          rising = rise (leb-true f i (z .0)) (pos l q) (t .rising);
-          ids-are = ap (λ (r : List ℕ). i ∷ r) (t .ids-are) ∙ sym (padded-cons i _ (length is));
-          locations-are = ap (λ (r : List ℕ). l ∷ r) (t .locations-are) ∙ sym (padded-cons l _ (length is));
-          fits = suc-le-suc (t .fits);
-        })
-
--- ---- the way back: buffers made of rising entries are in form, and these are their used entries
-used-of : (f : ℕ) (es : List Entry) → Rising f es → (m : ℕ) → length es ≤ m
-    → usedIn (padded m (map (λ (e : Entry). e .id) es)) (padded m (map (λ (e : Entry). e .location) es)) ≡ es
-unfolding usedIn
-used-of f [] r m h = rw (padded-nil m) (go m)
-  where
-    go : (n : ℕ) → usedIn (replicate n 0) (replicate n 0) ≡ []
-    go zero = refl
-    go (suc n) = used-stop 0 (replicate n 0) 0 (replicate n 0) refl
-used-of f (e ∷ es) (rise a b r) zero h = absurd (not-suc-le-zero h)
-used-of f (e ∷ es) (rise a b r) (suc m) h =
-    rw (padded-cons (e .id) (map (λ (e : Entry). e .id) es) m, padded-cons (e .location) (map (λ (e : Entry). e .location) es) m)
-    (used-more (e .id) (padded m (map (λ (e : Entry). e .id) es)) (e .location) (padded m (map (λ (e : Entry). e .location) es)) (λ q. omega arith) ∙ ap (λ (r : List Entry). e ∷ r) (used-of (suc (e .id)) es r m (le-of-suc-le-suc h)))
-
-form-of : (f : ℕ) (es : List Entry) → Rising f es → (m : ℕ) → length es ≤ m
-    → formFrom f (padded m (map (λ (e : Entry). e .id) es)) (padded m (map (λ (e : Entry). e .location) es)) ≡ true
-unfolding formFrom
-form-of f [] r m h = rw (padded-nil m) (go m)
-  where
-    go : (n : ℕ) → formFrom f (replicate n 0) (replicate n 0) ≡ true
-    go zero = zeros-replicate 0
-    go (suc n) = form-stop 0 (replicate n 0) 0 (replicate n 0) f refl ∙ simp (zeros-replicate (suc n), zeros-replicate n)
-form-of f (e ∷ es) (rise a b r) zero h = absurd (not-suc-le-zero h)
-form-of f (e ∷ es) (rise a b r) (suc m) h =
-    rw (padded-cons (e .id) (map (λ (e : Entry). e .id) es) m, padded-cons (e .location) (map (λ (e : Entry). e .location) es) m)
-    (form-more (e .id) (padded m (map (λ (e : Entry). e .id) es)) (e .location) (padded m (map (λ (e : Entry). e .location) es)) f (λ q. omega arith) ∙ simp (le-leb f (e .id) a) (form-of (suc (e .id)) es r m (le-of-suc-le-suc h)))
-
 -- ---- of the table
 abbrev pub used : List ℕ → List ℕ → List Entry
 used is ls = usedEntries (table is ls)
@@ -197,22 +110,15 @@ module _ (is ls : List ℕ) where
   used-location k h = at-location is ls k h
 
   module _ (formed : Formed (table is ls)) where
-    shape-of : Shape 0 is ls (usedIn is ls)
-    unfolding inForm
-    shape-of = shape 0 is ls (formed .even) (formed .form)
-
     pub used-rising : Rising 0 (used is ls)
-    unfolding usedEntries
-    used-rising = shape-of .rising
+    used-rising = form-rising (table is ls) (formed .form)
 
     pub used-fits : length (used is ls) ≤ length is
-    unfolding usedEntries
-    used-fits = shape-of .fits
+    used-fits = used-length (table is ls)
 
     -- the buffers are their used entries, laid out
     pub laid-out : table is ls ≡ laidOut (length is) (used is ls)
-    unfolding usedEntries laidOut
-    laid-out = rw (← shape-of .ids-are, ← shape-of .locations-are) refl
+    laid-out = sym (laid-out-used (table is ls) (formed .form) (formed .even))
 
     -- a used place has a location
     pub zero-unused : (k : ℕ) → getD ls k 0 ≡ 0 → length (used is ls) ≤ k
@@ -220,7 +126,7 @@ module _ (is ls : List ℕ) where
       where
         go : (k < length (used is ls)) ⊎ ((k ≡ length (used is ls)) ⊎ (length (used is ls) < k)) → length (used is ls) ≤ k
         go (inl q) =
-            let p : 0 < getD (used is ls) k noEntry .location = rising-location 0 (used is ls) used-rising k q in
+            let p = used-located (table is ls) _ _ (has-at (used is ls) k q) in
             let e = used-location k q in
             omega arith
         go (inr (inl q)) = omega arith
@@ -228,42 +134,25 @@ module _ (is ls : List ℕ) where
 
     -- and a place with a location is used
     pub not-zero-used : (k : ℕ) → (getD ls k 0 ≡ 0 → ⊥) → k < length (used is ls)
-    unfolding usedEntries
-    not-zero-used k z = go (order k (length (usedIn is ls)))
+    unfolding laidOut
+    not-zero-used k z = go (order k (length (used is ls)))
       where
-        past : length (usedIn is ls) ≤ k → getD ls k 0 ≡ 0
+        past : length (used is ls) ≤ k → getD ls k 0 ≡ 0
         past q =
-            let m : length (map (λ (e : Entry). e .location) (usedIn is ls)) ≤ k = rw (length-map (usedIn is ls) (λ (e : Entry). e .location)) q in
-            ap (λ (l : List ℕ). getD l k 0) (shape-of .locations-are) ∙ padded-past (map (λ (e : Entry). e .location) (usedIn is ls)) (length is) k m
+            let m : length (map (λ (e : Entry). e .location) (used is ls)) ≤ k = rw (length-map (used is ls) (λ (e : Entry). e .location)) q in
+            ap (λ (b : Buffers). getD (b .locations) k 0) laid-out ∙ padded-past (map (λ (e : Entry). e .location) (used is ls)) (length is) k m
 
-        go : (k < length (usedIn is ls)) ⊎ ((k ≡ length (usedIn is ls)) ⊎ (length (usedIn is ls) < k)) → k < length (usedIn is ls)
+        go : (k < length (used is ls)) ⊎ ((k ≡ length (used is ls)) ⊎ (length (used is ls) < k)) → k < length (used is ls)
         go (inl q) = q
         go (inr (inl q)) = absurd (z (past (omega arith)))
         go (inr (inr q)) = absurd (z (past (omega arith)))
 
--- ---- rising entries laid out
-module _ (es : List Entry) (r : Rising 0 es) (m : ℕ) (h : length es ≤ m) where
-  pub laid-out-length : length (laidOut m es .ids) ≡ m
-  unfolding laidOut
-  laid-out-length = length-padded (map (λ (e : Entry). e .id) es) m (rw (length-map es (λ (e : Entry). e .id)) h)
+-- used entries that rise, laid out, are in form
+pub laid-out-formed : (m : ℕ) (es : List Entry) → Used es → Rising 0 es → length es ≤ m → Formed (laidOut m es)
+laid-out-formed m es u r h = record { even = laid-out-ids m es h ∙ sym (laid-out-locations m es h); form = form-laid-out m es u r }
 
-  pub laid-out-formed : Formed (laidOut m es)
-  unfolding laidOut inForm
-  laid-out-formed = record {
-    even = laid-out-length ∙ sym (length-padded (map (λ (e : Entry). e .location) es) m (rw (length-map es (λ (e : Entry). e .location)) h));
-    form = form-of 0 es r m h;
-  }
-
-  pub laid-out-used : usedEntries (laidOut m es) ≡ es
-  unfolding laidOut usedEntries
-  laid-out-used = used-of 0 es r m h
-
--- ---- a table that passed refusal 1
-pub lengths-even : (b : Buffers) → lengthsInRange b ≡ true → length (b .ids) ≡ length (b .locations)
-unfolding lengthsInRange
-lengths-even b h = eqb-true (length (b .ids)) (length (b .locations)) (both (eqb (length (b .ids)) (length (b .locations))) (within 1 65536 (length (b .ids))) h .0)
-
-pub formed-of : (b : Buffers) → lengthsInRange b && inForm b ≡ true → Formed b
+-- a table that passed refusal 1
+pub formed-of : (b : Buffers) → (lengthsInRange b && inForm b) ≡ true → Formed b
 formed-of b h =
-    let t = both (lengthsInRange b) (inForm b) h in
-    record { even = lengths-even b (t .0); form = t .1 }
+    let t = and-true (lengthsInRange b) (inForm b) h in
+    record { even = lengths-in-range b (t .0) .equal; form = t .1 }

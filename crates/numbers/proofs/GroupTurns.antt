@@ -1,7 +1,7 @@
 -- A turn of `encode`'s loop, and its end.
-use mathlib.Core.Path.{_≡_, refl, sym, ap, ap₂, _∙_}
-use mathlib.Core.List.{List, [], _∷_, _++_}
-use Prim.Native.Nat.{ℕ, zero, suc, _+_, _-_, _*_, _/_, _%_, _^_, _<_, _≤_}
+use mathlib.Core.Path.{_≡_, refl, sym, ap, _∙_}
+use mathlib.Core.List.{List, [], _∷_}
+use Prim.Native.Nat.{ℕ, zero, suc, _+_, _-_, _/_, _%_, _^_, _<_, _≤_}
 use native.Mathlib.Omega.{arith}
 use native.Mathlib.Nat.{pow-suc}
 use lib.ListN.{length, set}
@@ -16,6 +16,7 @@ pub record Writing (w : ℕ) (t : List ℕ) (n : ℕ) (s : List ℕ) (x i : ℕ)
   pub list : putAt s i (groupsOf (w - i) x) ≡ t
   pub count : i + length (groupsOf (w - i) x) ≡ n
 
+-- one group more
 pub turn : (w : ℕ) (t : List ℕ) (n : ℕ) (s : List ℕ) (x i : ℕ) → w ≤ length s → 128 ≤ x → Writing w t n s x i
     → Writing w t n (set s i (x % 128 + 128)) (x / 128) (i + 1)
 turn w t n s x i fit m v = go (w - (i + 1)) refl
@@ -35,6 +36,7 @@ turn w t n s x i fit m v = go (w - (i + 1)) refl
       count = omega (arith, v .count, ap length split);
     }
 
+-- the last group
 pub done : (w : ℕ) (t : List ℕ) (n : ℕ) (s : List ℕ) (x i : ℕ) → w ≤ length s → x < 128 → Writing w t n s x i
     → (i + 1 ≡ n) × (set s i x ≡ t)
 done w t n s x i fit l v =

@@ -1,6 +1,6 @@
 -- What a call that was lent `&mut s[at..]` leaves in the whole, for a caller's proof.
-use mathlib.Core.Path.{_≡_, refl, sym, ap, ap₂, _∙_}
-use mathlib.Core.List.{List, [], _∷_, _++_}
+use mathlib.Core.Path.{_≡_, sym, ap, ap₂, _∙_}
+use mathlib.Core.List.{List, _++_}
 use Prim.Native.Nat.{ℕ, _+_, _-_, _≤_}
 use native.Mathlib.Omega.{arith}
 use lib.ListN.{length, take, drop}
@@ -13,6 +13,11 @@ use Rattle.numbers.specs.Parts.{front, putAt, part-back, part-back-to, p
 pub lent : (h ys bs : List ℕ) (at : ℕ) → at + length bs ≤ length h
     → ys ≡ front bs (take (length h - at) (drop at h)) → putMid at (length h - at) h ys ≡ putAt h at bs
 lent h ys bs at fit e = rw e (part-back h at bs fit)
+
+-- the same of a part with an end, `&mut h[at..e]`
+pub lent-to : (h ys bs : List ℕ) (at e : ℕ) → at ≤ e → e ≤ length h → length bs ≤ e - at
+    → ys ≡ front bs (take (e - at) (drop at h)) → putMid at (e - at) h ys ≡ putAt h at bs
+lent-to h ys bs at e lo hi short f = rw f (part-back-to h at (e - at) bs (omega arith) short)
 
 -- one writer after another, each in the part behind what stands there
 pub behind : (s₀ s ys xs bs : List ℕ) (at : ℕ) → length xs ≡ at → at + length bs ≤ length s₀
@@ -36,8 +41,3 @@ pub lent-then : (s₀ s ys xs bs : List ℕ) (at mid : ℕ) → at + length xs �
 lent-then s₀ s ys xs bs at mid l fit e f =
     let same : length s ≡ length s₀ = ap length e ∙ put-length s₀ at xs (omega arith) in
     lent s ys bs mid (omega arith) f ∙ ap₂ (λ (t : List ℕ) (n : ℕ). putAt t n bs) e (sym l) ∙ put-put s₀ at xs bs (omega arith)
-
--- the same of a part with an end, `&mut h[at..e]`
-pub lent-to : (h ys bs : List ℕ) (at e : ℕ) → at ≤ e → e ≤ length h → length bs ≤ e - at
-    → ys ≡ front bs (take (e - at) (drop at h)) → putMid at (e - at) h ys ≡ putAt h at bs
-lent-to h ys bs at e lo hi short f = rw f (part-back-to h at (e - at) bs (omega arith) short)

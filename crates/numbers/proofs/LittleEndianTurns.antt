@@ -1,39 +1,39 @@
 -- One turn of the loops of `put` and `get`.
-use mathlib.Core.Path.{_≡_, refl, sym, ap, ap₂, _∙_}
-use mathlib.Core.List.{List, [], _∷_, _++_, append-assoc}
-use Prim.Native.Nat.{ℕ, zero, suc, _+_, _-_, _*_, _/_, _%_, _^_, _<_, _≤_, min}
-use native.Mathlib.Numerals.{add-one}
+use mathlib.Core.Path.{_≡_, sym, ap, _∙_}
+use mathlib.Core.List.{List}
+use Prim.Native.Nat.{ℕ, suc, _+_, _-_, _*_, _/_, _%_, _^_, _<_, _≤_}
 use native.Mathlib.Nat.{pow-suc, pow-le-pow-right}
 use native.Mathlib.Omega.{arith}
 use lib.Dec.{lit<}
-use lib.ListN.{length, take, drop, getD, set, length-take, take-append-drop, drop-of-length-le}
-use lib.Seq.{take-suc-set, drop-set-lt, append-snoc, drop-cons, getD-take}
+use lib.ListN.{length, take, drop, getD, set, length-take, drop-of-length-le}
+use lib.Seq.{drop-cons, getD-take}
 use Rattle.numbers.specs.LittleEndian.{leBytes, leValue, le-cons, le-none}
+use Rattle.numbers.specs.Parts.{putAt, put-step, put-none}
 
--- written so far, what the rest still gives, what stays: a turn keeps this list
-pub put-step : (s : List ℕ) (n i x : ℕ) → i < n → n ≤ length s
-    → take (i + 1) (set s i (x % 256)) ++ (leBytes (n - (i + 1)) (x / 256) ++ drop n (set s i (x % 256)))
-    ≡ take i s ++ (leBytes (n - i) x ++ drop n s)
-put-step s n i x h k =
-    let in-s : i < length s = omega arith in
-    rw (add-one, take-suc-set s i (x % 256) in-s, drop-set-lt n s i (x % 256) h, le-cons (n - i) (n - suc i) x (omega arith))
-    (append-snoc (take i s) (x % 256) _)
+-- a byte is stored, and the rest is still to be written behind it
+pub put-turn : (s : List ℕ) (n i x : ℕ) → i < n → n ≤ length s
+    → putAt (set s i (x % 256)) (i + 1) (leBytes (n - (i + 1)) (x / 256)) ≡ putAt s i (leBytes (n - i) x)
+put-turn s n i x h fit =
+    put-step s i (x % 256) (leBytes (n - (i + 1)) (x / 256)) (omega arith)
+    ∙ ap (putAt s i) (sym (le-cons (n - i) (n - (i + 1)) x (omega arith)))
 
-pub get-step : (s : List ℕ) (n i v : ℕ) → i < n → n ≤ length s → v ≡ leValue (drop (suc i) (take n s))
+-- all is written
+pub put-done : (s t : List ℕ) (n i x : ℕ) → n ≤ i → putAt s i (leBytes (n - i) x) ≡ t → s ≡ t
+put-done s t n i x h e = sym (put-none s i) ∙ ap (putAt s i) (sym (le-none (n - i) x (omega arith))) ∙ e
+
+-- one byte more, in front of what was read
+get-step : (s : List ℕ) (n i v : ℕ) → i < n → n ≤ length s → v ≡ leValue (drop (suc i) (take n s))
     → leValue (drop i (take n s)) ≡ v * 256 + getD s i 0
 unfolding leValue
 get-step s n i v h k e =
     let within : i < length (take n s) = omega (arith, length-take n s) in
     rw (drop-cons (take n s) i 0 within, getD-take n s i 0 h, ← e) (omega arith)
 
-pub get-room : (v m : ℕ) → v < 256 ^ m → m ≤ 7 → v < 2 ^ 56
+-- what was read leaves room for a byte
+get-room : (v m : ℕ) → v < 256 ^ m → m ≤ 7 → v < 2 ^ 56
 get-room v m h k = omega (arith, pow-le-pow-right {n = 256} (lit< tt) k)
 
-pub put-done : (s t : List ℕ) (n i x : ℕ) → i ≤ n → n ≤ i → take i s ++ (leBytes (n - i) x ++ drop n s) ≡ t → s ≡ t
-put-done s t n i x h k e =
-    let same : i ≡ n = omega arith in
-    sym (take-append-drop n s) ∙ (rw (le-none (n - i) x (omega arith), same) at e)
-
+-- nothing is read yet
 pub get-none : (s : List ℕ) (n : ℕ) → leValue (drop n (take n s)) ≡ 0
 unfolding leValue
 get-none s n = rw (drop-of-length-le (take n s) {i = n} (omega (arith, length-take n s)))

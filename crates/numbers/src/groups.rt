@@ -1,10 +1,15 @@
+// Groups of seven bits, low group first, top bit set on all but the last, shortest form only.
+
 ghost use mathlib.Core.Path.{_≡_};
-ghost use mathlib.Core.List.{_++_};
-ghost use Prim.Native.Nat.{_+_, _≤_, _<_};
-ghost use lib.ListN.{length, take, drop};
+ghost use Prim.Native.Nat.{_≤_};
+ghost use lib.ListN.{length};
 ghost use Rattle.numbers.specs.Parts.{front};
-ghost use Rattle.numbers.specs.Groups.{groupsOf, numberIn, joinedOf};
+ghost use Rattle.numbers.specs.Groups.{groupsOf, numberIn};
+ghost use Rattle.numbers.specs.GroupSteps.{joinedOf};
 use crate::Number;
+
+// What the groups behind the first may say, so that all fit 64 bits: 2^57.
+const REST: u64 = 1 << 57;
 
 // A group with its top bit set, before what the groups behind it say.
 fn joined(b: u8, rest: Number) -> Number
@@ -16,7 +21,7 @@ fn joined(b: u8, rest: Number) -> Number
             if v == 0 {
                 return Number::Malformed;
             }
-            if v < 144115188075855872 {
+            if v < REST {
                 return Number::Said((v << 7) + (b - 128) as u64, next);
             }
             Number::Malformed
@@ -25,6 +30,7 @@ fn joined(b: u8, rest: Number) -> Number
     }
 }
 
+// The number in s at `at`, in at most `left` groups.
 fn groups(s: &[u8], at: usize, left: usize) -> Number
     ensures { λ r. ⌜ r ≡ numberIn left (now (s .entry)) at ⌝ }
 {

@@ -1,7 +1,8 @@
+// Little-endian numbers: one writer and one reader for every width.
+
 ghost use mathlib.Core.Path.{_≡_};
-ghost use mathlib.Core.List.{_++_};
-ghost use Prim.Native.Nat.{_+_, _≤_, _<_};
-ghost use lib.ListN.{length, take, drop};
+ghost use Prim.Native.Nat.{_≤_};
+ghost use lib.ListN.{length, take};
 ghost use Rattle.numbers.specs.LittleEndian.{leBytes, leValue};
 ghost use Rattle.numbers.specs.Parts.{front};
 

@@ -1,13 +1,13 @@
 -- Laws of tests and lists: no word of the paper is here.
-use mathlib.Core.Path.{_≡_, refl, sym, ap, ap₂, _∙_}
+use mathlib.Core.Path.{_≡_, refl, sym, ap₂, _∙_}
 use mathlib.Core.Bool.{true≢false, false≢true}
 use mathlib.Core.Logic.{_⊎_, inl, inr}
 use Prim.Native.Nat.{_≤_, _<_}
 use native.Mathlib.Nat.{eq-or-lt-of-le}
 use native.Mathlib.Omega.{arith}
 use lib.ListN.{length-append, length-replicate}
-use borrow.Author.Tests.{ltb-true, ltb-false, leb-true, eqb-true, eqb-false, le-leb, eq-eqb, not-true, not-false}
-use Rattle.rules.specs.Base.{Bool, true, false, not, _&&_, _||_, List, [], _∷_, _++_, ℕ, zero, suc, _+_, _-_, length, replicate, leb, ltb, eqb, within, any, zeros, padded}
+use borrow.Author.Tests.{ltb-true, ltb-false, leb-true, eqb-true, eqb-false, le-leb, eq-eqb}
+use Rattle.rules.specs.Base.{Bool, true, false, not, _&&_, _||_, List, [], _∷_, ℕ, zero, suc, _-_, length, replicate, leb, ltb, eqb, within, any, zeros, padded}
 
 -- ---- tests
 -- no test of a chain of `||` holds
@@ -15,6 +15,7 @@ pub or-false : (a b : Bool) → (a || b) ≡ false → (a ≡ false) × (b ≡ f
 or-false true b e = absurd (true≢false e)
 or-false false b e = (refl, e)
 
+-- and back
 pub or-clear : (a b : Bool) → a ≡ false → b ≡ false → (a || b) ≡ false
 or-clear a b p q = rw p q
 
@@ -23,6 +24,7 @@ pub and-true : (a b : Bool) → (a && b) ≡ true → (a ≡ true) × (b ≡ tru
 and-true true b e = (refl, e)
 and-true false b e = absurd (false≢true e)
 
+-- and back
 pub and-holds : (a b : Bool) → a ≡ true → b ≡ true → (a && b) ≡ true
 and-holds a b p q = rw p q
 
@@ -31,16 +33,24 @@ pub or-true : (a b : Bool) → (a || b) ≡ true → (a ≡ true) ⊎ (b ≡ tru
 or-true true b e = inl refl
 or-true false b e = inr e
 
+-- and back
 pub or-holds : (a b : Bool) → (a ≡ true) ⊎ (b ≡ true) → (a || b) ≡ true
 or-holds true b w = refl
 or-holds false b (inl p) = absurd (false≢true p)
 or-holds false b (inr q) = q
 
+-- some test of two does not hold
+pub and-false : (a b : Bool) → (a && b) ≡ false → (a ≡ false) ⊎ (b ≡ false)
+and-false true b e = inr e
+and-false false b e = inl refl
+
+-- both bounds hold
 pub within-true : (low high n : ℕ) → within low high n ≡ true → (low ≤ n) × (n ≤ high)
 within-true low high n e =
     let w = and-true (leb low n) (leb n high) e in
     (leb-true low n (w .0), leb-true n high (w .1))
 
+-- and back
 pub within-holds : (low high n : ℕ) → low ≤ n → n ≤ high → within low high n ≡ true
 within-holds low high n p q = and-holds (leb low n) (leb n high) (le-leb low n p) (le-leb n high q)
 
@@ -75,6 +85,23 @@ abbrev pub All : {A : Type 0} → (A → Type 0) → List A → Type 0
 All P [] = Unit {0}
 All P (x ∷ xs) = P x × All P xs
 
+-- what each has, each has by what follows from it
+pub all-map : {A : Type 0} (P Q : A → Type 0) (xs : List A) → ((x : A) → P x → Q x) → All P xs → All Q xs
+all-map P Q [] f a = tt
+all-map P Q (x ∷ xs) f a = (f x (a .0), all-map P Q xs f (a .1))
+
+-- none passes
+pub any-false : {A : Type 0} (f : A → Bool) (xs : List A) → any f xs ≡ false → All (λ (x : A). f x ≡ false) xs
+unfolding any
+any-false f [] e = tt
+any-false f (x ∷ xs) e = let w = or-false (f x) (any f xs) e in (w .0, any-false f xs (w .1))
+
+-- and back
+pub any-clear : {A : Type 0} (f : A → Bool) (xs : List A) → All (λ (x : A). f x ≡ false) xs → any f xs ≡ false
+unfolding any
+any-clear f [] a = refl
+any-clear f (x ∷ xs) a = or-clear (f x) (any f xs) (a .0) (any-clear f xs (a .1))
+
 -- ---- zeros
 pub zeros-cons : (n : ℕ) (ns : List ℕ) → zeros (n ∷ ns) ≡ (eqb n 0 && zeros ns)
 unfolding zeros any
@@ -84,19 +111,23 @@ zeros-cons n ns = go (eqb n 0)
     go true = refl
     go false = refl
 
+-- all 0: the first and the rest
 pub zeros-true : (n : ℕ) (ns : List ℕ) → zeros (n ∷ ns) ≡ true → (n ≡ 0) × (zeros ns ≡ true)
 zeros-true n ns e =
     let w = and-true (eqb n 0) (zeros ns) (sym (zeros-cons n ns) ∙ e) in
     (eqb-true n 0 (w .0), w .1)
 
+-- and back
 pub zeros-holds : (n : ℕ) (ns : List ℕ) → n ≡ 0 → zeros ns ≡ true → zeros (n ∷ ns) ≡ true
 zeros-holds n ns p q = zeros-cons n ns ∙ and-holds (eqb n 0) (zeros ns) (eq-eqb n 0 p) q
 
+-- zeros are zeros
 pub zeros-replicate : (n : ℕ) → zeros (replicate n 0) ≡ true
 unfolding zeros any
 zeros-replicate zero = refl
 zeros-replicate (suc n) = zeros-holds 0 (replicate n 0) refl (zeros-replicate n)
 
+-- and only they
 pub zeros-is : (ns : List ℕ) → zeros ns ≡ true → ns ≡ replicate (length ns) 0
 zeros-is [] e = refl
 zeros-is (n ∷ ns) e =

@@ -2,7 +2,7 @@
 use Rattle.rules.specs.Base.{Bool, not, _||_, [], _∷_, ℕ, _-_, _/_, _%_, _^_, leb, eqb, pick}
 use Rattle.rules.specs.Types.{Claims, Limits, Claim}
 use lib.Bits.{bitOr, bitAnd}
-use Rattle.rules.specs.Refusal.{Test, _gives_, decide, after}
+use Rattle.rules.specs.Refusal.{_gives_, decide, after}
 use Rattle.rules.specs.FileMap.{isEmpty, recordAt}
 use Rattle.rules.specs.Condition1.{refused1}
 use Rattle.rules.specs.World.{World, recordsOf, slotsOf, accepted, After, unchanged}

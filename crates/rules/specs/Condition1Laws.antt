@@ -1,21 +1,20 @@
 -- What a call knows once 1 does not refuse it.
-use mathlib.Core.Path.{_≡_, refl, sym, ap, _∙_}
+use mathlib.Core.Path.{_≡_, refl, sym, _∙_}
 use mathlib.Core.Bool.{true≢false}
-use mathlib.Core.Logic.{_⊎_, inl, inr, ⊎-elim}
+use mathlib.Core.Logic.{_⊎_, ⊎-elim}
 use Prim.Native.Nat.{_≤_, _<_}
 use native.Mathlib.Omega.{arith}
 use native.Mathlib.Nat.{zero-add}
 use borrow.Author.Tests.{eqb-true, eqb-false, ltb-false, leb-false, eq-eqb, ne-eqb, le-ltb, lt-leb, not-false}
-use Rattle.rules.specs.Base.{Bool, true, false, not, _&&_, _||_, List, [], _∷_, ℕ, zero, suc, _+_, length, leb, ltb, eqb}
+use Rattle.rules.specs.Base.{true, false, List, [], _∷_, ℕ, zero, suc, _+_}
 use Rattle.rules.specs.Types.{Settings, Record, State}
 use Rattle.rules.specs.BaseLaws.{or-false, or-clear, and-true}
-use Rattle.rules.specs.Settings.{inRanges, slotsIn, heapInRange, sameSettings}
+use Rattle.rules.specs.Settings.{slotsIn}
 use Rattle.rules.specs.SettingsLaws.{InRanges, in-ranges, ranges-in, HeapInRange, heap-in-range, range-heap-in, same-settings, settings-same}
-use Rattle.rules.specs.Label.{outOfBounds}
 use Rattle.rules.specs.LabelLaws.{InBounds, in-bounds, bounds-in}
-use Rattle.rules.specs.Layout.{Buffers, lengthsInRange, capacityOf, inForm}
+use Rattle.rules.specs.Layout.{Buffers, capacityOf, inForm}
 use Rattle.rules.specs.LayoutLaws.{LengthsInRange, lengths-in-range, range-lengths-in}
-use Rattle.rules.specs.FileMap.{isEmpty, recordAt, emptyRecord}
+use Rattle.rules.specs.FileMap.{isEmpty, recordAt}
 use Rattle.rules.specs.FileMapLaws.{is-empty, empty-or-not}
 use Rattle.rules.specs.Condition1.{outOfRange, notTheStates, badRecord, badFrom, conditionOne}
 
@@ -25,6 +24,7 @@ pub record InLimits (s : Settings) (heapLen : ℕ) (b : Buffers) : Type 0 where
   pub heap : HeapInRange s heapLen
   pub table : LengthsInRange b
 
+-- not out of range
 pub in-limits : (s : Settings) (heapLen : ℕ) (b : Buffers) → outOfRange s heapLen b ≡ false → InLimits s heapLen b
 unfolding outOfRange
 in-limits s heapLen b e =
@@ -32,6 +32,7 @@ in-limits s heapLen b e =
     let w2 = and-true _ _ (w3 .0) in
     record { settings = in-ranges s (w2 .0); heap = heap-in-range s heapLen (w2 .1); table = lengths-in-range b (w3 .1) }
 
+-- and back
 pub limits-in : (s : Settings) (heapLen : ℕ) (b : Buffers) → InLimits s heapLen b → outOfRange s heapLen b ≡ false
 unfolding outOfRange
 limits-in s heapLen b w = rw (ranges-in s (w .settings), range-heap-in s heapLen (w .heap), range-lengths-in b (w .table))
@@ -43,6 +44,7 @@ pub record GoodRecord (s : Settings) (heapLen : ℕ) (b : Buffers) (slot : ℕ) 
   pub present : r .«present_objects» ≤ r .«file_size»
   pub live : r .live ≤ capacityOf b
 
+-- a record that is not bad, and not empty, is good
 pub good-record : (s : Settings) (heapLen : ℕ) (b : Buffers) (slot : ℕ) (r : Record) → isEmpty r ≡ false → badRecord s heapLen b slot r ≡ false → GoodRecord s heapLen b slot r
 unfolding badRecord
 good-record s heapLen b slot r some e =
@@ -52,6 +54,7 @@ good-record s heapLen b slot r some e =
     let w2 = or-false _ _ (w3 .0) in
     record { place = leb-false _ _ (w2 .0); bounds = in-bounds (s .«slot_bytes») r (w2 .1); present = ltb-false _ _ (w3 .1); live = ltb-false _ _ (w4 .1) }
 
+-- and back
 pub record-good : (s : Settings) (heapLen : ℕ) (b : Buffers) (slot : ℕ) (r : Record) → (isEmpty r ≡ false → GoodRecord s heapLen b slot r) → badRecord s heapLen b slot r ≡ false
 unfolding badRecord
 record-good s heapLen b slot r good = ⊎-elim
@@ -80,9 +83,11 @@ from-good s heapLen b i (r ∷ rs) good =
     or-clear _ _ (record-good s heapLen b i r (λ some. rw here at (good 0 some)))
     (from-good s heapLen b (suc i) rs (λ k some. let there : i + suc k ≡ suc i + k = omega arith in rw there at (good (suc k) some)))
 
+-- no record of the file map is bad
 pub good-records : (s : Settings) (heapLen : ℕ) (b : Buffers) (rs : List Record) → badFrom s heapLen b 0 rs ≡ false → (k : ℕ) → isEmpty (recordAt rs k) ≡ false → GoodRecord s heapLen b k (recordAt rs k)
 good-records s heapLen b rs e k some = rw zero-add at (good-from s heapLen b 0 rs e k some)
 
+-- and back
 pub records-good : (s : Settings) (heapLen : ℕ) (b : Buffers) (rs : List Record) → ((k : ℕ) → isEmpty (recordAt rs k) ≡ false → GoodRecord s heapLen b k (recordAt rs k)) → badFrom s heapLen b 0 rs ≡ false
 records-good s heapLen b rs good = from-good s heapLen b 0 rs (λ k some. rw zero-add (good k some))
 
@@ -96,6 +101,7 @@ pub record Passed (s : Settings) (heapLen : ℕ) (b : Buffers) (t : State) : Typ
   pub next : 0 < t .«next_position»
   pub records : (k : ℕ) → isEmpty (recordAt (t .files .records) k) ≡ false → GoodRecord s heapLen b k (recordAt (t .files .records) k)
 
+-- so much is known where 1 does not hold
 pub passed : (s : Settings) (heapLen : ℕ) (b : Buffers) (t : State) → conditionOne s heapLen b t ≡ false → Passed s heapLen b t
 unfolding conditionOne notTheStates
 passed s heapLen b t e =
@@ -116,6 +122,7 @@ passed s heapLen b t e =
       records = good-records s heapLen b (t .files .records) (w5 .1);
     }
 
+-- and back
 pub passes : (s : Settings) (heapLen : ℕ) (b : Buffers) (t : State) → Passed s heapLen b t → conditionOne s heapLen b t ≡ false
 unfolding conditionOne notTheStates
 passes s heapLen b t w =

@@ -1,6 +1,5 @@
 -- The file map: empty records, lookups and live counts, in a reader's words.
 use mathlib.Core.Path.{_≡_, refl, sym, ap, _∙_}
-use mathlib.Core.Bool.{false≢true}
 use mathlib.Core.Logic.{_⊎_, inl, inr}
 use Prim.Native.Nat.{_≤_, _<_, min}
 use native.Mathlib.Nat.{zero-add, le-of-suc-le-suc, not-suc-le-zero, eq-or-lt-of-le, min-le-left, min-le-right, le-min}
@@ -8,11 +7,12 @@ use native.Mathlib.Numerals.{add-one}
 use native.Mathlib.Omega.{arith}
 use lib.ListN.{drop-of-length-le, length-set, length-take}
 use lib.Seq.{drop-cons, getD-take}
-use borrow.Author.Tests.{ne-eqb, ltb-true, ltb-false, leb-true, leb-false, eqb-true, eqb-false}
-use Rattle.rules.specs.Base.{Bool, true, false, _&&_, List, [], _∷_, ℕ, zero, suc, _+_, _-_, _*_, length, getD, set, take, drop, leb, ltb, eqb, pick, any, zeros}
+use borrow.Author.Tests.{ne-eqb, lt-ltb, le-ltb, le-leb, lt-leb, leb-true, leb-false, eqb-true, eqb-false}
+use Rattle.numbers.specs.GroupLaws.{either-way}
+use Rattle.rules.specs.Base.{Bool, true, false, _&&_, List, [], _∷_, ℕ, zero, suc, _+_, _-_, _*_, _^_, length, getD, take, drop, leb, ltb, eqb, pick, any, zeros}
 use Rattle.rules.specs.Types.{Record, Slot, Is, NoSlot}
 use Rattle.rules.specs.BaseLaws.{zeros-true, zeros-cons, order}
-use Rattle.rules.specs.FileMap.{emptyRecord, isEmpty, recordAt, withLive, slotsWhere, emptySlots, lowestEmpty, Lead, leads, leadFrom, fileFor, lessLive}
+use Rattle.rules.specs.FileMap.{emptyRecord, isEmpty, recordAt, slotsWhere, emptySlots, lowestEmpty, Lead, leads, leadFrom, fileFor, lessLive}
 
 -- "An empty record is all zeros.", and only that one
 pub empty-is : (r : Record) → isEmpty r ≡ true → r ≡ emptyRecord
@@ -26,6 +26,7 @@ empty-is r e =
     let g = zeros-true _ _ (f .1) in
     λ i. record { lsn = a .0 i; «trailer_offset» = b .0 i; «file_size» = c .0 i; «present_objects» = d .0 i; generation = f .0 i; live = g .0 i }
 
+-- it is one
 pub is-empty : isEmpty emptyRecord ≡ true
 unfolding isEmpty zeros any
 is-empty = refl
@@ -43,15 +44,37 @@ empty-or-not r = go (isEmpty r) refl
     go true e = inl e
     go false e = inr e
 
--- ---- "File lookup": the steps of a loop over the records
+-- ---- "File lookup"
+-- on "raw, unmasked locations": a batch file of masked lsn 1 is above location 2
+pub lookup-is-raw : fileFor (record { lsn = 2 ^ 62 + 1; «trailer_offset» = 0; «file_size» = 0; «present_objects» = 0; generation = 0; live = 0 } ∷ []) 2 ≡ NoSlot
+unfolding fileFor leadFrom leads
+lookup-is-raw = refl
+
+-- ---- the steps of a loop over the records
 pub lead-next : (rs : List Record) (i location : ℕ) (b : Lead) → i < length rs
     → leadFrom (drop i rs) i location b ≡ leadFrom (drop (i + 1) rs) (i + 1) location (leads (recordAt rs i) i location b)
 unfolding leadFrom
 lead-next rs i location b h = rw (add-one i, drop-cons rs i emptyRecord)
 
+-- behind the last record
 pub lead-end : (rs : List Record) (i location : ℕ) (b : Lead) → length rs ≤ i → leadFrom (drop i rs) i location b ≡ b
 unfolding leadFrom
 lead-end rs i location b h = rw (drop-of-length-le rs h)
+
+-- a later file takes the lead with a greater own location that is not above the one sought
+pub lead-taken : (r : Record) (i location : ℕ) (b : Lead) → b .lsn < r .lsn → 2 * r .lsn ≤ location → leads r i location b ≡ record { lsn = r .lsn; slot = i }
+unfolding leads
+lead-taken r i location b h k = rw (lt-ltb (b .lsn) (r .lsn) h, le-leb (2 * r .lsn) location k)
+
+-- and not otherwise
+pub lead-kept : (r : Record) (i location : ℕ) (b : Lead) → (r .lsn ≤ b .lsn) ⊎ (location < 2 * r .lsn) → leads r i location b ≡ b
+unfolding leads
+lead-kept r i location b (inl h) = rw (le-ltb (b .lsn) (r .lsn) h)
+lead-kept r i location b (inr h) = rw (lt-leb (2 * r .lsn) location h) (go (ltb (b .lsn) (r .lsn)))
+  where
+    go : (t : Bool) → pick (t && false) (record { lsn = r .lsn; slot = i }) b ≡ b
+    go true = refl
+    go false = refl
 
 -- b leads the first i of the records
 record Leads (rs : List Record) (location i : ℕ) (b : Lead) : Type 0 where
@@ -61,8 +84,7 @@ record Leads (rs : List Record) (location i : ℕ) (b : Lead) : Type 0 where
 
 -- one record more
 next : (rs : List Record) (location i : ℕ) (b : Lead) → Leads rs location i b → Leads rs location (suc i) (leads (recordAt rs i) i location b)
-unfolding leads
-next rs location i b l = go (ltb (b .lsn) (recordAt rs i .lsn)) refl (leb (2 * recordAt rs i .lsn) location) refl
+next rs location i b l = go (either-way (b .lsn) (recordAt rs i .lsn)) (either-way location (2 * recordAt rs i .lsn))
   where
     split : (j : ℕ) → j < suc i → (j ≡ i) ⊎ (j < i)
     split j h = eq-or-lt-of-le (le-of-suc-le-suc h)
@@ -79,22 +101,23 @@ next rs location i b l = go (ltb (b .lsn) (recordAt rs i .lsn)) refl (leb (2 * r
         old j (inl w) e = rw w (low (rw w at e))
         old j (inr w) e = l .most j w e
 
-    go : (s : Bool) → ltb (b .lsn) (recordAt rs i .lsn) ≡ s → (t : Bool) → leb (2 * recordAt rs i .lsn) location ≡ t
-        → Leads rs location (suc i) (pick (s && t) (record { lsn = recordAt rs i .lsn; slot = i }) b)
-    go true p true q =
-        let h : b .lsn < recordAt rs i .lsn = ltb-true _ _ p in
-        let k : 2 * recordAt rs i .lsn ≤ location = leb-true _ _ q in
-        record {
-          most = λ j m e. new j (split j m) e h;
-          first = λ j m z e. let w = l .most j m e in omega arith;
-          held = λ z. (omega arith, refl, k);
-        }
+    -- one that does
+    takes : b .lsn < recordAt rs i .lsn → 2 * recordAt rs i .lsn ≤ location → Leads rs location (suc i) (record { lsn = recordAt rs i .lsn; slot = i })
+    takes h k = record {
+      most = λ j m e. new j (split j m) e;
+      first = λ j m z e. let w = l .most j m e in omega arith;
+      held = λ z. (omega arith, refl, k);
+    }
       where
-        new : (j : ℕ) → (j ≡ i) ⊎ (j < i) → 2 * recordAt rs j .lsn ≤ location → b .lsn < recordAt rs i .lsn → recordAt rs j .lsn ≤ recordAt rs i .lsn
-        new j (inl w) e h = rw w (omega arith)
-        new j (inr w) e h = let u = l .most j w e in omega arith
-    go true p false q = let k = leb-false (2 * recordAt rs i .lsn) location q in stays (λ e. absurd (omega arith))
-    go false p t q = let h = ltb-false (b .lsn) (recordAt rs i .lsn) p in stays (λ e. h)
+        new : (j : ℕ) → (j ≡ i) ⊎ (j < i) → 2 * recordAt rs j .lsn ≤ location → recordAt rs j .lsn ≤ recordAt rs i .lsn
+        new j (inl w) e = rw w (omega arith)
+        new j (inr w) e = let u = l .most j w e in omega arith
+
+    go : (b .lsn < recordAt rs i .lsn) ⊎ (recordAt rs i .lsn ≤ b .lsn) → (location < 2 * recordAt rs i .lsn) ⊎ (2 * recordAt rs i .lsn ≤ location)
+        → Leads rs location (suc i) (leads (recordAt rs i) i location b)
+    go (inl h) (inr k) = rw (lead-taken (recordAt rs i) i location b h k) (takes h k)
+    go (inl h) (inl k) = rw (lead-kept (recordAt rs i) i location b (inr k)) (stays (λ e. absurd (omega arith)))
+    go (inr h) k = rw (lead-kept (recordAt rs i) i location b (inl h)) (stays (λ e. h))
 
 all : (rs : List Record) (location n i : ℕ) (b : Lead) → i + n ≡ length rs → Leads rs location i b → Leads rs location (length rs) (leadFrom (drop i rs) i location b)
 all rs location zero i b e l = rw (lead-end rs i location b (omega arith)) (let q : i ≡ length rs = omega arith in rw q at l)
@@ -207,10 +230,12 @@ Among (m ∷ ms) k = (m ≡ k) ⊎ Among ms k
 
 -- the clauses, by facts in the place of tests
 module _ (f : ℕ → Record → Bool) (i : ℕ) (r : Record) (rs : List Record) where
+  -- a record that passes
   pub where-here : f i r ≡ true → slotsWhere f i (r ∷ rs) ≡ i ∷ slotsWhere f (suc i) rs
   unfolding slotsWhere
   where-here e = rw e
 
+  -- one that does not
   pub where-next : f i r ≡ false → slotsWhere f i (r ∷ rs) ≡ slotsWhere f (suc i) rs
   unfolding slotsWhere
   where-next e = rw e

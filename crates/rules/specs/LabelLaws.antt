@@ -1,16 +1,16 @@
 -- The label: its bounds as facts, its length, and that what was written is read back.
-use mathlib.Core.Path.{_≡_, refl, sym, ap, _∙_}
+use mathlib.Core.Path.{_≡_, refl, ap, _∙_}
 use mathlib.Core.List.{append-assoc}
-use mathlib.Core.Logic.{_⊎_, inl, inr, ⊎-elim}
+use mathlib.Core.Logic.{_⊎_, ⊎-elim}
 use Prim.Native.Nat.{_≤_, _<_}
 use native.Mathlib.Omega.{arith}
 use borrow.Author.Tests.{ltb-false, leb-false, eqb-false, le-ltb, lt-ltb, lt-leb, ne-eqb}
 use lib.ListN.{length-append}
 use lib.Seq.{drop-at}
-use Rattle.rules.specs.Base.{Bool, true, false, _||_, List, [], _∷_, _++_, ℕ, zero, suc, _+_, _-_, _*_, _/_, _%_, _^_, length, getD, drop, replicate, leb, ltb, eqb, pick, zeros, padded}
-use Rattle.rules.specs.Types.{Record, Label, Vacant, Five, Wrong}
+use Rattle.rules.specs.Base.{true, false, List, [], _∷_, _++_, ℕ, zero, suc, _+_, _-_, _/_, _%_, _^_, length, getD, drop, replicate, zeros, padded}
+use Rattle.rules.specs.Types.{Record, Five}
 use Rattle.numbers.specs.LittleEndian.{Bytes}
-use Rattle.numbers.specs.Groups.{groupsOf, numberIn, saying}
+use Rattle.numbers.specs.Groups.{groupsOf, numberIn}
 use Rattle.numbers.specs.GroupLaws.{either-way, groups-last, groups-more, round}
 use Rattle.numbers.specs.declared.Number.the-variants.{Said}
 use Rattle.disk_location.specs.Locations.{maskedOf}
@@ -28,6 +28,7 @@ pub record InBounds (slotBytes : ℕ) (r : Record) : Type 0 where
   pub end : maskedOf (r .lsn) + r .«trailer_offset» < 2 ^ 62
   pub generation : r .generation ≤ 255
 
+-- not out of bounds
 pub in-bounds : (slotBytes : ℕ) (r : Record) → outOfBounds slotBytes r ≡ false → InBounds slotBytes r
 unfolding outOfBounds
 in-bounds slotBytes r e =
@@ -46,6 +47,7 @@ in-bounds slotBytes r e =
       generation = ltb-false _ _ (w6 .1);
     }
 
+-- and back
 pub bounds-in : (slotBytes : ℕ) (r : Record) → InBounds slotBytes r → outOfBounds slotBytes r ≡ false
 unfolding outOfBounds
 bounds-in slotBytes r w =
@@ -73,6 +75,7 @@ groups-length (suc k) n = ⊎-elim
     (λ h. rw (groups-more k n h) (omega (arith, groups-length k (n / 128))))
     (either-way n 128)
 
+-- groups are bytes
 pub groups-bytes : (k n : ℕ) → Bytes (groupsOf k n)
 unfolding groupsOf
 groups-bytes zero n i = omega arith
@@ -118,13 +121,23 @@ fiveBytes r = groupsOf 10 (r .lsn) ++ (groupsOf 10 (r .«trailer_offset») ++ (g
 
 five-length : (r : Record) → length (fiveBytes r) ≤ 50
 unfolding fiveBytes
-five-length r = simp length-append (omega (arith, groups-length 10 (r .lsn), groups-length 10 (r .«trailer_offset»), groups-length 10 (r .«file_size»), groups-length 10 (r .«present_objects»), groups-length 10 (r .generation)))
+five-length r =
+    simp length-append
+    (omega (
+      arith,
+      groups-length 10 (r .lsn),
+      groups-length 10 (r .«trailer_offset»),
+      groups-length 10 (r .«file_size»),
+      groups-length 10 (r .«present_objects»),
+      groups-length 10 (r .generation),
+    ))
 
 -- "a 64-byte label"
 pub label-length : (r : Record) → length (labelBytes r) ≡ 64
 unfolding labelBytes fiveBytes
 label-length r = padded-length 64 (fiveBytes r) (omega (arith, five-length r))
 
+-- of bytes
 pub label-bytes : (r : Record) → Bytes (labelBytes r)
 unfolding labelBytes padded
 label-bytes r =

@@ -1,14 +1,12 @@
 -- The table's buffers: lengths as facts, and that buffers laid out hold what was laid out.
 use mathlib.Core.Path.{_≡_, refl, sym, ap, ap₂, _∙_}
-use mathlib.Core.Bool.{false≢true}
-use mathlib.Core.List.{append-nil}
 use mathlib.Core.Logic.{_⊎_, inl, inr}
 use Prim.Native.Nat.{_≤_, _<_, zero-le}
 use native.Mathlib.Omega.{arith}
 use native.Mathlib.Nat.{suc-sub-suc, sub-zero}
-use borrow.Author.Tests.{eqb-true, eqb-false, eq-eqb, ne-eqb, leb-true, le-leb}
-use lib.ListN.{length-append, length-map, length-replicate}
-use Rattle.rules.specs.Base.{Bool, true, false, _&&_, List, [], _∷_, _++_, map, ℕ, zero, suc, _+_, _-_, length, replicate, leb, eqb, pick, within, zeros, padded}
+use borrow.Author.Tests.{eqb-true, eq-eqb, ne-eqb, leb-true, le-leb}
+use lib.ListN.{length-map}
+use Rattle.rules.specs.Base.{true, List, [], _∷_, _++_, map, ℕ, zero, suc, _+_, _-_, length, replicate, leb, eqb, zeros, padded}
 use Rattle.rules.specs.Types.{Entry}
 use Rattle.rules.specs.BaseLaws.{and-true, and-holds, within-true, within-holds, zero-or-more, zeros-is, zeros-replicate, padded-length}
 use Rattle.rules.specs.TableLaws.{Rising, rise, rise-end, Has}
@@ -20,6 +18,7 @@ pub record LengthsInRange (b : Buffers) : Type 0 where
   pub some : 1 ≤ length (b .ids)
   pub most : length (b .ids) ≤ 65536
 
+-- lengths in range
 pub lengths-in-range : (b : Buffers) → lengthsInRange b ≡ true → LengthsInRange b
 unfolding lengthsInRange
 lengths-in-range b e =
@@ -27,6 +26,7 @@ lengths-in-range b e =
     let n = within-true _ _ _ (w .1) in
     record { equal = eqb-true _ _ (w .0); some = n .0; most = n .1 }
 
+-- and back
 pub range-lengths-in : (b : Buffers) → LengthsInRange b → lengthsInRange b ≡ true
 unfolding lengthsInRange
 range-lengths-in b w = rw (eq-eqb (length (b .ids)) (length (b .locations)) (w .equal), within-holds 1 65536 (length (b .ids)) (w .some) (w .most))
@@ -37,6 +37,7 @@ pub laid-out-ids : (n : ℕ) (es : List Entry) → length es ≤ n → length (l
 unfolding laidOut
 laid-out-ids n es h = padded-length n (map (λ (e : Entry). e .id) es) (omega (arith, length-map es (λ (e : Entry). e .id)))
 
+-- so has the other
 pub laid-out-locations : (n : ℕ) (es : List Entry) → length es ≤ n → length (laidOut n es .locations) ≡ n
 unfolding laidOut
 laid-out-locations n es h = padded-length n (map (λ (e : Entry). e .location) es) (omega (arith, length-map es (λ (e : Entry). e .location)))
@@ -148,6 +149,7 @@ form-rises f (i ∷ is) (l ∷ ls) e = go (zero-or-more l) (form-rises (suc i) i
     go (inl z) ih = rw (used-stop i is l ls z) rise-end
     go (inr p) ih = let w = form-next i is l ls f p e in rw (used-more i is l ls p) (rise (w .0) (ih (w .1)))
 
+-- in form their ids rise
 pub form-rising : (b : Buffers) → inForm b ≡ true → Rising 0 (usedEntries b)
 unfolding usedEntries inForm
 form-rising b e = form-rises 0 (b .ids) (b .locations) e
@@ -176,6 +178,7 @@ again f (i ∷ is) (l ∷ ls) e n = go (zero-or-more l) (again (suc i) is ls)
         simp (used-more i is l ls p, suc-sub-suc)
         (ap (λ (xs : List ℕ). i ∷ xs) (v .0), ap (λ (xs : List ℕ). l ∷ xs) (v .1))
 
+-- buffers in form are their used entries, laid out
 pub laid-out-used : (b : Buffers) → inForm b ≡ true → length (b .ids) ≡ length (b .locations) → laidOut (capacityOf b) (usedEntries b) ≡ b
 unfolding usedEntries inForm laidOut
 laid-out-used b e n =

@@ -1,5 +1,5 @@
 -- "Lines to hold, both sides": P1 to P10, one table and one proved statement.
-use Rattle.rules.specs.Base.{Bool, true, false, not, _&&_, List, [], _∷_, _++_, map, ℕ, zero, _+_, _-_, _^_, length, replicate, eqb, any, zeros, keep, each, sum, greatest, padded}
+use Rattle.rules.specs.Base.{Bool, true, false, not, _&&_, List, [], _∷_, _++_, map, ℕ, _+_, _-_, _^_, length, replicate, eqb, any, zeros, keep, each, sum, greatest, padded}
 use Rattle.rules.specs.Types.{Entry, Record}
 use mathlib.Core.Path.{_≡_, refl}
 use Rattle.numbers.specs.LittleEndian.{leBytes, leValue}
@@ -12,14 +12,14 @@ use Rattle.rules.specs.Refusal.{decide}
 use Rattle.rules.specs.Settings.{defaults, inRanges, heapInRange, sameSettings}
 use Rattle.rules.specs.Object.{objectBytes, storedAt}
 use Rattle.rules.specs.Trailer.{listed, trailerBytes, trailerTests, entriesFrom, entriesIn}
-use Rattle.rules.specs.Ops.{Content, put, delete, Op, shardFor, objectsOf, entriesOf, fileBytes, joined, settled}
+use Rattle.rules.specs.Ops.{put, Op, shardFor, objectsOf, entriesOf, fileBytes, joined, settled}
 use Rattle.rules.specs.Label.{labelBytes, fiveIn, labelIn, outOfBounds}
 use Rattle.rules.specs.SlotFile.{slotTests, viewIn, viewsIn}
 use Rattle.rules.specs.Table.{lookup, insert, insertAll}
 use Rattle.rules.specs.Layout.{lengthsInRange, formFrom, inForm, usedIn, usedEntries, laidOut}
-use Rattle.rules.specs.World.{World, recordsOf, noState, Given, After}
+use Rattle.rules.specs.World.{World, recordsOf, noState, Given}
 use Rattle.rules.specs.Positions.{relativeGiven, absoluteGiven}
-use Rattle.rules.specs.FileMap.{emptyRecord, isEmpty, recordAt, noFiles, slotsWhere, emptySlots, lowestEmpty, leads, leadFrom, fileFor, fileCount}
+use Rattle.rules.specs.FileMap.{isEmpty, recordAt, noFiles, slotsWhere, emptySlots, lowestEmpty, leads, leadFrom, fileFor, fileCount}
 use Rattle.rules.specs.Condition1.{outOfRange, notTheStates, badRecord, badFrom, conditionOne}
 use Rattle.rules.specs.Batch.{putOperation, operationAt, batchFrom, batchIn, opsOf, anyTooLarge}
 use Rattle.rules.specs.Stores.{made, storesOf, fileStores}
@@ -134,6 +134,7 @@ agree [] (n ∷ ns) = false
 agree (m ∷ ms) [] = false
 agree (m ∷ ms) (n ∷ ns) = eqb m n && agree ms ns
 
+-- no line differs
 pub lines-hold : any (λ (l : Line). not (agree (l .ours) (l .paper))) lines ≡ false
 unfolding lines relativeGiven absoluteGiven any zeros keep each sum greatest padded putOperation operationAt batchFrom batchIn anyTooLarge outOfRange notTheStates badRecord badFrom conditionOne isEmpty noFiles slotsWhere emptySlots lowestEmpty leads leadFrom fileFor fileCount newRecord losing recordsWith storesFor tableWith nextWith installed installedAll roomTests positionTests labelBytes fiveIn labelIn outOfBounds lengthsInRange formFrom inForm usedIn usedEntries laidOut decimal listing worthIt cutOff joining splitFrom filesOf objectBytes storedAt objectsOf entriesOf fileBytes joined settled decide filesIn overlapping notRising latest latestFrom tableOf reopenTests mappedInto recordsFrom nextAfter opened reopenCall inRanges heapInRange sameSettings slotTests viewIn viewsIn made storesOf fileStores lookup insert insertAll listed trailerBytes trailerTests entriesFrom entriesIn tooManyIds writeTests written writeCall leBytes leValue groupsOf readGroups numberIn shiftBit shifts crcFrom crc32 objectSum maskedOf digitsIn
 lines-hold = refl

@@ -5,7 +5,7 @@ use Rattle.disk_location.specs.Locations.{positionOf, deleteOf, rawOf}
 use Rattle.rules.specs.Refusal.{Test, _gives_, decide, after}
 use Rattle.rules.specs.Object.{Stored, objectsIn, badChecksum}
 use Rattle.rules.specs.Trailer.{absolute, trailerTests}
-use Rattle.rules.specs.Ops.{Content, put, delete, Op, sizeOf, shardFor, settled}
+use Rattle.rules.specs.Ops.{put, delete, Op, sizeOf, shardFor, settled}
 use Rattle.rules.specs.SlotFile.{slotBytes, objectPart, trailerPart, trailerEntries}
 use Rattle.rules.specs.Table.{lookup, unmapped, mappedTo}
 use Rattle.rules.specs.Claims.{isClaimed}

@@ -1,10 +1,10 @@
 -- "Candidates .. are unclaimed files with live not 0, and ..", as facts.
-use mathlib.Core.Path.{_≡_, refl, sym, ap, _∙_}
+use mathlib.Core.Path.{_≡_}
 use mathlib.Core.Logic.{_⊎_, inl, inr}
 use Prim.Native.Nat.{_≤_, _<_}
 use native.Mathlib.Omega.{arith}
 use borrow.Author.Tests.{eqb-false, ne-eqb, not-true, ltb-true, lt-ltb, leb-true, le-leb}
-use Rattle.rules.specs.Base.{Bool, true, false, not, _&&_, _||_, ℕ, zero, suc, _*_, _/_, leb, ltb, eqb, larger}
+use Rattle.rules.specs.Base.{true, false, _&&_, ℕ, _*_, _/_, leb, ltb, larger}
 use Rattle.rules.specs.Types.{Record, Settings, Claims}
 use Rattle.rules.specs.BaseLaws.{and-true, and-holds, or-true, or-holds}
 use Rattle.rules.specs.Claims.{isClaimed}
@@ -20,6 +20,7 @@ pub record Small (s : Settings) (files : ℕ) (r : Record) : Type 0 where
 abbrev pub WorthIt : Settings → ℕ → Record → Type 0
 WorthIt s files r = (r .live * 100 / larger (r .«present_objects») 1 < s .«file_compaction_percent») ⊎ Small s files r
 
+-- worth it: one of the two
 pub worth-it : (s : Settings) (files : ℕ) (r : Record) → worthIt s files r ≡ true → WorthIt s files r
 unfolding worthIt
 worth-it s files r e = go (or-true _ _ e)
@@ -29,6 +30,7 @@ worth-it s files r e = go (or-true _ _ e)
     go (inl h) = inl (ltb-true _ _ h)
     go (inr h) = let w = and-true _ _ h in inr (record { count = leb-true _ _ (w .0); size = ltb-true _ _ (w .1) })
 
+-- and back
 pub is-worth-it : (s : Settings) (files : ℕ) (r : Record) → WorthIt s files r → worthIt s files r ≡ true
 unfolding worthIt
 is-worth-it s files r (inl h) = rw (lt-ltb (r .live * 100 / larger (r .«present_objects») 1) (s .«file_compaction_percent») h)
@@ -43,6 +45,7 @@ pub record Candidate (s : Settings) (claims : Claims) (files slot : ℕ) (r : Re
   pub live : 0 < r .live
   pub worth : WorthIt s files r
 
+-- a candidate is all of this
 pub candidate : (s : Settings) (claims : Claims) (files slot : ℕ) (r : Record) → isCandidate s claims files slot r ≡ true → Candidate s claims files slot r
 unfolding isCandidate
 candidate s claims files slot r e =
@@ -52,6 +55,7 @@ candidate s claims files slot r e =
     let some = eqb-false (r .live) 0 (not-true _ (w3 .1)) in
     record { file = not-true _ (w2 .0); unclaimed = not-true _ (w2 .1); live = omega (arith, some); worth = worth-it s files r (w4 .1) }
 
+-- and back
 pub is-candidate : (s : Settings) (claims : Claims) (files slot : ℕ) (r : Record) → Candidate s claims files slot r → isCandidate s claims files slot r ≡ true
 unfolding isCandidate
 is-candidate s claims files slot r w =

@@ -1,15 +1,17 @@
 -- Objects: their length, and that what was written is read back.
 use mathlib.Core.Path.{_≡_, refl, sym, ap, _∙_}
 use mathlib.Core.List.{append-assoc}
+use mathlib.Core.Logic.{_⊎_, inl, inr}
 use Prim.Native.Nat.{_≤_, _<_}
 use native.Mathlib.Omega.{arith}
 use native.Mathlib.Nat.{not-suc-le-zero}
 use borrow.Author.Tests.{eq-eqb}
-use lib.ListN.{length-append}
+use lib.ListN.{length-append, length-drop}
 use lib.Seq.{take-at, drop-at}
-use Rattle.rules.specs.Base.{Bool, true, false, not, List, [], _∷_, _++_, ℕ, zero, suc, _+_, _-_, _^_, length, take, drop, eqb}
+use Rattle.rules.specs.Base.{false, List, [], _∷_, _++_, ℕ, zero, suc, _+_, _-_, _^_, length, take, drop}
 use Rattle.numbers.specs.LittleEndian.{leBytes, leValue, le-length, le-round}
 use Rattle.checksum.specs.Checksum.{crc32, objectSum}
+use Rattle.rules.specs.BaseLaws.{zero-or-more}
 use Rattle.rules.specs.PartLaws.{field}
 use Rattle.rules.specs.Object.{objectBytes, Stored, storedAt, badChecksum, objectsFrom}
 
@@ -18,6 +20,7 @@ pub crc-below : (bs : List ℕ) → crc32 bs < 2 ^ 32
 unfolding crc32
 crc-below bs = omega arith
 
+-- an object's, too
 pub object-sum-below : (id : ℕ) (body : List ℕ) → objectSum id body < 2 ^ 32
 unfolding objectSum
 object-sum-below id body = crc-below ((leBytes 8 (length body) ++ leBytes 8 id) ++ body)
@@ -78,6 +81,11 @@ unfolding objectsFrom
 objects-none zero position = refl
 objects-none (suc k) position = refl
 
+objects-end : (k position : ℕ) (bytes : List ℕ) → length bytes ≡ 0 → objectsFrom k position bytes ≡ []
+objects-end k position [] e = objects-none k position
+objects-end k position (b ∷ bs) e = absurd (omega arith)
+
+-- the first object, then those behind it
 pub objects-next : (k position : ℕ) (bytes : List ℕ) → 0 < length bytes
     → objectsFrom (suc k) position bytes ≡ storedAt position bytes ∷ objectsFrom k (position + (20 + storedAt position bytes .size)) (drop (20 + storedAt position bytes .size) bytes)
 unfolding objectsFrom
@@ -92,3 +100,22 @@ objects-put k position id body rest idFits sizeFits =
     let some : 0 < length (objectBytes id body ++ rest) = omega (arith, length-append (objectBytes id body) rest, object-length id body) in
     let past : drop (20 + length body) (objectBytes id body ++ rest) ≡ rest = drop-at (objectBytes id body) rest (20 + length body) (object-length id body) in
     objects-next k position (objectBytes id body ++ rest) some ∙ rw (back, past)
+
+-- any count as great as the bytes serves: every object takes 20 bytes at least
+pub objects-enough : (k j position : ℕ) (bytes : List ℕ) → length bytes ≤ k → length bytes ≤ j → objectsFrom k position bytes ≡ objectsFrom j position bytes
+objects-enough zero j position bytes a b = objects-end zero position bytes (omega arith) ∙ sym (objects-end j position bytes (omega arith))
+objects-enough (suc k) zero position bytes a b = objects-end (suc k) position bytes (omega arith) ∙ sym (objects-end zero position bytes (omega arith))
+objects-enough (suc k) (suc j) position bytes a b = go (zero-or-more (length bytes))
+    (objects-enough k j (position + (20 + storedAt position bytes .size)) (drop (20 + storedAt position bytes .size) bytes))
+  where
+    n : ℕ
+    n = 20 + storedAt position bytes .size
+
+    go : (length bytes ≡ 0) ⊎ (0 < length bytes) → (length (drop n bytes) ≤ k → length (drop n bytes) ≤ j → objectsFrom k (position + n) (drop n bytes) ≡ objectsFrom j (position + n) (drop n bytes))
+        → objectsFrom (suc k) position bytes ≡ objectsFrom (suc j) position bytes
+    go (inl e) ih = objects-end (suc k) position bytes e ∙ sym (objects-end (suc j) position bytes e)
+    go (inr h) ih =
+        let left = length-drop n bytes in
+        objects-next k position bytes h
+        ∙ ap (λ (t : List Stored). storedAt position bytes ∷ t) (ih (omega arith) (omega arith))
+        ∙ sym (objects-next j position bytes h)

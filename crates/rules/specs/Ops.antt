@@ -1,6 +1,6 @@
 -- Operations on ids, and the file that a list of them makes ("File bytes").
 use Rattle.rules.specs.Types.{Entry}
-use Rattle.rules.specs.Base.{Bool, true, false, List, [], _∷_, _++_, ℕ, _+_, length, ltb, eqb, pick, any, each}
+use Rattle.rules.specs.Base.{Bool, true, false, List, [], _∷_, _++_, ℕ, _+_, length, ltb, eqb, pick, each}
 use Rattle.disk_location.specs.Locations.{rawOf, shardOf}
 use Rattle.rules.specs.Object.{objectBytes}
 use Rattle.rules.specs.Trailer.{trailerBytes}

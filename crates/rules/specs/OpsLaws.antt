@@ -1,24 +1,21 @@
 -- Operations, and the file that they make: lengths, positions, and that it is read back.
 use mathlib.Core.Path.{_≡_, refl, sym, ap, ap₂, _∙_, subst}
-use mathlib.Core.List.{append-assoc}
 use mathlib.Core.Logic.{_⊎_, inl, inr}
-use Prim.Native.Nat.{_≤_, _<_, zero-le}
+use Prim.Native.Nat.{_≤_, _<_}
 use native.Mathlib.Omega.{arith}
-use native.Mathlib.Nat.{add-zero}
-use borrow.Author.Tests.{lt-ltb, le-ltb, eq-eqb, ne-eqb}
 use lib.ListN.{length-append}
-use lib.Seq.{drop-append-add, drop-append-le, drop-at}
-use Rattle.rules.specs.Base.{Bool, true, false, List, [], _∷_, _++_, map, ℕ, zero, suc, _+_, _-_, _*_, _/_, _^_, length, drop, ltb, eqb, pick, any, each}
+use lib.Seq.{drop-append-add}
+use Rattle.rules.specs.Base.{Bool, true, false, List, [], _∷_, _++_, map, ℕ, zero, suc, _+_, _-_, _*_, _^_, length, drop, each}
 use Rattle.rules.specs.Types.{Entry}
-use Rattle.disk_location.specs.Locations.{positionOf, rawOf, bitOf}
+use Rattle.disk_location.specs.Locations.{positionOf, rawOf}
 use Rattle.disk_location.specs.LocationLaws.{position-raw}
-use Rattle.rules.specs.BaseLaws.{All, order, same?}
+use Rattle.rules.specs.BaseLaws.{All}
 use Rattle.rules.specs.TableLaws.{Rising, rise, rise-end, Has}
-use Rattle.rules.specs.Object.{objectBytes, Stored, storedAt, objectsFrom, objectsIn}
+use Rattle.rules.specs.Object.{objectBytes, Stored, objectsFrom, objectsIn}
 use Rattle.rules.specs.ObjectLaws.{object-length, storedObject, objects-none, objects-put}
 use Rattle.rules.specs.Trailer.{trailerBytes}
 use Rattle.rules.specs.TrailerLaws.{Fits, trailer-length}
-use Rattle.rules.specs.Ops.{Content, put, delete, Op, isDelete, sizeOf, contentBytes, objectsOf, entriesOf, fileBytes, joined, settled}
+use Rattle.rules.specs.Ops.{Content, put, delete, Op, isDelete, sizeOf, contentBytes, objectsOf, entriesOf, fileBytes}
 
 -- ids strictly rising, from a least one on
 pub data RisingOps : ℕ → List Op → Type 0 where
@@ -34,10 +31,12 @@ pub content-length : (id : ℕ) (c : Content) → length (contentBytes id c) ≡
 content-length id (put body) = object-length id body
 content-length id delete = refl
 
+-- the first operation's bytes, then the others'
 pub objects-cons : (o : Op) (os : List Op) → objectsOf (o ∷ os) ≡ contentBytes (o .id) (o .content) ++ objectsOf os
 unfolding objectsOf each
 objects-cons o os = refl
 
+-- none
 pub objects-nil : objectsOf [] ≡ []
 unfolding objectsOf each
 objects-nil = refl
@@ -64,6 +63,7 @@ unfolding entriesOf
 entries-of-ids position [] = refl
 entries-of-ids position (o ∷ os) = ap (λ (ids : List ℕ). o .id ∷ ids) (entries-of-ids (position + sizeOf (o .content)) os)
 
+-- rising ids make rising entries
 pub entries-of-rising : (position f : ℕ) (ops : List Op) → RisingOps f ops → Rising f (entriesOf position ops)
 unfolding entriesOf
 entries-of-rising position f [] r = rise-end
@@ -135,6 +135,7 @@ abbrev pub storedHere : ℕ → ℕ → Content → ℕ → List Stored
 storedHere position id (put body) behind = storedObject position id body behind ∷ []
 storedHere position id delete behind = []
 
+-- operation by operation
 unfoldable pub storedOf : ℕ → List Op → List Stored
 storedOf position [] = []
 storedOf position (o ∷ os) = storedHere position (o .id) (o .content) (length (objectsOf os)) ++ storedOf (position + sizeOf (o .content)) os
@@ -157,6 +158,7 @@ objects-from-back k position (o ∷ os) f short n =
         objects-put k position (o .id) body (objectsOf os) (f .0) (omega arith)
         ∙ ap (λ (t : List Stored). storedObject position (o .id) body (length (objectsOf os)) ∷ t) (ih k (position + (20 + length body)) (omega arith))
 
+-- of the whole object bytes
 pub objects-back : (ops : List Op) → IdsFit ops → length (objectsOf ops) < 2 ^ 64 → objectsIn (objectsOf ops) ≡ storedOf 0 ops
 unfolding objectsIn
 objects-back ops f n = objects-from-back (length (objectsOf ops)) 0 ops f (omega arith) n

@@ -1,11 +1,11 @@
 -- Parts of lists of bytes: fields, and writes in another order. No word of the paper is here.
-use mathlib.Core.Path.{_≡_, refl, sym, ap, ap₂, _∙_}
+use mathlib.Core.Path.{_≡_, sym, ap, ap₂, _∙_}
 use mathlib.Core.List.{append-assoc}
 use Prim.Native.Nat.{_≤_, _<_}
 use native.Mathlib.Omega.{arith}
 use lib.ListN.{length-append, length-drop, take-append-drop}
 use lib.Seq.{take-at, drop-at, take-take, take-append-le, take-add, drop-append-le, drop-drop, length-take-le}
-use Rattle.rules.specs.Base.{List, [], _∷_, _++_, ℕ, zero, suc, _+_, _-_, _*_, length, getD, set, take, drop, replicate}
+use Rattle.rules.specs.Base.{List, [], _∷_, _++_, ℕ, zero, suc, _+_, _-_, length, set, take, drop, replicate}
 use Rattle.numbers.specs.LittleEndian.{Bytes}
 use Rattle.numbers.specs.Parts.{putAt, put-step, put-none}
 
@@ -19,6 +19,7 @@ bytes-append [] ys p q i = q i
 bytes-append (x ∷ xs) ys p q zero = p 0
 bytes-append (x ∷ xs) ys p q (suc i) = bytes-append xs ys (λ j. p (suc j)) q i
 
+-- zeros are bytes
 pub bytes-zeros : (n : ℕ) → Bytes (replicate n 0)
 bytes-zeros zero i = omega arith
 bytes-zeros (suc n) zero = omega arith

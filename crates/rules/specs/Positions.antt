@@ -40,13 +40,16 @@ located-given position delete = go (either-way position (2 ^ 63)) (eqb (rawOf po
     zero-raw : Test
     zero-raw = eqb (rawOf position delete) 0 gives Location
 
-    go : (position < 2 ^ 63) ⊎ (2 ^ 63 ≤ position) → (t : Bool) → eqb (rawOf position delete) 0 ≡ t → locatedGiven (locatedAt position delete) ≡ after (decide (leb (2 ^ 63) position gives Location ∷ eqb (rawOf position delete) 0 gives Location ∷ [])) refused (accepted (rawOf position delete ∷ []))
+    go : (position < 2 ^ 63) ⊎ (2 ^ 63 ≤ position) → (t : Bool) → eqb (rawOf position delete) 0 ≡ t
+        → locatedGiven (locatedAt position delete)
+        ≡ after (decide (leb (2 ^ 63) position gives Location ∷ eqb (rawOf position delete) 0 gives Location ∷ [])) refused (accepted (rawOf position delete ∷ []))
     go (inr h) t e = rw (le-ltb position (2 ^ 63) h, decide-first (leb (2 ^ 63) position) Location (zero-raw ∷ []) (le-leb (2 ^ 63) position h))
     go (inl h) true e =
         rw (lt-ltb position (2 ^ 63) h, decide-next (leb (2 ^ 63) position) Location (zero-raw ∷ []) (lt-leb (2 ^ 63) position h), decide-first (eqb (rawOf position delete) 0) Location [] e, e)
     go (inl h) false e =
         rw (lt-ltb position (2 ^ 63) h, decide-next (leb (2 ^ 63) position) Location (zero-raw ∷ []) (lt-leb (2 ^ 63) position h), decide-next (eqb (rawOf position delete) 0) Location [] e, decide-none, e)
 
+-- of a relative location and an lsn, too
 pub to-absolute-given : (raw lsn : ℕ) → locatedGiven (locatedAt (positionOf raw + lsn) (deleteOf raw)) ≡ toAbsoluteGiven raw lsn
 unfolding toAbsoluteGiven
 to-absolute-given raw lsn = located-given (positionOf raw + lsn) (deleteOf raw)
@@ -56,6 +59,7 @@ abbrev pub locatedOf : List ℕ → Located
 locatedOf [] = Refused
 locatedOf (v ∷ vs) = At (record { 0 = v })
 
+-- so one number and value, one answer
 pub located-one : (a b : Located) → locatedGiven a ≡ locatedGiven b → a ≡ b
 located-one = inverse-one locatedGiven (λ (g : Given). locatedOf (g .values)) go
   where

@@ -1,7 +1,7 @@
 -- "Prune."
 use Rattle.rules.specs.Base.{Bool, not, _&&_, List, [], _∷_, map, ℕ, suc, _*_, eqb, pick}
 use Rattle.rules.specs.Types.{Record, Claims, Limits}
-use Rattle.rules.specs.Refusal.{Test, _gives_, decide, after}
+use Rattle.rules.specs.Refusal.{_gives_, decide, after}
 use Rattle.rules.specs.Claims.{isClaimed}
 use Rattle.rules.specs.FileMap.{emptyRecord, isEmpty, slotsWhere}
 use Rattle.rules.specs.Stores.{Store, made}

@@ -1,7 +1,7 @@
 -- "Refusal numbers": "Each is given exactly when its condition holds and no earlier one in the call's order does."
 use Rattle.rules.specs.Base.{Bool, true, false, List, [], _∷_, _++_, ℕ, pick}
 use Rattle.rules.specs.Types.{Refusal, Limits, BatchBytes, ObjectSize, SlotRoom, NoEmptySlot, TableRoom, PositionsSpent, LabelBytes, TrailerShort, Checksum, EntryCount, EntryPosition, PresentCount, Overlap, NotRising, CutShort, OtherId, NotThere, EqualLocation, Location, Claim, Answer, Done, Refused}
-use mathlib.Core.Path.{_≡_, refl, sym, ap, _∙_}
+use mathlib.Core.Path.{_≡_, refl, ap}
 use mathlib.Core.Logic.{_⊎_, inl, inr}
 use native.Mathlib.Omega.{arith}
 
@@ -49,21 +49,37 @@ unfoldable pub NoneHolds : List Test → Type 0
 NoneHolds [] = Unit {0}
 NoneHolds (b gives r ∷ ts) = (b ≡ false) × NoneHolds ts
 
+-- no condition holds: done
 pub decide-clear : (ts : List Test) → NoneHolds ts → decide ts ≡ Done
 unfolding decide NoneHolds
 decide-clear [] n = refl
 decide-clear (b gives r ∷ ts) n = rw (n .0) (decide-clear ts (n .1))
 
+-- none of the first holds: the others decide
 pub decide-append : (xs ys : List Test) → NoneHolds xs → decide (xs ++ ys) ≡ decide ys
 unfolding decide NoneHolds
 decide-append [] ys n = refl
 decide-append (b gives r ∷ ts) ys n = rw (n .0) (decide-append ts ys (n .1))
 
+-- none of two lists holds
 pub none-append : (xs ys : List Test) → NoneHolds xs → NoneHolds ys → NoneHolds (xs ++ ys)
 unfolding NoneHolds
 none-append [] ys n m = m
 none-append (b gives r ∷ ts) ys n m = (n .0, none-append ts ys (n .1) m)
 
+-- so none of the first
+pub none-first : (xs ys : List Test) → NoneHolds (xs ++ ys) → NoneHolds xs
+unfolding NoneHolds
+none-first [] ys n = tt
+none-first (b gives r ∷ ts) ys n = (n .0, none-first ts ys (n .1))
+
+-- nor of the second
+pub none-rest : (xs ys : List Test) → NoneHolds (xs ++ ys) → NoneHolds ys
+unfolding NoneHolds
+none-rest [] ys n = n
+none-rest (b gives r ∷ ts) ys n = none-rest ts ys (n .1)
+
+-- its condition holds and no earlier one does: it is given
 pub given-when : (earlier : List Test) (r : Refusal) (later : List Test) → NoneHolds earlier → decide (earlier ++ (true gives r ∷ later)) ≡ Refused r
 unfolding decide
 given-when earlier r later n = decide-append earlier (true gives r ∷ later) n
@@ -75,6 +91,7 @@ pub record Given-at (ts : List Test) (r : Refusal) : Type 0 where
   pub here : ts ≡ earlier ++ (true gives r ∷ later)
   pub none : NoneHolds earlier
 
+-- it is given only so
 pub only-when : (ts : List Test) (r : Refusal) → decide ts ≡ Refused r → Given-at ts r
 unfolding decide NoneHolds
 only-when [] r e = absurd (let z : _≡_ {A = ℕ} 0 1 = cc in omega arith)
@@ -83,6 +100,7 @@ only-when (false gives q ∷ ts) r e =
     let w = only-when ts r e in
     record { earlier = false gives q ∷ w .earlier; later = w .later; here = ap (λ (x : List Test). false gives q ∷ x) (w .here); none = (refl, w .none) }
 
+-- done: no condition holds
 pub clear-when : (ts : List Test) → decide ts ≡ Done → NoneHolds ts
 unfolding decide NoneHolds
 clear-when [] e = tt
@@ -119,6 +137,7 @@ decide-late xs ys e = decide-append xs ys (clear-when xs e)
 pub after-refused : {A : Type 0} (a : Answer) (r : Refusal) (refused : Refusal → A) (accepted : A) → a ≡ Refused r → after a refused accepted ≡ refused r
 after-refused a r refused accepted e = rw e
 
+-- none: what is accepted
 pub after-done : {A : Type 0} (a : Answer) (refused : Refusal → A) (accepted : A) → a ≡ Done → after a refused accepted ≡ accepted
 after-done a refused accepted e = rw e
 

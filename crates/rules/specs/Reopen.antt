@@ -1,5 +1,5 @@
 -- "Reopen": on the views of the slots.
-use Rattle.rules.specs.Base.{Bool, true, false, _&&_, _||_, List, [], _∷_, _++_, map, ℕ, zero, _+_, _-_, length, replicate, leb, ltb, eqb, pick, any, keep, each, greatest, within}
+use Rattle.rules.specs.Base.{Bool, true, false, _&&_, _||_, List, [], _∷_, _++_, map, ℕ, _+_, _-_, length, replicate, leb, ltb, eqb, pick, any, keep, each, greatest, within}
 use Rattle.rules.specs.Types.{Entry, Record, State, Refusal, Limits, TableRoom, Overlap, NotRising}
 use Rattle.disk_location.specs.Locations.{maskedOf, positionOf}
 use Rattle.rules.specs.Refusal.{Test, _gives_, decide, after}

@@ -1,12 +1,12 @@
 -- "Settings": the ranges as facts.
-use mathlib.Core.Path.{_≡_, refl, sym, ap, _∙_}
+use mathlib.Core.Path.{_≡_, refl}
 use Prim.Native.Nat.{_≤_, _<_}
 use native.Mathlib.Nat.{div-add-mod', suc-mul, mul-le-mul-right}
 use native.Mathlib.Omega.{arith}
 use borrow.Author.Tests.{eqb-true, eq-eqb}
-use Rattle.rules.specs.Base.{Bool, true, _&&_, ℕ, zero, suc, _+_, _*_, _/_, _%_, eqb, within}
+use Rattle.rules.specs.Base.{true, ℕ, _+_, _*_, _%_, eqb}
 use Rattle.rules.specs.Types.{Settings}
-use Rattle.rules.specs.BaseLaws.{and-true, and-holds, within-true, within-holds}
+use Rattle.rules.specs.BaseLaws.{and-true, within-true, within-holds}
 use Rattle.rules.specs.Settings.{inRanges, slotsIn, heapInRange, sameSettings}
 
 -- the column "Range"
@@ -22,6 +22,7 @@ pub record InRanges (s : Settings) : Type 0 where
   pub object-low : 1 ≤ s .«max_object_size»
   pub object-high : s .«max_object_size» ≤ 1048576
 
+-- in the ranges
 pub in-ranges : (s : Settings) → inRanges s ≡ true → InRanges s
 unfolding inRanges
 in-ranges s e =
@@ -49,6 +50,7 @@ in-ranges s e =
       object-high = g .1;
     }
 
+-- and back
 pub ranges-in : (s : Settings) → InRanges s → inRanges s ≡ true
 unfolding inRanges
 ranges-in s w =
@@ -67,6 +69,7 @@ pub record HeapInRange (s : Settings) (heapLen : ℕ) : Type 0 where
   pub some : 1 ≤ slotsIn s heapLen
   pub most : slotsIn s heapLen ≤ 256
 
+-- a heap in range
 pub heap-in-range : (s : Settings) (heapLen : ℕ) → heapInRange s heapLen ≡ true → HeapInRange s heapLen
 unfolding heapInRange
 heap-in-range s heapLen e =
@@ -74,6 +77,7 @@ heap-in-range s heapLen e =
     let n = within-true _ _ _ (w .1) in
     record { exact = eqb-true _ _ (w .0); some = n .0; most = n .1 }
 
+-- and back
 pub range-heap-in : (s : Settings) (heapLen : ℕ) → HeapInRange s heapLen → heapInRange s heapLen ≡ true
 unfolding heapInRange
 range-heap-in s heapLen w = rw (eq-eqb (heapLen % s .«slot_bytes») 0 (w .exact), within-holds 1 256 (slotsIn s heapLen) (w .some) (w .most))
@@ -110,6 +114,15 @@ same-settings s t e =
       «max_object_size» = g i;
     }
 
+-- and back
 pub settings-same : (s : Settings) → sameSettings s s ≡ true
 unfolding sameSettings
-settings-same s = simp (eq-eqb (s .«slot_bytes») _ refl, eq-eqb (s .«file_compaction_percent») _ refl, eq-eqb (s .«min_compaction_files») _ refl, eq-eqb (s .«target_file_size») _ refl, eq-eqb (s .«small_file_cleanup_threshold») _ refl, eq-eqb (s .«max_object_size») _ refl)
+settings-same s =
+    simp (
+      eq-eqb (s .«slot_bytes») _ refl,
+      eq-eqb (s .«file_compaction_percent») _ refl,
+      eq-eqb (s .«min_compaction_files») _ refl,
+      eq-eqb (s .«target_file_size») _ refl,
+      eq-eqb (s .«small_file_cleanup_threshold») _ refl,
+      eq-eqb (s .«max_object_size») _ refl,
+    )

@@ -4,7 +4,7 @@ use mathlib.Core.Logic.{_⊎_, inl, inr}
 use Prim.Native.Nat.{_≤_, _<_, zero-le}
 use native.Mathlib.Omega.{arith}
 use borrow.Author.Tests.{lt-ltb, le-ltb, eq-eqb, ne-eqb}
-use Rattle.rules.specs.Base.{Bool, true, false, List, [], _∷_, ℕ, zero, suc, _+_, length, ltb, eqb, pick}
+use Rattle.rules.specs.Base.{List, [], _∷_, ℕ, suc, eqb, pick}
 use Rattle.rules.specs.BaseLaws.{All, order, same?}
 use Rattle.rules.specs.Ops.{Content, Op, joined, settled}
 use Rattle.rules.specs.OpsLaws.{RisingOps, ops-end, ops-rise}
@@ -30,18 +30,22 @@ lastOn (o ∷ os) x = orEarlier (lastOn os x) (saidBy o x)
 
 -- ---- the clauses of joined, by facts in the place of tests
 module _ (o p : Op) (ps : List Op) where
+  -- before later ids
   pub joined-before : o .id < p .id → joined o (p ∷ ps) ≡ o ∷ p ∷ ps
   unfolding joined
   joined-before h = rw (lt-ltb (o .id) (p .id) h)
 
+  -- overridden
   pub joined-same : o .id ≡ p .id → joined o (p ∷ ps) ≡ p ∷ ps
   unfolding joined
   joined-same h = rw (le-ltb (o .id) (p .id) (omega arith), eq-eqb (o .id) (p .id) h)
 
+  -- behind earlier ids
   pub joined-later : p .id < o .id → joined o (p ∷ ps) ≡ p ∷ joined o ps
   unfolding joined
   joined-later h = rw (le-ltb (o .id) (p .id) (omega arith), ne-eqb (o .id) (p .id) (λ e. omega arith))
 
+-- alone
 pub joined-none : (o : Op) → joined o [] ≡ o ∷ []
 unfolding joined
 joined-none o = refl
@@ -57,6 +61,7 @@ joined-rising f o (p ∷ ps) low (ops-rise a r) = go (λ h. joined-rising (suc (
     go ih (inr (inl h)) = rw (joined-same o p ps h) (ops-rise a r)
     go ih (inr (inr h)) = rw (joined-later o p ps h) (ops-rise a (ih h))
 
+-- "ids ascending", each once
 pub settled-rising : (ops : List Op) → RisingOps 0 (settled ops)
 unfolding settled
 settled-rising [] = ops-end
@@ -125,7 +130,48 @@ joined-all P o (p ∷ ps) h a = go (joined-all P o ps h (a .1)) (order (o .id) (
     go ih (inr (inl e)) = rw (joined-same o p ps e) a
     go ih (inr (inr l)) = rw (joined-later o p ps l) (a .0, ih)
 
+-- for a whole list
 pub settled-all : (P : Op → Type 0) (ops : List Op) → All P ops → All P (settled ops)
 unfolding settled
 settled-all P [] a = a
 settled-all P (o ∷ os) a = joined-all P o (settled os) (a .0) (settled-all P os (a .1))
+
+-- ---- only one rising list says so
+last-next : (o : Op) (os : List Op) (x : ℕ) → (o .id ≡ x → ⊥) → lastOn (o ∷ os) x ≡ lastOn os x
+unfolding lastOn
+last-next o os x n = rw (said-other o x n) (or-silent (lastOn os x))
+
+-- nothing is said of an id below the least one
+pub last-below : (f : ℕ) (os : List Op) → RisingOps f os → (x : ℕ) → x < f → lastOn os x ≡ silent
+unfolding lastOn
+last-below f [] r x h = refl
+last-below f (o ∷ os) (ops-rise a r) x h = last-next o os x (λ e. omega arith) ∙ last-below (suc (o .id)) os r x (omega arith)
+
+last-here : (o : Op) (os : List Op) → RisingOps (suc (o .id)) os → lastOn (o ∷ os) (o .id) ≡ last (o .content)
+unfolding lastOn
+last-here o os r = rw (last-below (suc (o .id)) os r (o .id) (omega arith), eq-eqb (o .id) (o .id) refl)
+
+not-silent : {c : Content} → last c ≡ silent → ⊥
+not-silent e = let z : _≡_ {A = ℕ} 0 1 = cc in omega arith
+
+-- two rising lists that say the same are equal: so whatever rises and says what the batch says last is `settled`
+pub ops-ext : (f g : ℕ) (xs ys : List Op) → RisingOps f xs → RisingOps g ys → ((x : ℕ) → lastOn xs x ≡ lastOn ys x) → xs ≡ ys
+unfolding lastOn
+ops-ext f g [] [] r q h = refl
+ops-ext f g [] (p ∷ ps) r (ops-rise b q) h = absurd (not-silent (sym (last-here p ps q) ∙ sym (h (p .id))))
+ops-ext f g (o ∷ os) [] (ops-rise a r) q h = absurd (not-silent (sym (last-here o os r) ∙ h (o .id)))
+ops-ext f g (o ∷ os) (p ∷ ps) (ops-rise a r) (ops-rise b q) h = go (ops-ext (suc (o .id)) (suc (p .id)) os ps r q) (order (o .id) (p .id))
+  where
+    tails : o .id ≡ p .id → (x : ℕ) → (o .id ≡ x) ⊎ (o .id ≡ x → ⊥) → lastOn os x ≡ lastOn ps x
+    tails e x (inl k) = last-below (suc (o .id)) os r x (omega arith) ∙ sym (last-below (suc (p .id)) ps q x (omega arith))
+    tails e x (inr k) = sym (last-next o os x k) ∙ h x ∙ last-next p ps x (λ z. k (e ∙ z))
+
+    go : (((x : ℕ) → lastOn os x ≡ lastOn ps x) → os ≡ ps) → (o .id < p .id) ⊎ ((o .id ≡ p .id) ⊎ (p .id < o .id)) → _≡_ {A = List Op} (o ∷ os) (p ∷ ps)
+    go ih (inl l) = absurd (not-silent (sym (last-here o os r) ∙ h (o .id) ∙ last-below (suc (o .id)) (p ∷ ps) (ops-rise l q) (o .id) (omega arith)))
+    go ih (inr (inr l)) = absurd (not-silent (sym (last-here p ps q) ∙ sym (h (p .id)) ∙ last-below (suc (p .id)) (o ∷ os) (ops-rise l r) (p .id) (omega arith)))
+    go ih (inr (inl e)) =
+        let said : last (o .content) ≡ last (p .content) = sym (last-here o os r) ∙ h (o .id) ∙ ap (lastOn (p ∷ ps)) e ∙ last-here p ps q in
+        let same : o .content ≡ p .content = cc in
+        let first : o ≡ p = λ i. record { id = e i; content = same i } in
+        let rest : os ≡ ps = ih (λ x. tails e x (same? (o .id) x)) in
+        cc

@@ -1,5 +1,5 @@
 -- A slot's bytes, and the file that is seen in them by its label.
-use Rattle.rules.specs.Base.{not, List, [], _∷_, _++_, ℕ, zero, suc, _+_, _-_, _*_, length, take, drop, ltb, eqb, any}
+use Rattle.rules.specs.Base.{not, List, [], _∷_, _++_, ℕ, zero, suc, _+_, _*_, length, take, drop, ltb, eqb, any}
 use Rattle.rules.specs.Types.{Entry, Record, Refusal, LabelBytes, EntryPosition, PresentCount, Label, Vacant, Five, Wrong}
 use Rattle.disk_location.specs.Locations.{positionOf}
 use Rattle.rules.specs.Refusal.{Test, _gives_, decide, after}

@@ -1,19 +1,17 @@
 -- Slots: their bytes after a write into one of them, and what they show.
-use mathlib.Core.Path.{_≡_, refl, sym, ap, ap₂, _∙_}
+use mathlib.Core.Path.{_≡_, refl, sym, ap, _∙_}
 use mathlib.Core.Logic.{_⊎_, inl, inr}
-use mathlib.Core.List.{append-assoc}
 use Prim.Native.Nat.{_≤_, _<_}
 use native.Mathlib.Omega.{arith}
 use native.Mathlib.Nat.{suc-mul, zero-mul, mul-le-mul-right, not-suc-le-zero, le-of-suc-le-suc}
-use lib.ListN.{length-append, length-drop, length-set, length-take}
-use lib.Seq.{drop-drop, take-append-add, length-take-le, getD-set-same, getD-set-other, ext-getD, set-getD}
-use Rattle.rules.specs.Base.{Bool, true, false, List, [], _∷_, _++_, ℕ, zero, suc, _+_, _-_, _*_, length, getD, set, take, drop, eqb, pick}
-use Rattle.rules.specs.Types.{Label, Vacant}
+use lib.ListN.{length-drop, length-set}
+use lib.Seq.{drop-drop, take-append-add, length-take-le, getD-set-same, getD-set-other, ext-getD}
+use Rattle.rules.specs.Base.{List, [], _∷_, _++_, ℕ, zero, suc, _+_, _-_, _*_, length, getD, set, take, drop}
 use Rattle.rules.specs.BaseLaws.{order, same?}
 use Rattle.numbers.specs.Parts.{front, putAt}
 use Rattle.rules.specs.PartLaws.{put-drop, put-part-before, put-part-behind, drop-take}
 use Rattle.rules.specs.Label.{labelIn}
-use Rattle.rules.specs.SlotFile.{slotBytes, View, empty, viewBy, viewIn, viewsIn}
+use Rattle.rules.specs.SlotFile.{slotBytes, View, empty, viewIn, viewsIn}
 
 -- a slot of the heap has S bytes
 pub slot-length : (size : ℕ) (heap : List ℕ) (k : ℕ) → k * size + size ≤ length heap → length (slotBytes size heap k) ≡ size

@@ -1,9 +1,8 @@
 -- A run of single-byte stores against a writer's contract, `putAt` of numbers.
 use mathlib.Core.Path.{_≡_, refl, sym, ap, _∙_}
-use mathlib.Core.List.{append-assoc}
 use Rattle.rules.specs.Base.{List, [], _∷_, _++_, ℕ, suc, _+_, _-_, length, set, take, drop}
-use Prim.Native.Nat.{_≤_, _<_}
-use lib.ListN.{length-set, length-append, length-drop, take-append-drop}
+use Prim.Native.Nat.{_≤_}
+use lib.ListN.{length-set, length-drop, take-append-drop}
 use lib.Seq.{length-take-le}
 use native.Mathlib.Omega.{arith}
 use native.Mathlib.Numerals.{add-one}

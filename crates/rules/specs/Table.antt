@@ -1,7 +1,6 @@
 -- "Table.": the used entries as a list, whatever the buffers look like.
 use Rattle.rules.specs.Base.{Bool, true, false, _&&_, List, [], _∷_, ℕ, length, leb, ltb, eqb, pick}
 use Rattle.rules.specs.Types.{Entry, Held, Mapped, Unmapped}
-use Prim.Native.Nat.{_≤_}
 
 -- "Load (nothing for an unmapped id)"
 unfoldable pub lookup : List Entry → ℕ → Held

@@ -4,7 +4,7 @@ use mathlib.Core.Logic.{_⊎_, inl, inr}
 use Prim.Native.Nat.{_≤_, _<_, zero-le}
 use native.Mathlib.Omega.{arith}
 use borrow.Author.Tests.{lt-ltb, le-ltb, le-leb, lt-leb, eq-eqb, ne-eqb}
-use Rattle.rules.specs.Base.{Bool, true, false, _&&_, List, [], _∷_, _++_, map, ℕ, zero, suc, _+_, length, leb, ltb, eqb}
+use Rattle.rules.specs.Base.{Bool, true, false, _&&_, List, [], _∷_, ℕ, suc, _+_, length}
 use Rattle.rules.specs.Types.{Entry, Held, Mapped, Unmapped}
 use Rattle.rules.specs.BaseLaws.{order, same?}
 use Rattle.rules.specs.Table.{lookup, insert, insertAll, unmapped, full}
@@ -19,34 +19,42 @@ abbrev pub Has : List Entry → ℕ → ℕ → Type 0
 Has [] x l = ⊥
 Has (e ∷ es) x l = ((e .id ≡ x) × (e .location ≡ l)) ⊎ Has es x l
 
+-- mapped is not unmapped
 pub mapped-not : {l : ℕ} → Mapped l ≡ Unmapped → ⊥
 mapped-not h = let z : _≡_ {A = ℕ} 0 1 = cc in omega arith
 
+-- mapped at one location
 pub mapped-one : {l m : ℕ} → Mapped l ≡ Mapped m → l ≡ m
 mapped-one h = cc
 
+-- an id and a location make one entry
 pub entry-ext : (e d : Entry) → e .id ≡ d .id → e .location ≡ d .location → e ≡ d
 entry-ext e d p q = λ i. record { id = p i; location = q i }
 
 -- ---- the clauses, by facts in the place of tests
 module _ (e : Entry) (es : List Entry) (x : ℕ) where
+  -- the entry of that id
   pub lookup-here : e .id ≡ x → lookup (e ∷ es) x ≡ Mapped (e .location)
   unfolding lookup
   lookup-here h = simp (eq-eqb _ _ h)
 
+  -- one of another id
   pub lookup-next : (e .id ≡ x → ⊥) → lookup (e ∷ es) x ≡ lookup es x
   unfolding lookup
   lookup-next h = simp (ne-eqb _ _ h)
 
 module _ (e : Entry) (es : List Entry) (n : Entry) where
+  -- behind a lower id
   pub insert-next : e .id < n .id → insert (e ∷ es) n ≡ e ∷ insert es n
   unfolding insert
   insert-next h = simp (lt-ltb _ _ h)
 
+  -- in the place of the same id
   pub insert-here : e .id ≡ n .id → insert (e ∷ es) n ≡ n ∷ es
   unfolding insert
   insert-here h = simp (le-ltb (e .id) (n .id) (omega arith), eq-eqb _ _ h)
 
+  -- before a greater one
   pub insert-before : n .id < e .id → insert (e ∷ es) n ≡ n ∷ e ∷ es
   unfolding insert
   insert-before h = simp (le-ltb (e .id) (n .id) (omega arith), ne-eqb (e .id) (n .id) (λ q. omega arith))
@@ -97,6 +105,7 @@ unfolding lookup
 lookup-below f [] r x h = refl
 lookup-below f (e ∷ es) (rise a r) x h = lookup-next e es x (λ q. omega arith) ∙ lookup-below (suc (e .id)) es r x (omega arith)
 
+-- none is below the least one
 pub rising-has : (f : ℕ) (es : List Entry) → Rising f es → (x l : ℕ) → Has es x l → f ≤ x
 rising-has f [] r x l h = absurd h
 rising-has f (e ∷ es) (rise a r) x l (inl (p, q)) = omega arith
@@ -112,6 +121,7 @@ lookup-has (e ∷ es) x l h = go (lookup-has es x l) (same? (e .id) x)
     go ih (inl q) = inl (q, mapped-one (sym (lookup-here e es x q) ∙ h))
     go ih (inr q) = inr (ih (sym (lookup-next e es x q) ∙ h))
 
+-- what is there in order is found
 pub has-lookup : (f : ℕ) (es : List Entry) → Rising f es → (x l : ℕ) → Has es x l → lookup es x ≡ Mapped l
 has-lookup f [] r x l h = absurd h
 has-lookup f (e ∷ es) (rise a r) x l (inl (p, q)) = lookup-here e es x p ∙ ap Mapped q
@@ -146,6 +156,7 @@ abbrev pub orElse : Held → Held → Held
 orElse (Mapped l) o = Mapped l
 orElse Unmapped o = o
 
+-- many stores keep the order
 pub rising-insert-all : (t es : List Entry) → Rising 0 t → Rising 0 (insertAll t es)
 unfolding insertAll
 rising-insert-all t [] r = r
@@ -181,6 +192,7 @@ insert-length (e ∷ es) n = go (insert-length es n) (order (e .id) (n .id))
     go ih (inr (inl h)) = rw (insert-here e es n h) (omega arith, omega arith)
     go ih (inr (inr h)) = rw (insert-before e es n h) (omega arith, omega arith)
 
+-- many stores, so much
 pub insert-all-length : (t es : List Entry) → (length t ≤ length (insertAll t es)) × (length (insertAll t es) ≤ length t + length es)
 unfolding insertAll
 insert-all-length t [] = (omega arith, omega arith)
@@ -218,10 +230,12 @@ pub full-when : (es : List Entry) (capacity x : ℕ) → lookup es x ≡ Unmappe
 unfolding full
 full-when es capacity x h q = rw (h, le-leb capacity (length es) q)
 
+-- no, where the id is there
 pub full-mapped : (es : List Entry) (capacity x l : ℕ) → lookup es x ≡ Mapped l → full es capacity x ≡ false
 unfolding full
 full-mapped es capacity x l h = rw h
 
+-- no, where there is room
 pub full-room : (es : List Entry) (capacity x : ℕ) → length es < capacity → full es capacity x ≡ false
 unfolding full
 full-room es capacity x h = rw (lt-leb capacity (length es) h) (go (unmapped (lookup es x)))

@@ -1,17 +1,17 @@
 -- The trailer: its length, and that what was written is read back.
 use mathlib.Core.Path.{_≡_, refl, sym, ap, ap₂, _∙_}
 use mathlib.Core.List.{append-assoc, append-nil}
-use mathlib.Core.Logic.{_⊎_, inl, inr}
+use mathlib.Core.Logic.{inl, inr}
 use Prim.Native.Nat.{_≤_, _<_}
 use native.Mathlib.Omega.{arith}
 use borrow.Author.Tests.{eq-eqb, le-ltb}
 use lib.ListN.{length-append}
 use lib.Seq.{take-at, drop-at, drop-drop}
-use Rattle.rules.specs.Base.{Bool, true, false, not, List, [], _∷_, _++_, ℕ, zero, suc, _+_, _*_, _^_, length, take, drop, ltb, eqb, each}
-use Rattle.rules.specs.Types.{Entry, Done}
+use Rattle.rules.specs.Base.{not, List, [], _∷_, _++_, ℕ, suc, _+_, _*_, _^_, length, take, drop, eqb, each}
+use Rattle.rules.specs.Types.{Entry}
 use Rattle.numbers.specs.LittleEndian.{leBytes, leValue, le-length, le-round}
 use Rattle.checksum.specs.Checksum.{crc32}
-use Rattle.rules.specs.Refusal.{decide, NoneHolds, decide-clear}
+use Rattle.rules.specs.Refusal.{NoneHolds}
 use Rattle.rules.specs.PartLaws.{field}
 use Rattle.rules.specs.ObjectLaws.{crc-below}
 use Rattle.rules.specs.TableLaws.{Has, entry-ext}
@@ -25,11 +25,13 @@ Fits es = (x l : ℕ) → Has es x l → (x < 2 ^ 64) × (l < 2 ^ 64)
 pub entry-length : (e : Entry) → length (entryBytes e) ≡ 16
 entry-length e = omega (arith, length-append (leBytes 8 (e .id)) (leBytes 8 (e .location)), le-length 8 (e .id), le-length 8 (e .location))
 
+-- 16 bytes an entry
 pub entries-length : (es : List Entry) → length (each entryBytes es) ≡ 16 * length es
 unfolding each
 entries-length [] = refl
 entries-length (e ∷ es) = omega (arith, length-append (entryBytes e) (each entryBytes es), entry-length e, entries-length es)
 
+-- count and entries
 pub listed-length : (es : List Entry) → length (listed es) ≡ 8 + 16 * length es
 unfolding listed
 listed-length es = omega (arith, length-append (leBytes 8 (length es)) (each entryBytes es), le-length 8 (length es), entries-length es)
@@ -66,6 +68,7 @@ entries-put k e rest idFits locationFits =
     let past : drop 16 ((a ++ b) ++ rest) ≡ rest = drop-at (a ++ b) rest 16 (entry-length e) in
     entries-next k ((a ++ b) ++ rest) some ∙ ap₂ (λ (d : Entry) (t : List ℕ). d ∷ entriesFrom k t) (entry-ext _ e idIs locationIs) past
 
+-- all entries that were written, whatever follows
 pub entries-back : (es : List Entry) (rest : List ℕ) → Fits es → entriesFrom (length es) (each entryBytes es ++ rest) ≡ es
 unfolding each
 entries-back [] rest f = entries-none rest

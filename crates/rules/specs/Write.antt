@@ -3,7 +3,7 @@ use Rattle.rules.specs.Base.{Bool, List, [], _∷_, _++_, ℕ, _^_, leng
 use Rattle.rules.specs.Types.{Entry, Limits, BatchBytes, ObjectSize, TableRoom}
 use Rattle.rules.specs.Refusal.{Test, _gives_, decide, after}
 use Rattle.rules.specs.Ops.{Op, entriesOf, settled}
-use Rattle.rules.specs.Batch.{Batch, batchIn, isMalformed, opsOf, anyTooLarge}
+use Rattle.rules.specs.Batch.{batchIn, isMalformed, opsOf, anyTooLarge}
 use Rattle.rules.specs.Table.{insertAll}
 use Rattle.rules.specs.Layout.{capacityOf}
 use Rattle.rules.specs.Condition1.{refused1}

@@ -1,29 +1,29 @@
 -- A file that was written is seen in its slot as it was given, and its objects are read back.
-use mathlib.Core.Path.{_≡_, refl, sym, ap, ap₂, _∙_}
+use mathlib.Core.Path.{_≡_, refl, sym, ap, _∙_}
 use mathlib.Core.List.{append-assoc}
-use mathlib.Core.Logic.{_⊎_, inl, inr}
+use mathlib.Core.Logic.{inl, inr}
 use Prim.Native.Nat.{_≤_, _<_}
 use native.Mathlib.Omega.{arith}
 use native.Mathlib.Nat.{sub-zero}
 use borrow.Author.Tests.{le-ltb, eq-eqb}
-use lib.ListN.{length-append}
+use lib.ListN.{length-append, take-append-drop}
 use lib.Seq.{take-at, drop-at, take-append-seam, drop-append-seam, drop-append-le}
-use Rattle.rules.specs.Base.{Bool, true, false, not, List, [], _∷_, _++_, ℕ, zero, suc, _+_, _-_, _*_, _^_, length, set, take, drop, ltb, eqb, any}
-use Rattle.rules.specs.Types.{Entry, Record, Five, Done, EntryPosition, PresentCount, LabelBytes}
+use Rattle.rules.specs.Base.{false, not, List, [], _∷_, _++_, ℕ, _+_, _-_, _*_, _^_, length, set, take, drop, ltb, any}
+use Rattle.rules.specs.Types.{Entry}
 use Rattle.numbers.specs.Parts.{front, putAt, front-length}
 use Rattle.disk_location.specs.Locations.{positionOf}
-use Rattle.rules.specs.Refusal.{Test, _gives_, decide, NoneHolds, decide-clear, none-append}
+use Rattle.rules.specs.Refusal.{NoneHolds, decide-clear, none-append}
 use Rattle.rules.specs.TableLaws.{Has}
-use Rattle.rules.specs.Object.{objectBytes, Stored, storedAt, badChecksum}
+use Rattle.rules.specs.Object.{objectBytes, storedAt}
 use Rattle.rules.specs.ObjectLaws.{storedObject, stored-back, stored-good}
 use Rattle.rules.specs.Trailer.{trailerBytes, trailerTests, entriesIn}
 use Rattle.rules.specs.TrailerLaws.{trailer-clear, trailer-back}
-use Rattle.rules.specs.Ops.{Content, put, Op, objectsOf, entriesOf, fileBytes}
+use Rattle.rules.specs.Ops.{put, Op, objectsOf, entriesOf, fileBytes}
 use Rattle.rules.specs.OpsLaws.{IdsFit, file-length, entries-of-length, entries-of-fits, entries-of-inside, Stands, stands-bytes, stands-inside}
-use Rattle.rules.specs.Label.{labelBytes, labelIn, outOfBounds}
+use Rattle.rules.specs.Label.{labelBytes, outOfBounds}
 use Rattle.rules.specs.LabelLaws.{InBounds, bounds-in, lsn-some, LabelFits, label-length, label-back}
 use Rattle.rules.specs.FileMap.{withLive}
-use Rattle.rules.specs.SlotFile.{slotBytes, File, View, empty, holds, slotTests, viewIn, viewsIn}
+use Rattle.rules.specs.SlotFile.{slotBytes, File, empty, holds, slotTests, viewIn, viewsIn}
 use Rattle.rules.specs.SlotLaws.{slot-length, slots-apart, views-written, view-emptied}
 use Rattle.rules.specs.PartLaws.{put-one}
 use Rattle.rules.specs.Stores.{made, fileStores}
@@ -164,19 +164,26 @@ views-emptied n size heap k low whole some =
     ∙ ap (set (viewsIn n size heap) k) (view-emptied (slotBytes size heap k))
 
 -- ---- objects
--- an object stands in its file, at its position, as it was put
+-- an object that stands in the object bytes of a file is read there, at its position, as it was put
+pub object-in : (file : List ℕ) (t p x : ℕ) (body rest : List ℕ) → p ≤ length (take t file) → drop p (take t file) ≡ objectBytes x body ++ rest → x < 2 ^ 64 → length body < 2 ^ 64
+    → (behind : ℕ) × (storedAt p (drop p file) ≡ storedObject p x body behind)
+object-in file t p x body rest low here id size = (
+  length (rest ++ drop t file),
+  ap (λ (s : List ℕ). storedAt p (drop p s)) (sym (take-append-drop t file))
+      ∙ ap (storedAt p) (drop-append-le p (take t file) (drop t file) low ∙ ap (λ (s : List ℕ). s ++ drop t file) here ∙ append-assoc (objectBytes x body) rest (drop t file))
+      ∙ stored-back p x body (rest ++ drop t file) id size,
+)
+
+-- a put stands so in the file that was written
 pub object-written : (ops : List Op) (x : ℕ) (body : List ℕ) (p : ℕ) → Stands 0 ops x (put body) p → x < 2 ^ 64 → length body < 2 ^ 64
     → (behind : ℕ) × (storedAt p (drop p (fileBytes ops)) ≡ storedObject p x body behind)
 unfolding fileBytes
 object-written ops x body p h id size =
     let v = stands-bytes 0 ops x body p h in
+    let first : take (length (objectsOf ops)) (fileBytes ops) ≡ objectsOf ops = take-append-seam (objectsOf ops) (trailerBytes (entriesOf 0 ops)) in
     let low : p ≤ length (objectsOf ops) = omega (arith, stands-inside 0 ops x (put body) p h .1) in
     let here : drop p (objectsOf ops) ≡ objectBytes x body ++ v .0 = ap (λ (n : ℕ). drop n (objectsOf ops)) (sym (sub-zero p)) ∙ v .1 in
-    let t = trailerBytes (entriesOf 0 ops) in (
-      length (v .0 ++ t),
-      ap (storedAt p) (drop-append-le p (objectsOf ops) t low ∙ ap (λ (s : List ℕ). s ++ t) here ∙ append-assoc (objectBytes x body) (v .0) t)
-          ∙ stored-back p x body (v .0 ++ t) id size,
-    )
+    object-in (fileBytes ops) (length (objectsOf ops)) p x body (v .0) (omega (arith, ap length first)) (ap (drop p) first ∙ here) id size
 
 -- none of 16, 10, 17 refuses it
 pub read-clear : (p x : ℕ) (body : List ℕ) (behind : ℕ) → NoneHolds (objectTests x (storedObject p x body behind))

@@ -6,7 +6,7 @@ use Rattle.disk_location.proofs.has_batch.Statement.{statement}
 use Rattle.disk_location.proofs.has_batch.Tie as tie
 
 returns : tie.Need-returns
-returns c = ap (λ (n : ℕ). eqb n 1) (low-bit (c .args .lsn / 2 ^ 62))
+returns c = ap (λ (n : ℕ). eqb n 1) (low-bit (c .args .x / 2 ^ 62))
 
 pub has-batch-spec : {M : Type 1} → statement M
 has-batch-spec = tie.close (tie.spec returns)

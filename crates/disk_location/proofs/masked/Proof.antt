@@ -1,10 +1,7 @@
 use Rattle.disk_location.proofs.Laws.{mask-clears}
 use Rattle.disk_location.proofs.masked.Statement.{statement}
 use Rattle.disk_location.proofs.masked.Tie as tie
-use Rattle.disk_location.proofs.masked.Reads as reads
-use Rattle.disk_location.proofs.masked.Lts as lts
 
--- src/lib.rt:18:1
 returns : tie.Need-returns
 returns c = mask-clears (c .args .x) (c .fits .x .fits)
 

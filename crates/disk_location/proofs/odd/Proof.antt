@@ -4,10 +4,7 @@ use lib.Dec.{eqb}
 use Rattle.disk_location.proofs.Laws.{low-bit}
 use Rattle.disk_location.proofs.odd.Statement.{statement}
 use Rattle.disk_location.proofs.odd.Tie as tie
-use Rattle.disk_location.proofs.odd.Reads as reads
-use Rattle.disk_location.proofs.odd.Lts as lts
 
--- src/lib.rt:37:1
 returns : tie.Need-returns
 returns c = ap (λ (n : ℕ). eqb n 1) (low-bit (c .args .raw))
 

@@ -2,14 +2,10 @@ use native.Mathlib.Omega.{arith}
 use Rattle.disk_location.proofs.Laws.{or-one, shl-one}
 use Rattle.disk_location.proofs.shifted.Statement.{statement}
 use Rattle.disk_location.proofs.shifted.Tie as tie
-use Rattle.disk_location.proofs.shifted.Reads as reads
-use Rattle.disk_location.proofs.shifted.Lts as lts
 
--- src/lib.rt:48:9
 returns : tie.Need-returns
 returns c = rw (c .if1 .taken, shl-one _ (c .before .pre)) (or-one _)
 
--- src/lib.rt:43:1
 returns-2 : tie.Need-returns-2
 returns-2 c = rw (c .if1 .left, shl-one _ (c .before .pre)) (omega arith)
 

@@ -9,8 +9,6 @@ use Rattle.numbers.specs.Groups.{groupsOf}
 use Rattle.numbers.proofs.GroupTurns.{Writing, turn, done}
 use Rattle.numbers.proofs.groups.encode.Statement.{statement}
 use Rattle.numbers.proofs.groups.encode.Tie as tie
-use Rattle.numbers.proofs.groups.encode.Reads as reads
-use Rattle.numbers.proofs.groups.encode.Lts as lts
 
 abbrev Inv-loop : tie.InvT-loop
 Inv-loop s₀ x rest₀ i₀ s rest i = (length s ≡ length s₀) × Writing 10 (front (groupsOf 10 x) s₀) (length (groupsOf 10 x)) s rest i
@@ -18,7 +16,6 @@ Inv-loop s₀ x rest₀ i₀ s rest i = (length s ≡ length s₀) × Writing 10
 abbrev μ-loop : tie.MeasureT-loop
 μ-loop s₀ x rest₀ i₀ s rest i = rest
 
--- src/lib.rt:54:5
 loop-holds : tie.Need-loop-holds Inv-loop μ-loop
 loop-holds c = (
   refl,
@@ -30,49 +27,38 @@ loop-holds c = (
   },
 )
 
--- src/lib.rt:55:17
 add-s : tie.Need-add-s Inv-loop μ-loop
 add-s c = search needs
 
--- src/lib.rt:55:16
 cast-s : tie.Need-cast-s Inv-loop μ-loop
 cast-s c = search needs
 
--- src/lib.rt:55:9
 slice-write-s : tie.Need-slice-write-s Inv-loop μ-loop
 slice-write-s c = search needs
 
--- src/lib.rt:57:9
 add-i : tie.Need-add-i Inv-loop μ-loop
 add-i c = search needs
 
--- src/lib.rt:54:5
 loop-less : tie.Need-loop-less Inv-loop μ-loop
 loop-less c = search needs
 
--- src/lib.rt:54:5
 loop-again : tie.Need-loop-again Inv-loop μ-loop
 loop-again c =
     let inv = c .before .loop .inv in
     (simp length-set (inv .0), turn _ _ _ _ _ _ (omega (arith, c .before .before .pre)) (c .loop-test .taken) (inv .1))
 
--- src/lib.rt:59:12
 cast-s-2 : tie.Need-cast-s-2 Inv-loop μ-loop
 cast-s-2 c = search needs
 
--- src/lib.rt:59:5
 slice-write-s-2 : tie.Need-slice-write-s-2 Inv-loop μ-loop
 slice-write-s-2 c = search needs
 
--- src/lib.rt:60:5
 add-result : tie.Need-add-result Inv-loop μ-loop
 add-result c = search needs
 
--- src/lib.rt:48:1
 same-length : tie.Need-same-length Inv-loop μ-loop
 same-length c = simp length-set (c .before .loop .inv .0)
 
--- src/lib.rt:48:1
 returns : tie.Need-returns Inv-loop μ-loop
 returns c = done 10 _ _ _ _ _ (omega (arith, c .before .before .pre, c .before .loop .inv .0)) (c .loop-test .left) (c .before .loop .inv .1)
 

@@ -1,51 +1,39 @@
 use mathlib.Core.Path.{sym, ap, _∙_}
-use Rattle.numbers.specs.Groups.{joinedOf}
-use Rattle.numbers.specs.GroupLaws.{joined-said, joined-large}
+use Rattle.numbers.specs.GroupSteps.{joinedOf, joined-said, joined-large}
 use borrow.Author.Needs.{needs}
 use Rattle.numbers.proofs.groups.joined.Statement.{statement}
 use Rattle.numbers.proofs.groups.joined.Tie as tie
-use Rattle.numbers.proofs.groups.joined.Reads as reads
-use Rattle.numbers.proofs.groups.joined.Lts as lts
 
--- src/lib.rt:19:22
 enum-known-rest : tie.Need-enum-known-rest
 enum-known-rest c = search needs
 
--- src/lib.rt:21:17
 returns : tie.Need-returns
 returns c = search needs
 
--- src/lib.rt:24:49
 sub-t8 : tie.Need-sub-t8
 sub-t8 c = search needs
 
--- src/lib.rt:24:48
 cast-t9 : tie.Need-cast-t9
 cast-t9 c = search needs
 
--- src/lib.rt:24:37
 add-t10 : tie.Need-add-t10
 add-t10 c = search needs
 
--- src/lib.rt:24:17
 returns-2 : tie.Need-returns-2
 returns-2 c =
     let k = c .before .before .before in
     let a = k .before .before in
     joined-said (a .args .b) (k .rest .given .0 .0) _ (a .pre) (a .fits .b .fits) (c .before .if1 .left) (c .if2 .taken) ∙ ap (joinedOf (a .args .b)) (sym (k .rest .given .1))
 
--- src/lib.rt:28:30
 enum-told : tie.Need-enum-told
 enum-told c = search needs
 
--- src/lib.rt:14:1
 returns-3 : tie.Need-returns-3
 returns-3 c =
     let k = c .before .before .before in
     let a = k .before .before in
     joined-large (a .args .b) (k .rest .given .0 .0) _ (c .before .if1 .left) (c .if2 .left) ∙ ap (joinedOf (a .args .b)) (sym (k .rest .given .1))
 
--- src/lib.rt:14:1
 returns-4 : tie.Need-returns-4
 returns-4 c = search needs
 

@@ -1,16 +1,14 @@
-use mathlib.Core.Path.{_≡_, refl, sym, ap, _∙_}
-use Prim.Native.Nat.{ℕ, _-_, _^_, _≤_, _<_, zero-le}
+use mathlib.Core.Path.{_≡_, sym}
+use Prim.Native.Nat.{_-_, _^_, _≤_, _<_}
 use native.Mathlib.Nat.{le-refl, sub-self}
 use lib.Dec.{lit<}
 use native.Mathlib.Omega.{arith}
 use borrow.Author.Needs.{needs}
-use lib.ListN.{length, take, drop, length-set, take-append-drop}
-use Rattle.numbers.specs.LittleEndian.{leValue, le-none}
+use lib.ListN.{take, drop}
+use Rattle.numbers.specs.LittleEndian.{leValue}
 use Rattle.numbers.proofs.LittleEndianTurns.{Turned, get-turn, get-none}
 use Rattle.numbers.proofs.little_endian.get.Statement.{statement}
 use Rattle.numbers.proofs.little_endian.get.Tie as tie
-use Rattle.numbers.proofs.little_endian.get.Reads as reads
-use Rattle.numbers.proofs.little_endian.get.Lts as lts
 
 abbrev Inv-loop : tie.InvT-loop
 Inv-loop s n v₀ i₀ v i =
@@ -19,19 +17,15 @@ Inv-loop s n v₀ i₀ v i =
 abbrev μ-loop : tie.MeasureT-loop
 μ-loop s n v₀ i₀ v i = i
 
--- src/lib.rt:29:5
 loop-holds : tie.Need-loop-holds Inv-loop μ-loop
 loop-holds c = (le-refl _, sym (get-none (c .args .s .now) (c .args .n)), rw sub-self (lit< tt))
 
--- src/lib.rt:30:9
 sub-i : tie.Need-sub-i Inv-loop μ-loop
 sub-i c = search needs
 
--- src/lib.rt:31:24
 shared-slice-read-v : tie.Need-shared-slice-read-v Inv-loop μ-loop
 shared-slice-read-v c = search needs
 
--- src/lib.rt:31:24
 cast-v : tie.Need-cast-v Inv-loop μ-loop
 cast-v c = omega (arith, c .shared-slice-known .given (c .before .before .loop .i - 1))
 
@@ -44,19 +38,15 @@ turned c =
     get-turn _ _ (at-loop .loop .i) (at-loop .loop .v) (c .before .loop-test .taken) (inv .0) (pre .0) (pre .1) (inv .1) (inv .2)
     (c .shared-slice-known .given (at-loop .loop .i - 1) .fits)
 
--- src/lib.rt:31:13
 add-v : tie.Need-add-v Inv-loop μ-loop
 add-v c = record { fits = turned c .fits }
 
--- src/lib.rt:29:5
 loop-less : tie.Need-loop-less Inv-loop μ-loop
 loop-less c = search needs
 
--- src/lib.rt:29:5
 loop-again : tie.Need-loop-again Inv-loop μ-loop
 loop-again c = (omega (arith, c .before .before .loop .inv .0), turned c .value, turned c .below)
 
--- src/lib.rt:23:1
 returns : tie.Need-returns Inv-loop μ-loop
 returns c =
     let inv = c .before .loop .inv in

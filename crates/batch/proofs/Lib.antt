@@ -1,0 +1,2 @@
+pub mod CheckTurns
+pub mod LowestTurns

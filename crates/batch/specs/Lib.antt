@@ -1,0 +1,9 @@
+pub mod Reading
+pub mod Behind
+pub mod ReadingLaws
+pub mod Order
+pub mod OrderLaws
+pub mod Walk
+pub mod WalkLaws
+pub mod Sizes
+pub mod SizeLaws

@@ -1,0 +1,2 @@
+pub mod Losing
+pub mod Adding

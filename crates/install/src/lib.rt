@@ -1,0 +1,124 @@
+// Adding a file that stands in the heap: table, live counts, record and next position. Write and maintenance share it.
+use disk_location::RelativeDiskLocation;
+use rules::Entry;
+use rules::FileMap;
+use rules::Held;
+use rules::Record;
+use rules::State;
+ghost use mathlib.Core.Path.{_≡_};
+ghost use mathlib.Core.Bool.{false};
+ghost use Prim.Native.Nat.{_+_, _*_, _^_, _≤_, _<_};
+ghost use lib.ListN.{length, set};
+ghost use Rattle.disk_location.specs.Locations.{positionOf};
+ghost use Rattle.rules.specs.Trailer.{absolute, countIn, entriesIn};
+ghost use Rattle.rules.specs.Table.{lookup, insertAll, full};
+ghost use Rattle.rules.specs.TableCalls.{withStored};
+ghost use Rattle.rules.specs.Layout.{usedEntries, laidOut};
+ghost use Rattle.rules.specs.World.{stateWith};
+ghost use Rattle.location_table.specs.Tables.{table, Formed};
+ghost use Rattle.file_map.specs.Lists.{lessAt};
+ghost use Rattle.install.specs.Losing.{losingBy, slotHolding, losingLives};
+ghost use Rattle.install.specs.Adding.{taken, Placed};
+
+// "loses one live": the file of the location that the table has for the id.
+fn lose_one(lsns: &[u64], lives: &mut [u64], ids: &[u64], locations: &[u64], id: u64)
+    requires { ⌜ Formed (table (now ids) (now locations)) × (length (now lsns) ≤ length (now lives)) ⌝ }
+    ensures { λ _. ⌜ now (lives .exit) ≡ lessAt (slotHolding (now (lsns .entry)) (lookup (usedEntries (table (now (ids .entry)) (now (locations .entry)))) id)) (now (lives .entry)) ⌝ }
+{
+    match location_table::load_in(ids, locations, id) {
+        Held::Mapped(location) => {
+            let slot = file_map::lsn_at(lsns, location);
+            file_map::less_at(lives, slot);
+        }
+        Held::Unmapped => {}
+    }
+}
+
+// "each replaced location's file, found before the new one is added, loses one live"
+fn lose(lsns: &[u64], lives: &mut [u64], ids: &[u64], locations: &[u64], trailer: &[u8])
+    requires { ⌜ Formed (table (now ids) (now locations)) × (length (now lsns) ≤ length (now lives)) × (12 + 16 * countIn (now trailer) ≤ length (now trailer)) ⌝ }
+    ensures { λ _. ⌜ now (lives .exit) ≡ losingLives (now (lsns .entry)) (usedEntries (table (now (ids .entry)) (now (locations .entry)))) (entriesIn (now (trailer .entry))) (now (lives .entry)) ⌝ }
+{
+    let n = trailer::count(trailer);
+    let mut k: u64 = 0;
+    while k < n {
+        let e = trailer::entry(trailer, k);
+        lose_one(lsns, lives, ids, locations, e.id);
+        k += 1;
+    }
+}
+
+// "A relative location plus a file's lsn is an absolute one."
+fn absolute(e: Entry, lsn: u64) -> u64
+    requires { ⌜ (positionOf (e .location) + lsn < 2 ^ 63) × (0 < lsn) ⌝ }
+    ensures { λ r. ⌜ r ≡ absolute lsn e .location ⌝ }
+{
+    let relative = RelativeDiskLocation(e.location);
+    let located = relative.to_absolute(lsn);
+    located.raw()
+}
+
+// "Each id takes its new location", for one entry.
+fn store_one(ids: &mut [u64], locations: &mut [u64], e: Entry, lsn: u64)
+    requires { ⌜ Formed (table (now ids) (now locations)) × (positionOf (e .location) + lsn < 2 ^ 63) × (0 < lsn) × (full (usedEntries (table (now ids) (now locations))) (length (now ids)) (e .id) ≡ false) ⌝ }
+    ensures { λ _. ⌜ table (now (ids .exit)) (now (locations .exit)) ≡ withStored (table (now (ids .entry)) (now (locations .entry))) (e .id) (absolute lsn e .location) ⌝ }
+{
+    let location = absolute(e, lsn);
+    location_table::store_in(ids, locations, e.id, location);
+}
+
+// "Each id takes its new location"
+fn store_all(ids: &mut [u64], locations: &mut [u64], trailer: &[u8], lsn: u64)
+    requires { ⌜ Formed (table (now ids) (now locations)) × (12 + 16 * countIn (now trailer) ≤ length (now trailer)) × Placed lsn (entriesIn (now trailer)) × (0 < lsn) × (length (insertAll (usedEntries (table (now ids) (now locations))) (taken lsn (entriesIn (now trailer)))) ≤ length (now ids)) ⌝ }
+    ensures { λ _. ⌜ table (now (ids .exit)) (now (locations .exit)) ≡ laidOut (length (now (ids .entry))) (insertAll (usedEntries (table (now (ids .entry)) (now (locations .entry)))) (taken lsn (entriesIn (now (trailer .entry))))) ⌝ }
+{
+    let n = trailer::count(trailer);
+    let mut k: u64 = 0;
+    while k < n {
+        let e = trailer::entry(trailer, k);
+        store_one(ids, locations, e, lsn);
+        k += 1;
+    }
+}
+
+// The same settings and lengths with other records and another next position.
+fn state_with(state: State, files: FileMap, next_position: u64) -> State
+    ensures { λ r. ⌜ r ≡ stateWith state (files .records) «next_position» ⌝ }
+{
+    let mut r = state;
+    r.files = files;
+    r.next_position = next_position;
+    r
+}
+
+// "next grows by T + 1"
+fn next_after(next_position: u64, total: u64) -> u64
+    requires { ⌜ «next_position» + (total + 1) < 2 ^ 64 ⌝ }
+    ensures { λ r. ⌜ r ≡ «next_position» + (total + 1) ⌝ }
+{
+    next_position + (total + 1)
+}
+
+// The file in `slot`, whose trailer this is, added: its record is `new`.
+pub fn install(
+    state: State,
+    ids: &mut [u64],
+    locations: &mut [u64],
+    trailer: &[u8],
+    slot: usize,
+    new: Record,
+) -> State
+    requires { ⌜ Formed (table (now ids) (now locations)) × (12 + 16 * countIn (now trailer) ≤ length (now trailer)) × Placed (new .lsn) (entriesIn (now trailer)) × (0 < new .lsn) × (length (insertAll (usedEntries (table (now ids) (now locations))) (taken (new .lsn) (entriesIn (now trailer)))) ≤ length (now ids)) × (slot < 256) × (state .«next_position» + (new .«trailer_offset» + 1) < 2 ^ 64) ⌝ }
+    ensures { λ r. ⌜ (r ≡ stateWith state (set (losingBy (usedEntries (table (now (ids .entry)) (now (locations .entry)))) (entriesIn (now (trailer .entry))) (state .files .records)) slot new) (state .«next_position» + (new .«trailer_offset» + 1))) × (table (now (ids .exit)) (now (locations .exit)) ≡ laidOut (length (now (ids .entry))) (insertAll (usedEntries (table (now (ids .entry)) (now (locations .entry)))) (taken (new .lsn) (entriesIn (now (trailer .entry)))))) ⌝ }
+{
+    let before = state.files;
+    let lsns = file_map::lsns(before);
+    let mut lives = file_map::lives(before);
+    lose(&lsns, &mut lives, ids, locations, trailer);
+    store_all(ids, locations, trailer, new.lsn);
+    let fewer = file_map::with_lives(before, &lives);
+    let files = file_map::with_record(fewer, slot, new);
+    let total = new.trailer_offset;
+    let next = next_after(state.next_position, total);
+    state_with(state, files, next)
+}

@@ -1,0 +1,155 @@
+// Refusal 1, "first in every call".
+use file_map::is_empty;
+use file_map::out_of_bounds;
+use location_table::in_form;
+use location_table::lengths_in_range;
+use location_table::within;
+use rules::FileMap;
+use rules::Record;
+use rules::Settings;
+use rules::State;
+ghost use mathlib.Core.Path.{_≡_};
+ghost use mathlib.Core.Bool.{true, not, _&&_};
+ghost use Prim.Native.Nat.{ℕ, _<_, _≤_};
+ghost use lib.ListN.{length};
+ghost use lib.Dec.{eqb};
+ghost use Rattle.rules.specs.Settings.{inRanges, heapInRange, sameSettings};
+ghost use Rattle.rules.specs.SettingsLaws.{InRanges};
+ghost use Rattle.rules.specs.Condition1.{outOfRange, badRecord, badFrom, conditionOne};
+ghost use Rattle.location_table.specs.Tables.{table};
+ghost use Rattle.limits.specs.Settled.{theStates};
+
+// The column "Range", for the six settings.
+fn in_ranges(s: Settings) -> bool
+    ensures { λ r. ⌜ r ≡ inRanges s ⌝ }
+{
+    if !within(128, 1048576, s.slot_bytes) {
+        return false;
+    }
+    if !within(0, 100, s.file_compaction_percent) {
+        return false;
+    }
+    if !within(1, 256, s.min_compaction_files) {
+        return false;
+    }
+    if !within(1, 1048576, s.target_file_size) {
+        return false;
+    }
+    if !within(0, 256, s.small_file_cleanup_threshold) {
+        return false;
+    }
+    within(1, 1048576, s.max_object_size)
+}
+
+// "slots N = heap length / S, exact: 1..256"
+fn heap_in_range(s: Settings, heap: u64) -> bool
+    requires { ⌜ InRanges s ⌝ }
+    ensures { λ r. ⌜ r ≡ heapInRange s heap ⌝ }
+{
+    if heap % s.slot_bytes != 0 {
+        return false;
+    }
+    within(1, 256, heap / s.slot_bytes)
+}
+
+// "settings or buffer lengths outside the ranges": all of 1 for a reopening. `heap` is the heap's length.
+pub fn out_of_range(s: Settings, heap: u64, ids: &[u64], locations: &[u64]) -> bool
+    ensures { λ r. ⌜ r ≡ outOfRange s heap (table (now (ids .entry)) (now (locations .entry))) ⌝ }
+{
+    if !in_ranges(s) {
+        return true;
+    }
+    if !heap_in_range(s, heap) {
+        return true;
+    }
+    !lengths_in_range(ids, locations)
+}
+
+fn same_settings(s: Settings, t: Settings) -> bool
+    ensures { λ r. ⌜ r ≡ sameSettings s t ⌝ }
+{
+    if s.slot_bytes != t.slot_bytes {
+        return false;
+    }
+    if s.file_compaction_percent != t.file_compaction_percent {
+        return false;
+    }
+    if s.min_compaction_files != t.min_compaction_files {
+        return false;
+    }
+    if s.target_file_size != t.target_file_size {
+        return false;
+    }
+    if s.small_file_cleanup_threshold != t.small_file_cleanup_threshold {
+        return false;
+    }
+    s.max_object_size == t.max_object_size
+}
+
+// "lengths or settings not those of the state"
+fn the_states(s: Settings, heap: u64, entries: u64, state: State) -> bool
+    ensures { λ r. ⌜ r ≡ theStates s heap entries state ⌝ }
+{
+    let t = state.settings;
+    if !same_settings(s, t) {
+        return false;
+    }
+    if heap != state.heap_len {
+        return false;
+    }
+    entries == state.table_len
+}
+
+// "a non-empty record at slot N or above, outside 8's bounds, or with present over file_size or live over the table's length"
+fn bad_record(s: Settings, heap: u64, ids: &[u64], locations: &[u64], slot: u64, r: Record) -> bool
+    requires { ⌜ InRanges s ⌝ }
+    ensures { λ b. ⌜ b ≡ badRecord s heap (table (now (ids .entry)) (now (locations .entry))) slot r ⌝ }
+{
+    if is_empty(r) {
+        return false;
+    }
+    if heap / s.slot_bytes <= slot {
+        return true;
+    }
+    if out_of_bounds(s.slot_bytes, r) {
+        return true;
+    }
+    if r.file_size < r.present_objects {
+        return true;
+    }
+    (ids.len() as u64) < r.live
+}
+
+fn bad_files(s: Settings, heap: u64, ids: &[u64], locations: &[u64], files: FileMap) -> bool
+    requires { ⌜ InRanges s ⌝ }
+    ensures { λ b. ⌜ b ≡ badFrom s heap (table (now (ids .entry)) (now (locations .entry))) 0 (files .records) ⌝ }
+{
+    let mut i: usize = 0;
+    while i < 256 {
+        if bad_record(s, heap, ids, locations, i as u64, files.records[i]) {
+            return true;
+        }
+        i += 1;
+    }
+    false
+}
+
+// All of 1 for every other call.
+pub fn refused(s: Settings, heap: u64, ids: &[u64], locations: &[u64], state: State) -> bool
+    ensures { λ r. ⌜ r ≡ conditionOne s heap (table (now (ids .entry)) (now (locations .entry))) state ⌝ }
+{
+    if out_of_range(s, heap, ids, locations) {
+        return true;
+    }
+    if !the_states(s, heap, ids.len() as u64, state) {
+        return true;
+    }
+    if !in_form(ids, locations) {
+        return true;
+    }
+    if state.next_position == 0 {
+        return true;
+    }
+    let files = state.files;
+    bad_files(s, heap, ids, locations, files)
+}

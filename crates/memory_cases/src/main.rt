@@ -1,0 +1,138 @@
+// The four table calls and the file lookup on a few cases, an answer to a line.
+use libc::STDOUT_FILENO;
+use rules::Answer;
+use rules::CompareAnswer;
+use rules::FileMap;
+use rules::LoadAnswer;
+use rules::Refusal;
+use rules::Slot;
+ghost use mathlib.Core.Path.{_≡_};
+ghost use Rattle.rules.specs.Refusal.{numberOf};
+
+// The table "No. | Condition".
+fn number(r: Refusal) -> u64
+    ensures { λ n. ⌜ n ≡ numberOf r ⌝ }
+{
+    match r {
+        Refusal::Limits => 1,
+        Refusal::BatchBytes => 2,
+        Refusal::ObjectSize => 3,
+        Refusal::SlotRoom => 4,
+        Refusal::NoEmptySlot => 5,
+        Refusal::TableRoom => 6,
+        Refusal::PositionsSpent => 7,
+        Refusal::LabelBytes => 8,
+        Refusal::TrailerShort => 9,
+        Refusal::Checksum => 10,
+        Refusal::EntryCount => 11,
+        Refusal::EntryPosition => 12,
+        Refusal::PresentCount => 13,
+        Refusal::Overlap => 14,
+        Refusal::NotRising => 15,
+        Refusal::CutShort => 16,
+        Refusal::OtherId => 17,
+        Refusal::NotThere => 18,
+        Refusal::EqualLocation => 19,
+        Refusal::Location => 20,
+        Refusal::Claim => 21,
+    }
+}
+
+fn say(word: &[u8], n: u64) {
+    io::write_all(STDOUT_FILENO, word);
+    io::print_decimal(STDOUT_FILENO, n);
+    io::write_all(STDOUT_FILENO, b"\n");
+}
+
+fn say_word(word: &[u8]) {
+    io::write_all(STDOUT_FILENO, word);
+}
+
+fn say_refused(r: Refusal) {
+    say(b"refused ", number(r));
+}
+
+fn say_answer(a: Answer) {
+    match a {
+        Answer::Done => say_word(b"ok\n"),
+        Answer::Refused(r) => say_refused(r),
+    }
+}
+
+fn say_load(a: LoadAnswer) {
+    match a {
+        LoadAnswer::At(l) => say(b"at ", l),
+        LoadAnswer::NoLocation => say_word(b"nothing\n"),
+        LoadAnswer::LoadRefused(r) => say_refused(r),
+    }
+}
+
+fn say_compare(a: CompareAnswer) {
+    match a {
+        CompareAnswer::Swapped => say_word(b"ok\n"),
+        CompareAnswer::Differs(l) => say(b"differs ", l),
+        CompareAnswer::CompareRefused(r) => say_refused(r),
+    }
+}
+
+fn say_slot(s: Slot) {
+    match s {
+        Slot::Is(k) => say(b"slot ", k),
+        Slot::NoSlot => say_word(b"no file\n"),
+    }
+}
+
+// A table of two entries: 20 and 6, a compare that differs, 18, 19, a lower location not stored.
+fn stores(ids: &mut [u64], locations: &mut [u64]) {
+    say_load(location_table::load(ids, locations, 7));
+    say_answer(location_table::store(ids, locations, 7, 10));
+    say_answer(location_table::store(ids, locations, 3, 0));
+    say_answer(location_table::store(ids, locations, 3, 11));
+    say_answer(location_table::store(ids, locations, 9, 12));
+    say_load(location_table::load(ids, locations, 7));
+}
+
+fn compares(ids: &mut [u64], locations: &mut [u64]) {
+    say_compare(location_table::compare_and_store(ids, locations, 7, 10, 14));
+    say_compare(location_table::compare_and_store(ids, locations, 7, 10, 16));
+    say_compare(location_table::compare_and_store(ids, locations, 5, 10, 16));
+    say_compare(location_table::compare_and_store(ids, locations, 7, 0, 16));
+}
+
+fn greaters(ids: &mut [u64], locations: &mut [u64]) {
+    say_load(location_table::store_if_greater(ids, locations, 7, 14));
+    say_load(location_table::store_if_greater(ids, locations, 7, 12));
+    say_load(location_table::store_if_greater(ids, locations, 7, 20));
+    say_load(location_table::store_if_greater(ids, locations, 9, 20));
+    say_load(location_table::load(ids, locations, 7));
+}
+
+// A table with a hole is not in form; nor is one of no entries.
+fn forms() {
+    let ids = [3u64, 0, 7];
+    let locations = [11u64, 0, 10];
+    say_load(location_table::load(&ids, &locations, 7));
+    say_load(location_table::load(&ids[0..0], &locations[0..0], 7));
+}
+
+// A batch file of base 101 in slot 0, the same one in slot 2, a rewritten one of base 205 in slot 1: raw locations decide, the lowest slot of equals.
+fn files() -> FileMap {
+    let batch = file_map::fresh(4611686018427388005, 21, 65, 2, 0);
+    let rewritten = file_map::fresh(205, 21, 65, 2, 1);
+    let a = file_map::with_record(file_map::no_files(), 0, batch);
+    let b = file_map::with_record(a, 1, rewritten);
+    file_map::with_record(b, 2, batch)
+}
+
+fn main() {
+    let mut ids = [0u64; 2];
+    let mut locations = [0u64; 2];
+    stores(&mut ids, &mut locations);
+    compares(&mut ids, &mut locations);
+    greaters(&mut ids, &mut locations);
+    forms();
+    let m = files();
+    say_slot(file_map::file_for(m, 409));
+    say_slot(file_map::file_for(m, 410));
+    say_slot(file_map::file_for(m, 9223372036854776010));
+}

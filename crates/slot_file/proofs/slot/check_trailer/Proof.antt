@@ -1,0 +1,88 @@
+use mathlib.Core.Path.{refl, sym, _∙_}
+use borrow.Author.Tests.{eq-eqb, ne-eqb}
+use Rattle.rules.specs.Trailer.{countIn}
+use Rattle.trailer.specs.Entries.{clear-fits}
+use Rattle.slot_file.specs.Slots.{entry-refused, entry-clear}
+use native.Mathlib.Omega.{arith}
+use borrow.Author.Needs.{needs}
+use Rattle.slot_file.proofs.slot.check_trailer.Statement.{statement}
+use Rattle.slot_file.proofs.slot.check_trailer.Tie as tie
+
+check-requires : tie.Need-check-requires
+check-requires c κs = search needs
+
+enum-known-refusal : tie.Need-enum-known-refusal
+enum-known-refusal c = search needs
+
+enum-told : tie.Need-enum-told
+enum-told c = search needs
+
+some-over-requires : tie.Need-some-over-requires
+some-over-requires c κs =
+    let k = c in
+    let told = k .enum-told .given .1 in
+    let clear = sym (k .before .before .check .ensures) ∙ told in
+    let a = k .before .before .before .before .args in
+    let t = a .bytes .now in
+    clear-fits t clear
+
+returns : tie.Need-returns
+returns c =
+    let k = c .before .before in
+    let told = k .enum-told .given .1 in
+    let clear = sym (k .before .before .check .ensures) ∙ told in
+    let a = k .before .before .before .before .args in
+    let t = a .bytes .now in
+    sym (entry-clear (a .r) t clear ∙ rw (← c .before .some-over .ensures, c .if1 .taken) refl)
+
+count-requires : tie.Need-count-requires
+count-requires c κs =
+    let k = c .before .before in
+    let told = k .enum-told .given .1 in
+    let clear = sym (k .before .before .check .ensures) ∙ told in
+    let a = k .before .before .before .before .args in
+    let t = a .bytes .now in
+    omega (arith, clear-fits t clear)
+
+returns-2 : tie.Need-returns-2
+returns-2 c =
+    let n = c .before .before in
+    let k = n .before .before .before in
+    let told = k .enum-told .given .1 in
+    let clear = sym (k .before .before .check .ensures) ∙ told in
+    let a = k .before .before .before .before .args in
+    let t = a .bytes .now in
+    sym (entry-clear (a .r) t clear
+    ∙ rw (← n .before .before .some-over .ensures, n .before .if1 .left, ne-eqb (a .r .«present_objects») (countIn t) (λ e. c .if2 .taken (e ∙ sym (n .count .ensures)))) refl)
+
+returns-3 : tie.Need-returns-3
+returns-3 c =
+    let told = c .before .refusal .given .1 in
+    let k = c .before .before .before in
+    let a = k .before .before .args in
+    sym (entry-refused (a .r) (a .bytes .now) _ (sym (k .check .ensures) ∙ told))
+
+returns-4 : tie.Need-returns-4
+returns-4 c =
+    let n = c .before .before in
+    let k = n .before .before .before in
+    let told = k .enum-told .given .1 in
+    let clear = sym (k .before .before .check .ensures) ∙ told in
+    let a = k .before .before .before .before .args in
+    let t = a .bytes .now in
+    sym (entry-clear (a .r) t clear
+    ∙ rw (← n .before .before .some-over .ensures, n .before .if1 .left, eq-eqb (a .r .«present_objects») (countIn t) (c .if2 .left ∙ n .count .ensures)) refl)
+
+pub check-trailer-spec : {M : Type 1} → statement M
+check-trailer-spec =
+    tie.close
+    (tie.spec
+    check-requires
+    enum-known-refusal
+    enum-told
+    some-over-requires
+    returns
+    count-requires
+    returns-2
+    returns-3
+    returns-4)

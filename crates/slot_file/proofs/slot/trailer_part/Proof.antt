@@ -1,0 +1,40 @@
+use mathlib.Core.Path.{ap, _∙_}
+use lib.ListN.{drop, length-drop, length}
+use lib.Seq.{take-all}
+use Rattle.slot_file.specs.Slots.{file-length}
+use Prim.Native.Nat.{_-_}
+use native.Mathlib.Omega.{arith}
+use borrow.Author.Needs.{needs}
+use Rattle.slot_file.proofs.slot.trailer_part.Statement.{statement}
+use Rattle.slot_file.proofs.slot.trailer_part.Tie as tie
+
+file-part-requires : tie.Need-file-part-requires
+file-part-requires c κs = search needs
+
+sub-result : tie.Need-sub-result
+sub-result c =
+    let f = c in
+    let start = f .before .before in
+    let size = ap length (f .file-part .ensures) ∙ file-length (start .args .r) (start .args .slot .now) (start .pre .file) in
+    omega (arith, start .pre .objects)
+
+part-result-start : tie.Need-part-result-start
+part-result-start c =
+    let f = c in
+    let start = f .before .before in
+    let size = ap length (f .file-part .ensures) ∙ file-length (start .args .r) (start .args .slot .now) (start .pre .file) in
+    omega (arith, start .pre .objects)
+
+part-result-end : tie.Need-part-result-end
+part-result-end c = search needs
+
+returns : tie.Need-returns
+returns c =
+    let f = c .before in
+    let file = f .file-part .result .now in
+    let offset = f .before .before .args .r .«trailer_offset» in
+    take-all (length file - offset) (drop offset file) (omega (arith, length-drop offset file)) ∙ ap (drop offset) (f .file-part .ensures)
+
+pub trailer-part-spec : {M : Type 1} → statement M
+trailer-part-spec =
+    tie.close (tie.spec file-part-requires sub-result part-result-start part-result-end returns)

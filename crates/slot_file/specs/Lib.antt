@@ -1,0 +1,3 @@
+pub mod Labels
+pub mod Slots
+pub mod Objects

@@ -1,0 +1,111 @@
+use numbers::Number;
+use numbers::groups;
+use rules::Label;
+use rules::Record;
+ghost use mathlib.Core.Path.{_≡_};
+ghost use Prim.Native.Nat.{_-_};
+ghost use lib.ListN.{length, take, drop};
+ghost use Rattle.rules.specs.Base.{zeros};
+ghost use Rattle.rules.specs.Label.{labelIn, fiveIn, outOfBounds};
+
+// "Zeros fill the 64 bytes."
+fn rest_zero(s: &[u8], from: usize) -> bool
+    ensures { λ r. ⌜ r ≡ zeros (drop from (now (s .entry))) ⌝ }
+{
+    let mut i = from;
+    while i < s.len() {
+        if s[i] != 0 {
+            return false;
+        }
+        i += 1;
+    }
+    true
+}
+
+// Five numbers one behind the other, zeros behind them.
+fn five(s: &[u8]) -> Label
+    ensures { λ r. ⌜ r ≡ fiveIn (now (s .entry)) ⌝ }
+{
+    let Number::Said(lsn, a) = groups::decode(s, 0) else {
+        return Label::Wrong;
+    };
+    let Number::Said(offset, b) = groups::decode(s, a) else {
+        return Label::Wrong;
+    };
+    let Number::Said(size, c) = groups::decode(s, b) else {
+        return Label::Wrong;
+    };
+    let Number::Said(present, d) = groups::decode(s, c) else {
+        return Label::Wrong;
+    };
+    let Number::Said(generation, e) = groups::decode(s, d) else {
+        return Label::Wrong;
+    };
+    if rest_zero(s, e) {
+        return Label::Five(Record {
+            lsn: lsn,
+            trailer_offset: offset,
+            file_size: size,
+            present_objects: present,
+            generation: generation,
+            live: 0,
+        });
+    }
+    Label::Wrong
+}
+
+// "First byte 0 means the slot is empty, whatever follows."
+fn in_label(s: &[u8]) -> Label
+    ensures { λ r. ⌜ r ≡ labelIn (now (s .entry)) ⌝ }
+{
+    if s.len() == 0 {
+        return Label::Vacant;
+    }
+    if s[0] == 0 {
+        return Label::Vacant;
+    }
+    five(s)
+}
+
+// The label in a slot's first 64 bytes; bytes too few for one are read as they are.
+pub fn read(slot: &[u8]) -> Label
+    ensures { λ r. ⌜ r ≡ labelIn (take 64 (now (slot .entry))) ⌝ }
+{
+    if slot.len() < 64 {
+        return in_label(slot);
+    }
+    in_label(&slot[..64])
+}
+
+// What a slot has behind its label.
+fn room(slot_bytes: u64) -> u64
+    ensures { λ r. ⌜ r ≡ «slot_bytes» - 64 ⌝ }
+{
+    if slot_bytes < 64 {
+        return 0;
+    }
+    slot_bytes - 64
+}
+
+// 8's bounds; a sum is only held against what is left of its bound, so that it cannot wrap.
+pub fn out_of_bounds(slot_bytes: u64, r: Record) -> bool
+    ensures { λ x. ⌜ x ≡ outOfBounds «slot_bytes» r ⌝ }
+{
+    if room(slot_bytes) < r.file_size {
+        return true;
+    }
+    if r.file_size < r.trailer_offset {
+        return true;
+    }
+    let at = disk_location::masked(r.lsn);
+    if at == 0 {
+        return true;
+    }
+    if 9223372036854775808 <= r.lsn {
+        return true;
+    }
+    if 4611686018427387904 - at <= r.trailer_offset {
+        return true;
+    }
+    255 < r.generation
+}

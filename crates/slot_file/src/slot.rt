@@ -1,0 +1,103 @@
+use crate::SlotAnswer;
+use crate::label;
+use rules::Answer;
+use rules::Label;
+use rules::Record;
+use rules::Refusal;
+ghost use mathlib.Core.Path.{_≡_};
+ghost use Prim.Native.Nat.{_-_, _≤_};
+ghost use lib.ListN.{length, drop};
+ghost use Rattle.rules.specs.declared.Label.the-variants.{Five};
+ghost use Rattle.rules.specs.Refusal.{decide};
+ghost use Rattle.rules.specs.SlotFile.{fileIn, objectPart, trailerPart, slotTests, viewBy, viewIn};
+ghost use Rattle.slot_file.specs.Labels.{Inside};
+ghost use Rattle.slot_file.specs.Slots.{shownBy, entryTests};
+
+// "a 64-byte label, then the file"
+fn behind_label(slot: &[u8]) -> &[u8]
+    ensures { λ r. ⌜ now r ≡ drop 64 (now (slot .entry)) ⌝ }
+{
+    if slot.len() < 64 {
+        return &slot[0..0];
+    }
+    &slot[64..]
+}
+
+// The file that a record describes, a part of the lent slot.
+pub fn file_part(slot: &[u8], r: Record) -> &[u8]
+    requires { ⌜ r .«file_size» ≤ length (now slot) - 64 ⌝ }
+    ensures { λ x. ⌜ now x ≡ fileIn r (now (slot .entry)) ⌝ }
+{
+    let behind = behind_label(slot);
+    let end = r.file_size as usize;
+    &behind[..end]
+}
+
+// Its object bytes.
+pub fn object_part(slot: &[u8], r: Record) -> &[u8]
+    requires { ⌜ Inside (length (now slot)) r ⌝ }
+    ensures { λ x. ⌜ now x ≡ objectPart r (now (slot .entry)) ⌝ }
+{
+    let file = file_part(slot, r);
+    let end = r.trailer_offset as usize;
+    &file[..end]
+}
+
+// Its trailer.
+pub fn trailer_part(slot: &[u8], r: Record) -> &[u8]
+    requires { ⌜ Inside (length (now slot)) r ⌝ }
+    ensures { λ x. ⌜ now x ≡ trailerPart r (now (slot .entry)) ⌝ }
+{
+    let file = file_part(slot, r);
+    let start = r.trailer_offset as usize;
+    &file[start..]
+}
+
+// 9 to 13, in order.
+fn check_trailer(bytes: &[u8], r: Record) -> Answer
+    ensures { λ x. ⌜ x ≡ decide (entryTests r (now (bytes .entry))) ⌝ }
+{
+    match trailer::check(bytes) {
+        Answer::Refused(refusal) => Answer::Refused(refusal),
+        Answer::Done => {
+            if trailer::some_over(bytes, r.trailer_offset) {
+                return Answer::Refused(Refusal::EntryPosition);
+            }
+            if r.present_objects != trailer::count(bytes) {
+                return Answer::Refused(Refusal::PresentCount);
+            }
+            Answer::Done
+        }
+    }
+}
+
+// 8 to 13, in order, for a label's five numbers.
+fn check_file(slot: &[u8], r: Record) -> Answer
+    ensures { λ x. ⌜ x ≡ decide (slotTests r (now (slot .entry))) ⌝ }
+{
+    if label::out_of_bounds(slot.len() as u64, r) {
+        return Answer::Refused(Refusal::LabelBytes);
+    }
+    check_trailer(trailer_part(slot, r), r)
+}
+
+// What the five numbers show of their slot.
+fn shown(slot: &[u8], r: Record) -> SlotAnswer
+    ensures { λ x. ⌜ x ≡ shownBy (viewBy (Five r) (now (slot .entry))) ⌝ }
+{
+    match check_file(slot, r) {
+        Answer::Done => SlotAnswer::Holds(r),
+        Answer::Refused(refusal) => SlotAnswer::Damaged(refusal),
+    }
+}
+
+// What a slot's bytes show, whatever they are.
+pub fn check(slot: &[u8]) -> SlotAnswer
+    ensures { λ x. ⌜ x ≡ shownBy (viewIn (now (slot .entry))) ⌝ }
+{
+    match label::read(slot) {
+        Label::Vacant => SlotAnswer::Empty,
+        Label::Wrong => SlotAnswer::Damaged(Refusal::LabelBytes),
+        Label::Five(r) => shown(slot, r),
+    }
+}

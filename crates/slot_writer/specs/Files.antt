@@ -1,0 +1,28 @@
+-- The run of a file: its objects, its trailer, its label.
+use mathlib.Core.Path.{_≡_, refl}
+use mathlib.Core.List.{List}
+use Prim.Native.Nat.{ℕ, _+_}
+use lib.ListN.{length, length-append}
+use Rattle.numbers.specs.LittleEndian.{le-length}
+use Rattle.rules.specs.Label.{labelBytes}
+use Rattle.rules.specs.Object.{objectBytes}
+use Rattle.rules.specs.Trailer.{trailerBytes}
+use Rattle.rules.specs.Ops.{Op, objectsOf, entriesOf, fileBytes}
+use Rattle.rules.specs.declared.Record.{Record}
+use Rattle.rules.specs.Stores.{storesOf, fileStores}
+use Rattle.stores.specs.Runs.{Made, made-then, made-behind}
+use Rattle.slot_writer.specs.Labels.{labelStores}
+
+pub object-length : (id : ℕ) (body : List ℕ) → length (objectBytes id body) ≡ 20 + length body
+unfolding objectBytes
+object-length id body = simp (length-append, le-length)
+
+-- the first k stores of a file's run, made by three writers, each given what the one before it left
+pub file-made : (start : ℕ) (ops : List Op) (r : Record) {k l m n : ℕ} {heap objects trailer label : List ℕ}
+    → Made k (storesOf (start + 64) (objectsOf ops)) heap objects l
+    → Made l (storesOf (start + 64 + length (objectsOf ops)) (trailerBytes (entriesOf 0 ops))) objects trailer m
+    → Made m (labelStores start (labelBytes r)) trailer label n
+    → Made k (fileStores start (labelBytes r) (fileBytes ops)) heap label n
+unfolding fileStores labelStores fileBytes
+file-made start ops r a b c =
+    made-then (made-behind (start + 64) (start + 64 + length (objectsOf ops)) (objectsOf ops) (trailerBytes (entriesOf 0 ops)) refl a b) c

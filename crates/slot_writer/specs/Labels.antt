@@ -1,0 +1,68 @@
+-- A label's bytes and its stores.
+use mathlib.Core.Path.{_≡_, refl, sym, ap, _∙_}
+use mathlib.Core.Bool.{Bool, true, false}
+use mathlib.Core.List.{List, _++_, append-assoc}
+use Prim.Native.Nat.{ℕ, zero, suc, _-_, _/_, _≤_}
+use native.Mathlib.Omega.{arith}
+use native.Mathlib.Nat.{sub-zero, suc-sub-suc}
+use lib.Dec.{ltb}
+use lib.ListN.{length, take, drop, replicate, length-append}
+use Rattle.numbers.specs.Groups.{groupsOf, orLast}
+use Rattle.numbers.specs.Parts.{front, front-length}
+use Rattle.rules.specs.declared.Record.{Record}
+use Rattle.rules.specs.Base.{padded}
+use Rattle.rules.specs.Label.{labelBytes}
+use Rattle.rules.specs.Stores.{Store, storesOf}
+
+-- "lsn, trailer_offset, file_size, present_objects, generation as numbers in groups of seven bits"
+unfoldable pub fiveGroups : Record → List ℕ
+fiveGroups r =
+    (((groupsOf 10 (r .lsn)
+    ++ groupsOf 10 (r .«trailer_offset»))
+    ++ groupsOf 10 (r .«file_size»))
+    ++ groupsOf 10 (r .«present_objects»))
+    ++ groupsOf 10 (r .generation)
+
+-- "label bytes 2 to 64, then label byte 1"
+unfoldable pub labelStores : ℕ → List ℕ → List Store
+labelStores start label = storesOf (suc start) (drop 1 label) ++ storesOf start (take 1 label)
+
+-- a number takes no more groups than it may
+pub groups-fit : (k n : ℕ) → length (groupsOf k n) ≤ k
+unfolding groupsOf
+groups-fit zero n = omega arith
+groups-fit (suc k) n = go (ltb n 128) (groups-fit k (n / 128))
+  where
+    go : (b : Bool) → length (groupsOf k (n / 128)) ≤ k → length (orLast b n (groupsOf k (n / 128))) ≤ suc k
+    go true h = omega arith
+    go false h = omega arith
+
+five-short : (r : Record) → length (fiveGroups r) ≤ 50
+unfolding fiveGroups
+five-short r =
+    simp length-append
+    (omega (arith, groups-fit 10 (r .lsn), groups-fit 10 (r .«trailer_offset»), groups-fit 10 (r .«file_size»), groups-fit 10 (r .«present_objects»), groups-fit 10 (r .generation)))
+
+drop-same : (n m a : ℕ) → drop n (replicate m a) ≡ replicate (m - n) a
+drop-same zero m a = rw (sub-zero m) refl
+drop-same (suc n) zero a = let none : zero - suc n ≡ zero = omega arith in rw none refl
+drop-same (suc n) (suc m) a = rw (suc-sub-suc m n) (drop-same n m a)
+
+-- written in front of zeros, zeros behind it
+front-zeros : (n : ℕ) (ns : List ℕ) → front ns (replicate n 0) ≡ padded n ns
+unfolding front padded
+front-zeros n ns = ap (λ (zs : List ℕ). ns ++ zs) (drop-same (length ns) n 0)
+
+five-nested : (r : Record) → labelBytes r ≡ padded 64 (fiveGroups r)
+unfolding labelBytes fiveGroups
+five-nested r = ap (padded 64) (nested (groupsOf 10 (r .lsn)) (groupsOf 10 (r .«trailer_offset»)) (groupsOf 10 (r .«file_size»)) (groupsOf 10 (r .«present_objects»)) (groupsOf 10 (r .generation)))
+  where
+    nested : (a b c d e : List ℕ) → a ++ (b ++ (c ++ (d ++ e))) ≡ (((a ++ b) ++ c) ++ d) ++ e
+    nested a b c d e = simp append-assoc
+
+-- five numbers put in front of 64 zeros are a label
+pub label-made : (r : Record) → front (fiveGroups r) (replicate 64 0) ≡ labelBytes r
+label-made r = front-zeros 64 (fiveGroups r) ∙ sym (five-nested r)
+
+pub label-length : (r : Record) → length (labelBytes r) ≡ 64
+label-length r = ap length (sym (label-made r)) ∙ front-length (replicate 64 0) (fiveGroups r) (omega (arith, five-short r))

@@ -1,0 +1,45 @@
+// A file's objects and its label, written straight into the heap as far as `left` stores reach. The run of a file is
+// its objects, its trailer (crate trailer), label bytes 2 to 64, label byte 1.
+
+pub mod label;
+
+ghost use mathlib.Core.Path.{_≡_};
+ghost use mathlib.Core.List.{_++_};
+ghost use mathlib.Core.Logic.{_⊎_};
+ghost use Prim.Native.Nat.{_+_, _≤_};
+ghost use lib.ListN.{length, take, drop};
+ghost use Rattle.numbers.specs.LittleEndian.{leBytes};
+ghost use Rattle.rules.specs.Object.{objectBytes};
+ghost use Rattle.rules.specs.Stores.{storesOf};
+ghost use Rattle.stores.specs.Runs.{Made};
+
+// "checksum 4, id 8, length 8"
+fn put_header(heap: &mut [u8], at: usize, sum: u32, id: u64, size: u64, left: u64) -> u64
+    requires { ⌜ at + 20 ≤ length (now heap) ⌝ }
+    ensures { λ r. ⌜ Made left (storesOf at ((leBytes 4 sum ++ leBytes 8 id) ++ leBytes 8 size)) (now (heap .entry)) (now (heap .exit)) r ⌝ }
+{
+    let behind_sum = stores::put_number(heap, at, 4, sum as u64, left);
+    let behind_id = stores::put_number(heap, at + 4, 8, id, behind_sum);
+    stores::put_number(heap, at + 12, 8, size, behind_id)
+}
+
+// An object whose body is a piece of another buffer, from `at` on.
+pub fn put_object(heap: &mut [u8], at: usize, id: u64, body: &[u8], left: u64) -> u64
+    requires { ⌜ at + (20 + length (now body)) ≤ length (now heap) ⌝ }
+    ensures { λ r. ⌜ Made left (storesOf at (objectBytes id (now (body .entry)))) (now (heap .entry)) (now (heap .exit)) r ⌝ }
+{
+    let sum = checksum::object_sum(id, body);
+    let behind = put_header(heap, at, sum, id, body.len() as u64, left);
+    stores::put_bytes(heap, at + 20, body, behind)
+}
+
+// An object whose body is a piece of the heap itself, apart from where it goes.
+pub fn move_object(heap: &mut [u8], at: usize, id: u64, from: usize, size: usize, left: u64) -> u64
+    requires { ⌜ (at + (20 + size) ≤ length (now heap)) × (from + size ≤ length (now heap)) × ((at + 20 ≤ from) ⊎ (from + size ≤ at)) ⌝ }
+    ensures { λ r. ⌜ Made left (storesOf at (objectBytes id (take size (drop from (now (heap .entry)))))) (now (heap .entry)) (now (heap .exit)) r ⌝ }
+{
+    let end = from + size;
+    let sum = checksum::object_sum(id, &heap[from..end]);
+    let behind = put_header(heap, at, sum, id, size as u64, left);
+    stores::move_bytes(heap, at + 20, from, size, behind)
+}

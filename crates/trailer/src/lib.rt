@@ -1,0 +1,76 @@
+// A file's trailer: its entries by number from the lent bytes, and the tests 9 to 12 on any bytes.
+
+pub mod write;
+
+use disk_location::RelativeDiskLocation;
+use numbers::little_endian;
+use rules::Answer;
+use rules::Entry;
+use rules::Refusal;
+ghost use mathlib.Core.Path.{_≡_};
+ghost use Prim.Native.Nat.{_+_, _*_, _≤_, _<_};
+ghost use lib.ListN.{length, getD};
+ghost use Rattle.rules.specs.Refusal.{decide};
+ghost use Rattle.rules.specs.Trailer.{countIn, trailerTests, entriesIn};
+ghost use Rattle.trailer.specs.Entries.{noEntry, someOver};
+
+// "entry count 8"
+pub fn count(trailer: &[u8]) -> u64
+    requires { ⌜ 12 ≤ length (now trailer) ⌝ }
+    ensures { λ r. ⌜ r ≡ countIn (now (trailer .entry)) ⌝ }
+{
+    little_endian::get(&trailer[4..], 8)
+}
+
+// "trailer (9, 10, 11)": a count is only held against the room, so that no product of it can wrap.
+pub fn check(trailer: &[u8]) -> Answer
+    ensures { λ r. ⌜ r ≡ decide (trailerTests (now (trailer .entry))) ⌝ }
+{
+    if trailer.len() < 20 {
+        return Answer::Refused(Refusal::TrailerShort);
+    }
+    let stored = little_endian::get(trailer, 4);
+    let sum = checksum::sum(&trailer[4..]) as u64;
+    if stored != sum {
+        return Answer::Refused(Refusal::Checksum);
+    }
+    let n = count(trailer);
+    let room = ((trailer.len() - 12) / 16) as u64;
+    if room < n {
+        return Answer::Refused(Refusal::EntryCount);
+    }
+    Answer::Done
+}
+
+// Entry k, from the bytes: no list is built.
+pub fn entry(trailer: &[u8], k: u64) -> Entry
+    requires { ⌜ (k < countIn (now trailer)) × (12 + 16 * countIn (now trailer) ≤ length (now trailer)) ⌝ }
+    ensures { λ r. ⌜ r ≡ getD (entriesIn (now (trailer .entry))) k noEntry ⌝ }
+{
+    let at = 12 + 16 * (k as usize);
+    let id = little_endian::get(&trailer[at..], 8);
+    let mid = at + 8;
+    let location = little_endian::get(&trailer[mid..], 8);
+    Entry {
+        id: id,
+        location: location,
+    }
+}
+
+// "12 entry position over T"
+pub fn some_over(trailer: &[u8], offset: u64) -> bool
+    requires { ⌜ 12 + 16 * countIn (now trailer) ≤ length (now trailer) ⌝ }
+    ensures { λ r. ⌜ r ≡ someOver offset (entriesIn (now (trailer .entry))) ⌝ }
+{
+    let n = count(trailer);
+    let mut k: u64 = 0;
+    while k < n {
+        let e = entry(trailer, k);
+        let relative = RelativeDiskLocation(e.location);
+        if offset < relative.position() {
+            return true;
+        }
+        k += 1;
+    }
+    false
+}

@@ -1,0 +1,494 @@
+#!/usr/bin/env python3
+"""Compares the port with the original Rust by running both on the same scenarios.
+
+    compare.py [--model | --console PATH] [--rust PATH | --stored FILE] [--seed S] [--from K] [--count N] [--seconds T] [--small] [--store FILE]
+
+After every call: each id's read, the answer, the growth of the next position, counts, each file's numbers, live count and claim;
+after reopenings and rewrites also each file as a set of entries. A heap that the port wrote is renamed to the original's files,
+opened and read by it, and every number must be the same; files that the original wrote are labelled, put into slots, reopened and
+read by the port. A difference that is not in known.py fails. The port's bytes are the model's bytes: the console shows the heap's
+checksum, and every answer of it, that checksum among them, must be the model's."""
+import argparse
+import collections
+import time
+import zlib
+
+from model import BATCH_BIT, HEADER, LABEL, Console, batch_operations, label_numbers, le, masked, shard, trailer_entries, Refused
+from known import GROUP_FAILURES, KNOWN, NOT_MADE, READ_FAILURES, TABLE_FAILURES, directed
+from port import Difference, Model, Port, Rust, Stored, store_answers
+from scenarios import from_files, scenario
+
+File = collections.namedtuple('File', 'lsn trailer_offset file_size present generation live claimed')
+
+
+def shape(file):
+    """what is compared of a file whatever its place: everything but the position"""
+    return (file.lsn & BATCH_BIT, *file[1:])
+
+
+def contents(trailer_offset, data):
+    """the file as a set of entries: (id, body), body None for a delete, ('cut', ..) for an object that is not whole"""
+    entries = set()
+    for ident, relative in trailer_entries(data[trailer_offset:]):
+        at = relative // 2
+        length = le(data, at + 12)
+        whole = at + HEADER + length <= len(data)
+        entries.add((ident, None if relative % 2 else data[at:at + HEADER + length] if whole else ('cut', at)))
+    return frozenset(entries)
+
+
+# ---- the port's side: a script, and what the port answers to it -----------------------------------
+
+class Step:
+    """one line of a scenario, with the model's bytes behind it"""
+
+    def __init__(self, line, store, imported, cut):
+        self.line, self.imported, self.cut = line, imported, cut
+        self.heap, self.given = bytes(store.heap), store.given
+
+    def label_files(self):
+        """(label's numbers, bytes) of each slot that is not empty"""
+        size = self.given.slot_bytes
+        for at in range(0, len(self.heap), size):
+            if self.heap[at] != 0:
+                numbers = label_numbers(self.heap[at:at + LABEL])
+                yield numbers, self.heap[at + LABEL:at + LABEL + numbers[2]]
+
+    def bytes_of(self, slot, file):
+        at = slot * self.given.slot_bytes + LABEL
+        return self.heap[at:at + file.file_size]
+
+
+def can_be_cut(store):
+    """could a shard of this maintenance be cut, its entries taken in some order?"""
+    table = store.table()
+    for group in store.candidates().values():
+        sizes = collections.defaultdict(list)
+        try:
+            for slot in group:
+                for body in store.survivors(slot, table).values():
+                    sizes[shard(body)].append(0 if body is None else HEADER + len(body))
+        except Refused:
+            continue
+        if any(sum(s) - min(s) > store.given.target for s in sizes.values()):
+            return True
+    return False
+
+
+def plan(lines):
+    """the scenario's steps. Where the two sides cannot stay alike, a reopening is put in and the original takes over the port's heap"""
+    console, steps, by_hand = Console(), [], False
+    for line in lines:
+        word, store = line.split()[0], console.store
+        cut = word == 'maintain' and can_be_cut(store)
+        answer = console.line(line)[0]
+        by_hand = by_hand or word in ('heap', 'poke')
+        steps.append(Step(line, store, word == 'reopen' and by_hand, cut))
+        if word == 'reopen':
+            by_hand = False
+            if answer != 'ok':
+                raise Difference(f'reopening outside the domain: {answer}')
+        if word == 'maintain' and (cut or answer.startswith('refused')):
+            console.line('reopen')
+            steps.append(Step('reopen', store, True, False))
+    return steps
+
+
+CALLS = ('reopen', 'write', 'claim', 'release', 'prune', 'maintain')
+TABLE_CALLS = ('load', 'store', 'cas', 'max')
+
+
+def script(steps, ids):
+    """the console's lines: after each call a dump, the counts and every id's read"""
+    lines = []
+    for step in steps:
+        lines.append(step.line)
+        if step.line.split()[0] in CALLS:
+            lines += ['dump', 'counts'] + [f'read {i}' for i in ids]
+    return lines
+
+
+class PortView:
+    """what the port said after a call"""
+
+    def __init__(self, answer, dump, counts, reads):
+        self.answer, self.counts, self.reads = answer[0], counts[0], [r[0] for r in reads]
+        self.files, self.entries, claimed = {}, {}, set()
+        for line in dump:
+            word, *numbers = line.split()
+            numbers = [int(n) for n in numbers]
+            if word == 'next':
+                self.next = numbers[0]
+            elif word == 'record':
+                self.files[numbers[0]] = File(*numbers[1:], 0)
+            elif word == 'claimed':
+                claimed.add(numbers[0])
+            elif word == 'entry':
+                self.entries[numbers[1]] = numbers[2]
+            elif word == 'heap':
+                self.heap_sum = numbers[0]
+        for slot in claimed & self.files.keys():
+            self.files[slot] = self.files[slot]._replace(claimed=1)
+
+
+def views(steps, answers, ids):
+    """for each step that is a call a PortView, for a table call its answer, None for the others"""
+    said, out = iter(answers), []
+    for step in steps:
+        answer, word = next(said), step.line.split()[0]
+        if word in CALLS:
+            out.append(PortView(answer, next(said), next(said), [next(said) for _ in ids]))
+        else:
+            out.append(answer[0] if word in TABLE_CALLS else None)
+    return out
+
+
+# ---- the comparison ------------------------------------------------------------------------------
+
+def must(same, what, port, rust):
+    if not same:
+        raise Difference(f'{what}\n    port: {port}\n    Rust: {rust}')
+
+
+class Comparison:
+    def __init__(self, rust):
+        self.rust = rust
+        self.known = collections.Counter()
+        self.calls = collections.Counter()
+
+    def met(self, name, times=1):
+        """a known difference"""
+        if name not in KNOWN:
+            raise Difference(f'{name} is not on the list')
+        self.known[name] += times
+
+    def ask(self, command):
+        return self.rust.ask(command)
+
+    def one(self, command):
+        return self.rust.ask(command)[0]
+
+    def rust_files(self):
+        return [File(*map(int, line.split()[1:])) for line in self.ask('records')[:-1]]
+
+    def rust_contents(self):
+        """file -> set of entries, in the order of positions"""
+        data = {}
+        for line in self.ask('files')[:-1]:
+            _, name, body = line.split()
+            lsn, trailer_offset = (int(part, 16) for part in name.split('-')[:2])
+            data[lsn] = contents(trailer_offset, bytes.fromhex(body))
+        return data
+
+    def run(self, steps, port_views, ids):
+        self.ids = ids
+        self.port_next = self.rust_next = 0
+        self.one('wipe')
+        for k, (step, view) in enumerate(zip(steps, port_views)):
+            word, *words = step.line.split()
+            try:
+                if word in TABLE_CALLS:
+                    self.table_call(step.line, view)
+                elif view is not None:
+                    must(view.heap_sum == zlib.crc32(step.heap), "the heap's bytes are not the model's", view.heap_sum, zlib.crc32(step.heap))
+                    self.calls[word] += 1
+                    getattr(self, word)(step, view, *words)
+            except Difference as d:
+                raise Difference(f'step {k}: {step.line[:200]}\n  {d}')
+
+    # one method for each call
+
+    def reopen(self, step, view):
+        for name, value in zip(('file_compaction_percent', 'min_compaction_files', 'target_file_size',
+                                'small_file_cleanup_threshold', 'max_object_size'), step.given[1:]):
+            self.one(f'set {name} {value}')
+        if step.imported:
+            self.one('wipe')
+            for (lsn, trailer_offset, _, present, generation), data in step.label_files():
+                self.one(f'raw {lsn:016x}-{trailer_offset:016x}-{present:016x}-{generation:x} {data.hex()}')
+        opened = self.one('open' if step.imported else 'reopen')
+        must(view.answer == 'ok' and opened.startswith('ok '), 'reopen', view.answer, opened)
+        rust_next, rust = int(opened.split()[1]), self.rust_files()
+        formula = max(masked(f.lsn) for f in rust) + max(f.file_size for f in rust) + 1 if rust else 1
+        must(rust_next == formula, "next position after the original's reopening", formula, rust_next)
+        if step.imported:
+            must(view.next == rust_next, 'next position', view.next, rust_next)
+            must(sorted(view.files.values()) == rust, 'records', sorted(view.files.values()), rust)
+            loads = ['ok %d' % view.entries[i] if i in view.entries else 'nothing' for i in self.ids]
+            must(loads == self.one('loads ' + ' '.join(map(str, self.ids))).split(','), 'table', loads, 'another')
+        elif {f.lsn for f in rust} == {f.lsn for f in view.files.values()}:
+            must(view.next == rust_next, 'next position', view.next, rust_next)
+        else:
+            self.met('order')
+        self.port_next, self.rust_next = view.next, rust_next
+        self.alike(step, view, entries=True)
+
+    def write(self, step, view, batch):
+        if view.answer in ('refused 4', 'refused 5', 'refused 6', 'refused 7'):
+            self.met('limits')
+        elif view.answer == 'refused 2':
+            self.met('batch bytes')
+        else:
+            operations = batch_operations(bytes.fromhex(batch.replace('-', '')))
+            last, longest = dict(operations), step.given.max_object
+            words = [f'{i}' if b is None else f'{i}={b.hex() or "-"}' for i, b in operations]
+            too_long = view.answer == 'refused 3'
+            if too_long and not any(b is not None and len(b) > longest for b in last.values()):
+                exactly = any(b is not None and len(b) == longest for b in last.values())
+                self.met('put of exactly max_object_size' if exactly else 'oversize put overridden')
+            else:
+                got = self.one(' '.join(['write'] + words))
+                if too_long:
+                    must(got == 'err Unsupported', 'write', view.answer, got)
+                else:
+                    must(view.answer == 'ok' and got.startswith('ok '), 'write', view.answer, got)
+                    self.grown(view, int(got.split()[1]))
+        self.alike(step, view)
+
+    def maintain(self, step, view):
+        number = view.answer.split()[1] if view.answer.startswith('refused') else None
+        if number in ('4', '5', '7'):
+            self.met('limits')
+            self.reads(view)
+            return
+        got = self.one('maintain')
+        if number is not None:
+            self.met('16 in maintenance' if number == '16' else 'damaged file in maintenance')
+            must(number == '16' or got in GROUP_FAILURES, 'maintain', view.answer, got)
+            self.reads(view)
+            return
+        must(got.startswith('ok ') and got.split()[1] == view.answer.split()[1], 'count moved', view.answer, got)
+        if step.cut:
+            self.met('cut')
+            self.reads(view)
+        else:
+            self.grown(view, int(got.split()[2]))
+            self.alike(step, view, entries=True)
+
+    def prune(self, step, view):
+        got = self.one('prune')
+        must(view.answer == 'ok' == got, 'prune', view.answer, got)
+        self.alike(step, view, entries=True)
+
+    def claim(self, step, view, slot):
+        self.claimed(step, view, 'claim', int(slot))
+
+    def release(self, step, view, slot):
+        self.claimed(step, view, 'release', int(slot))
+
+    def claimed(self, step, view, word, slot):
+        if view.answer != 'ok':
+            must(view.answer == 'refused 21', word, view.answer, 'accepted')
+            self.met('claim refused')
+        else:
+            mine = view.files[slot]
+            twins = [f for k, f in view.files.items() if self.same(step, k, f, slot, mine)]
+            rank = sorted(masked(f.lsn) for f in twins).index(masked(mine.lsn))
+            wanted = contents(mine.trailer_offset, step.bytes_of(slot, mine))
+            theirs = [lsn for lsn, c in sorted(self.rust_contents().items(), key=lambda e: masked(e[0])) if c == wanted]
+            got = self.one(f'{word} {theirs[rank]}' if rank < len(theirs) else 'claim 0')
+            must(got == 'ok', word, view.answer, got)
+        self.alike(step, view)
+
+    def same(self, step, slot, file, other, mine):
+        return contents(file.trailer_offset, step.bytes_of(slot, file)) == contents(mine.trailer_offset, step.bytes_of(other, mine))
+
+    def table_call(self, line, answer):
+        self.calls['table call'] += 1
+        if answer in ('refused 6', 'refused 20'):
+            self.met('limits')
+            return
+        got = self.one(line)
+        must(answer == got or got in TABLE_FAILURES.get(answer, ()), line, answer, got)
+
+    # what must be alike
+
+    def grown(self, view, rust_next):
+        must(view.next - self.port_next == rust_next - self.rust_next, 'growth of the next position',
+             view.next - self.port_next, rust_next - self.rust_next)
+        self.port_next, self.rust_next = view.next, rust_next
+
+    def alike(self, step, view, entries=False):
+        self.reads(view)
+        must(view.counts == self.one('counts'), 'counts', view.counts, 'another')
+        rust = self.rust_files()
+        mine, theirs = sorted(map(shape, view.files.values())), sorted(map(shape, rust))
+        must(mine == theirs, 'files', mine, theirs)
+        if entries:
+            by_lsn = self.rust_contents()
+            key = lambda c: (c[0], sorted(map(repr, c[1])))
+            mine = sorted(((shape(f), contents(f.trailer_offset, step.bytes_of(k, f))) for k, f in view.files.items()), key=key)
+            theirs = sorted(((shape(f), by_lsn[f.lsn]) for f in rust), key=key)
+            must(mine == theirs, 'files as sets of entries', mine, theirs)
+            self.met('delete position', sum(i[1] is None for _, c in mine for i in c))
+
+    def reads(self, view):
+        got = self.one('read ' + ' '.join(map(str, self.ids))).split(',')
+        for ident, port, rust in zip(self.ids, view.reads, got):
+            self.calls['read'] += 1
+            must(port == rust or rust in READ_FAILURES.get(port, ()), f'read {ident}', port, rust)
+
+
+def ids_of(steps):
+    """every id that a scenario mentions, and one that it does not"""
+    found = {77777}
+    for step in steps:
+        word, *words = step.line.split()
+        if word == 'write':
+            try:
+                found |= {i for i, _ in batch_operations(bytes.fromhex(words[0].replace('-', '')))}
+            except Refused:
+                pass
+        if step.imported:
+            for numbers, data in step.label_files():
+                found |= {i for i, _ in trailer_entries(data[numbers[1]:])}
+    return sorted(found)
+
+
+class Job:
+    """a scenario, planned"""
+
+    def __init__(self, name, lines):
+        self.name, self.lines = name, lines
+        self.steps = plan(lines)
+        self.ids = ids_of(self.steps)
+        self.script = script(self.steps, self.ids)
+
+
+def run_port(port, jobs):
+    """each job's answers: one process for all"""
+    answers = iter(port.run([line for job in jobs for line in job.script]))
+    for job in jobs:
+        job.answers = [next(answers) for _ in job.script]
+        if not isinstance(port, Model):
+            for line, said, wanted in zip(job.script, job.answers, Model().run(job.script)):
+                if said != wanted:
+                    raise Difference(f'scenario {job.name}: {line[:200]}\n    port: {said}\n    model: {wanted}')
+
+
+def compare_jobs(comparison, jobs):
+    """compares each job; gives the original's files and the last reads of each"""
+    left = {}
+    for job in jobs:
+        comparison.rust.begin(job.name)
+        job_views = views(job.steps, job.answers, job.ids)
+        try:
+            comparison.run(job.steps, job_views, job.ids)
+        except Difference as d:
+            raise Difference(f'scenario {job.name}, {d}\n\n' + '\n'.join(job.lines))
+        files = [(line.split()[1], bytes.fromhex(line.split()[2])) for line in comparison.ask('files')[:-1]]
+        left[job.name] = files, [v for v in job_views if isinstance(v, PortView)][-1].reads
+    return left
+
+
+class Generated:
+    """scenarios from a seed, and from the files that the original left of one"""
+
+    def __init__(self, seed, small):
+        self.seed, self.small, self.scenarios = seed, small, {}
+
+    def first(self, number):
+        return self.kept(f'{number:03}', scenario(self.seed, number, self.small))
+
+    def carried(self, number, files, settings, table):
+        """None where there is nothing to carry, or more than 256 slots take"""
+        return self.kept(f'{number:03}r', from_files(self.seed, number, files, settings, table)) if 0 < len(files) <= 170 else None
+
+    def kept(self, name, lines):
+        self.scenarios[name] = lines
+        return Job(name, lines)
+
+
+class Kept:
+    """the stored scenarios"""
+
+    def __init__(self, stored):
+        self.scenarios = stored.scenarios
+
+    def first(self, number):
+        return Job(f'{number:03}', self.scenarios[f'{number:03}'])
+
+    def carried(self, number, files, settings, table):
+        name = f'{number:03}r'
+        return Job(name, self.scenarios[name]) if name in self.scenarios else None
+
+
+def compare(port, comparison, source, numbers):
+    """one round: scenarios, then the original's files of each carried to the port. Gives how many of both"""
+    jobs = [source.first(k) for k in numbers]
+    run_port(port, jobs)
+    left = compare_jobs(comparison, jobs)
+    carried = []
+    for k, job in zip(numbers, jobs):
+        files, reads = left[job.name]
+        settings = [line for line in job.lines if line.startswith('settings')][-1]
+        again = source.carried(k, files, settings, 4 + len(job.ids))
+        if again:
+            again.want = dict(zip(job.ids, reads))
+            carried.append(again)
+    run_port(port, carried)
+    for job in carried:
+        first = next(v for v in views(job.steps, job.answers, job.ids) if isinstance(v, PortView))
+        for ident, got in zip(job.ids, first.reads):
+            if got != job.want[ident]:
+                raise Difference(f"scenario {job.name}: read {ident} of the original's own files\n    before: {job.want[ident]}\n    port: {got}")
+    compare_jobs(comparison, carried)
+    return len(jobs), len(carried)
+
+
+def compare_directed(port, rust):
+    """the smallest inputs of known.py: each side says what the list has"""
+    cases = directed()
+    for k, (name, lines, port_says, commands, rust_says) in enumerate(cases):
+        rust.begin(f'smallest input {k}')
+        got = port.run(lines)[-1][0], [rust.ask(command)[0] for command in commands][-1]
+        rust_so = got[1] == rust_says or rust_says == 'panic' and got[1].startswith('panic')  # in the standard library: no place
+        if got[0] != port_says or not rust_so:
+            raise Difference(f'smallest input {name}\n    port: {got[0]}, wanted {port_says}\n    Rust: {got[1]}, wanted {rust_says}\n\n' + '\n'.join(lines))
+    return len(cases)
+
+
+def main():
+    parser = argparse.ArgumentParser()
+    parser.add_argument('--model', action='store_true', help="the model in the port's place")
+    parser.add_argument('--console', default='target/bin/console')
+    parser.add_argument('--rust', default='oracle/target/release/oracle')
+    parser.add_argument('--stored', help='replay the answers of this file instead of running the original')
+    parser.add_argument('--store', help="write the original's answers into this file")
+    parser.add_argument('--seed', default='1')
+    parser.add_argument('--from', dest='start', type=int, default=0)
+    parser.add_argument('--count', type=int, default=100)
+    parser.add_argument('--seconds', type=float, default=1e9, help='begin no round after so long')
+    parser.add_argument('--small', action='store_true')
+    options = parser.parse_args()
+    port = Model() if options.model else Port(options.console)
+    rust = Stored(options.stored) if options.stored else Rust(options.rust)
+    if options.stored:
+        options.seed, options.count = 'of the stored answers', sum(name.isdigit() for name in rust.scenarios)
+    source = Kept(rust) if options.stored else Generated(options.seed, options.small)
+    began, comparison, done, carried = time.time(), Comparison(rust), 0, 0
+    try:
+        cases = compare_directed(port, rust)
+        for at in range(options.start, options.start + options.count, 25):
+            if time.time() - began > options.seconds:
+                break
+            numbers = range(at, min(at + 25, options.start + options.count))
+            n, c = compare(port, comparison, source, numbers)
+            done, carried = done + n, carried + c
+    except Difference as d:
+        raise SystemExit(f'DIFFERENCE (seed {options.seed}) {d}')
+    finally:
+        rust.close()
+    if options.store:
+        store_answers(options.store, source.scenarios, rust.transcripts)
+    against = 'stored answers of the original' if options.stored else 'original'
+    not_made = sum(comparison.known[name] for name in NOT_MADE)
+    calls = sum(comparison.calls.values()) - not_made
+    print(f'{port.name} and {against}: {cases} smallest inputs, {done} scenarios and {carried} of carried files, {calls} calls alike and {not_made} made by the port alone, seed {options.seed}, '
+          f'{time.time() - began:.0f} s')
+    print('  calls: ' + ', '.join(f'{n} {w}' for w, n in sorted(comparison.calls.items())))
+    print('  known: ' + ', '.join(f'{w} {n}' for w, n in sorted(comparison.known.items())))
+
+
+if __name__ == '__main__':
+    main()
