@@ -8,6 +8,9 @@ use rules::Claims;
 use rules::Settings;
 use rules::State;
 use script::Keyword;
+ghost use mathlib.Core.Path.{_≡_};
+ghost use Rattle.rules.specs.Settings.{defaults};
+ghost use Rattle.rules.specs.World.{noState};
 
 // What lies beside the buffers, and how much of each buffer is lent.
 pub struct Bench {
@@ -19,7 +22,9 @@ pub struct Bench {
     pub locations_len: usize,
 }
 
-fn no_settings() -> Settings {
+fn no_settings() -> Settings
+    ensures { λ s. ⌜ s ≡ noState .settings ⌝ }
+{
     Settings {
         slot_bytes: 0,
         file_compaction_percent: 0,
@@ -30,7 +35,10 @@ fn no_settings() -> Settings {
     }
 }
 
-fn defaults() -> Settings {
+// "Port's default"
+fn defaults() -> Settings
+    ensures { λ s. ⌜ s ≡ defaults ⌝ }
+{
     Settings {
         slot_bytes: 4096,
         file_compaction_percent: 75,
@@ -42,7 +50,9 @@ fn defaults() -> Settings {
 }
 
 // The state before the first reopening.
-fn no_state() -> State {
+fn no_state() -> State
+    ensures { λ s. ⌜ s ≡ noState ⌝ }
+{
     State {
         settings: no_settings(),
         heap_len: 0,
@@ -52,27 +62,57 @@ fn no_state() -> State {
     }
 }
 
-fn no_claims() -> Claims {
-    Claims {
-        a: 0,
-        b: 0,
-        c: 0,
-        d: 0,
-    }
-}
-
 pub fn start() -> Bench {
     Bench {
         settings: defaults(),
         state: no_state(),
-        claims: no_claims(),
+        claims: claims::no_claims(),
         heap_len: 65536,
         ids_len: 1024,
         locations_len: 1024,
     }
 }
 
-// A command by hand, or a call, on the lent parts of the buffers.
+// The calls: a call that lands gets its arm here, its function in calls.rt, and leaves the first screen's list.
+fn after_call(
+    b: Bench,
+    keyword: Keyword,
+    n: [u64; 9],
+    heap: &mut [u8],
+    ids: &mut [u64],
+    locations: &mut [u64],
+) -> Bench {
+    match keyword {
+        Keyword::Claim => calls::claim(b, heap, ids, locations, n[0]),
+        Keyword::Release => calls::release(b, heap, ids, locations, n[0]),
+        Keyword::Counts => {
+            calls::counts(b, heap, ids, locations);
+            b
+        }
+        Keyword::Load => {
+            calls::load(ids, locations, n[0]);
+            b
+        }
+        Keyword::Store => {
+            calls::store(ids, locations, n[0], n[1]);
+            b
+        }
+        Keyword::Cas => {
+            calls::cas(ids, locations, n[0], n[1], n[2]);
+            b
+        }
+        Keyword::Max => {
+            calls::max(ids, locations, n[0], n[1]);
+            b
+        }
+        _ => {
+            say::bad_line();
+            b
+        }
+    }
+}
+
+// Commands by hand and looks, on the lent parts of the buffers.
 fn after_lent(
     b: Bench,
     keyword: Keyword,
@@ -95,37 +135,15 @@ fn after_lent(
             by_hand::entry(n[0], n[1], n[2], ids, locations);
             b
         }
-        Keyword::Load => {
-            calls::load(ids, locations, n[0]);
-            b
-        }
-        Keyword::Store => {
-            calls::store(ids, locations, n[0], n[1]);
-            b
-        }
-        Keyword::Cas => {
-            calls::cas(ids, locations, n[0], n[1], n[2]);
-            b
-        }
-        Keyword::Max => {
-            calls::max(ids, locations, n[0], n[1]);
-            b
-        }
         Keyword::List => {
-            let state = b.state;
-            show::list(state, ids, locations);
+            show::list(b, ids, locations);
             b
         }
         Keyword::Dump => {
-            let state = b.state;
-            let claims = b.claims;
-            show::dump(state, claims, heap, ids, locations);
+            show::dump(b, heap, ids, locations);
             b
         }
-        _ => {
-            say::bad_line();
-            b
-        }
+        _ => after_call(b, keyword, n, heap, ids, locations),
     }
 }
 

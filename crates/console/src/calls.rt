@@ -1,7 +1,51 @@
 // The calls, one function to a command: the call on the lent buffers, then its answer.
+use crate::bench::Bench;
 use crate::say;
 use rules::CompareAnswer;
+use rules::CountsAnswer;
 use rules::LoadAnswer;
+
+pub fn claim(b: Bench, heap: &[u8], ids: &[u64], locations: &[u64], slot: u64) -> Bench {
+    let mut next = b;
+    let settings = b.settings;
+    let state = b.state;
+    let held = b.claims;
+    let done = claims::claim(settings, state, held, heap, ids, locations, slot);
+    let answer = done.answer;
+    let left = done.claims;
+    next.claims = left;
+    say::answer(answer);
+    next
+}
+
+pub fn release(b: Bench, heap: &[u8], ids: &[u64], locations: &[u64], slot: u64) -> Bench {
+    let mut next = b;
+    let settings = b.settings;
+    let state = b.state;
+    let held = b.claims;
+    let done = claims::release(settings, state, held, heap, ids, locations, slot);
+    let answer = done.answer;
+    let left = done.claims;
+    next.claims = left;
+    say::answer(answer);
+    next
+}
+
+pub fn counts(b: Bench, heap: &[u8], ids: &[u64], locations: &[u64]) {
+    let settings = b.settings;
+    let state = b.state;
+    match claims::counts(settings, state, heap, ids, locations) {
+        CountsAnswer::Counted(c) => {
+            say::text(b"ok");
+            say::number(c.files);
+            say::number(c.bytes);
+            say::number(c.present);
+            say::number(c.live);
+            say::end();
+        }
+        CountsAnswer::CountsRefused(r) => say::refused(r),
+    }
+}
 
 pub fn load(ids: &[u64], locations: &[u64], id: u64) {
     match location_table::load(ids, locations, id) {

@@ -1,11 +1,10 @@
 // Looking: the listing, and everything.
+use crate::bench::Bench;
 use crate::say;
 use rules::Claims;
 use rules::FileMap;
 use rules::Record;
-use rules::State;
 ghost use mathlib.Core.Path.{_≡_};
-ghost use Prim.Native.Nat.{_+_, _≤_};
 ghost use lib.ListN.{length};
 ghost use Rattle.rules.specs.Layout.{usedIn};
 
@@ -49,8 +48,9 @@ fn used(ids: &[u64], locations: &[u64]) -> usize
     k
 }
 
-pub fn list(state: State, ids: &[u64], locations: &[u64]) {
+pub fn list(b: Bench, ids: &[u64], locations: &[u64]) {
     say::text(b"slot lsn gen present live size\n");
+    let state = b.state;
     let files = state.files;
     file_lines(files);
     say::named(b"ids", used(ids, locations) as u64);
@@ -80,18 +80,13 @@ fn record_lines(files: FileMap) {
     }
 }
 
-// The claims of one word, the lowest slot first.
-fn claimed_lines(word: u64, first: u64)
-    requires { ⌜ first + 64 ≤ 256 ⌝ }
-{
-    let mut bit: u64 = 0;
-    let mut rest = word;
-    while bit < 64 {
-        if rest % 2 == 1 {
-            say::named(b"claimed", first + bit);
+fn claimed_lines(c: Claims) {
+    let mut slot: u64 = 0;
+    while slot < 256 {
+        if claims::is_claimed(c, slot) {
+            say::named(b"claimed", slot);
         }
-        rest = rest / 2;
-        bit += 1;
+        slot += 1;
     }
 }
 
@@ -115,14 +110,13 @@ fn entry_lines(ids: &[u64], locations: &[u64]) {
     }
 }
 
-pub fn dump(state: State, claims: Claims, heap: &[u8], ids: &[u64], locations: &[u64]) {
-    say::named(b"next", state.next_position);
+pub fn dump(b: Bench, heap: &[u8], ids: &[u64], locations: &[u64]) {
+    let state = b.state;
     let files = state.files;
+    let held = b.claims;
+    say::named(b"next", state.next_position);
     record_lines(files);
-    claimed_lines(claims.a, 0);
-    claimed_lines(claims.b, 64);
-    claimed_lines(claims.c, 128);
-    claimed_lines(claims.d, 192);
+    claimed_lines(held);
     entry_lines(ids, locations);
     say::named(b"heap", checksum::sum(heap) as u64);
     say::text(b"end\n");

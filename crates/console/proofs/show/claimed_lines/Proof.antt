@@ -4,25 +4,25 @@ use Rattle.console.proofs.show.claimed_lines.Statement.{statement}
 use Rattle.console.proofs.show.claimed_lines.Tie as tie
 
 abbrev Inv-loop : tie.InvT-loop
-Inv-loop word first bit₀ rest₀ t5 bit rest = (bit ≤ 64)
+Inv-loop c slot₀ t3 slot = (slot ≤ 256)
 
 abbrev μ-loop : tie.MeasureT-loop
-μ-loop word first bit₀ rest₀ t5 bit rest = 64 - bit
+μ-loop c slot₀ t3 slot = 256 - slot
 
 loop-holds : tie.Need-loop-holds Inv-loop μ-loop
 loop-holds c = search needs
 
+is-claimed-requires : tie.Need-is-claimed-requires Inv-loop μ-loop
+is-claimed-requires c κs = search needs
+
 slice-aggregate-named : tie.Need-slice-aggregate-named Inv-loop μ-loop
 slice-aggregate-named c = search needs
-
-add-named : tie.Need-add-named Inv-loop μ-loop
-add-named c = search needs
 
 named-requires : tie.Need-named-requires Inv-loop μ-loop
 named-requires c κs = search needs
 
-add-bit : tie.Need-add-bit Inv-loop μ-loop
-add-bit c = search needs
+add-slot : tie.Need-add-slot Inv-loop μ-loop
+add-slot c = search needs
 
 loop-less : tie.Need-loop-less Inv-loop μ-loop
 loop-less c = search needs
@@ -40,10 +40,10 @@ claimed-lines-spec =
     Inv-loop
     μ-loop
     loop-holds
+    is-claimed-requires
     slice-aggregate-named
-    add-named
     named-requires
-    add-bit
+    add-slot
     loop-less
     loop-again
     returns)
