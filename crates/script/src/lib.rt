@@ -65,77 +65,72 @@ struct Numbers {
     next: usize,
 }
 
+// A word of at most eight bytes, read as one little-endian number.
+fn keyword_at(key: u64) -> Keyword {
+    match key {
+        // settings
+        0x73676e6974746573 => Keyword::Settings,
+        // heap
+        0x70616568 => Keyword::Heap,
+        // table
+        0x656c626174 => Keyword::Table,
+        // poke
+        0x656b6f70 => Keyword::Poke,
+        // entry
+        0x7972746e65 => Keyword::Entry,
+        // state
+        0x6574617473 => Keyword::State,
+        // record
+        0x64726f636572 => Keyword::Record,
+        // claims
+        0x736d69616c63 => Keyword::Claims,
+        // reopen
+        0x6e65706f6572 => Keyword::Reopen,
+        // write
+        0x6574697277 => Keyword::Write,
+        // claim
+        0x6d69616c63 => Keyword::Claim,
+        // release
+        0x657361656c6572 => Keyword::Release,
+        // prune
+        0x656e757270 => Keyword::Prune,
+        // read
+        0x64616572 => Keyword::Read,
+        // maintain
+        0x6e6961746e69616d => Keyword::Maintain,
+        // counts
+        0x73746e756f63 => Keyword::Counts,
+        // load
+        0x64616f6c => Keyword::Load,
+        // store
+        0x65726f7473 => Keyword::Store,
+        // cas
+        0x736163 => Keyword::Cas,
+        // max
+        0x78616d => Keyword::Max,
+        // list
+        0x7473696c => Keyword::List,
+        // dump
+        0x706d7564 => Keyword::Dump,
+        // help
+        0x706c6568 => Keyword::Help,
+        _ => Keyword::Bad,
+    }
+}
+
+// A last byte 0 would not change the number, so no word that ends with one is a keyword.
 pub fn keyword_of(word: &[u8]) -> Keyword {
-    if check::same(word, b"settings") {
-        return Keyword::Settings;
+    let n = word.len();
+    if n == 0 {
+        return Keyword::Bad;
     }
-    if check::same(word, b"heap") {
-        return Keyword::Heap;
+    if 8 < n {
+        return Keyword::Bad;
     }
-    if check::same(word, b"table") {
-        return Keyword::Table;
+    if word[n - 1] == 0 {
+        return Keyword::Bad;
     }
-    if check::same(word, b"poke") {
-        return Keyword::Poke;
-    }
-    if check::same(word, b"entry") {
-        return Keyword::Entry;
-    }
-    if check::same(word, b"state") {
-        return Keyword::State;
-    }
-    if check::same(word, b"record") {
-        return Keyword::Record;
-    }
-    if check::same(word, b"claims") {
-        return Keyword::Claims;
-    }
-    if check::same(word, b"reopen") {
-        return Keyword::Reopen;
-    }
-    if check::same(word, b"write") {
-        return Keyword::Write;
-    }
-    if check::same(word, b"claim") {
-        return Keyword::Claim;
-    }
-    if check::same(word, b"release") {
-        return Keyword::Release;
-    }
-    if check::same(word, b"prune") {
-        return Keyword::Prune;
-    }
-    if check::same(word, b"read") {
-        return Keyword::Read;
-    }
-    if check::same(word, b"maintain") {
-        return Keyword::Maintain;
-    }
-    if check::same(word, b"counts") {
-        return Keyword::Counts;
-    }
-    if check::same(word, b"load") {
-        return Keyword::Load;
-    }
-    if check::same(word, b"store") {
-        return Keyword::Store;
-    }
-    if check::same(word, b"cas") {
-        return Keyword::Cas;
-    }
-    if check::same(word, b"max") {
-        return Keyword::Max;
-    }
-    if check::same(word, b"list") {
-        return Keyword::List;
-    }
-    if check::same(word, b"dump") {
-        return Keyword::Dump;
-    }
-    if check::same(word, b"help") {
-        return Keyword::Help;
-    }
-    Keyword::Bad
+    keyword_at(numbers::little_endian::get(word, n))
 }
 
 pub fn shape_of(keyword: Keyword) -> Shape
