@@ -1,20 +1,18 @@
 -- One turn of each loop over the records, and its end.
 use mathlib.Core.Path.{_≡_, refl, sym, ap, _∙_}
-use mathlib.Core.Bool.{Bool, true, false}
+use mathlib.Core.Bool.{true, false}
 use mathlib.Core.List.{List, [], _∷_, _++_, map, append-assoc, append-nil}
 use Prim.Native.Nat.{ℕ, zero, suc, _+_, _*_, _-_, _/_, _<_, _≤_}
 use native.Mathlib.Numerals.{add-one}
 use native.Mathlib.Omega.{arith}
-use native.Mathlib.Nat.{zero-add, add-zero, add-assoc, min-eq-left}
-use lib.ListN.{take, length-take, getD, set, length, drop, drop-of-length-le, length-map}
-use lib.Seq.{take-suc, set-at, length-take-le, take-all, drop-cons, getD-take, getD-at}
-use lib.Dec.{eqb}
+use native.Mathlib.Nat.{zero-add, add-zero, add-assoc}
+use lib.ListN.{take, getD, set, length, drop, drop-of-length-le, length-map}
+use lib.Seq.{take-suc, set-at, length-take-le, take-all, drop-cons, getD-take}
 use borrow.Author.Tests.{lt-ltb, le-ltb, le-leb, lt-leb, eq-eqb, ne-eqb}
 use Rattle.numbers.specs.Choice.{pick}
 use Rattle.rules.specs.Base.{sum}
 use Rattle.rules.specs.declared.Record.{Record}
 use Rattle.rules.specs.declared.Counts.{Counts}
-use Rattle.rules.specs.declared.Slot.{Slot}
 use Rattle.rules.specs.declared.Slot.the-variants.{Is, NoSlot}
 use Rattle.rules.specs.FileMap.{emptyRecord, isEmpty, recordAt, withLive, slotsWhere, emptySlots, lowestEmpty, Lead, fileCount}
 use Rattle.rules.specs.FileMapLaws.{where-here, where-next}

@@ -1,12 +1,12 @@
 -- What the lists say of the records: a call may look up files in the lsns and count in the live counts, and put the counts back at its end.
-use mathlib.Core.Path.{_≡_, refl, sym, ap, ap₂, _∙_}
-use Rattle.rules.specs.Base.{_&&_, List, [], _∷_, map, ℕ, zero, suc, _-_, _*_, length, getD, set, leb, ltb}
+use mathlib.Core.Path.{_≡_, refl, sym, ap, _∙_}
+use Rattle.rules.specs.Base.{List, [], _∷_, ℕ, zero, suc, _-_, length, getD, set}
 use native.Mathlib.Omega.{arith}
 use lib.ListN.{length-map, length-set}
 use Rattle.rules.specs.declared.Record.{Record}
 use Rattle.rules.specs.declared.Slot.{Slot}
 use Rattle.rules.specs.declared.Slot.the-variants.{Is, NoSlot}
-use Rattle.rules.specs.FileMap.{emptyRecord, recordAt, withLive, Lead, leads, leadFrom, fileFor, lessLive}
+use Rattle.rules.specs.FileMap.{recordAt, withLive, Lead, leads, leadFrom, fileFor, lessLive}
 use Rattle.file_map.specs.Lists.{lsnsOf, livesOf, withLives, leadsLsn, leadLsn, slotOf, lsnAt, lessAt}
 
 -- ---- the lookup goes by lsns only

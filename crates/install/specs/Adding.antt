@@ -9,9 +9,8 @@ use Rattle.rules.specs.declared.Held.{Held}
 use Rattle.rules.specs.declared.Held.the-variants.{Mapped, Unmapped}
 use Rattle.rules.specs.Trailer.{absolute}
 use Rattle.rules.specs.Table.{lookup, insert, insertAll, full}
-use Rattle.rules.specs.TableLaws.{insert-all-length}
+use Rattle.rules.specs.TableLaws.{insert-all-length, insert-new, full-mapped, full-room}
 use Rattle.rules.specs.TurnLaws.{left-next, left-none}
-use Rattle.location_table.specs.EntryLaws.{Rising, length-new, full-room, full-mapped}
 
 -- the entries of a file with this lsn, as the table has them
 abbrev pub taken : ℕ → List Entry → List Entry
@@ -33,9 +32,9 @@ module _ (lsn : ℕ) (t es : List Entry) (k : ℕ) where
   adding-end h = ap (λ (xs : List Entry). insertAll t (taken lsn xs)) (left-none es k h)
 
 -- where all of them fit, the first does
-pub room-now : (t : List Entry) → Rising 0 t → (n : Entry) (rest : List Entry) (capacity : ℕ) → length (insertAll (insert t n) rest) ≤ capacity → full t capacity (n .id) ≡ false
-room-now t r n rest capacity fits = go (lookup t (n .id)) refl
+pub room-now : (t : List Entry) (n : Entry) (rest : List Entry) (capacity : ℕ) → length (insertAll (insert t n) rest) ≤ capacity → full t capacity (n .id) ≡ false
+room-now t n rest capacity fits = go (lookup t (n .id)) refl
   where
     go : (h : Held) → lookup t (n .id) ≡ h → full t capacity (n .id) ≡ false
     go (Mapped l) e = full-mapped t capacity (n .id) l e
-    go Unmapped e = full-room t capacity (n .id) (omega (arith, length-new t r n e, insert-all-length (insert t n) rest .0))
+    go Unmapped e = full-room t capacity (n .id) (omega (arith, insert-new t n e, insert-all-length (insert t n) rest .0))

@@ -1,18 +1,17 @@
 -- What a call knows of lengths, records and table once 1 does not refuse it, in the form that the functions below the calls ask for.
-use mathlib.Core.Path.{_≡_, refl, sym, ap, _∙_}
+use mathlib.Core.Path.{_≡_, refl}
 use mathlib.Core.Logic.{⊎-elim}
-use Prim.Native.Nat.{_≤_, zero-le}
+use Prim.Native.Nat.{zero-le}
 use native.Mathlib.Omega.{arith}
-use Rattle.rules.specs.Base.{Bool, true, false, not, _&&_, List, ℕ, eqb}
+use Rattle.rules.specs.Base.{Bool, true, false, not, _&&_, ℕ, eqb}
 use Rattle.rules.specs.declared.Settings.{Settings}
-use Rattle.rules.specs.declared.Record.{Record}
 use Rattle.rules.specs.declared.State.{State}
 use Rattle.rules.specs.Settings.{sameSettings}
 use Rattle.rules.specs.Layout.{Buffers, capacityOf}
-use Rattle.rules.specs.FileMap.{emptyRecord, isEmpty, recordAt}
+use Rattle.rules.specs.FileMap.{isEmpty, recordAt}
 use Rattle.rules.specs.FileMapLaws.{empty-is, empty-or-not}
-use Rattle.rules.specs.Condition1.{notTheStates, conditionOne}
-use Rattle.rules.specs.Condition1Laws.{Passed, passed}
+use Rattle.rules.specs.Condition1.{notTheStates}
+use Rattle.rules.specs.Condition1Laws.{Passed}
 use Rattle.location_table.specs.Tables.{Formed}
 use Rattle.file_map.specs.Records.{Small, Bounded}
 

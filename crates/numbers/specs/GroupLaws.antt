@@ -115,10 +115,6 @@ groups-round (suc k) n rest h = ⊎-elim
     rw (groups-more (suc k) n m) (round-more (suc k) n (groupsOf (suc k) (n / 128) ++ rest) _ m (groups-round k (n / 128) rest less)))
     (either-way n 128)
 
--- the name under which `rules` cites it
-pub round : (k n : ℕ) (rest : List ℕ) → n < 128 ^ suc k → readGroups (suc k) (groupsOf (suc k) n ++ rest) ≡ said n (length (groupsOf (suc k) n))
-round = groups-round
-
 -- what is read: a number in its one form, from the front of the list
 record Read (k : ℕ) (bs : List ℕ) (v n : ℕ) : Type 0 where
   form : take n bs ≡ groupsOf k v

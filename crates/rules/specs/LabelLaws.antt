@@ -11,7 +11,7 @@ use Rattle.rules.specs.Base.{true, false, List, [], _∷_, _++_, ℕ, ze
 use Rattle.rules.specs.Types.{Record, Five}
 use Rattle.numbers.specs.LittleEndian.{Bytes}
 use Rattle.numbers.specs.Groups.{groupsOf, numberIn}
-use Rattle.numbers.specs.GroupLaws.{either-way, groups-last, groups-more, round}
+use Rattle.numbers.specs.GroupLaws.{groups-length, groups-bytes, groups-first, number-back}
 use Rattle.numbers.specs.declared.Number.the-variants.{Said}
 use Rattle.disk_location.specs.Locations.{maskedOf}
 use Rattle.rules.specs.BaseLaws.{or-false, zeros-replicate, padded-length}
@@ -65,46 +65,6 @@ bounds-in slotBytes r w =
 pub lsn-some : (slotBytes : ℕ) (r : Record) → InBounds slotBytes r → 0 < r .lsn
 unfolding maskedOf
 lsn-some slotBytes r w = let some = w .masked in omega arith
-
--- ---- numbers in groups
-pub groups-length : (k n : ℕ) → length (groupsOf k n) ≤ k
-unfolding groupsOf
-groups-length zero n = omega arith
-groups-length (suc k) n = ⊎-elim
-    (λ h. rw (groups-last k n h) (omega arith))
-    (λ h. rw (groups-more k n h) (omega (arith, groups-length k (n / 128))))
-    (either-way n 128)
-
--- groups are bytes
-pub groups-bytes : (k n : ℕ) → Bytes (groupsOf k n)
-unfolding groupsOf
-groups-bytes zero n i = omega arith
-groups-bytes (suc k) n i = ⊎-elim
-    (λ h. rw (groups-last k n h) (last i h))
-    (λ h. rw (groups-more k n h) (more i (groups-bytes k (n / 128))))
-    (either-way n 128)
-  where
-    last : (i : ℕ) → n < 128 → getD (n ∷ []) i 0 < 256
-    last zero h = omega arith
-    last (suc i) h = omega arith
-
-    more : (i : ℕ) → Bytes (groupsOf k (n / 128)) → getD ((n % 128 + 128) ∷ groupsOf k (n / 128)) i 0 < 256
-    more zero b = omega arith
-    more (suc i) b = b i
-
--- the first byte of a number that is not 0 is not 0
-pub groups-first : (k n : ℕ) (rest : List ℕ) → 0 < n → 0 < getD (groupsOf (suc k) n ++ rest) 0 0
-groups-first k n rest some = ⊎-elim
-    (λ h. rw (groups-last k n h) some)
-    (λ h. rw (groups-more k n h) (omega arith))
-    (either-way n 128)
-
--- a number that was written is read back, wherever it stands and whatever follows
-pub number-back : (s xs rest : List ℕ) (at n : ℕ) → s ≡ xs ++ (groupsOf 10 n ++ rest) → length xs ≡ at → n < 2 ^ 64 → numberIn 10 s at ≡ Said n (at + length (groupsOf 10 n))
-unfolding numberIn
-number-back s xs rest at n e l fits =
-    let small : n < 128 ^ 10 = omega arith in
-    rw (e, drop-at xs (groupsOf 10 n ++ rest) at l, round 9 n rest small, lt-ltb n (2 ^ 64) fits)
 
 -- ---- the label
 -- the numbers of a label have 64 bits

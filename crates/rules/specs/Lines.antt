@@ -14,7 +14,7 @@ use Rattle.rules.specs.Object.{objectBytes, storedAt}
 use Rattle.rules.specs.Trailer.{listed, trailerBytes, trailerTests, entriesFrom, entriesIn}
 use Rattle.rules.specs.Ops.{put, Op, shardFor, objectsOf, entriesOf, fileBytes, joined, settled}
 use Rattle.rules.specs.Label.{labelBytes, fiveIn, labelIn, outOfBounds}
-use Rattle.rules.specs.SlotFile.{slotTests, viewIn, viewsIn}
+use Rattle.rules.specs.SlotFile.{slotBytes, trailerEntries, slotTests, viewIn, viewsIn}
 use Rattle.rules.specs.Table.{lookup, insert, insertAll}
 use Rattle.rules.specs.Layout.{lengthsInRange, formFrom, inForm, usedIn, usedEntries, laidOut}
 use Rattle.rules.specs.World.{World, recordsOf, noState, Given}
@@ -25,7 +25,7 @@ use Rattle.rules.specs.Batch.{putOperation, operationAt, batchFrom, batc
 use Rattle.rules.specs.Stores.{made, storesOf, fileStores}
 use Rattle.rules.specs.Install.{newRecord, losing, recordsWith, storesFor, tableWith, nextWith, installed, installedAll, roomTests, positionTests}
 use Rattle.rules.specs.Write.{tooManyIds, writeTests, written, writeCall}
-use Rattle.rules.specs.Maintenance.{worthIt, newGeneration, cutOff, joining, splitFrom, filesOf}
+use Rattle.rules.specs.Maintenance.{livePercent, worthIt, newGeneration, cutOff, joining, splitFrom, filesOf}
 use Rattle.rules.specs.Claims.{noClaims}
 use Rattle.rules.specs.Reopen.{filesIn, overlapping, notRising, latest, latestFrom, latestOf, tableOf, reopenTests, mappedInto, recordsFrom, nextAfter, opened, reopenCall}
 use Rattle.rules.specs.Listing.{decimal, listing}
@@ -80,13 +80,13 @@ fresh =
 abbrev pub batch10 : List ℕ
 batch10 = 0x07 ∷ 0x01 ∷ 0x01 ∷ 0x41 ∷ 0x09 ∷ 0x00 ∷ []
 
--- its operations that count
-abbrev pub ops10 : List Op
-ops10 = settled (opsOf (batchIn batch10))
-
 -- the store after that write
 abbrev pub wrote : World
 wrote = writeCall fresh batch10 .world
+
+-- the entries that stand in slot 0 of its heap
+abbrev pub entries10 : World → List Entry
+entries10 w = trailerEntries (recordAt (recordsOf w) 0) (slotBytes (w .settings .«slot_bytes») (w .heap) 0)
 
 -- the table
 unfoldable pub lines : List Line
@@ -105,7 +105,10 @@ lines =
       paper = 1 ∷ 410 ∷ 1 ∷ 410 ∷ [];
     }
     -- P6 "3 live of 4 at 75: no candidate; 2 of 3 (66): a candidate"
-    ∷ record { ours = bit (worthIt defaults 2 (lived 3 4)) ∷ bit (worthIt defaults 2 (lived 2 3)) ∷ []; paper = 0 ∷ 1 ∷ [] }
+    ∷ record {
+      ours = livePercent (lived 3 4) ∷ bit (worthIt defaults 2 (lived 3 4)) ∷ livePercent (lived 2 3) ∷ bit (worthIt defaults 2 (lived 2 3)) ∷ [];
+      paper = 75 ∷ 0 ∷ 66 ∷ 1 ∷ [];
+    }
     -- P7 "generations 0, 3, 255 give 1, 3, 3"
     ∷ record { ours = newGeneration 0 ∷ newGeneration 3 ∷ newGeneration 255 ∷ []; paper = 1 ∷ 3 ∷ 3 ∷ [] }
     -- P8 "lengths 0, 1, 60, 255, 256: shards 0, 1, 6, 8, 9"
@@ -117,7 +120,7 @@ lines =
     }
     -- P10 "T 21, entries (7, 0) and (9, 43), file_size 65, next position 23; after reopening 67"
     ∷ record {
-      ours = recordAt (recordsOf wrote) 0 .«trailer_offset» ∷ (pairs (entriesOf 0 ops10) ++ (recordAt (recordsOf wrote) 0 .«file_size» ∷ wrote .state .«next_position» ∷ reopenCall wrote .world .state .«next_position» ∷ []));
+      ours = recordAt (recordsOf wrote) 0 .«trailer_offset» ∷ (pairs (entries10 wrote) ++ (recordAt (recordsOf wrote) 0 .«file_size» ∷ wrote .state .«next_position» ∷ reopenCall wrote .world .state .«next_position» ∷ []));
       paper = 21 ∷ 7 ∷ 0 ∷ 9 ∷ 43 ∷ 65 ∷ 23 ∷ 67 ∷ [];
     }
     -- "The listing program prints for P10 exactly"
@@ -136,5 +139,5 @@ agree (m ∷ ms) (n ∷ ns) = eqb m n && agree ms ns
 
 -- no line differs
 pub lines-hold : any (λ (l : Line). not (agree (l .ours) (l .paper))) lines ≡ false
-unfolding lines relativeGiven absoluteGiven any zeros keep each sum greatest padded putOperation operationAt batchFrom batchIn anyTooLarge outOfRange notTheStates badRecord badFrom conditionOne isEmpty noFiles slotsWhere emptySlots lowestEmpty leads leadFrom fileFor fileCount newRecord losing recordsWith storesFor tableWith nextWith installed installedAll roomTests positionTests labelBytes fiveIn labelIn outOfBounds lengthsInRange formFrom inForm usedIn usedEntries laidOut decimal listing worthIt cutOff joining splitFrom filesOf objectBytes storedAt objectsOf entriesOf fileBytes joined settled decide filesIn overlapping notRising latest latestFrom tableOf reopenTests mappedInto recordsFrom nextAfter opened reopenCall inRanges heapInRange sameSettings slotTests viewIn viewsIn made storesOf fileStores lookup insert insertAll listed trailerBytes trailerTests entriesFrom entriesIn tooManyIds writeTests written writeCall leBytes leValue groupsOf readGroups numberIn shiftBit shifts crcFrom crc32 objectSum maskedOf digitsIn
+unfolding lines relativeGiven absoluteGiven any zeros keep each sum greatest padded putOperation operationAt batchFrom batchIn anyTooLarge outOfRange notTheStates badRecord badFrom conditionOne isEmpty noFiles slotsWhere emptySlots lowestEmpty leads leadFrom fileFor fileCount newRecord losing recordsWith storesFor tableWith nextWith installed installedAll roomTests positionTests labelBytes fiveIn labelIn outOfBounds lengthsInRange formFrom inForm usedIn usedEntries laidOut decimal listing worthIt cutOff joining splitFrom filesOf objectBytes storedAt objectsOf entriesOf fileBytes joined settled decide filesIn overlapping notRising latest latestFrom tableOf reopenTests mappedInto recordsFrom nextAfter opened reopenCall inRanges heapInRange sameSettings slotBytes slotTests viewIn viewsIn made storesOf fileStores lookup insert insertAll listed trailerBytes trailerTests entriesFrom entriesIn tooManyIds writeTests written writeCall leBytes leValue groupsOf readGroups numberIn shiftBit shifts crcFrom crc32 objectSum maskedOf digitsIn
 lines-hold = refl

@@ -16,11 +16,15 @@ use Rattle.rules.specs.Prune.{pruned}
 use Rattle.rules.specs.World.{World, recordsOf, mappings, maintainGiven, After}
 
 -- ---- which files
+-- "live × 100 / max(present, 1), rounded down"
+abbrev pub livePercent : Record → ℕ
+livePercent r = r .live * 100 / larger (r .«present_objects») 1
+
 -- "live × 100 / max(present, 1), rounded down, strictly below the percentage, or both file count ≥ threshold and
 -- file_size × min_compaction_files < target_file_size"
 unfoldable pub worthIt : Settings → ℕ → Record → Bool
 worthIt s files r =
-    ltb (r .live * 100 / larger (r .«present_objects») 1) (s .«file_compaction_percent»)
+    ltb (livePercent r) (s .«file_compaction_percent»)
     || (leb (s .«small_file_cleanup_threshold») files && ltb (r .«file_size» * s .«min_compaction_files») (s .«target_file_size»))
 
 -- "new generation min(g + 1, 3)"

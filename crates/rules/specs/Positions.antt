@@ -6,9 +6,11 @@ use borrow.Author.Tests.{lt-ltb, le-ltb, le-leb, lt-leb}
 use Rattle.rules.specs.Base.{Bool, true, false, List, [], _∷_, ℕ, _+_, _^_, leb, eqb}
 use Rattle.rules.specs.Types.{Location}
 use Rattle.numbers.specs.GroupLaws.{either-way}
-use Rattle.disk_location.specs.Locations.{positionOf, deleteOf, rawOf, locatedAt}
+use Rattle.disk_location.specs.Locations.{positionOf, deleteOf, rawOf, locatedAt, relativeAt}
 use Rattle.disk_location.specs.declared.Located.{Located}
 use Rattle.disk_location.specs.declared.Located.the-variants.{At, Refused}
+use Rattle.disk_location.specs.declared.RelativeLocated.{RelativeLocated}
+use Rattle.disk_location.specs.declared.RelativeLocated.the-variants as relative
 use Rattle.rules.specs.Refusal.{Test, _gives_, decide, after, decide-first, decide-next, decide-none}
 use Rattle.rules.specs.Answers.{inverse-one}
 use Rattle.rules.specs.World.{Given, accepted, refused}
@@ -66,3 +68,31 @@ located-one = inverse-one locatedGiven (λ (g : Given). locatedOf (g .values)) g
     go : (a : Located) → locatedOf (locatedGiven a .values) ≡ a
     go (At l) = refl
     go Refused = refl
+
+-- ---- the same of a relative location
+abbrev pub relativeLocatedGiven : RelativeLocated → Given
+relativeLocatedGiven (relative.At l) = accepted (l .0 ∷ [])
+relativeLocatedGiven relative.Refused = refused Location
+
+-- its contract says what the paper says
+pub relative-located-given : (position : ℕ) (delete : Bool) → relativeLocatedGiven (relativeAt position delete) ≡ relativeGiven position delete
+unfolding relativeGiven
+relative-located-given position delete = go (either-way position (2 ^ 63))
+  where
+    go : (position < 2 ^ 63) ⊎ (2 ^ 63 ≤ position)
+        → relativeLocatedGiven (relativeAt position delete) ≡ after (decide (leb (2 ^ 63) position gives Location ∷ [])) refused (accepted (rawOf position delete ∷ []))
+    go (inr h) = rw (le-ltb position (2 ^ 63) h, decide-first (leb (2 ^ 63) position) Location [] (le-leb (2 ^ 63) position h))
+    go (inl h) = rw (lt-ltb position (2 ^ 63) h, decide-next (leb (2 ^ 63) position) Location [] (lt-leb (2 ^ 63) position h), decide-none)
+
+-- its values alone say which answer it is
+abbrev pub relativeOf : List ℕ → RelativeLocated
+relativeOf [] = relative.Refused
+relativeOf (v ∷ vs) = relative.At (record { 0 = v })
+
+-- so one number and value, one answer
+pub relative-one : (a b : RelativeLocated) → relativeLocatedGiven a ≡ relativeLocatedGiven b → a ≡ b
+relative-one = inverse-one relativeLocatedGiven (λ (g : Given). relativeOf (g .values)) go
+  where
+    go : (a : RelativeLocated) → relativeOf (relativeLocatedGiven a .values) ≡ a
+    go (relative.At l) = refl
+    go relative.Refused = refl

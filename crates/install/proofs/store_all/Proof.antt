@@ -12,7 +12,7 @@ use Rattle.rules.specs.Layout.{Buffers, laidOut, usedEntries}
 use Rattle.trailer.specs.Entries.{noEntry, entries-count}
 use Rattle.location_table.specs.Tables.{table, Formed}
 use Rattle.disk_location.specs.Locations.{positionOf}
-use Rattle.location_table.specs.LayoutLaws.{used-rising, laid-out}
+use Rattle.location_table.specs.LayoutLaws.{laid-out}
 use Rattle.location_table.specs.StoreLaws.{formed-after, length-after, used-after}
 use Rattle.install.specs.Adding.{taken, adding-next, adding-end, room-now}
 use Rattle.install.proofs.store_all.Statement.{statement}
@@ -48,7 +48,7 @@ met c =
     record {
       placed = omega (arith, ap (λ (e : Entry). positionOf (e .location)) (c .entry .ensures), pre .2 (l .k));
       positive = pre .3;
-      room = room-now t (used-rising (l .ids) (l .locations) (l .inv .2)) (absolute (a .lsn) (c .entry .result)) (taken (a .lsn) (drop (l .k + 1) es)) (length (l .ids)) (omega (arith, ap length (next ∙ l .inv .4), pre .4, l .inv .3));
+      room = room-now t (absolute (a .lsn) (c .entry .result)) (taken (a .lsn) (drop (l .k + 1) es)) (length (l .ids)) (omega (arith, ap length (next ∙ l .inv .4), pre .4, l .inv .3));
       next = next;
     }
 

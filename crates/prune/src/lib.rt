@@ -1,0 +1,152 @@
+// Prune: dead files' labels in the heap and their records, both emptied.
+use file_map::is_empty;
+use rules::Answer;
+use rules::Claims;
+use rules::FileMap;
+use rules::Record;
+use rules::Refusal;
+use rules::Settings;
+use rules::State;
+ghost use mathlib.Core.Path.{_≡_};
+ghost use mathlib.Core.Bool.{false};
+ghost use mathlib.Core.List.{List, [], _∷_};
+ghost use Prim.Native.Nat.{ℕ, _+_, _*_, _<_, _≤_};
+ghost use lib.ListN.{length};
+ghost use Rattle.numbers.specs.Choice.{pick};
+ghost use Rattle.rules.specs.FileMap.{emptyRecord, isEmpty, slotsWhere};
+ghost use Rattle.rules.specs.Stores.{made};
+ghost use Rattle.rules.specs.Prune.{isDead, emptiedFrom, pruned, pruneCall};
+ghost use Rattle.rules.specs.PruneLaws.{emptying};
+ghost use Rattle.rules.specs.World.{world, leaving, answerGiven};
+ghost use Rattle.stores.specs.Runs.{Made};
+ghost use Rattle.prune.specs.Labels.{LabelsIn};
+
+// What a prune answers, and the state after it.
+pub struct PruneAnswer {
+    pub answer: Answer,
+    pub state: State,
+}
+
+// "Every unclaimed file with live 0"
+fn is_dead(claims: Claims, slot: u64, r: Record) -> bool
+    requires { ⌜ slot < 256 ⌝ }
+    ensures { λ b. ⌜ b ≡ isDead claims slot r ⌝ }
+{
+    if is_empty(r) {
+        return false;
+    }
+    if r.live != 0 {
+        return false;
+    }
+    !claims::is_claimed(claims, slot)
+}
+
+// ---- records
+// A slot's record after the prune.
+fn emptied_record(claims: Claims, slot: u64, r: Record) -> Record
+    requires { ⌜ slot < 256 ⌝ }
+    ensures { λ n. ⌜ n ≡ pick (isDead claims slot r) emptyRecord r ⌝ }
+{
+    if is_dead(claims, slot, r) {
+        return file_map::empty();
+    }
+    r
+}
+
+// "record emptied"
+fn emptied(files: FileMap, claims: Claims) -> FileMap
+    ensures { λ n. ⌜ n .records ≡ emptiedFrom claims 0 (files .records) ⌝ }
+{
+    let mut n = files;
+    let mut i: usize = 0;
+    while i < 256 {
+        n.records[i] = emptied_record(claims, i as u64, n.records[i]);
+        i += 1;
+    }
+    n
+}
+
+// ---- the heap: at most `left` stores are made; how many are left of them
+// "first label byte set to 0", where the slot's file is dead.
+fn zero_label(
+    heap: &mut [u8],
+    slot_bytes: u64,
+    claims: Claims,
+    slot: u64,
+    r: Record,
+    left: u64,
+) -> u64
+    requires { ⌜ slot < 256 ⌝ }
+    requires { ⌜ (isEmpty r ≡ false → slot * «slot_bytes» + 64 ≤ length (now heap)) ⌝ }
+    ensures { λ n. ⌜ Made left (emptying «slot_bytes» (slotsWhere (isDead claims) slot (r ∷ []))) (now (heap .entry)) (now (heap .exit)) n ⌝ }
+{
+    if is_dead(claims, slot, r) {
+        return stores::put_number(heap, (slot * slot_bytes) as usize, 1, 0, left);
+    }
+    left
+}
+
+// One store for each dead file, ascending by slot.
+pub fn prune_stores(
+    heap: &mut [u8],
+    slot_bytes: u64,
+    claims: Claims,
+    files: FileMap,
+    left: u64,
+) -> u64
+    requires { ⌜ LabelsIn «slot_bytes» (files .records) (length (now heap)) ⌝ }
+    ensures { λ n. ⌜ Made left (emptying «slot_bytes» (slotsWhere (isDead claims) 0 (files .records))) (now (heap .entry)) (now (heap .exit)) n ⌝ }
+{
+    let mut rest = left;
+    let mut i: usize = 0;
+    while i < 256 {
+        rest = zero_label(heap, slot_bytes, claims, i as u64, files.records[i], rest);
+        i += 1;
+    }
+    rest
+}
+
+// All of them: there are no more than records.
+fn zero_labels(heap: &mut [u8], slot_bytes: u64, claims: Claims, files: FileMap)
+    requires { ⌜ LabelsIn «slot_bytes» (files .records) (length (now heap)) ⌝ }
+    ensures { λ _. ⌜ now (heap .exit) ≡ made (emptying «slot_bytes» (slotsWhere (isDead claims) 0 (files .records))) (now (heap .entry)) ⌝ }
+{
+    prune_stores(heap, slot_bytes, claims, files, 256);
+}
+
+// ---- the call
+// For a call that has decided refusal 1: the state after it.
+pub fn pruned(settings: Settings, state: State, claims: Claims, heap: &mut [u8]) -> State
+    requires { ⌜ LabelsIn (settings .«slot_bytes») (state .files .records) (length (now heap)) ⌝ }
+    ensures { λ r. ⌜ ((ids locations : List ℕ) → world settings r claims (now (heap .exit)) ids locations ≡ pruned (world settings state claims (now (heap .entry)) ids locations)) ⌝ }
+{
+    let files = state.files;
+    zero_labels(heap, settings.slot_bytes, claims, files);
+    let mut after = state;
+    after.files = emptied(files, claims);
+    after
+}
+
+// "Every unclaimed file with live 0: first label byte set to 0, record emptied. No other heap byte changes."
+pub fn prune(
+    settings: Settings,
+    state: State,
+    claims: Claims,
+    heap: &mut [u8],
+    ids: &[u64],
+    locations: &[u64],
+) -> PruneAnswer
+    ensures { λ r. ⌜ leaving (answerGiven (r .answer)) (world settings (r .state) claims (now (heap .exit)) (now (ids .entry)) (now (locations .entry))) ≡ pruneCall (world settings state claims (now (heap .entry)) (now (ids .entry)) (now (locations .entry))) ⌝ }
+{
+    if limits::refused(settings, heap.len() as u64, ids, locations, state) {
+        return PruneAnswer {
+            answer: Answer::Refused(Refusal::Limits),
+            state: state,
+        };
+    }
+    let after = pruned(settings, state, claims, heap);
+    PruneAnswer {
+        answer: Answer::Done,
+        state: after,
+    }
+}

@@ -1,0 +1,88 @@
+use mathlib.Core.Path.{_≡_, sym, ap, _∙_}
+use Prim.Native.Nat.{ℕ, _+_, _-_}
+use native.Mathlib.Omega.{arith}
+use borrow.Author.Needs.{needs}
+use lib.ListN.{take, drop}
+use Rattle.rules.specs.declared.ReadAnswer.{ReadAnswer}
+use Rattle.rules.specs.Read.{partOf}
+use Rattle.readpath.proofs.part.Statement.{statement}
+use Rattle.readpath.proofs.part.Tie as tie
+
+enum-known-answer : tie.Need-enum-known-answer
+enum-known-answer c = search needs
+
+add-end : tie.Need-add-end
+add-end c =
+    let within = rw (c .before .answer .given .1) at (c .before .before .before .pre) in
+    search needs
+
+sub-result : tie.Need-sub-result
+sub-result c = search needs
+
+part-result-start : tie.Need-part-result-start
+part-result-start c = search needs
+
+part-result-end : tie.Need-part-result-end
+part-result-end c =
+    let within = rw (c .before .answer .given .1) at (c .before .before .before .pre) in
+    search needs
+
+enum-told : tie.Need-enum-told
+enum-told c = search needs
+
+sub-result-2 : tie.Need-sub-result-2
+sub-result-2 c = search needs
+
+part-result-start-2 : tie.Need-part-result-start-2
+part-result-start-2 c = search needs
+
+part-result-end-2 : tie.Need-part-result-end-2
+part-result-end-2 c = search needs
+
+enum-told-2 : tie.Need-enum-told-2
+enum-told-2 c = search needs
+
+sub-result-3 : tie.Need-sub-result-3
+sub-result-3 c = search needs
+
+part-result-start-3 : tie.Need-part-result-start-3
+part-result-start-3 c = search needs
+
+part-result-end-3 : tie.Need-part-result-end-3
+part-result-end-3 c = search needs
+
+returns : tie.Need-returns
+returns c =
+    let m = c .before .before in
+    let a = m .before .before .args in
+    let start = m .answer .given .0 .0 in
+    let n = m .answer .given .0 .1 .0 in
+    let size : start + n - start ≡ n = omega arith in
+    ap (λ (k : ℕ). take k (drop start (a .heap .now))) size ∙ ap (λ (r : ReadAnswer). partOf r (a .heap .now)) (sym (m .answer .given .1))
+
+returns-2 : tie.Need-returns-2
+returns-2 c = search needs
+
+returns-3 : tie.Need-returns-3
+returns-3 c = search needs
+
+pub part-spec : {M : Type 1} → statement M
+part-spec =
+    tie.close
+    (tie.spec
+    enum-known-answer
+    add-end
+    sub-result
+    part-result-start
+    part-result-end
+    enum-told
+    sub-result-2
+    part-result-start-2
+    part-result-end-2
+    enum-told-2
+    sub-result-3
+    part-result-start-3
+    part-result-end-3
+    returns
+    returns-2
+    returns-3)

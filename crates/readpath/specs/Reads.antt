@@ -1,0 +1,39 @@
+-- What the steps of a read ask for and answer.
+use mathlib.Core.Path.{_≡_}
+use Prim.Native.Nat.{_≤_, _<_}
+use Rattle.rules.specs.Base.{false, List, [], ℕ, _+_, _*_}
+use Rattle.rules.specs.declared.Settings.{Settings}
+use Rattle.rules.specs.declared.Record.{Record}
+use Rattle.rules.specs.declared.State.{State}
+use Rattle.rules.specs.declared.ReadAnswer.{ReadAnswer}
+use Rattle.rules.specs.declared.ReadAnswer.the-variants.{Found, Nothing, ReadRefused}
+use Rattle.rules.specs.Claims.{noClaims}
+use Rattle.rules.specs.FileMap.{isEmpty, recordAt}
+use Rattle.rules.specs.World.{World, world}
+use Rattle.slot_file.specs.declared.BodyAnswer.{BodyAnswer}
+use Rattle.slot_file.specs.declared.BodyAnswer.the-variants.{Body, Unread}
+
+-- a record's file lies behind the label of slot k, and the slot, one of 256, in the heap
+pub record Lies (size : ℕ) (r : Record) (k heapLen : ℕ) : Type 0 where
+  pub place : k < 256
+  pub file : 64 + r .«file_size» ≤ size
+  pub slot : k * size + size ≤ heapLen
+
+-- every file does, once 1 is decided
+abbrev pub FilesLie : ℕ → List Record → ℕ → Type 0
+FilesLie size rs heapLen = (k : ℕ) → isEmpty (recordAt rs k) ≡ false → Lies size (recordAt rs k) k heapLen
+
+-- a body of the file that starts there in the heap
+abbrev pub inHeap : ℕ → BodyAnswer → ReadAnswer
+inHeap start (Body at size) = Found (start + at) size
+inHeap start (Unread r) = ReadRefused r
+
+-- what a read looks at behind the table
+abbrev pub filesIn : Settings → State → List ℕ → World
+filesIn s t heap = world s t noClaims heap [] []
+
+-- a part that is named lies in the heap
+abbrev pub Within : ReadAnswer → ℕ → Type 0
+Within (Found start size) heapLen = start + size ≤ heapLen
+Within Nothing heapLen = Unit {0}
+Within (ReadRefused r) heapLen = Unit {0}

@@ -1,0 +1,122 @@
+// Read (`src/readpath.rs`): where a body lies in the heap, then that part of it.
+use disk_location::DiskLocation;
+use rules::Held;
+use rules::ReadAnswer;
+use rules::Record;
+use rules::Refusal;
+use rules::Settings;
+use rules::Slot;
+use rules::State;
+use slot_file::BodyAnswer;
+ghost use mathlib.Core.Path.{_≡_};
+ghost use Prim.Native.Nat.{_+_, _*_};
+ghost use lib.ListN.{length, drop};
+ghost use Rattle.rules.specs.declared.Claims.{Claims};
+ghost use Rattle.rules.specs.SlotFile.{slotBytes, fileIn};
+ghost use Rattle.rules.specs.Object.{storedAt};
+ghost use Rattle.rules.specs.FileMap.{fileFor};
+ghost use Rattle.rules.specs.Read.{readFile, readOf, partOf};
+ghost use Rattle.rules.specs.World.{world};
+ghost use Rattle.slot_file.specs.Objects.{bodyOf};
+ghost use Rattle.readpath.specs.Reads.{Lies, FilesLie, inHeap, filesIn, Within};
+
+// "a 64-byte label, then the file": the file of a slot, a part of the lent heap.
+fn file_part(heap: &[u8], slot_bytes: u64, slot: u64, r: Record) -> &[u8]
+    requires { ⌜ Lies «slot_bytes» r slot (length (now heap)) ⌝ }
+    ensures { λ x. ⌜ now x ≡ fileIn r (slotBytes «slot_bytes» (now (heap .entry)) slot) ⌝ }
+{
+    let start = (slot * slot_bytes) as usize + 64;
+    let end = start + r.file_size as usize;
+    &heap[start..end]
+}
+
+// "16 (header or body past file_size), 10, 17" for the object at a position of a slot's file.
+fn object_at(
+    heap: &[u8],
+    slot_bytes: u64,
+    slot: u64,
+    r: Record,
+    position: u64,
+    id: u64,
+) -> ReadAnswer
+    requires { ⌜ Lies «slot_bytes» r slot (length (now heap)) ⌝ }
+    ensures { λ x. ⌜ x ≡ inHeap (slot * «slot_bytes» + 64) (bodyOf id (storedAt position (drop position (fileIn r (slotBytes «slot_bytes» (now (heap .entry)) slot))))) ⌝ }
+{
+    match slot_file::object::read(file_part(heap, slot_bytes, slot, r), position, id) {
+        BodyAnswer::Body(start, size) => { ReadAnswer::Found(slot * slot_bytes + 64 + start, size) }
+        BodyAnswer::Unread(refusal) => ReadAnswer::ReadRefused(refusal),
+    }
+}
+
+// 18 where no file is at or below the raw location; else the object in that file.
+fn at_location(s: Settings, state: State, heap: &[u8], location: u64, id: u64) -> ReadAnswer
+    requires { ⌜ FilesLie (s .«slot_bytes») (state .files .records) (length (now heap)) ⌝ }
+    ensures { λ x. ⌜ x ≡ readFile (filesIn s state (now (heap .entry))) id location (fileFor (state .files .records) location) ⌝ }
+{
+    let files = state.files;
+    match file_map::file_for(files, location) {
+        Slot::NoSlot => ReadAnswer::ReadRefused(Refusal::NotThere),
+        Slot::Is(slot) => {
+            let i = slot as usize;
+            let r = files.records[i];
+            let position = DiskLocation(location).position() - r.lsn;
+            object_at(heap, s.slot_bytes, slot, r, position, id)
+        }
+    }
+}
+
+// "Checks in order: 18, 16 (header or body past file_size), 10, 17", after 1: where the body is, in numbers.
+pub fn read_answer(
+    settings: Settings,
+    state: State,
+    heap: &[u8],
+    ids: &[u64],
+    locations: &[u64],
+    id: u64,
+) -> ReadAnswer
+    ensures { λ r. ⌜ ((c : Claims) → r ≡ readOf (world settings state c (now (heap .entry)) (now (ids .entry)) (now (locations .entry))) id) ⌝ }
+{
+    if limits::refused(settings, heap.len() as u64, ids, locations, state) {
+        return ReadAnswer::ReadRefused(Refusal::Limits);
+    }
+    match location_table::load_in(ids, locations, id) {
+        Held::Unmapped => ReadAnswer::Nothing,
+        Held::Mapped(location) => {
+            if DiskLocation(location).is_delete() {
+                return ReadAnswer::Nothing;
+            }
+            at_location(settings, state, heap, location, id)
+        }
+    }
+}
+
+// The part of the heap that an answer names; an empty part where it names none.
+fn part(heap: &[u8], answer: ReadAnswer) -> &[u8]
+    requires { ⌜ Within answer (length (now heap)) ⌝ }
+    ensures { λ r. ⌜ now r ≡ partOf answer (now (heap .entry)) ⌝ }
+{
+    match answer {
+        ReadAnswer::Found(at, size) => {
+            let start = at as usize;
+            let end = start + size as usize;
+            &heap[start..end]
+        }
+        ReadAnswer::Nothing => &heap[0..0],
+        ReadAnswer::ReadRefused(_) => &heap[0..0],
+    }
+}
+
+// "the found bytes are a part of the lent heap itself"; "A refused read, or one that finds nothing, gives an empty part."
+pub fn read<'a>(
+    settings: Settings,
+    state: State,
+    heap: &'a [u8],
+    ids: &[u64],
+    locations: &[u64],
+    id: u64,
+) -> &'a [u8]
+    ensures { λ r. ⌜ ((c : Claims) → now r ≡ partOf (readOf (world settings state c (now (heap .entry)) (now (ids .entry)) (now (locations .entry))) id) (now (heap .entry))) ⌝ }
+{
+    let answer = read_answer(settings, state, heap, ids, locations, id);
+    part(heap, answer)
+}

@@ -1,0 +1,42 @@
+-- entries, tables, places of files
+pub mod Types
+pub mod Lists
+pub mod Entries
+pub mod Counting
+pub mod SameIds
+pub mod Newest
+pub mod Places
+pub mod Files
+pub mod Losing
+-- the invariant on views, and what a file added or removed does to it
+pub mod Picture
+pub mod Sound
+pub mod Installed
+pub mod Emptied
+-- G: what an accepted reopening means
+pub mod Reopened
+-- the invariant in bytes, call by call
+pub mod SoundWorld
+pub mod Told
+pub mod Adding
+pub mod Writing
+pub mod Reading
+pub mod Again
+pub mod Pruning
+pub mod Fresh
+pub mod Moving
+pub mod Shards
+pub mod Rewriting
+pub mod Maintaining
+-- demand 3, and that stores accept writes
+pub mod History
+pub mod Accepting
+-- C: which refusals and which count maintenance answers
+pub mod Checked
+pub mod Stopping
+pub mod Tally
+pub mod Moved
+pub mod Unmoved
+pub mod Finished
+-- a life worked out
+pub mod Witness

@@ -1,0 +1,6 @@
+// Theorems on document 01's definitions. No code: specs/ holds the laws.
+// History: `any-history` (demand 3). Reopened: `reopened-means` (G). Finished: `any-maintenance` (C).
+// Fresh: `fresh-opens`, Accepting: `fresh-write`, `fresh-read` (N). Sound, SoundWorld: the invariant.
+pub fn nothing() -> u64 {
+    0
+}
