@@ -83,6 +83,11 @@ fn after_call(
     locations: &mut [u64],
 ) -> Bench {
     match keyword {
+        Keyword::Read => {
+            calls::read(b, heap, ids, locations, n[0]);
+            b
+        }
+        Keyword::Prune => calls::prune(b, heap, ids, locations),
         Keyword::Claim => calls::claim(b, heap, ids, locations, n[0]),
         Keyword::Release => calls::release(b, heap, ids, locations, n[0]),
         Keyword::Counts => {

@@ -4,6 +4,39 @@ use crate::say;
 use rules::CompareAnswer;
 use rules::CountsAnswer;
 use rules::LoadAnswer;
+use rules::ReadAnswer;
+
+fn body(b: Bench, heap: &[u8], ids: &[u64], locations: &[u64], id: u64) {
+    let settings = b.settings;
+    let state = b.state;
+    let part = readpath::read(settings, state, heap, ids, locations, id);
+    say::text(b"ok ");
+    say::hex(part);
+    say::end();
+}
+
+pub fn read(b: Bench, heap: &[u8], ids: &[u64], locations: &[u64], id: u64) {
+    let settings = b.settings;
+    let state = b.state;
+    match readpath::read_answer(settings, state, heap, ids, locations, id) {
+        ReadAnswer::Found(_, _) => body(b, heap, ids, locations, id),
+        ReadAnswer::Nothing => say::text(b"nothing\n"),
+        ReadAnswer::ReadRefused(r) => say::refused(r),
+    }
+}
+
+pub fn prune(b: Bench, heap: &mut [u8], ids: &[u64], locations: &[u64]) -> Bench {
+    let mut next = b;
+    let settings = b.settings;
+    let state = b.state;
+    let held = b.claims;
+    let done = prune::prune(settings, state, held, heap, ids, locations);
+    let answer = done.answer;
+    let left = done.state;
+    next.state = left;
+    say::answer(answer);
+    next
+}
 
 pub fn claim(b: Bench, heap: &[u8], ids: &[u64], locations: &[u64], slot: u64) -> Bench {
     let mut next = b;
