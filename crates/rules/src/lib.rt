@@ -1,6 +1,7 @@
 // The shared types of document 01. Its rules are the definitions in specs/.
 
 // "Settings": the six that a caller chooses; slots and table entries come from the buffers.
+#[repr(C)]
 pub struct Settings {
     pub slot_bytes: u64,
     pub file_compaction_percent: u64,
@@ -11,6 +12,7 @@ pub struct Settings {
 }
 
 // "A record holds the label's five numbers and the live count"; all zeros: empty.
+#[repr(C)]
 pub struct Record {
     pub lsn: u64,
     pub trailer_offset: u64,
@@ -27,11 +29,13 @@ pub struct Entry {
 }
 
 // "a file map of 256 records"
+#[repr(C)]
 pub struct FileMap {
     pub records: [Record; 256],
 }
 
 // What a reopening hands to the calls after it.
+#[repr(C)]
 pub struct State {
     pub settings: Settings,
     pub heap_len: u64,
@@ -41,6 +45,7 @@ pub struct State {
 }
 
 // "a claim record of the host's": slot s is bit s % 64 of word s / 64.
+#[repr(C)]
 pub struct Claims {
     pub a: u64,
     pub b: u64,
@@ -92,6 +97,7 @@ pub enum MaintainAnswer {
     Stopped(Refusal, u64, u64),
 }
 
+#[repr(C)]
 pub struct Counts {
     pub files: u64,
     pub bytes: u64,

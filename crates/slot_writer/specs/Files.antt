@@ -17,12 +17,19 @@ pub object-length : (id : ℕ) (body : List ℕ) → length (objectBytes id body
 unfolding objectBytes
 object-length id body = simp (length-append, le-length)
 
+-- a file's bytes, then its label
+pub file-then-label : (start : ℕ) (label file : List ℕ) {k l n : ℕ} {heap written labelled : List ℕ} → Made k (storesOf (start + 64) file) heap written l
+    → Made l (labelStores start label) written labelled n → Made k (fileStores start label file) heap labelled n
+unfolding fileStores labelStores
+file-then-label start label file a b = made-then a b
+
 -- the first k stores of a file's run, made by three writers, each given what the one before it left
 pub file-made : (start : ℕ) (ops : List Op) (r : Record) {k l m n : ℕ} {heap objects trailer label : List ℕ}
     → Made k (storesOf (start + 64) (objectsOf ops)) heap objects l
     → Made l (storesOf (start + 64 + length (objectsOf ops)) (trailerBytes (entriesOf 0 ops))) objects trailer m
     → Made m (labelStores start (labelBytes r)) trailer label n
     → Made k (fileStores start (labelBytes r) (fileBytes ops)) heap label n
-unfolding fileStores labelStores fileBytes
+unfolding fileBytes
 file-made start ops r a b c =
-    made-then (made-behind (start + 64) (start + 64 + length (objectsOf ops)) (objectsOf ops) (trailerBytes (entriesOf 0 ops)) refl a b) c
+    file-then-label start (labelBytes r) (fileBytes ops)
+    (made-behind (start + 64) (start + 64 + length (objectsOf ops)) (objectsOf ops) (trailerBytes (entriesOf 0 ops)) refl a b) c

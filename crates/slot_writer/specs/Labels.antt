@@ -1,13 +1,12 @@
 -- A label's bytes and its stores.
 use mathlib.Core.Path.{_≡_, refl, sym, ap, _∙_}
-use mathlib.Core.Bool.{Bool, true, false}
 use mathlib.Core.List.{List, _++_, append-assoc}
-use Prim.Native.Nat.{ℕ, zero, suc, _-_, _/_, _≤_}
+use Prim.Native.Nat.{ℕ, zero, suc, _-_, _≤_}
 use native.Mathlib.Omega.{arith}
 use native.Mathlib.Nat.{sub-zero, suc-sub-suc}
-use lib.Dec.{ltb}
 use lib.ListN.{length, take, drop, replicate, length-append}
-use Rattle.numbers.specs.Groups.{groupsOf, orLast}
+use Rattle.numbers.specs.Groups.{groupsOf}
+use Rattle.numbers.specs.GroupLaws.{groups-length}
 use Rattle.numbers.specs.Parts.{front, front-length}
 use Rattle.rules.specs.declared.Record.{Record}
 use Rattle.rules.specs.Base.{padded}
@@ -27,21 +26,11 @@ fiveGroups r =
 unfoldable pub labelStores : ℕ → List ℕ → List Store
 labelStores start label = storesOf (suc start) (drop 1 label) ++ storesOf start (take 1 label)
 
--- a number takes no more groups than it may
-pub groups-fit : (k n : ℕ) → length (groupsOf k n) ≤ k
-unfolding groupsOf
-groups-fit zero n = omega arith
-groups-fit (suc k) n = go (ltb n 128) (groups-fit k (n / 128))
-  where
-    go : (b : Bool) → length (groupsOf k (n / 128)) ≤ k → length (orLast b n (groupsOf k (n / 128))) ≤ suc k
-    go true h = omega arith
-    go false h = omega arith
-
 five-short : (r : Record) → length (fiveGroups r) ≤ 50
 unfolding fiveGroups
 five-short r =
     simp length-append
-    (omega (arith, groups-fit 10 (r .lsn), groups-fit 10 (r .«trailer_offset»), groups-fit 10 (r .«file_size»), groups-fit 10 (r .«present_objects»), groups-fit 10 (r .generation)))
+    (omega (arith, groups-length 10 (r .lsn), groups-length 10 (r .«trailer_offset»), groups-length 10 (r .«file_size»), groups-length 10 (r .«present_objects»), groups-length 10 (r .generation)))
 
 drop-same : (n m a : ℕ) → drop n (replicate m a) ≡ replicate (m - n) a
 drop-same zero m a = rw (sub-zero m) refl

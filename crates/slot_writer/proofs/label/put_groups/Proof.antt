@@ -1,7 +1,7 @@
 use mathlib.Core.Path.{ap}
 use Rattle.numbers.specs.Groups.{groupsOf}
 use Rattle.numbers.proofs.Lent.{lent}
-use Rattle.slot_writer.specs.Labels.{groups-fit}
+use Rattle.numbers.specs.GroupLaws.{groups-length}
 use Prim.Native.Nat.{ℕ, _+_}
 use native.Mathlib.Omega.{arith}
 use borrow.Author.Needs.{needs}
@@ -21,7 +21,7 @@ encode-requires : tie.Need-encode-requires
 encode-requires c κs = search needs
 
 add-result : tie.Need-add-result
-add-result c = omega (arith, c .before .before .encode .ensures .0, groups-fit 10 (c .before .before .before .before .before .args .x))
+add-result c = omega (arith, c .before .before .encode .ensures .0, groups-length 10 (c .before .before .before .before .before .args .x))
 
 same-length : tie.Need-same-length
 same-length c = search needs
@@ -32,7 +32,7 @@ returns c =
     let start = w .before .before .before in
     let a = start .args in (
       ap (λ (n : ℕ). a .at + n) (w .encode .ensures .0),
-      lent (a .label .now) _ (groupsOf 10 (a .x)) (a .at) (omega (arith, start .pre, groups-fit 10 (a .x))) (w .encode .ensures .1),
+      lent (a .label .now) _ (groupsOf 10 (a .x)) (a .at) (omega (arith, start .pre, groups-length 10 (a .x))) (w .encode .ensures .1),
     )
 
 pub put-groups-spec : {M : Type 1} → statement M

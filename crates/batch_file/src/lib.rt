@@ -1,0 +1,152 @@
+// The file of a batch, straight into the heap: objects and trailer by walks over the operations that count, then the label.
+// Each writer makes as many stores of the file's run as `left` reaches, and answers how many are left.
+use batch::Operation;
+use batch::Step;
+use disk_location::RelativeDiskLocation;
+use rules::Entry;
+use rules::Record;
+use trailer::write;
+ghost use mathlib.Core.Path.{_≡_};
+ghost use Prim.Native.Nat.{_+_, _*_, _≤_, _<_, _^_};
+ghost use lib.ListN.{length};
+ghost use Rattle.checksum.specs.Checksum.{crc32};
+ghost use Rattle.rules.specs.Base.{each};
+ghost use Rattle.rules.specs.Ops.{contentBytes, objectsOf, entriesOf, fileBytes, settled};
+ghost use Rattle.rules.specs.Label.{labelBytes};
+ghost use Rattle.rules.specs.Trailer.{entryBytes, listed, trailerBytes};
+ghost use Rattle.rules.specs.Stores.{storesOf, fileStores};
+ghost use Rattle.stores.specs.Runs.{Made};
+ghost use Rattle.batch.specs.Reading.{opIn, opsIn};
+ghost use Rattle.batch.specs.Sizes.{sizeIn};
+ghost use Rattle.batch_file.specs.Steps.{entryIn, Sized};
+
+// "A delete's relative position is the object bytes before it", and an object's too.
+fn entry_of(o: Operation, position: u64) -> Entry
+    requires { ⌜ position < 2 ^ 63 ⌝ }
+    ensures { λ r. ⌜ r ≡ entryIn position o ⌝ }
+{
+    let location = RelativeDiskLocation::new(position, o.delete);
+    Entry {
+        id: o.id,
+        location: location.raw(),
+    }
+}
+
+// The position behind an operation's object bytes: 20 + length further, or, for a delete, the same.
+fn behind(position: u64, o: Operation) -> u64
+    requires { ⌜ position + sizeIn o < 2 ^ 64 ⌝ }
+    ensures { λ r. ⌜ r ≡ position + sizeIn o ⌝ }
+{
+    if o.delete {
+        return position;
+    }
+    position + (20 + o.len as u64)
+}
+
+// "checksum 4, over all that follows it": the count and the entries.
+fn sum(batch: &[u8], count: u64) -> u32
+    requires { ⌜ (count ≡ length (settled (opsIn (now batch)))) × (length (objectsOf (settled (opsIn (now batch)))) < 2 ^ 62) ⌝ }
+    ensures { λ r. ⌜ r ≡ crc32 (listed (entriesOf 0 (settled (opsIn (now (batch .entry)))))) ⌝ }
+{
+    let mut register = write::sum_count(count);
+    let mut position: u64 = 0;
+    let mut cursor = batch::start(batch);
+    loop {
+        let Step::Next(o, after) = batch::next(batch, cursor) else {
+            return write::sum_end(register);
+        };
+        let e = entry_of(o, position);
+        register = write::sum_entry(register, e);
+        position = behind(position, o);
+        cursor = after;
+    }
+}
+
+// An operation's object, its body a piece of the batch. "Deletes have no object bytes."
+fn put_content(file: &mut [u8], at: usize, batch: &[u8], o: Operation, left: u64) -> u64
+    requires { ⌜ (at + sizeIn o ≤ length (now file)) × (o .start + o .len ≤ length (now batch)) ⌝ }
+    ensures { λ r. ⌜ Made left (storesOf at (contentBytes (o .id) (opIn (now (batch .entry)) o .content))) (now (file .entry)) (now (file .exit)) r ⌝ }
+{
+    if o.delete {
+        return left;
+    }
+    let start = o.start;
+    let end = start + o.len;
+    slot_writer::put_object(file, at, o.id, &batch[start..end], left)
+}
+
+// The object bytes, ids ascending.
+fn put_objects(file: &mut [u8], batch: &[u8], left: u64) -> u64
+    requires { ⌜ length (objectsOf (settled (opsIn (now batch)))) ≤ length (now file) ⌝ }
+    ensures { λ r. ⌜ Made left (storesOf 0 (objectsOf (settled (opsIn (now (batch .entry)))))) (now (file .entry)) (now (file .exit)) r ⌝ }
+{
+    let mut rest = left;
+    let mut position: u64 = 0;
+    let mut cursor = batch::start(batch);
+    loop {
+        let Step::Next(o, after) = batch::next(batch, cursor) else {
+            return rest;
+        };
+        rest = put_content(file, position as usize, batch, o, rest);
+        position = behind(position, o);
+        cursor = after;
+    }
+}
+
+// The entries, from `at` on.
+fn put_entries(file: &mut [u8], at: usize, batch: &[u8], left: u64) -> u64
+    requires { ⌜ (at + 16 * length (settled (opsIn (now batch))) ≤ length (now file)) × (length (objectsOf (settled (opsIn (now batch)))) < 2 ^ 62) ⌝ }
+    ensures { λ r. ⌜ Made left (storesOf at (each entryBytes (entriesOf 0 (settled (opsIn (now (batch .entry))))))) (now (file .entry)) (now (file .exit)) r ⌝ }
+{
+    let mut rest = left;
+    let mut place = at;
+    let mut position: u64 = 0;
+    let mut cursor = batch::start(batch);
+    loop {
+        let Step::Next(o, after) = batch::next(batch, cursor) else {
+            return rest;
+        };
+        let e = entry_of(o, position);
+        rest = write::put_entry(file, place, e, rest);
+        place += 16;
+        position = behind(position, o);
+        cursor = after;
+    }
+}
+
+// The trailer, from `at` on: its checksum stands first, so that the operations are gone through twice.
+fn put_trailer(file: &mut [u8], at: usize, batch: &[u8], count: u64, left: u64) -> u64
+    requires { ⌜ (count ≡ length (settled (opsIn (now batch)))) × (at + (12 + 16 * count) ≤ length (now file)) × (length (objectsOf (settled (opsIn (now batch)))) < 2 ^ 62) ⌝ }
+    ensures { λ r. ⌜ Made left (storesOf at (trailerBytes (entriesOf 0 (settled (opsIn (now (batch .entry))))))) (now (file .entry)) (now (file .exit)) r ⌝ }
+{
+    let checksum = sum(batch, count);
+    let rest = write::put_head(file, at, checksum, count, left);
+    put_entries(file, at + 12, batch, rest)
+}
+
+// The whole file, in the heap's part behind its slot's label: the objects, then the trailer.
+fn put_file(file: &mut [u8], batch: &[u8], count: u64, total: u64, left: u64) -> u64
+    requires { ⌜ Sized (now batch) count total × (length (fileBytes (settled (opsIn (now batch)))) ≤ length (now file)) ⌝ }
+    ensures { λ r. ⌜ Made left (storesOf 0 (fileBytes (settled (opsIn (now (batch .entry)))))) (now (file .entry)) (now (file .exit)) r ⌝ }
+{
+    let rest = put_objects(file, batch, left);
+    put_trailer(file, total as usize, batch, count, rest)
+}
+
+// A file and its label into the slot that begins at `start`, in the order of the file's run.
+pub fn write_file(
+    heap: &mut [u8],
+    start: usize,
+    batch: &[u8],
+    new: Record,
+    count: u64,
+    total: u64,
+    k: u64,
+) -> u64
+    requires { ⌜ Sized (now batch) count total × (start + (64 + length (fileBytes (settled (opsIn (now batch))))) ≤ length (now heap)) ⌝ }
+    ensures { λ r. ⌜ Made k (fileStores start (labelBytes new) (fileBytes (settled (opsIn (now (batch .entry)))))) (now (heap .entry)) (now (heap .exit)) r ⌝ }
+{
+    let behind_label = start + 64;
+    let rest = put_file(&mut heap[behind_label..], batch, count, total, k);
+    slot_writer::label::put(heap, start, new, rest)
+}

@@ -1,0 +1,115 @@
+-- One turn of each loop, and its end.
+use mathlib.Core.Path.{_≡_, refl, sym, ap, _∙_}
+use mathlib.Core.Bool.{true, false}
+use mathlib.Core.Logic.{_⊎_, inl, inr}
+use mathlib.Core.List.{List, [], _∷_, _++_, map}
+use Prim.Native.Nat.{ℕ, zero, suc, _+_, _<_, _≤_, zero-le}
+use native.Mathlib.Omega.{arith}
+use native.Mathlib.Nat.{not-suc-le-zero, le-of-suc-le-suc}
+use native.Mathlib.Numerals.{add-one}
+use borrow.Author.Tests.{le-leb, lt-leb}
+use lib.ListN.{length, getD, set, take, drop, drop-of-length-le}
+use lib.Seq.{take-suc}
+use Rattle.numbers.specs.GroupLaws.{either-way}
+use Rattle.rules.specs.Base.{keep, larger, greatest}
+use Rattle.rules.specs.BaseLaws.{All}
+use Rattle.rules.specs.FileMap.{emptyRecord, recordAt}
+use Rattle.rules.specs.Reopen.{inRange, maskedPosition, mappedInto}
+use Rattle.trailer.specs.Entries.{noEntry}
+use Rattle.reopen_tests.proofs.Turns.{next}
+use Rattle.rebuild.specs.Types.{Record, Entry}
+
+module _ {A : Type 0} (default : A) (xs : List A) (i : ℕ) where
+  pub taken : i < length xs → take (i + 1) xs ≡ take i xs ++ (getD xs i default ∷ [])
+  taken h = rw (add-one i) (take-suc xs i default h)
+
+-- what each has, the one at i has
+pub all-at : {A : Type 0} (P : A → Type 0) (default : A) (xs : List A) → All P xs → (i : ℕ) → i < length xs → P (getD xs i default)
+all-at P default [] a i h = absurd (not-suc-le-zero h)
+all-at P default (x ∷ xs) a zero h = a .0
+all-at P default (x ∷ xs) a (suc i) h = all-at P default xs (a .1) i (le-of-suc-le-suc h)
+
+pub all-take : {A : Type 0} (P : A → Type 0) (xs : List A) → All P xs → (i : ℕ) → All P (take i xs)
+all-take P [] a zero = tt
+all-take P [] a (suc i) = tt
+all-take P (x ∷ xs) a zero = tt
+all-take P (x ∷ xs) a (suc i) = (a .0, all-take P xs (a .1) i)
+
+-- the first i, with f of the one at i behind them
+pub taken-map : {A B : Type 0} (f : A → B) (default : A) (xs : List A) (i : ℕ) → i < length xs → take (i + 1) (map f xs) ≡ take i (map f xs) ++ (f (getD xs i default) ∷ [])
+taken-map {A = A} {B = B} f default xs i h = rw (add-one i) (go xs i h)
+  where
+    go : (ys : List A) (j : ℕ) → j < length ys → take (suc j) (map f ys) ≡ take j (map f ys) ++ (f (getD ys j default) ∷ [])
+    go [] j q = absurd (not-suc-le-zero q)
+    go (y ∷ ys) zero q = refl
+    go (y ∷ ys) (suc j) q = ap (λ (zs : List B). f y ∷ zs) (go ys j (le-of-suc-le-suc q))
+
+-- ---- ids mapped into a file
+module _ (es : List Entry) (r : Record) (i : ℕ) where
+  pub count-here : i < length es → inRange r (maskedPosition (getD es i noEntry)) ≡ true → mappedInto (drop i es) r ≡ suc (mappedInto (drop (i + 1) es) r)
+  unfolding mappedInto keep
+  count-here h e = rw (next noEntry es i h, e) refl
+
+  pub count-later : i < length es → inRange r (maskedPosition (getD es i noEntry)) ≡ false → mappedInto (drop i es) r ≡ mappedInto (drop (i + 1) es) r
+  unfolding mappedInto keep
+  count-later h e = rw (next noEntry es i h, e) refl
+
+  pub count-end : length es ≤ i → mappedInto (drop i es) r ≡ 0
+  unfolding mappedInto keep
+  count-end h = rw (drop-of-length-le es {i = i} h) refl
+
+-- ---- each record once
+abbrev pub mapTo : (Record → Record) → ℕ → List Record → List Record
+mapTo f k rs = map f (take k rs) ++ drop k rs
+
+module _ (f : Record → Record) where
+  pub map-read : (rs : List Record) (k : ℕ) → k < length rs → recordAt (mapTo f k rs) k ≡ recordAt rs k
+  map-read [] k h = absurd (not-suc-le-zero h)
+  map-read (r ∷ rs) zero h = refl
+  map-read (r ∷ rs) (suc k) h = map-read rs k (le-of-suc-le-suc h)
+
+  pub map-next : (rs : List Record) (k : ℕ) → k < length rs → set (mapTo f k rs) k (f (recordAt rs k)) ≡ mapTo f (k + 1) rs
+  map-next rs k h = rw (add-one k) (go rs k h)
+    where
+      go : (ys : List Record) (j : ℕ) → j < length ys → set (mapTo f j ys) j (f (recordAt ys j)) ≡ mapTo f (suc j) ys
+      go [] j q = absurd (not-suc-le-zero q)
+      go (y ∷ ys) zero q = refl
+      go (y ∷ ys) (suc j) q = ap (λ (zs : List Record). f y ∷ zs) (go ys j (le-of-suc-le-suc q))
+
+  pub map-end : (rs : List Record) (k : ℕ) → length rs ≤ k → mapTo f k rs ≡ map f rs
+  map-end [] zero h = refl
+  map-end [] (suc k) h = refl
+  map-end (r ∷ rs) zero h = absurd (not-suc-le-zero h)
+  map-end (r ∷ rs) (suc k) h = ap (λ (zs : List Record). f r ∷ zs) (map-end rs k (le-of-suc-le-suc h))
+
+-- ---- the greatest
+larger-upper : (a b : ℕ) → a ≤ b → larger a b ≡ b
+larger-upper a b h = rw (le-leb a b h) refl
+
+larger-lower : (a b : ℕ) → b ≤ a → larger a b ≡ a
+larger-lower a b h = go (either-way b a)
+  where
+    go : (b < a) ⊎ (a ≤ b) → larger a b ≡ a
+    go (inl l) = rw (lt-leb a b l) refl
+    go (inr l) = rw (le-leb a b l) (let e : b ≡ a = omega arith in e)
+
+larger-assoc : (a b c : ℕ) → larger (larger a b) c ≡ larger a (larger b c)
+larger-assoc a b c = go (either-way a b) (either-way b c)
+  where
+    go : (a < b) ⊎ (b ≤ a) → (b < c) ⊎ (c ≤ b) → larger (larger a b) c ≡ larger a (larger b c)
+    go (inl p) (inl q) = ap (λ (x : ℕ). larger x c) (larger-upper a b (omega arith)) ∙ larger-upper b c (omega arith) ∙ sym (ap (larger a) (larger-upper b c (omega arith)) ∙ larger-upper a c (omega arith))
+    go (inl p) (inr q) = ap (λ (x : ℕ). larger x c) (larger-upper a b (omega arith)) ∙ larger-lower b c q ∙ sym (ap (larger a) (larger-lower b c q) ∙ larger-upper a b (omega arith))
+    go (inr p) (inl q) = ap (λ (x : ℕ). larger x c) (larger-lower a b p) ∙ sym (ap (larger a) (larger-upper b c (omega arith)))
+    go (inr p) (inr q) = ap (λ (x : ℕ). larger x c) (larger-lower a b p) ∙ larger-lower a c (omega arith) ∙ sym (ap (larger a) (larger-lower b c q) ∙ larger-lower a b p)
+
+module _ (f : Record → ℕ) (rs : List Record) where
+  pub greatest-start : larger 0 (greatest f rs) ≡ greatest f rs
+  greatest-start = larger-upper 0 (greatest f rs) zero-le
+
+  pub greatest-next : (k most : ℕ) → k < length rs → larger (larger most (f (recordAt rs k))) (greatest f (drop (k + 1) rs)) ≡ larger most (greatest f (drop k rs))
+  unfolding greatest
+  greatest-next k most h = larger-assoc most (f (recordAt rs k)) (greatest f (drop (k + 1) rs)) ∙ sym (ap (λ (ys : List Record). larger most (greatest f ys)) (next emptyRecord rs k h))
+
+  pub greatest-end : (k most : ℕ) → length rs ≤ k → larger most (greatest f (drop k rs)) ≡ most
+  unfolding greatest
+  greatest-end k most h = ap (λ (ys : List Record). larger most (greatest f ys)) (drop-of-length-le rs {i = k} h) ∙ larger-lower most 0 zero-le

@@ -1,0 +1,4 @@
+pub mod Types
+pub mod Latest
+pub mod Filled
+pub mod Records

@@ -1,0 +1,119 @@
+use disk_location::DiskLocation;
+use disk_location::RelativeDiskLocation;
+use disk_location::masked;
+use file_map::is_empty;
+use location_table::clear;
+use location_table::load_in;
+use location_table::store_in;
+use reopen_tests::slots::slot_at;
+use rules::Entry;
+use rules::FileMap;
+use rules::Held;
+use rules::Record;
+use slot_file::slot::trailer_part;
+ghost use mathlib.Core.Path.{_≡_};
+ghost use mathlib.Core.List.{[], _∷_, map};
+ghost use Prim.Native.Nat.{_+_, _*_, _^_, _≤_, _<_};
+ghost use lib.ListN.{length};
+ghost use Rattle.disk_location.specs.Locations.{maskedOf, positionOf};
+ghost use Rattle.rules.specs.Base.{each};
+ghost use Rattle.rules.specs.Trailer.{absolute, countIn, entriesIn};
+ghost use Rattle.rules.specs.SlotFile.{viewIn, viewsIn};
+ghost use Rattle.rules.specs.Reopen.{fileOf, filesIn};
+ghost use Rattle.location_table.specs.Tables.{table, Formed};
+ghost use Rattle.reopen_tests.specs.Shown.{Shown, Surveyed};
+ghost use Rattle.rebuild.specs.Filled.{replaces, Filled, Placed, rowsOf};
+
+// An absolute location's position, the batch bit cleared.
+pub fn masked_position(location: u64) -> u64
+    ensures { λ r. ⌜ r ≡ maskedOf (positionOf location) ⌝ }
+{
+    masked(DiskLocation(location).position())
+}
+
+// Whether an entry replaces what the table has for its id: "its entry of greatest masked position".
+fn replaces(held: Held, location: u64) -> bool
+    ensures { λ b. ⌜ b ≡ replaces held location ⌝ }
+{
+    match held {
+        Held::Unmapped => true,
+        Held::Mapped(old) => masked_position(old) < masked_position(location),
+    }
+}
+
+// "A relative location plus a file's lsn is an absolute one."
+fn absolute(e: Entry, lsn: u64) -> Entry
+    requires { ⌜ (0 < lsn) × (positionOf (e .location) + lsn < 2 ^ 63) ⌝ }
+    ensures { λ r. ⌜ r ≡ absolute lsn e ⌝ }
+{
+    let relative = RelativeDiskLocation(e.location);
+    Entry {
+        id: e.id,
+        location: relative.to_absolute(lsn).raw(),
+    }
+}
+
+// One entry beside those met before; where a new id finds no room both buffers are cleared.
+fn meet(ids: &mut [u64], locations: &mut [u64], id: u64, location: u64) -> bool
+    requires { ⌜ Formed (table (now ids) (now locations)) × (0 < location) ⌝ }
+    ensures { λ r. ⌜ Filled (table (now (ids .entry)) (now (locations .entry))) (record { id = id; location = location } ∷ []) r (table (now (ids .exit)) (now (locations .exit))) ⌝ }
+{
+    if !replaces(load_in(ids, locations, id), location) {
+        return true;
+    }
+    if !store_in(ids, locations, id, location) {
+        clear(ids, locations);
+        return false;
+    }
+    true
+}
+
+// The entries of one trailer, in one pass over it.
+fn fill_file(trailer: &[u8], lsn: u64, ids: &mut [u64], locations: &mut [u64]) -> bool
+    requires { ⌜ Formed (table (now ids) (now locations)) × (12 + 16 * countIn (now trailer) ≤ length (now trailer)) × Placed lsn (entriesIn (now trailer)) ⌝ }
+    ensures { λ r. ⌜ Filled (table (now (ids .entry)) (now (locations .entry))) (map (absolute lsn) (entriesIn (now (trailer .entry)))) r (table (now (ids .exit)) (now (locations .exit))) ⌝ }
+{
+    let n = trailer::count(trailer);
+    let mut k: u64 = 0;
+    while k < n {
+        let e = absolute(trailer::entry(trailer, k), lsn);
+        if !meet(ids, locations, e.id, e.location) {
+            return false;
+        }
+        k += 1;
+    }
+    true
+}
+
+// The entries of a slot's file, if there is one.
+fn fill_slot(slot: &[u8], r: Record, ids: &mut [u64], locations: &mut [u64]) -> bool
+    requires { ⌜ Formed (table (now ids) (now locations)) × Shown (now slot) r ⌝ }
+    ensures { λ b. ⌜ Filled (table (now (ids .entry)) (now (locations .entry))) (each rowsOf (fileOf (viewIn (now (slot .entry))))) b (table (now (ids .exit)) (now (locations .exit))) ⌝ }
+{
+    if is_empty(r) {
+        return true;
+    }
+    fill_file(trailer_part(slot, r), r.lsn, ids, locations)
+}
+
+// "Each id maps to its entry of greatest masked position"; without room for all ids both buffers are cleared.
+pub fn fill(
+    heap: &[u8],
+    size: usize,
+    n: usize,
+    files: FileMap,
+    ids: &mut [u64],
+    locations: &mut [u64],
+) -> bool
+    requires { ⌜ Formed (table (now ids) (now locations)) × Surveyed n size (now heap) (files .records) ⌝ }
+    ensures { λ b. ⌜ Filled (table (now (ids .entry)) (now (locations .entry))) (each rowsOf (filesIn (viewsIn n size (now (heap .entry))))) b (table (now (ids .exit)) (now (locations .exit))) ⌝ }
+{
+    let mut k: usize = 0;
+    while k < n {
+        if !fill_slot(slot_at(heap, size, k), files.records[k], ids, locations) {
+            return false;
+        }
+        k += 1;
+    }
+    true
+}

@@ -1,0 +1,4 @@
+pub mod Types
+pub mod Reopening
+pub mod Steps
+pub mod Unique

@@ -1,0 +1,50 @@
+-- The call in its parts: what is left once 1, and then once 8 to 15, are clear.
+use mathlib.Core.Path.{_≡_}
+use Rattle.rules.specs.Base.{List, [], _∷_, ℕ, length, ltb}
+use Rattle.rules.specs.Refusal.{_gives_, decide, after}
+use Rattle.rules.specs.FileMap.{noFiles}
+use Rattle.rules.specs.Claims.{noClaims}
+use Rattle.rules.specs.Layout.{Buffers, capacityOf, cleared}
+use Rattle.rules.specs.SlotFile.{View, viewsIn}
+use Rattle.rules.specs.Reopen.{filesIn, tableOf, reopenTests, givenUp, opened}
+use Rattle.rules.specs.World.{World, world, slotsOf, noState, answerGiven, After, leaving}
+use Rattle.recovery.specs.declared.Reopened.{Reopened}
+use Rattle.recovery.specs.Types.{Settings, Record, State, Refusal, TableRoom, Refused}
+
+-- a state of these settings and lengths
+abbrev pub stateBy : Settings → ℕ → ℕ → List Record → ℕ → State
+stateBy settings heapLen tableLen records next = record {
+  settings = settings;
+  «heap_len» = heapLen;
+  «table_len» = tableLen;
+  files = record { records = records };
+  «next_position» = next;
+}
+
+-- "hands back an empty file map, no claims and next position 1"
+abbrev pub handedBack : Settings → ℕ → ℕ → Refusal → Reopened
+handedBack settings heapLen tableLen r = record { answer = Refused r; state = stateBy settings heapLen tableLen noFiles 1; claims = noClaims }
+
+-- what a reopening left, as its result and the lent buffers give it
+abbrev pub leaves : Settings → Reopened → List ℕ → List ℕ → List ℕ → After
+leaves settings r heap ids locations = leaving (answerGiven (r .answer)) (world settings (r .state) (r .claims) heap ids locations)
+
+-- settings and buffers alone: past 1 the old state and claims count no more
+abbrev pub bare : Settings → List ℕ → List ℕ → List ℕ → World
+bare settings heap ids locations = world settings noState noClaims heap ids locations
+
+-- a table that was cleared
+pub record Blank (b : Buffers) : Type 0 where
+  pub even : length (b .ids) ≡ length (b .locations)
+  pub zero : b ≡ cleared b
+
+-- 1 is clear
+abbrev pub pastLimits : World → After
+pastLimits w =
+    let views = viewsIn (slotsOf w) (w .settings .«slot_bytes») (w .heap) in
+    after (decide (reopenTests w views)) (givenUp w) (opened w views)
+
+-- 8 to 15 are clear, too
+abbrev pub pastTests : World → List View → After
+pastTests w views =
+    after (decide (ltb (capacityOf (w .table)) (length (tableOf (filesIn views))) gives TableRoom ∷ [])) (givenUp w) (opened w views)

@@ -1,0 +1,132 @@
+// Reopening (`src/recovery.rs`): the file map and the table from the heap alone, which is only read.
+use file_map::no_files;
+use limits::out_of_range;
+use location_table::clear;
+use rebuild::counts::next_position;
+use rebuild::counts::with_live_counts;
+use rebuild::table::fill;
+use reopen_tests::over_all::check;
+use rules::Answer;
+use rules::Claims;
+use rules::FileMap;
+use rules::Refusal;
+use rules::Settings;
+use rules::State;
+ghost use mathlib.Core.Path.{_≡_};
+ghost use Prim.Native.Nat.{_≤_};
+ghost use lib.ListN.{length};
+ghost use Rattle.rules.specs.Claims.{noClaims};
+ghost use Rattle.rules.specs.Condition1Laws.{InLimits};
+ghost use Rattle.rules.specs.Reopen.{reopenCall};
+ghost use Rattle.rules.specs.SlotFile.{viewsIn};
+ghost use Rattle.rules.specs.World.{answerGiven, leaving, world};
+ghost use Rattle.location_table.specs.Tables.{table};
+ghost use Rattle.reopen_tests.specs.Shown.{Surveyed};
+ghost use Rattle.recovery.specs.Reopening.{stateBy, handedBack, leaves, bare, Blank, pastTests, pastLimits};
+
+// What a reopening hands back.
+pub struct Reopened {
+    pub answer: Answer,
+    pub state: State,
+    pub claims: Claims,
+}
+
+fn no_claims() -> Claims
+    ensures { λ c. ⌜ c ≡ noClaims ⌝ }
+{
+    Claims {
+        a: 0,
+        b: 0,
+        c: 0,
+        d: 0,
+    }
+}
+
+fn state_of(settings: Settings, heap_len: u64, table_len: u64, files: FileMap, next: u64) -> State
+    ensures { λ s. ⌜ s ≡ stateBy settings «heap_len» «table_len» (files .records) next ⌝ }
+{
+    State {
+        settings: settings,
+        heap_len: heap_len,
+        table_len: table_len,
+        files: files,
+        next_position: next,
+    }
+}
+
+// "an empty file map, no claims and next position 1"
+fn given_up(settings: Settings, heap_len: u64, table_len: u64, refusal: Refusal) -> Reopened
+    ensures { λ r. ⌜ r ≡ handedBack settings «heap_len» «table_len» refusal ⌝ }
+{
+    Reopened {
+        answer: Answer::Refused(refusal),
+        state: state_of(settings, heap_len, table_len, no_files(), 1),
+        claims: no_claims(),
+    }
+}
+
+// 6, and what an accepted reopening leaves; the table is cleared before.
+fn rebuilt(
+    settings: Settings,
+    heap: &[u8],
+    size: usize,
+    n: usize,
+    files: FileMap,
+    ids: &mut [u64],
+    locations: &mut [u64],
+) -> Reopened
+    requires { ⌜ Surveyed n size (now heap) (files .records) × (size ≤ 1048576) × Blank (table (now ids) (now locations)) ⌝ }
+    ensures { λ r. ⌜ leaves settings r (now (heap .entry)) (now (ids .exit)) (now (locations .exit)) ≡ pastTests (bare settings (now (heap .entry)) (now (ids .entry)) (now (locations .entry))) (viewsIn n size (now (heap .entry))) ⌝ }
+{
+    let heap_len = heap.len() as u64;
+    let table_len = ids.len() as u64;
+    if !fill(heap, size, n, files, ids, locations) {
+        return given_up(settings, heap_len, table_len, Refusal::TableRoom);
+    }
+    let counted = with_live_counts(ids, locations, files);
+    Reopened {
+        answer: Answer::Done,
+        state: state_of(settings, heap_len, table_len, counted, next_position(files)),
+        claims: no_claims(),
+    }
+}
+
+// All but 1.
+fn recovered(settings: Settings, heap: &[u8], ids: &mut [u64], locations: &mut [u64]) -> Reopened
+    requires { ⌜ InLimits settings (length (now heap)) (table (now ids) (now locations)) ⌝ }
+    ensures { λ r. ⌜ leaves settings r (now (heap .entry)) (now (ids .exit)) (now (locations .exit)) ≡ pastLimits (bare settings (now (heap .entry)) (now (ids .entry)) (now (locations .entry))) ⌝ }
+{
+    let size = settings.slot_bytes as usize;
+    let n = heap.len() / size;
+    clear(ids, locations);
+    let found = check(heap, size, n);
+    let answer = found.answer;
+    match answer {
+        Answer::Refused(r) => given_up(settings, heap.len() as u64, ids.len() as u64, r),
+        Answer::Done => {
+            let files = found.files;
+            rebuilt(settings, heap, size, n, files, ids, locations)
+        }
+    }
+}
+
+// Refused with 1 it hands everything back as it was; with any other number the table is cleared and no file is known.
+pub fn reopen(
+    settings: Settings,
+    state: State,
+    claims: Claims,
+    heap: &[u8],
+    ids: &mut [u64],
+    locations: &mut [u64],
+) -> Reopened
+    ensures { λ r. ⌜ leaving (answerGiven (r .answer)) (world settings (r .state) (r .claims) (now (heap .entry)) (now (ids .exit)) (now (locations .exit))) ≡ reopenCall (world settings state claims (now (heap .entry)) (now (ids .entry)) (now (locations .entry))) ⌝ }
+{
+    if out_of_range(settings, heap.len() as u64, ids, locations) {
+        return Reopened {
+            answer: Answer::Refused(Refusal::Limits),
+            state: state,
+            claims: claims,
+        };
+    }
+    recovered(settings, heap, ids, locations)
+}

@@ -1,0 +1,121 @@
+-- The survey of the slots: its answer and its labels, slot by slot.
+use mathlib.Core.Path.{_≡_, refl, sym, ap, _∙_}
+use mathlib.Core.List.{List, [], _∷_, _++_, map, map-append}
+use mathlib.Core.Bool.{true, false}
+use Prim.Native.Nat.{ℕ, suc, _+_, _-_, _<_, _≤_}
+use native.Mathlib.Omega.{arith}
+use native.Mathlib.Numerals.{add-one}
+use lib.ListN.{length, getD, set, take, drop, replicate, length-map, drop-of-length-le}
+use lib.Seq.{take-suc, set-at, append-snoc, length-take-le, take-all}
+use Rattle.rules.specs.Base.{any, each}
+use Rattle.rules.specs.Refusal.{_gives_, decide, decide-none, decide-early, decide-late, decide-first, decide-next}
+use Rattle.rules.specs.declared.Refusal.the-variants.{Overlap, NotRising}
+use Rattle.rules.specs.FileMap.{emptyRecord, noFiles}
+use Rattle.rules.specs.SlotFile.{View, empty, damaged, holds, slotBytes, viewIn, viewsIn}
+use Rattle.rules.specs.SlotLaws.{views-at}
+use Rattle.rules.specs.declared.FileMap.{FileMap}
+use Rattle.slot_file.specs.declared.SlotAnswer.{SlotAnswer}
+use Rattle.rules.specs.Reopen.{viewTests, filesIn, overlapping}
+use Rattle.slot_file.specs.Slots.{shownBy}
+use Rattle.reopen_tests.specs.Types.{Record, Refusal, Done, Refused}
+use Rattle.reopen_tests.specs.Labels.{refusalShown, labelShown, labelOf, labelsOf, surveyBy, surveyed}
+use Rattle.reopen_tests.specs.Ascending.{fileFalls}
+use Rattle.reopen_tests.specs.Tests.{fileTests, checked}
+use Rattle.reopen_tests.proofs.Turns.{next}
+
+-- what a slot answers is what its view says
+pub refusal-shown : (v : View) → refusalShown (shownBy v) ≡ decide (viewTests v)
+unfolding decide
+refusal-shown empty = refl
+refusal-shown (damaged r) = refl
+refusal-shown (holds f) = refl
+
+pub label-shown : (v : View) → labelShown (shownBy v) ≡ labelOf v
+label-shown empty = refl
+label-shown (damaged r) = refl
+label-shown (holds f) = refl
+
+-- ---- the labels of the first k slots
+abbrev pub labelsTo : ℕ → List View → List Record
+labelsTo k views = map labelOf (take k views) ++ replicate (256 - k) emptyRecord
+
+pub labels-start : (views : List View) → labelsTo 0 views ≡ noFiles
+unfolding noFiles
+labels-start views = refl
+
+pub labels-next : (views : List View) (k : ℕ) (r : Record) → k < length views → k < 256 → r ≡ labelOf (getD views k empty)
+    → set (labelsTo k views) k r ≡ labelsTo (k + 1) views
+labels-next views k r h low e =
+    let p = map labelOf (take k views) in
+    let rest = replicate (256 - (k + 1)) emptyRecord in
+    let more : 256 - k ≡ suc (256 - (k + 1)) = omega arith in
+    let here : take (k + 1) views ≡ take k views ++ (getD views k empty ∷ []) = rw (add-one k) (take-suc views k empty h) in
+    rw more (set-at p emptyRecord rest r k (length-map (take k views) labelOf ∙ length-take-le k views (omega arith)))
+    ∙ sym (append-snoc p r rest)
+    ∙ ap (λ (x : Record). (p ++ (x ∷ [])) ++ rest) e
+    ∙ ap (λ (l : List Record). l ++ rest) (sym (map-append labelOf (take k views) (getD views k empty ∷ [])))
+    ∙ ap (λ (l : List View). map labelOf l ++ rest) (sym here)
+
+pub labels-end : (views : List View) (k : ℕ) → length views ≡ k → labelsTo k views ≡ labelsOf views
+unfolding labelsOf
+labels-end views k e = rw (e, take-all k views (omega arith)) refl
+
+-- ---- the first refusal of the slots from k on
+module _ (views : List View) (k : ℕ) (h : k < length views) where
+  rest : each viewTests (drop k views) ≡ viewTests (getD views k empty) ++ each viewTests (drop (k + 1) views)
+  unfolding each
+  rest = ap (each viewTests) (next empty views k h)
+
+  pub survey-here : (r : Refusal) → decide (viewTests (getD views k empty)) ≡ Refused r → decide (each viewTests (drop k views)) ≡ Refused r
+  survey-here r e = ap decide rest ∙ decide-early (viewTests (getD views k empty)) _ r e
+
+  pub survey-later : decide (viewTests (getD views k empty)) ≡ Done → decide (each viewTests (drop (k + 1) views)) ≡ decide (each viewTests (drop k views))
+  survey-later e = sym (ap decide rest ∙ decide-late (viewTests (getD views k empty)) _ e)
+
+pub survey-end : (views : List View) (k : ℕ) → length views ≤ k → decide (each viewTests (drop k views)) ≡ Done
+unfolding each
+survey-end views k h = ap (λ (vs : List View). decide (each viewTests vs)) (drop-of-length-le views {i = k} h) ∙ decide-none
+
+-- slot k as the code read it
+module _ (n size : ℕ) (heap : List ℕ) (k : ℕ) (h : k < n) (slot : List ℕ) (at : slot ≡ slotBytes size heap k) (answer : SlotAnswer) (is : answer ≡ shownBy (viewIn slot)) where
+  view : viewIn slot ≡ getD (viewsIn n size heap) k empty
+  view = ap viewIn at ∙ sym (views-at n size heap k h)
+
+  pub said-refusal : refusalShown answer ≡ decide (viewTests (getD (viewsIn n size heap) k empty))
+  said-refusal = ap refusalShown is ∙ refusal-shown (viewIn slot) ∙ ap (λ (v : View). decide (viewTests v)) view
+
+  pub said-label : labelShown answer ≡ labelOf (getD (viewsIn n size heap) k empty)
+  said-label = ap labelShown is ∙ label-shown (viewIn slot) ∙ ap labelOf view
+
+-- what is handed back
+module _ (views : List View) where
+  pub surveyed-refused : (r : Refusal) → decide (each viewTests views) ≡ Refused r → surveyBy (Refused r) [] ≡ surveyed views
+  unfolding surveyed
+  surveyed-refused r e = rw e refl
+
+  pub surveyed-clear : (files : FileMap) → decide (each viewTests views) ≡ Done → files .records ≡ labelsOf views → record { answer = Done; files = files } ≡ surveyed views
+  unfolding surveyed
+  surveyed-clear files e f = rw e (ap (λ (rs : List Record). record { answer = Done; files = record { records = rs } }) f)
+
+-- 14 and 15 behind 8 to 13
+module _ (views : List View) where
+  pub checked-slots : (r : Refusal) → decide (each viewTests views) ≡ Refused r → surveyBy (Refused r) [] ≡ checked views
+  unfolding checked fileTests
+  checked-slots r e = rw (decide-early (each viewTests views) (overlapping (filesIn views) gives Overlap ∷ any fileFalls (filesIn views) gives NotRising ∷ []) r e) refl
+
+  module _ (e : decide (each viewTests views) ≡ Done) where
+    behind : decide (fileTests views) ≡ decide (overlapping (filesIn views) gives Overlap ∷ any fileFalls (filesIn views) gives NotRising ∷ [])
+    unfolding fileTests
+    behind = decide-late (each viewTests views) _ e
+
+    pub checked-overlap : overlapping (filesIn views) ≡ true → surveyBy (Refused Overlap) [] ≡ checked views
+    unfolding checked
+    checked-overlap o = rw (behind ∙ decide-first (overlapping (filesIn views)) Overlap _ o) refl
+
+    pub checked-falls : overlapping (filesIn views) ≡ false → any fileFalls (filesIn views) ≡ true → surveyBy (Refused NotRising) [] ≡ checked views
+    unfolding checked
+    checked-falls o f = rw (behind ∙ decide-next (overlapping (filesIn views)) Overlap _ o ∙ decide-first (any fileFalls (filesIn views)) NotRising [] f) refl
+
+    pub checked-clear : overlapping (filesIn views) ≡ false → any fileFalls (filesIn views) ≡ false → surveyed views ≡ checked views
+    unfolding checked surveyed
+    checked-clear o f = rw (e, behind ∙ decide-next (overlapping (filesIn views)) Overlap _ o ∙ decide-next (any fileFalls (filesIn views)) NotRising [] f ∙ decide-none) refl

@@ -1,0 +1,6 @@
+pub mod Types
+pub mod Labels
+pub mod Ascending
+pub mod Shown
+pub mod Overlaps
+pub mod Tests

@@ -1,0 +1,110 @@
+// Write (`src/writepath.rs`): the whole batch is decided first; nothing is stored before.
+
+pub mod plan;
+
+use plan::Plan;
+use rules::Answer;
+use rules::Record;
+use rules::Settings;
+use rules::State;
+ghost use mathlib.Core.Path.{_≡_};
+ghost use Prim.Native.Nat.{_+_, _*_, _≤_, _<_, _^_};
+ghost use lib.ListN.{length};
+ghost use Rattle.rules.specs.declared.Claims.{Claims};
+ghost use Rattle.rules.specs.Ops.{fileBytes, settled};
+ghost use Rattle.rules.specs.Label.{labelBytes};
+ghost use Rattle.rules.specs.Stores.{made, fileStores};
+ghost use Rattle.rules.specs.Install.{installed};
+ghost use Rattle.rules.specs.Write.{writeCall};
+ghost use Rattle.rules.specs.World.{world, leaving, answerGiven};
+ghost use Rattle.location_table.specs.Tables.{table};
+ghost use Rattle.file_map.specs.Records.{fresh};
+ghost use Rattle.batch.specs.Reading.{opsIn};
+ghost use Rattle.batch_file.specs.Steps.{Sized};
+ghost use Rattle.writepath.specs.Filing.{Filed};
+
+// The answer, and the state after the call.
+pub struct Written {
+    pub answer: Answer,
+    pub state: State,
+}
+
+// "base = next position, lsn = base with the batch bit", "generation 0".
+fn new_record(base: u64, count: u64, total: u64) -> Record
+    requires { ⌜ (base < 2 ^ 62) × (total + (12 + 16 * count) < 2 ^ 63) ⌝ }
+    ensures { λ r. ⌜ r ≡ fresh (base + 2 ^ 62) total (total + (12 + 16 * count)) count 0 ⌝ }
+{
+    let lsn = disk_location::with_batch(base);
+    file_map::fresh(lsn, total, total + (12 + 16 * count), count, 0)
+}
+
+// The whole run of the file: it is no longer than the heap.
+fn put_file(heap: &mut [u8], start: usize, batch: &[u8], new: Record, count: u64, total: u64)
+    requires { ⌜ Sized (now batch) count total × (start + (64 + length (fileBytes (settled (opsIn (now batch))))) ≤ length (now heap)) ⌝ }
+    ensures { λ _. ⌜ now (heap .exit) ≡ made (fileStores start (labelBytes new) (fileBytes (settled (opsIn (now (batch .entry)))))) (now (heap .entry)) ⌝ }
+{
+    let k = heap.len() as u64;
+    batch_file::write_file(heap, start, batch, new, count, total, k);
+}
+
+// The file of the batch in its slot, then table, live counts, record and next position by the trailer that stands there.
+fn add_file(
+    settings: Settings,
+    state: State,
+    heap: &mut [u8],
+    ids: &mut [u64],
+    locations: &mut [u64],
+    batch: &[u8],
+    slot: usize,
+    count: u64,
+    total: u64,
+) -> State
+    requires { ⌜ Filed settings state (now heap) (table (now ids) (now locations)) (now batch) slot count total ⌝ }
+    ensures { λ r. ⌜ ((c : Claims) → world settings r c (now (heap .exit)) (now (ids .exit)) (now (locations .exit)) ≡ installed (2 ^ 62) 0 (world settings state c (now (heap .entry)) (now (ids .entry)) (now (locations .entry))) (settled (opsIn (now (batch .entry))))) ⌝ }
+{
+    let new = new_record(state.next_position, count, total);
+    let start = slot * settings.slot_bytes as usize;
+    put_file(heap, start, batch, new, count, total);
+    let from = start + 64 + total as usize;
+    let end = from + (12 + 16 * count as usize);
+    install::install(state, ids, locations, &heap[from..end], slot, new)
+}
+
+pub fn write(
+    settings: Settings,
+    state: State,
+    heap: &mut [u8],
+    ids: &mut [u64],
+    locations: &mut [u64],
+    batch: &[u8],
+) -> Written
+    ensures { λ r. ⌜ ((c : Claims) → leaving (answerGiven (r .answer)) (world settings (r .state) c (now (heap .exit)) (now (ids .exit)) (now (locations .exit))) ≡ writeCall (world settings state c (now (heap .entry)) (now (ids .entry)) (now (locations .entry))) (now (batch .entry))) ⌝ }
+{
+    match plan::decided(settings, state, heap, ids, locations, batch) {
+        Plan::Refused(r) => Written {
+            answer: Answer::Refused(r),
+            state: state,
+        },
+        Plan::Nothing => Written {
+            answer: Answer::Done,
+            state: state,
+        },
+        Plan::File(slot, count, total) => {
+            let after = add_file(
+                settings,
+                state,
+                heap,
+                ids,
+                locations,
+                batch,
+                slot,
+                count,
+                total,
+            );
+            Written {
+                answer: Answer::Done,
+                state: after,
+            }
+        }
+    }
+}
