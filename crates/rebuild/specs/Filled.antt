@@ -8,16 +8,17 @@ use Rattle.rules.specs.BaseLaws.{All, and-true}
 use Rattle.rules.specs.Table.{lookup, insert, unmapped, full}
 use Rattle.rules.specs.TableCalls.{withStored}
 use Rattle.rules.specs.Layout.{Buffers, capacityOf, usedEntries, laidOut, cleared}
-use Rattle.rules.specs.LayoutLaws.{laid-out-ids, laid-out-locations}
+use Rattle.rules.specs.LayoutLaws.{Used, laid-out-ids, laid-out-locations, used-laid-out, used-located}
 use Rattle.disk_location.specs.Locations.{positionOf, rawOf, deleteOf}
 use Rattle.rules.specs.Trailer.{absolute}
 use Rattle.rules.specs.SlotFile.{File}
 use Rattle.rules.specs.Reopen.{latest, latestFrom}
 use Rattle.location_table.specs.Tables.{Formed}
-use Rattle.location_table.specs.EntryLaws.{Rising, length-new, length-insert}
-use Rattle.location_table.specs.LayoutLaws.{used-rising, used-fits, laid-out, laid-out-formed, laid-out-used}
+use Rattle.rules.specs.TableLaws.{Rising, insert-new}
+use Rattle.location_table.specs.EntryLaws.{insert-fits}
+use Rattle.location_table.specs.LayoutLaws.{used-rising, used-fits, laid-out, laid-out-formed}
 pub use Rattle.rebuild.specs.Latest.{replaces}
-use Rattle.rebuild.specs.Latest.{InUse, latest-insert, latest-keep, from-append, from-rising, from-grows}
+use Rattle.rebuild.specs.Latest.{InUse, latest-insert, latest-keep, from-append, from-rising, from-used, from-grows}
 use Rattle.rebuild.specs.Types.{Entry, Held, Mapped, Unmapped}
 
 -- a file's entries at their absolute locations
@@ -70,7 +71,7 @@ module _ (b : Buffers) (formed : Formed b) where
       pub filled-stored : full (usedEntries b) (capacityOf b) (n .id) ≡ false → (after : Buffers) → after ≡ withStored b (n .id) (n .location) → Filled b (n ∷ []) true after
       unfolding latestFrom withStored
       filled-stored room after at =
-          let fits = length-insert (usedEntries b) rising n (capacityOf b) (used-fits (b .ids) (b .locations) formed) room in
+          let fits = insert-fits (usedEntries b) rising n (capacityOf b) (used-fits (b .ids) (b .locations) formed) room in
           record {
             answer = rw (latest-insert n (usedEntries b) e) (sym (le-leb (length (insert (usedEntries b) n)) (capacityOf b) fits));
             left = rw (latest-insert n (usedEntries b) e) at;
@@ -82,7 +83,7 @@ module _ (b : Buffers) (formed : Formed b) where
       filled-full none after at =
           let w = and-true (unmapped (lookup (usedEntries b) (n .id))) (leb (capacityOf b) (length (usedEntries b))) none in
           let most = leb-true (capacityOf b) (length (usedEntries b)) (w .1) in
-          let more = length-new (usedEntries b) rising n (free (lookup (usedEntries b) (n .id)) (w .0)) in
+          let more = insert-new (usedEntries b) n (free (lookup (usedEntries b) (n .id)) (w .0)) in
           record {
             answer = rw (latest-insert n (usedEntries b) e) (sym (lt-leb (length (insert (usedEntries b) n)) (capacityOf b) (omega arith)));
             left = at;
@@ -106,18 +107,21 @@ module _ (b : Buffers) (formed : Formed b) where
 
     module _ (used : All InUse xs) (w : Filled b xs true m) where
       met-rising : Rising 0 (latestFrom (usedEntries b) xs)
-      met-rising = from-rising (usedEntries b) xs rising used
+      met-rising = from-rising (usedEntries b) xs rising
+
+      met-used : Used (latestFrom (usedEntries b) xs)
+      met-used = from-used (usedEntries b) xs rising (used-located b) used
 
       met-fits : length (latestFrom (usedEntries b) xs) ≤ capacityOf b
       met-fits = leb-true (length (latestFrom (usedEntries b) xs)) (capacityOf b) (sym (w .answer))
 
       -- the form is kept
       pub filled-formed : Formed m
-      filled-formed = rw (w .left) (laid-out-formed (latestFrom (usedEntries b) xs) met-rising (capacityOf b) met-fits)
+      filled-formed = rw (w .left) (laid-out-formed (capacityOf b) (latestFrom (usedEntries b) xs) met-used met-rising met-fits)
 
       -- what the table has then
       pub filled-used : usedEntries m ≡ latestFrom (usedEntries b) xs
-      filled-used = ap usedEntries (w .left) ∙ laid-out-used (latestFrom (usedEntries b) xs) met-rising (capacityOf b) met-fits
+      filled-used = ap usedEntries (w .left) ∙ used-laid-out (capacityOf b) (latestFrom (usedEntries b) xs) met-used
 
       filled-capacity : capacityOf m ≡ capacityOf b
       filled-capacity = ap capacityOf (w .left) ∙ laid-out-ids (capacityOf b) (latestFrom (usedEntries b) xs) met-fits

@@ -10,7 +10,9 @@ use Rattle.rules.specs.BaseLaws.{All, order}
 use Rattle.rules.specs.Table.{lookup, insert}
 use Rattle.disk_location.specs.Locations.{maskedOf, positionOf}
 use Rattle.rules.specs.Reopen.{maskedPosition, latest, latestFrom}
-use Rattle.location_table.specs.EntryLaws.{Rising, rise, lookup-here, lookup-next, insert-next, insert-here, insert-before, rising-insert}
+use Rattle.rules.specs.TableLaws.{Rising, rise, lookup-here, lookup-next, lookup-below, insert-next, insert-here, insert-before, rising-insert}
+use Rattle.rules.specs.LayoutLaws.{Used}
+use Rattle.location_table.specs.EntryLaws.{used-insert}
 use Rattle.rebuild.specs.Types.{Entry, Held, Mapped, Unmapped}
 
 -- whether a location replaces what the table has
@@ -53,17 +55,11 @@ latest-insert n (e ∷ es) t = go (latest-insert n es) (order (e .id) (n .id))
         latest-here n e es h ∙ ap (λ (b : Bool). pick b n e ∷ es) held ∙ sym (insert-here e es n h)
     go ih (inr (inr h)) = latest-before n e es h ∙ sym (insert-before e es n h)
 
--- an id below the least one is not there
-below : (f : ℕ) (es : List Entry) → Rising f es → (x : ℕ) → x < f → lookup es x ≡ Unmapped
-unfolding lookup
-below f [] r x h = refl
-below f (e ∷ es) (rise a b r) x h = lookup-next e es x (λ q. omega arith) ∙ below (suc (e .id)) es r x (omega arith)
-
 -- it does not: nothing changes
 pub latest-keep : (f : ℕ) (n : Entry) (es : List Entry) → Rising f es → replaces (lookup es (n .id)) (n .location) ≡ false → latest n es ≡ es
 unfolding lookup
 latest-keep f n [] r t = absurd (true≢false t)
-latest-keep f n (e ∷ es) (rise a b r) t = go (latest-keep (suc (e .id)) n es r) (order (e .id) (n .id))
+latest-keep f n (e ∷ es) (rise a r) t = go (latest-keep (suc (e .id)) n es r) (order (e .id) (n .id))
   where
     go : (replaces (lookup es (n .id)) (n .location) ≡ false → latest n es ≡ es) → (e .id < n .id) ⊎ ((e .id ≡ n .id) ⊎ (n .id < e .id))
         → latest n (e ∷ es) ≡ e ∷ es
@@ -74,15 +70,24 @@ latest-keep f n (e ∷ es) (rise a b r) t = go (latest-keep (suc (e .id)) n es r
         let held = ap (λ (o : Held). replaces o (n .location)) (sym (lookup-here e es (n .id) h)) ∙ t in
         latest-here n e es h ∙ ap (λ (b : Bool). pick b n e ∷ es) held
     go ih (inr (inr h)) =
-        let none = lookup-next e es (n .id) (λ q. omega arith) ∙ below (suc (e .id)) es r (n .id) (omega arith) in
+        let none = lookup-next e es (n .id) (λ q. omega arith) ∙ lookup-below (suc (e .id)) es r (n .id) (omega arith) in
         absurd (true≢false (ap (λ (o : Held). replaces o (n .location)) (sym none) ∙ t))
 
-pub latest-rising : (n : Entry) (es : List Entry) → InUse n → Rising 0 es → Rising 0 (latest n es)
-latest-rising n es some r = go (replaces (lookup es (n .id)) (n .location)) refl
+-- ids still rise
+pub latest-rising : (n : Entry) (es : List Entry) → Rising 0 es → Rising 0 (latest n es)
+latest-rising n es r = go (replaces (lookup es (n .id)) (n .location)) refl
   where
     go : (t : Bool) → replaces (lookup es (n .id)) (n .location) ≡ t → Rising 0 (latest n es)
-    go true e = rw (latest-insert n es e) (rising-insert 0 es n zero-le some r)
+    go true e = rw (latest-insert n es e) (rising-insert 0 es n zero-le r)
     go false e = rw (latest-keep 0 n es r e) r
+
+-- every entry is in use
+latest-used : (n : Entry) (es : List Entry) → InUse n → Rising 0 es → Used es → Used (latest n es)
+latest-used n es some r u = go (replaces (lookup es (n .id)) (n .location)) refl
+  where
+    go : (t : Bool) → replaces (lookup es (n .id)) (n .location) ≡ t → Used (latest n es)
+    go true e = rw (latest-insert n es e) (used-insert es n some u)
+    go false e = rw (latest-keep 0 n es r e) u
 
 -- ids are never lost
 latest-grows : (n : Entry) (es : List Entry) → length es ≤ length (latest n es)
@@ -101,10 +106,15 @@ unfolding latestFrom
 from-append met [] ys = refl
 from-append met (x ∷ xs) ys = from-append (latest x met) xs ys
 
-pub from-rising : (met es : List Entry) → Rising 0 met → All InUse es → Rising 0 (latestFrom met es)
+pub from-rising : (met es : List Entry) → Rising 0 met → Rising 0 (latestFrom met es)
 unfolding latestFrom
-from-rising met [] r a = r
-from-rising met (e ∷ es) r a = from-rising (latest e met) es (latest-rising e met (a .0) r) (a .1)
+from-rising met [] r = r
+from-rising met (e ∷ es) r = from-rising (latest e met) es (latest-rising e met r)
+
+pub from-used : (met es : List Entry) → Rising 0 met → Used met → All InUse es → Used (latestFrom met es)
+unfolding latestFrom
+from-used met [] r u a = u
+from-used met (e ∷ es) r u a = from-used (latest e met) es (latest-rising e met r) (latest-used e met (a .0) r u) (a .1)
 
 pub from-grows : (met es : List Entry) → length met ≤ length (latestFrom met es)
 unfolding latestFrom

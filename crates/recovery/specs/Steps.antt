@@ -14,8 +14,9 @@ use Rattle.rules.specs.SlotFile.{View}
 use Rattle.rules.specs.Reopen.{viewTests, filesIn, overlapping, latestFrom, tableOf, reopenTests, recordsFrom, nextAfter, givenUp, opened, reopenCall}
 use Rattle.rules.specs.World.{World, world, After}
 use Rattle.location_table.specs.Tables.{table, Formed}
-use Rattle.location_table.specs.EntryLaws.{rise-end}
-use Rattle.location_table.specs.LayoutLaws.{laid-out-formed, laid-out-used}
+use Rattle.rules.specs.TableLaws.{rise-end}
+use Rattle.rules.specs.LayoutLaws.{used-laid-out}
+use Rattle.location_table.specs.LayoutLaws.{laid-out-formed}
 use Rattle.reopen_tests.specs.Ascending.{fileFalls}
 use Rattle.reopen_tests.specs.Tests.{fileTests}
 use Rattle.rebuild.specs.Filled.{rowsOf}
@@ -69,10 +70,10 @@ module _ (b : Buffers) where
   blank-laid-out w = w .zero ∙ ap₂ (λ (i l : ℕ). table (replicate i 0) (replicate l 0)) (sym (sub-zero (length (b .ids)))) (sym (w .even) ∙ sym (sub-zero (length (b .ids))))
 
   pub blank-formed : Blank b → Formed b
-  blank-formed w = rw (blank-laid-out w) (laid-out-formed [] rise-end (capacityOf b) zero-le)
+  blank-formed w = rw (blank-laid-out w) (laid-out-formed (capacityOf b) [] (λ x l h. absurd h) rise-end zero-le)
 
   pub blank-used : Blank b → usedEntries b ≡ []
-  blank-used w = ap usedEntries (blank-laid-out w) ∙ laid-out-used [] rise-end (capacityOf b) zero-le
+  blank-used w = ap usedEntries (blank-laid-out w) ∙ used-laid-out (capacityOf b) [] (λ x l h. absurd h)
 
 -- only the lengths of the buffers counted
 module _ (settings : Settings) (heap ids locations : List ℕ) (views : List View) where

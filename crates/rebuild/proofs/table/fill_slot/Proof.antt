@@ -26,7 +26,7 @@ trailer-part-requires c κs =
     let start = c .before .before .before .before .before in
     let a = start .args in
     let w = shown-file (a .slot .now) (a .r) (start .pre .1) (sym (c .before .is-empty .ensures) ∙ c .if1 .left) in
-    (w .bounds .offset, w .bounds .size)
+    record { file = w .bounds .size; objects = w .bounds .offset }
 
 fill-file-requires : tie.Need-fill-file-requires
 fill-file-requires c κs =

@@ -24,7 +24,7 @@ trailer-part-requires : tie.Need-trailer-part-requires
 trailer-part-requires c κs =
     let a = c .before .before .before .args in
     let w = shown-file (a .slot .now) (a .r) (c .before .before .before .pre) (sym (c .before .is-empty .ensures) ∙ c .if1 .left) in
-    (w .bounds .offset, w .bounds .size)
+    record { file = w .bounds .size; objects = w .bounds .offset }
 
 falls-requires : tie.Need-falls-requires
 falls-requires c κs =

@@ -1,0 +1,5 @@
+pub mod Tally
+pub mod TotalLaws
+pub mod BoundLaws
+pub mod PieceLaws
+pub mod OrderLaws

@@ -1,0 +1,200 @@
+// The split of a group's entries into files (`src/writepath.rs`), by sizes alone: no entry is held, each gets the number
+// of the piece that it is in.
+
+ghost use mathlib.Core.Path.{_≡_};
+ghost use mathlib.Core.Bool.{_||_};
+ghost use mathlib.Core.List.{_++_};
+ghost use Prim.Native.Nat.{ℕ, _+_, _*_, _^_, _≤_, _<_};
+ghost use lib.Dec.{ltb, eqb};
+ghost use lib.ListN.{length, getD, set, take};
+ghost use Rattle.numbers.specs.Choice.{pick};
+ghost use Rattle.numbers.specs.Parts.{front, putAt};
+ghost use Rattle.gc_split.specs.Tally.{tally, pieceOf, closing, cutting, taking, closingRests, restOf, restsFrom, Within, Closable, Numbered};
+
+// Entries taken, files closed, the sum of T + 1 over these, and whether one is too large for a slot.
+pub struct Totals {
+    pub entries: u64,
+    pub files: u64,
+    pub positions: u64,
+    pub large: bool,
+}
+
+// "64 + file_size > S"
+fn too_large(slot_bytes: u64, size: u64, count: u64) -> bool
+    requires { ⌜ (size ≤ 2 ^ 40) × (count ≤ 65536) ⌝ }
+    ensures { λ r. ⌜ r ≡ ltb «slot_bytes» (64 + (size + (12 + 16 * count))) ⌝ }
+{
+    slot_bytes < 64 + (size + (12 + 16 * count))
+}
+
+fn either(a: bool, b: bool) -> bool
+    ensures { λ r. ⌜ r ≡ (a || b) ⌝ }
+{
+    if a {
+        return true;
+    }
+    b
+}
+
+// A file more, of that many object bytes and entries.
+fn closed(t: Totals, slot_bytes: u64, size: u64, count: u64) -> Totals
+    requires { ⌜ (size ≤ 2 ^ 40) × (count ≤ 65536) × (t .files ≤ 2 ^ 20) × (t .positions ≤ 2 ^ 60) ⌝ }
+    ensures { λ r. ⌜ r ≡ closing «slot_bytes» size count t ⌝ }
+{
+    let large = too_large(slot_bytes, size, count);
+    Totals {
+        entries: t.entries,
+        files: t.files + 1,
+        positions: t.positions + (size + 1),
+        large: either(t.large, large),
+    }
+}
+
+// The number of what is in a shard after so many cuts.
+fn piece(shard: usize, round: u64) -> u64
+    requires { ⌜ (shard < 65) × (round ≤ 65536) ⌝ }
+    ensures { λ r. ⌜ r ≡ pieceOf shard round ⌝ }
+{
+    65 * round + shard as u64
+}
+
+// A fragment's number, as far as there are places.
+fn note(cuts: &mut [u64], at: u64, piece: u64)
+    ensures { λ _. ⌜ now (cuts .exit) ≡ set (now (cuts .entry)) at piece ⌝ }
+{
+    if at < cuts.len() as u64 {
+        cuts[at as usize] = piece;
+    }
+}
+
+// "a shard of size over target_file_size is cut off as a fragment and restarts at 0"
+fn cut_off(
+    sizes: &mut [u64],
+    counts: &mut [u64],
+    rounds: &mut [u64],
+    cuts: &mut [u64],
+    totals: Totals,
+    shard: usize,
+    target: u64,
+    slot_bytes: u64,
+) -> Totals
+    requires { ⌜ (shard < 65) × Within (tally (now sizes) (now counts) (now rounds) (now cuts) totals) ⌝ }
+    ensures { λ r. ⌜ tally (now (sizes .exit)) (now (counts .exit)) (now (rounds .exit)) (now (cuts .exit)) r ≡ cutting target «slot_bytes» shard (tally (now (sizes .entry)) (now (counts .entry)) (now (rounds .entry)) (now (cuts .entry)) totals) ⌝ }
+{
+    let size = sizes[shard];
+    if size <= target {
+        return totals;
+    }
+    let count = counts[shard];
+    let round = rounds[shard];
+    note(cuts, totals.files, piece(shard, round));
+    sizes[shard] = 0;
+    counts[shard] = 0;
+    rounds[shard] = round + 1;
+    closed(totals, slot_bytes, size, count)
+}
+
+// An entry of that size joins a shard, which is cut off before or not; `rounds` then has the piece that the entry is in.
+pub fn join(
+    sizes: &mut [u64],
+    counts: &mut [u64],
+    rounds: &mut [u64],
+    cuts: &mut [u64],
+    totals: Totals,
+    shard: usize,
+    size: u64,
+    target: u64,
+    slot_bytes: u64,
+) -> Totals
+    requires { ⌜ (shard < 65) × (size ≤ 2 ^ 21) × (totals .entries < 65536) × Within (tally (now sizes) (now counts) (now rounds) (now cuts) totals) ⌝ }
+    ensures { λ r. ⌜ tally (now (sizes .exit)) (now (counts .exit)) (now (rounds .exit)) (now (cuts .exit)) r ≡ taking target «slot_bytes» shard size (tally (now (sizes .entry)) (now (counts .entry)) (now (rounds .entry)) (now (cuts .entry)) totals) ⌝ }
+{
+    let t = cut_off(
+        sizes,
+        counts,
+        rounds,
+        cuts,
+        totals,
+        shard,
+        target,
+        slot_bytes,
+    );
+    sizes[shard] = sizes[shard] + size;
+    counts[shard] = counts[shard] + 1;
+    Totals {
+        entries: t.entries + 1,
+        files: t.files,
+        positions: t.positions,
+        large: t.large,
+    }
+}
+
+// The piece that an entry is in, right after it joined the shard.
+pub fn piece_in(rounds: &[u64], shard: usize) -> u64
+    requires { ⌜ (shard < 65) × (length (now rounds) ≡ 65) × (getD (now rounds) shard 0 ≤ 65536) ⌝ }
+    ensures { λ r. ⌜ (r ≡ pieceOf shard (getD (now (rounds .entry)) shard 0)) × (r < 2 ^ 32) ⌝ }
+{
+    piece(shard, rounds[shard])
+}
+
+// What is left of a shard comes out: "The writer never writes an empty list."
+fn closed_rest(t: Totals, slot_bytes: u64, size: u64, count: u64) -> Totals
+    requires { ⌜ (size ≤ 2 ^ 40) × (count ≤ 65536) × (t .files ≤ 2 ^ 20) × (t .positions ≤ 2 ^ 60) ⌝ }
+    ensures { λ r. ⌜ r ≡ pick (eqb count 0) t (closing «slot_bytes» size count t) ⌝ }
+{
+    if count == 0 {
+        return t;
+    }
+    closed(t, slot_bytes, size, count)
+}
+
+// The totals of all files, behind the last entry.
+pub fn close_rests(sizes: &[u64], counts: &[u64], totals: Totals, slot_bytes: u64) -> Totals
+    requires { ⌜ Closable (now counts) (now sizes) totals ⌝ }
+    ensures { λ r. ⌜ r ≡ closingRests «slot_bytes» (now (counts .entry)) (now (sizes .entry)) totals ⌝ }
+{
+    let mut t = totals;
+    let mut n: usize = 0;
+    while n < counts.len() {
+        t = closed_rest(t, slot_bytes, sizes[n], counts[n]);
+        n += 1;
+    }
+    t
+}
+
+// What is left of a shard takes the next place, if there is anything.
+fn put_rest(rests: &mut [u64], left: usize, entries: u64, piece: u64) -> usize
+    requires { ⌜ left < length (now rests) ⌝ }
+    ensures { λ r. ⌜ (r ≡ left + length (restOf entries piece)) × (now (rests .exit) ≡ putAt (now (rests .entry)) left (restOf entries piece)) ⌝ }
+{
+    if entries == 0 {
+        return left;
+    }
+    rests[left] = piece;
+    left + 1
+}
+
+// What is left of the shards, ascending, and how many that are.
+pub fn rests(counts: &[u64], rounds: &[u64], rests: &mut [u64]) -> usize
+    requires { ⌜ Numbered (now counts) (now rounds) (now rests) ⌝ }
+    ensures { λ r. ⌜ (r ≡ length (restsFrom 0 (now (counts .entry)) (now (rounds .entry)))) × (now (rests .exit) ≡ front (restsFrom 0 (now (counts .entry)) (now (rounds .entry))) (now (rests .entry))) ⌝ }
+{
+    let mut left: usize = 0;
+    let mut n: usize = 0;
+    while n < counts.len() {
+        left = put_rest(rests, left, counts[n], piece(n, rounds[n]));
+        n += 1;
+    }
+    left
+}
+
+// The number of the file that comes out in that place: "by ascending shard, then fragments as cut".
+pub fn piece_at(rests: &[u64], left: usize, cuts: &[u64], file: usize) -> u64
+    requires { ⌜ (left ≤ length (now rests)) × (file < left + length (now cuts)) ⌝ }
+    ensures { λ r. ⌜ r ≡ getD (take left (now (rests .entry)) ++ now (cuts .entry)) file 0 ⌝ }
+{
+    if file < left {
+        return rests[file];
+    }
+    cuts[file - left]
+}
