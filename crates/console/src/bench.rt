@@ -78,11 +78,14 @@ fn after_call(
     b: Bench,
     keyword: Keyword,
     n: [u64; 9],
+    bytes: &[u8],
     heap: &mut [u8],
     ids: &mut [u64],
     locations: &mut [u64],
 ) -> Bench {
     match keyword {
+        Keyword::Reopen => calls::reopen(b, heap, ids, locations),
+        Keyword::Write => calls::write(b, heap, ids, locations, bytes),
         Keyword::Read => {
             calls::read(b, heap, ids, locations, n[0]);
             b
@@ -148,7 +151,7 @@ fn after_lent(
             show::dump(b, heap, ids, locations);
             b
         }
-        _ => after_call(b, keyword, n, heap, ids, locations),
+        _ => after_call(b, keyword, n, bytes, heap, ids, locations),
     }
 }
 

@@ -6,6 +6,39 @@ use rules::CountsAnswer;
 use rules::LoadAnswer;
 use rules::ReadAnswer;
 
+pub fn reopen(b: Bench, heap: &[u8], ids: &mut [u64], locations: &mut [u64]) -> Bench {
+    let mut next = b;
+    let settings = b.settings;
+    let state = b.state;
+    let held = b.claims;
+    let done = recovery::reopen(settings, state, held, heap, ids, locations);
+    let answer = done.answer;
+    let left = done.state;
+    let claims = done.claims;
+    next.state = left;
+    next.claims = claims;
+    say::answer(answer);
+    next
+}
+
+pub fn write(
+    b: Bench,
+    heap: &mut [u8],
+    ids: &mut [u64],
+    locations: &mut [u64],
+    batch: &[u8],
+) -> Bench {
+    let mut next = b;
+    let settings = b.settings;
+    let state = b.state;
+    let done = writepath::write(settings, state, heap, ids, locations, batch);
+    let answer = done.answer;
+    let left = done.state;
+    next.state = left;
+    say::answer(answer);
+    next
+}
+
 fn body(b: Bench, heap: &[u8], ids: &[u64], locations: &[u64], id: u64) {
     let settings = b.settings;
     let state = b.state;

@@ -106,7 +106,7 @@ pub fn first_screen() {
         b"# Settings 4096 75 2 2048 64 1024, a heap of 65536 zeros (16 slots), a table of 1024, not reopened.\n",
     );
     text(b"# At most: heap 1048576 bytes, table 65536 entries, line 131200 bytes.\n");
-    text(b"# not yet: reopen write maintain\n");
+    text(b"# not yet: maintain\n");
 }
 
 pub fn help() {
