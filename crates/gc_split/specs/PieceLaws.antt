@@ -186,7 +186,7 @@ from-files target slotSize (o ∷ os) t =
     let next = taking target slotSize (shardFor (o .content)) (sizeOf (o .content)) t in
     omega (arith, take-files target slotSize (shardFor (o .content)) (sizeOf (o .content)) t, from-files target slotSize os next)
 
-take-cuts : (target slotSize n size : ℕ) (t : Tally) → length (taking target slotSize n size t .cuts) ≡ length (t .cuts)
+pub take-cuts : (target slotSize n size : ℕ) (t : Tally) → length (taking target slotSize n size t .cuts) ≡ length (t .cuts)
 unfolding taking entering cutting
 take-cuts target slotSize n size t = go (ltb target (getD (t .sizes) n 0))
   where
