@@ -1,18 +1,18 @@
 -- A turn of the loop over the entries of the table, its start and its end.
-use mathlib.Core.Path.{_≡_, refl, sym, ap, ap₂, _∙_}
+use mathlib.Core.Path.{_≡_, refl, sym, ap, _∙_}
 use Prim.Native.Nat.{_≤_, _<_}
 use native.Mathlib.Omega.{arith}
 use lib.ListN.{length-set, take-append-drop}
-use Rattle.rules.specs.Base.{Bool, true, false, List, [], _∷_, _++_, ℕ, _+_, _^_, length, getD, set, take, drop, eqb, ltb, pick}
+use Rattle.rules.specs.Base.{List, _++_, ℕ, _+_, length, getD, set, take, drop, eqb, pick}
 use Rattle.rules.specs.BaseLaws.{zero-or-more}
 use mathlib.Core.Logic.{_⊎_, inl, inr}
 use borrow.Author.Tests.{eq-eqb, ne-eqb}
 use Rattle.rules.specs.Ops.{sizeOf, shardFor}
 use Rattle.batch.specs.SizeLaws.{size-bound}
-use Rattle.gc_split.specs.Tally.{Tally, closing, cutting, entering, taking, tallyFrom, Within}
+use Rattle.gc_split.specs.Tally.{Tally, entering, taking, tallyFrom, Within}
 use Rattle.gc_split.specs.BoundLaws.{cut-within, take-within}
 use Rattle.gc_split.specs.PieceLaws.{take-cuts}
-use Rattle.gc_files.specs.Places.{movingAt, opAt, placedOps, Whole, Standing, entryTaken, entryPiece, piecesAlong}
+use Rattle.gc_files.specs.Places.{movingAt, opAt, placedOps, Whole, entryTaken, entryPiece, piecesAlong}
 use Rattle.gc_files.specs.PlaceLaws.{moving-told, along-tally, along-tally-end, along-pieces, along-pieces-end}
 
 -- an entry more at most

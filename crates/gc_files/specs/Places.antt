@@ -1,12 +1,11 @@
 -- Operations that stand in the heap: a number for each entry of the table. 0 where nothing is moved, 1 for a delete, else the place of an object.
-use mathlib.Core.Path.{_≡_, refl, sym, ap, ap₂, _∙_}
 use Prim.Native.Nat.{_≤_, _<_}
 use Rattle.numbers.specs.LittleEndian.{leValue}
-use Rattle.rules.specs.Base.{Bool, true, false, List, [], _∷_, _++_, ℕ, suc, _+_, _^_, length, getD, take, drop, eqb, pick}
+use Rattle.rules.specs.Base.{true, false, List, [], _∷_, ℕ, _+_, _^_, length, getD, take, drop, eqb, pick}
 use Rattle.rules.specs.Ops.{Op, sizeOf, shardFor}
 use Rattle.batch.specs.declared.Operation.{Operation}
 use Rattle.batch.specs.Reading.{opIn}
-use Rattle.gc_split.specs.Tally.{Tally, taking, tallyFrom, pieceIn, piecesFrom, inPiece}
+use Rattle.gc_split.specs.Tally.{Tally, taking, pieceIn}
 
 -- "length 8", behind checksum and id of an object
 abbrev pub lengthAt : List ℕ → ℕ → ℕ

@@ -5,11 +5,11 @@ use native.Mathlib.Nat.{zero-add}
 use native.Mathlib.Omega.{arith}
 use borrow.Author.Tests.{ne-eqb}
 use lib.ListN.{length-append, List·getD-map}
-use Rattle.rules.specs.Base.{Bool, true, false, _&&_, _||_, List, [], _∷_, _++_, map, ℕ, zero, suc, _+_, _*_, _^_, length, getD, set, replicate, ltb, eqb, pick, keep, each, any, sum}
+use Rattle.rules.specs.Base.{Bool, true, false, _&&_, _||_, List, [], _∷_, _++_, map, ℕ, zero, suc, _+_, _^_, length, getD, set, replicate, ltb, eqb, pick, keep, any, sum}
 use Rattle.rules.specs.declared.Refusal.the-variants.{SlotRoom, NoEmptySlot, PositionsSpent}
 use Rattle.rules.specs.Refusal.{Test, _gives_}
-use Rattle.rules.specs.Ops.{Content, Op, sizeOf, shardFor, objectsOf, fileBytes}
-use Rattle.rules.specs.OpsLaws.{objects-nil, objects-cons, objects-length, file-length}
+use Rattle.rules.specs.Ops.{Op, sizeOf, shardFor, objectsOf, fileBytes}
+use Rattle.rules.specs.OpsLaws.{objects-nil, objects-length, file-length}
 use Rattle.rules.specs.Install.{roomTests, positionTests}
 use Rattle.rules.specs.Maintenance.{Shard, noEntries, Split, cutOff, joining, splitFrom, hasEntries, filesOf}
 use Rattle.gc_split.specs.declared.Totals.{Totals}

@@ -3,11 +3,8 @@ use Prim.Native.Nat.{_^_}
 use borrow.Author.Tests.{lt-ltb, le-ltb}
 use Rattle.rules.specs.Refusal.{decide}
 use Rattle.gc_split.specs.TotalLaws.{totalsTests}
-use Prim.Native.Nat.{ℕ, _+_, _≤_, _<_, _-_}
-use mathlib.Core.Path.{_≡_}
+use Prim.Native.Nat.{_+_, _≤_, _<_, _-_}
 use native.Mathlib.Omega.{arith}
-use borrow.Author.Needs.{needs}
-use lib.ListN.{length, getD, set, length-set}
 use Rattle.gc_split.proofs.decided.Statement.{statement}
 use Rattle.gc_split.proofs.decided.Tie as tie
 

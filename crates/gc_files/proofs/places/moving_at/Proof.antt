@@ -3,11 +3,10 @@ use borrow.Author.Tests.{eq-eqb, ne-eqb}
 use lib.ListN.{drop, length-take, length-drop}
 use Rattle.numbers.proofs.Lent.{read-in}
 use Rattle.gc_files.specs.Places.{movingAt}
-use Prim.Native.Nat.{ℕ, _+_, _≤_, _<_, _-_}
-use mathlib.Core.Path.{_≡_}
+use Prim.Native.Nat.{_+_, _-_}
 use native.Mathlib.Omega.{arith}
 use borrow.Author.Needs.{needs}
-use lib.ListN.{length, getD, set, length-set}
+use lib.ListN.{length}
 use borrow.Author.Needs.{needs}
 use Rattle.gc_files.proofs.places.moving_at.Statement.{statement}
 use Rattle.gc_files.proofs.places.moving_at.Tie as tie

@@ -1,11 +1,10 @@
 use mathlib.Core.Path.{sym, _∙_}
 use Rattle.gc_split.specs.Tally.{tally}
 use Rattle.gc_files.proofs.Turns.{Along, along-start, along-turn, along-end}
-use Prim.Native.Nat.{ℕ, _+_, _≤_, _<_, _-_}
-use mathlib.Core.Path.{_≡_}
+use Prim.Native.Nat.{_≤_, _<_, _-_}
 use native.Mathlib.Omega.{arith}
 use borrow.Author.Needs.{needs}
-use lib.ListN.{length, getD, set, length-set}
+use lib.ListN.{length}
 use Rattle.gc_files.proofs.split.split.Statement.{statement}
 use Rattle.gc_files.proofs.split.split.Tie as tie
 

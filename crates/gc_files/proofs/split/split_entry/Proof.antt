@@ -10,11 +10,11 @@ use Rattle.gc_split.specs.PieceLaws.{shard-most}
 use Rattle.gc_split.specs.BoundLaws.{take-within}
 use Rattle.gc_files.specs.Places.{movingAt, opAt, entryTaken, entryPiece}
 use Rattle.gc_files.specs.PlaceLaws.{moving-told}
-use Prim.Native.Nat.{ℕ, _+_, _≤_, _<_, _-_}
+use Prim.Native.Nat.{ℕ, _≤_, _<_, _-_}
 use mathlib.Core.Path.{_≡_}
 use native.Mathlib.Omega.{arith}
 use borrow.Author.Needs.{needs}
-use lib.ListN.{length, getD, set, length-set}
+use lib.ListN.{getD, set}
 use borrow.Author.Needs.{needs}
 use Rattle.gc_files.proofs.split.split_entry.Statement.{statement}
 use Rattle.gc_files.proofs.split.split_entry.Tie as tie
