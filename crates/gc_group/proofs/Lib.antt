@@ -1,0 +1,3 @@
+pub mod Worth
+pub mod Turns
+pub mod MarkTurns

@@ -1,0 +1,101 @@
+-- One turn of each loop over marks, objects and entries.
+use mathlib.Core.Path.{_≡_, sym, ap, _∙_, subst}
+use Prim.Native.Nat.{_≤_, _<_}
+use native.Mathlib.Nat.{le-of-suc-le-suc, not-suc-le-zero, zero-add}
+use native.Mathlib.Omega.{arith}
+use lib.ListN.{length-drop}
+use borrow.Author.Tests.{eq-eqb, ne-eqb}
+use Rattle.rules.specs.Base.{Bool, false, List, [], _∷_, ℕ, zero, suc, _+_, length, getD, drop, eqb, pick, each}
+use Rattle.rules.specs.BaseLaws.{All}
+use Rattle.rules.specs.TurnLaws.{sum-next, sum-end, each-next, each-end}
+use Rattle.rules.specs.declared.Entry.{Entry}
+use Rattle.disk_location.specs.Locations.{rawOf}
+use Rattle.rules.specs.Object.{Stored, storedAt}
+use Rattle.slot_file.specs.declared.Header.{Header}
+use Rattle.slot_file.specs.Objects.{objectsAt, objects-next, objects-end, Walked, CutOff}
+use Rattle.trailer.specs.Entries.{noEntry}
+use Rattle.gc_group.specs.Clear.{Inside}
+use Rattle.gc_group.specs.Marks.{current, objectId, deleteId, marked, marksSet}
+use Rattle.gc_group.specs.MarkLaws.{mark-append, mark-none}
+
+-- what every element has, the one at i has
+pub all-at : {A : Type 0} (P : A → Type 0) (xs : List A) (i : ℕ) (d : A) → All P xs → i < length xs → P (getD xs i d)
+all-at P [] i d a h = absurd (not-suc-le-zero h)
+all-at P (x ∷ xs) zero d a h = a .0
+all-at P (x ∷ xs) (suc i) d a h = all-at P xs i d (a .1) (le-of-suc-le-suc h)
+
+-- ---- the marks that are set, from place i on
+module _ (ms : List ℕ) (i : ℕ) (h : i < length ms) where
+  set-step : marksSet (drop i ms) ≡ pick (eqb (getD ms i 0) 0) 0 1 + marksSet (drop (i + 1) ms)
+  unfolding marksSet
+  set-step = sum-next ms i 0 h (λ (m : ℕ). pick (eqb m 0) 0 1)
+
+  pub set-here : (getD ms i 0 ≡ 0 → ⊥) → marksSet (drop i ms) ≡ 1 + marksSet (drop (i + 1) ms)
+  set-here n = set-step ∙ ap (λ (t : Bool). pick t 0 1 + marksSet (drop (i + 1) ms)) (ne-eqb (getD ms i 0) 0 n)
+
+  pub set-next : getD ms i 0 ≡ 0 → marksSet (drop i ms) ≡ marksSet (drop (i + 1) ms)
+  set-next z = set-step ∙ ap (λ (t : Bool). pick t 0 1 + marksSet (drop (i + 1) ms)) (eq-eqb (getD ms i 0) 0 z) ∙ zero-add (marksSet (drop (i + 1) ms))
+
+pub set-end : (ms : List ℕ) (i : ℕ) → length ms ≤ i → marksSet (drop i ms) ≡ 0
+unfolding marksSet
+set-end ms i h = sum-end ms i h (λ (m : ℕ). pick (eqb m 0) 0 1)
+
+-- ---- the objects from a position on
+module _ (mark lsn : ℕ) (table : List Entry) (objects : List ℕ) (position : ℕ) (ms : List ℕ) where
+  abbrev left : ℕ → List ℕ → List ℕ
+  left at marks = marked mark (each (objectId lsn table) (objectsAt objects at)) table marks
+
+  pub objects-done : length objects ≤ position → left position ms ≡ ms
+  unfolding each
+  objects-done h = ap (λ (os : List Stored). marked mark (each (objectId lsn table) os) table ms) (objects-end objects position h) ∙ mark-none mark table ms
+
+  pub objects-mark : (h : Header) → Walked objects position h
+      → left position ms ≡ left (position + (20 + h .size)) (marked mark (current table (h .id) (rawOf (lsn + position) false)) table ms)
+  unfolding each objectId storedAt
+  objects-mark h w =
+      let o = storedAt position (drop position objects) in
+      let inside = w .inside in
+      let begins : position < length objects = omega arith in
+      let size = ap (λ (x : Header). x .size) (w .header) in
+      let id = ap (λ (x : Header). x .id) (w .header) in
+      ap (λ (os : List Stored). marked mark (each (objectId lsn table) os) table ms) (objects-next objects position begins)
+      ∙ mark-append mark (objectId lsn table o) (each (objectId lsn table) (objectsAt objects (position + (20 + o .size)))) table ms
+      ∙ ap (λ (n : ℕ). left (position + (20 + n)) (marked mark (objectId lsn table o) table ms)) (sym size)
+      ∙ ap (λ (n : ℕ). left (position + (20 + h .size)) (marked mark (current table n (rawOf (lsn + position) false)) table ms)) (sym id)
+
+-- objects that lie within
+module _ (objects : List ℕ) (position : ℕ) (all : All Inside (objectsAt objects position)) where
+  first : position < length objects → let o = storedAt position (drop position objects) in Inside o × All Inside (objectsAt objects (position + (20 + o .size)))
+  first h = subst (All Inside) (objects-next objects position h) all
+
+  -- no header is cut
+  pub none-cut : CutOff objects position → ⊥
+  unfolding storedAt
+  none-cut w =
+      let n = length-drop position objects in
+      let a = w .short in
+      let b = w .begins in
+      let i = first b .0 in
+      omega (arith, i)
+
+  pub within-next : (h : Header) → Walked objects position h → (position + (20 + h .size) ≤ length objects) × All Inside (objectsAt objects (position + (20 + h .size)))
+  unfolding storedAt
+  within-next h w =
+      let n = length-drop position objects in
+      let a = w .inside in
+      let begins : position < length objects = omega arith in
+      let size = ap (λ (x : Header). x .size) (w .header) in
+      let i = first begins in
+      (omega (arith, i .0, size), subst (λ (m : ℕ). All Inside (objectsAt objects (position + (20 + m)))) (sym size) (i .1))
+
+-- ---- the entries from k on
+module _ (mark lsn : ℕ) (table : List Entry) (es : List Entry) (k : ℕ) (ms : List ℕ) where
+  pub entries-mark : k < length es
+      → marked mark (each (deleteId lsn table) (drop k es)) table ms
+      ≡ marked mark (each (deleteId lsn table) (drop (k + 1) es)) table (marked mark (deleteId lsn table (getD es k noEntry)) table ms)
+  entries-mark h =
+      ap (λ (ids : List ℕ). marked mark ids table ms) (each-next es k noEntry h (deleteId lsn table))
+      ∙ mark-append mark (deleteId lsn table (getD es k noEntry)) (each (deleteId lsn table) (drop (k + 1) es)) table ms
+
+  pub entries-done : length es ≤ k → marked mark (each (deleteId lsn table) (drop k es)) table ms ≡ ms
+  entries-done h = ap (λ (ids : List ℕ). marked mark ids table ms) (each-end es k h (deleteId lsn table)) ∙ mark-none mark table ms

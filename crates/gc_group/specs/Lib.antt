@@ -1,0 +1,7 @@
+pub mod Plan
+pub mod Source
+pub mod Checks
+pub mod Clear
+pub mod Marks
+pub mod MarkLaws
+pub mod MovedLaws

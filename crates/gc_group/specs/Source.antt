@@ -1,0 +1,115 @@
+-- What a group is read from: the slots, their records and the table; and what is known of them once refusal 1 is decided.
+use mathlib.Core.Path.{_≡_, refl, _∙_}
+use mathlib.Core.Bool.{Bool, true, false}
+use mathlib.Core.Logic.{_⊎_, inl, inr, ⊎-elim}
+use Prim.Native.Nat.{_≤_, _<_, zero-le}
+use native.Mathlib.Omega.{arith}
+use lib.Dec.{lit<}
+use native.Mathlib.Nat.{min-le-left}
+use lib.ListN.{List·getD-eq-default, length-take}
+use Rattle.numbers.specs.GroupLaws.{either-way}
+use Rattle.disk_location.specs.Locations.{maskedOf}
+use Rattle.rules.specs.Base.{List, ℕ, _+_, _-_, _*_, _^_, length, getD, pick}
+use Rattle.rules.specs.declared.Entry.{Entry}
+use Rattle.rules.specs.declared.Record.{Record}
+use Rattle.rules.specs.declared.Settings.{Settings}
+use Rattle.rules.specs.declared.State.{State}
+use Rattle.rules.specs.declared.Claims.{Claims}
+use Rattle.rules.specs.Layout.{Buffers}
+use Rattle.rules.specs.SlotFile.{slotBytes, fileIn, objectPart}
+use Rattle.rules.specs.FileMap.{emptyRecord, isEmpty, recordAt, fileCount}
+use Rattle.rules.specs.FileMapLaws.{empty-is, empty-or-not}
+use Rattle.rules.specs.LabelLaws.{InBounds}
+use Rattle.rules.specs.SettingsLaws.{slot-within}
+use Rattle.rules.specs.Condition1Laws.{Passed}
+use Rattle.rules.specs.Maintenance.{newGeneration, isCandidate}
+use Rattle.rules.specs.MaintenanceLaws.{candidate}
+use Rattle.rules.specs.World.{World, recordsOf, mappings}
+use Rattle.gc_group.specs.Plan.{planFor, planOf, plan-length, plan-at}
+
+-- slots of that many bytes, their records, and the table's used entries
+pub record Source : Type 0 where
+  pub size : ℕ
+  pub heap : List ℕ
+  pub records : List Record
+  pub table : List Entry
+
+-- the same, as parameters give it
+abbrev pub source : ℕ → List ℕ → List Record → List Entry → Source
+source size heap records table = record { size = size; heap = heap; records = records; table = table }
+
+-- a call's world as it stands
+abbrev pub sourceOf : World → Source
+sourceOf w = source (w .settings .«slot_bytes») (w .heap) (recordsOf w) (mappings w)
+
+-- slot k's record and bytes
+abbrev pub fileAt : Source → ℕ → Record
+fileAt s k = recordAt (s .records) k
+
+abbrev pub bytesAt : Source → ℕ → List ℕ
+bytesAt s k = slotBytes (s .size) (s .heap) k
+
+-- ---- what refusal 1 leaves of a record: its file lies in a slot of that size, its positions below 2^63
+pub record Lies (size : ℕ) (r : Record) : Type 0 where
+  pub offset : r .«trailer_offset» ≤ r .«file_size»
+  pub inside : r .«file_size» ≤ size - 64
+  pub positions : r .lsn + r .«trailer_offset» < 2 ^ 63
+
+pub bounds-lie : (size : ℕ) (r : Record) → InBounds size r → Lies size r
+unfolding maskedOf
+bounds-lie size r b = record { offset = b .offset; inside = b .size; positions = omega (arith, b .lsn, b .end) }
+
+-- an empty record, too
+pub empty-lies : (size : ℕ) → Lies size emptyRecord
+empty-lies size = record { offset = zero-le; inside = zero-le; positions = lit< tt }
+
+-- what a group's loops over the slots ask for
+pub record Ready (size heapLen : ℕ) (records : List Record) (plan : List ℕ) (generation : ℕ) : Type 0 where
+  pub slots : length plan ≡ 256
+  pub files : (k : ℕ) → Lies size (recordAt records k)
+  pub standing : (k : ℕ) → getD plan k 0 ≡ generation → k * size + size ≤ heapLen
+
+-- as the call starts
+pub passed-lie : (s : Settings) (heapLen : ℕ) (b : Buffers) (t : State) → Passed s heapLen b t → (k : ℕ) → Lies (s .«slot_bytes») (recordAt (t .files .records) k)
+passed-lie s heapLen b t w k = ⊎-elim
+    (λ e. rw (empty-is (recordAt (t .files .records) k) e) (empty-lies (s .«slot_bytes»)))
+    (λ e. bounds-lie (s .«slot_bytes») (recordAt (t .files .records) k) (w .records k e .bounds))
+    (empty-or-not (recordAt (t .files .records) k))
+
+plan-some : (s : Settings) (claims : Claims) (files slot : ℕ) (r : Record) → 0 < planFor s claims files slot r → isEmpty r ≡ false
+unfolding planFor
+plan-some s claims files slot r h = go (isCandidate s claims files slot r) refl h
+  where
+    go : (t : Bool) → isCandidate s claims files slot r ≡ t → 0 < pick t (newGeneration (r .generation)) 0 → isEmpty r ≡ false
+    go true e h = candidate s claims files slot r e .file
+    go false e h = absurd (omega arith)
+
+-- a planned slot is one of the heap's
+pub planned-within : (s : Settings) (claims : Claims) (heapLen : ℕ) (b : Buffers) (t : State) → Passed s heapLen b t
+    → (k : ℕ) → 0 < getD (planOf s claims (t .files .records)) k 0 → k * s .«slot_bytes» + s .«slot_bytes» ≤ heapLen
+planned-within s claims heapLen b t w k h = go (either-way k (length rs))
+  where
+    rs : List Record
+    rs = t .files .records
+
+    go : (k < length rs) ⊎ (length rs ≤ k) → k * s .«slot_bytes» + s .«slot_bytes» ≤ heapLen
+    go (inl i) =
+        let n = plan-at s claims rs k i in
+        let some : isEmpty (recordAt rs k) ≡ false = plan-some s claims (fileCount rs) k (recordAt rs k) (omega arith) in
+        slot-within s heapLen k (w .limits .heap) (w .records k some .place)
+    go (inr i) =
+        let z : getD (planOf s claims rs) k 0 ≡ 0 = List·getD-eq-default (planOf s claims rs) 0 {n = k} (omega (arith, plan-length s claims rs)) in
+        absurd (omega arith)
+
+-- records and plan of a call that 1 does not refuse are ready for each of its groups
+pub ready : (s : Settings) (claims : Claims) (heapLen : ℕ) (b : Buffers) (t : State) (generation : ℕ) → Passed s heapLen b t → length (t .files .records) ≡ 256 → 0 < generation
+    → Ready (s .«slot_bytes») heapLen (t .files .records) (planOf s claims (t .files .records)) generation
+ready s claims heapLen b t generation w n g = record {
+  slots = plan-length s claims (t .files .records) ∙ n;
+  files = passed-lie s heapLen b t w;
+  standing = λ k e. planned-within s claims heapLen b t w k (omega arith);
+}
+
+-- a file has no more object bytes than its record says
+pub part-length : (r : Record) (slot : List ℕ) → length (objectPart r slot) ≤ r .«trailer_offset»
+part-length r slot = rw (length-take (r .«trailer_offset») (fileIn r slot)) (min-le-left (r .«trailer_offset») (length (fileIn r slot)))

@@ -1,0 +1,192 @@
+use crate::check::slot_at;
+use disk_location::DiskLocation;
+use disk_location::RelativeDiskLocation;
+use location_table::Place;
+use location_table::find;
+use location_table::location_at;
+use rules::Entry;
+use rules::FileMap;
+use rules::Record;
+use slot_file::Step;
+use slot_file::object;
+use slot_file::slot::object_part;
+use slot_file::slot::trailer_part;
+ghost use mathlib.Core.Path.{_≡_};
+ghost use Prim.Native.Nat.{_+_, _*_, _^_, _<_, _≤_};
+ghost use lib.ListN.{length, replicate};
+ghost use Rattle.rules.specs.Base.{each};
+ghost use Rattle.rules.specs.BaseLaws.{All};
+ghost use Rattle.rules.specs.Object.{objectsIn};
+ghost use Rattle.rules.specs.Trailer.{countIn, entriesIn};
+ghost use Rattle.location_table.specs.Tables.{table, Formed};
+ghost use Rattle.location_table.specs.LayoutLaws.{used};
+ghost use Rattle.gc_group.specs.Plan.{planned};
+ghost use Rattle.gc_group.specs.Source.{Lies, source, Ready};
+ghost use Rattle.gc_group.specs.Clear.{Inside, SumFits, Clear, GroupClear};
+ghost use Rattle.gc_group.specs.Marks.{foundFile, idsOf, current, objectId, deleteId, marked, marksOf, marksSet};
+
+// The id's entry takes the mark where this is its current location.
+fn mark_id(ids: &[u64], locations: &[u64], marks: &mut [u16], id: u64, location: u64, mark: u16)
+    requires { ⌜ Formed (table (now ids) (now locations)) ⌝ }
+    requires { ⌜ length (now ids) ≤ length (now marks) ⌝ }
+    ensures { λ _. ⌜ now (marks .exit) ≡ marked mark (current (used (now (ids .entry)) (now (locations .entry))) id location) (used (now (ids .entry)) (now (locations .entry))) (now (marks .entry)) ⌝ }
+{
+    match find(ids, locations, id) {
+        Place::Found(i) => {
+            if location_at(locations, i) == location {
+                marks[i] = mark;
+            }
+        }
+        Place::Gap(_) => {}
+    }
+}
+
+// "Objects .. at their id's current location"
+fn mark_objects(
+    objects: &[u8],
+    lsn: u64,
+    ids: &[u64],
+    locations: &[u64],
+    marks: &mut [u16],
+    mark: u16,
+)
+    requires { ⌜ All Inside (objectsIn (now objects)) ⌝ }
+    requires { ⌜ lsn + length (now objects) < 2 ^ 63 ⌝ }
+    requires { ⌜ Formed (table (now ids) (now locations)) ⌝ }
+    requires { ⌜ length (now ids) ≤ length (now marks) ⌝ }
+    ensures { λ _. ⌜ now (marks .exit) ≡ marked mark (each (objectId lsn (used (now (ids .entry)) (now (locations .entry)))) (objectsIn (now (objects .entry)))) (used (now (ids .entry)) (now (locations .entry))) (now (marks .entry)) ⌝ }
+{
+    let mut position: u64 = 0;
+    loop {
+        match object::step(objects, position) {
+            Step::End => return,
+            Step::HeaderCut => return,
+            Step::Here(h) => {
+                let location = DiskLocation::new(lsn + position, false);
+                mark_id(ids, locations, marks, h.id, location.raw(), mark);
+                position += 20 + h.size;
+            }
+        }
+    }
+}
+
+// A delete entry; an object's entry is not looked at.
+fn mark_delete(e: Entry, lsn: u64, ids: &[u64], locations: &[u64], marks: &mut [u16], mark: u16)
+    requires { ⌜ SumFits lsn e ⌝ }
+    requires { ⌜ Formed (table (now ids) (now locations)) ⌝ }
+    requires { ⌜ length (now ids) ≤ length (now marks) ⌝ }
+    ensures { λ _. ⌜ now (marks .exit) ≡ marked mark (deleteId lsn (used (now (ids .entry)) (now (locations .entry))) e) (used (now (ids .entry)) (now (locations .entry))) (now (marks .entry)) ⌝ }
+{
+    let location = RelativeDiskLocation(e.location);
+    if location.is_delete() {
+        mark_id(
+            ids,
+            locations,
+            marks,
+            e.id,
+            location.to_absolute(lsn).raw(),
+            mark,
+        );
+    }
+}
+
+// ".. and deletes at their id's current location"
+fn mark_deletes(
+    trailer: &[u8],
+    lsn: u64,
+    ids: &[u64],
+    locations: &[u64],
+    marks: &mut [u16],
+    mark: u16,
+)
+    requires { ⌜ 12 + 16 * countIn (now trailer) ≤ length (now trailer) ⌝ }
+    requires { ⌜ All (SumFits lsn) (entriesIn (now trailer)) ⌝ }
+    requires { ⌜ Formed (table (now ids) (now locations)) ⌝ }
+    requires { ⌜ length (now ids) ≤ length (now marks) ⌝ }
+    ensures { λ _. ⌜ now (marks .exit) ≡ marked mark (each (deleteId lsn (used (now (ids .entry)) (now (locations .entry)))) (entriesIn (now (trailer .entry)))) (used (now (ids .entry)) (now (locations .entry))) (now (marks .entry)) ⌝ }
+{
+    let n = trailer::count(trailer);
+    let mut k: u64 = 0;
+    while k < n {
+        mark_delete(trailer::entry(trailer, k), lsn, ids, locations, marks, mark);
+        k += 1;
+    }
+}
+
+// Everything that is found in one file of a group whose checks are clear.
+pub fn mark_file(
+    slot: &[u8],
+    r: Record,
+    ids: &[u64],
+    locations: &[u64],
+    marks: &mut [u16],
+    mark: u16,
+)
+    requires { ⌜ Lies (length (now slot)) r ⌝ }
+    requires { ⌜ Clear r (now slot) ⌝ }
+    requires { ⌜ Formed (table (now ids) (now locations)) ⌝ }
+    requires { ⌜ length (now ids) ≤ length (now marks) ⌝ }
+    ensures { λ _. ⌜ now (marks .exit) ≡ marked mark (idsOf (foundFile (used (now (ids .entry)) (now (locations .entry))) r (now (slot .entry)))) (used (now (ids .entry)) (now (locations .entry))) (now (marks .entry)) ⌝ }
+{
+    mark_objects(object_part(slot, r), r.lsn, ids, locations, marks, mark);
+    mark_deletes(trailer_part(slot, r), r.lsn, ids, locations, marks, mark);
+}
+
+fn unmark(marks: &mut [u16])
+    ensures { λ _. ⌜ now (marks .exit) ≡ replicate (length (now (marks .entry))) 0 ⌝ }
+{
+    let mut i: usize = 0;
+    while i < marks.len() {
+        marks[i] = 0;
+        i += 1;
+    }
+}
+
+// "one found twice only once, as last found": a later slot's mark takes the place of an earlier one's.
+pub fn mark_group(
+    slot_bytes: u64,
+    heap: &[u8],
+    m: FileMap,
+    plan: &[u64],
+    generation: u64,
+    ids: &[u64],
+    locations: &[u64],
+    marks: &mut [u16],
+)
+    requires { ⌜ Ready «slot_bytes» (length (now heap)) (m .records) (now plan) generation ⌝ }
+    requires { ⌜ GroupClear (source «slot_bytes» (now heap) (m .records) (used (now ids) (now locations))) (planned (now plan) generation) ⌝ }
+    requires { ⌜ Formed (table (now ids) (now locations)) ⌝ }
+    requires { ⌜ length (now ids) ≤ length (now marks) ⌝ }
+    ensures { λ _. ⌜ now (marks .exit) ≡ marksOf (source «slot_bytes» (now (heap .entry)) (m .records) (used (now (ids .entry)) (now (locations .entry)))) (length (now (marks .entry))) (planned (now (plan .entry)) generation) ⌝ }
+{
+    unmark(marks);
+    let mut i: usize = 0;
+    while i < 256 {
+        if plan[i] == generation {
+            mark_file(
+                slot_at(heap, slot_bytes, i),
+                m.records[i],
+                ids,
+                locations,
+                marks,
+                i as u16 + 1,
+            );
+        }
+        i += 1;
+    }
+}
+
+// "the count of ids moved", of this group.
+pub fn marks_set(marks: &[u16]) -> u64
+    ensures { λ n. ⌜ n ≡ marksSet (now (marks .entry)) ⌝ }
+{
+    let mut n: u64 = 0;
+    let mut i: usize = 0;
+    while i < marks.len() {
+        if marks[i] != 0 {
+            n += 1;
+        }
+        i += 1;
+    }
+    n
+}
