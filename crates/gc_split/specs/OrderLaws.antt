@@ -7,7 +7,7 @@ use lib.ListN.{length-append, length-map, length-take, List·getD-append}
 use lib.Seq.{take-append-seam, getD-append-add, getD-take}
 use Rattle.numbers.specs.Parts.{front}
 use Rattle.numbers.specs.GroupLaws.{either-way}
-use Rattle.rules.specs.Base.{Bool, true, false, List, [], _∷_, _++_, map, ℕ, suc, _+_, _-_, length, getD, take, drop, eqb, pick}
+use Rattle.rules.specs.Base.{Bool, true, false, List, [], _∷_, _++_, ℕ, suc, _+_, _-_, length, getD, take, drop, eqb, pick}
 use Rattle.rules.specs.Ops.{Op, sizeOf, shardFor}
 use Rattle.rules.specs.Maintenance.{filesOf}
 use Rattle.gc_split.specs.declared.Totals.{Totals}

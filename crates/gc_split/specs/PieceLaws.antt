@@ -7,14 +7,14 @@ use native.Mathlib.Nat.{zero-add, add-zero}
 use native.Mathlib.Numerals.{add-one}
 use native.Mathlib.Omega.{arith}
 use borrow.Author.Tests.{eq-eqb, ne-eqb}
-use lib.ListN.{length-append, length-set, length-replicate, getD-replicate}
-use lib.Seq.{set-out, getD-set-same, getD-set-other, take-suc-set, take-set-le, length-take-le}
-use Rattle.rules.specs.Base.{Bool, true, false, List, [], _∷_, _++_, map, ℕ, zero, suc, _+_, _*_, _/_, _%_, length, getD, set, replicate, take, ltb, eqb, pick, keep}
+use lib.ListN.{length-set, length-replicate, getD-replicate}
+use lib.Seq.{set-out, getD-set-same, getD-set-other, take-suc-set}
+use Rattle.rules.specs.Base.{Bool, true, false, List, [], _∷_, _++_, map, ℕ, zero, suc, _+_, _/_, _%_, length, getD, set, replicate, take, ltb, eqb, pick, keep}
 use Rattle.rules.specs.BaseLaws.{All, all-map, same?}
 use Rattle.rules.specs.Ops.{Content, put, delete, Op, sizeOf, shardFor}
 use Rattle.rules.specs.Maintenance.{Shard, noEntries, Split, cutOff, joining, splitFrom, hasEntries, filesOf}
 use Rattle.numbers.specs.GroupLaws.{either-way}
-use Rattle.disk_location.specs.Locations.{digitsIn, shardOf}
+use Rattle.disk_location.specs.Locations.{digitsIn}
 use Rattle.gc_split.specs.TotalLaws.{shardCount, Told, size-at, either-has, cut-told, join-told, split-told, empty-told}
 use Rattle.gc_split.specs.Tally.{Tally, pieceOf, closing, cutting, entering, taking, tallyFrom, tallyOf, emptyTally, restOf, restsFrom, orderOf, piecesFrom, piecesOf, pieceIn, inPiece}
 
@@ -186,7 +186,7 @@ from-files target slotSize (o ∷ os) t =
     let next = taking target slotSize (shardFor (o .content)) (sizeOf (o .content)) t in
     omega (arith, take-files target slotSize (shardFor (o .content)) (sizeOf (o .content)) t, from-files target slotSize os next)
 
-take-cuts : (target slotSize n size : ℕ) (t : Tally) → length (taking target slotSize n size t .cuts) ≡ length (t .cuts)
+pub take-cuts : (target slotSize n size : ℕ) (t : Tally) → length (taking target slotSize n size t .cuts) ≡ length (t .cuts)
 unfolding taking entering cutting
 take-cuts target slotSize n size t = go (ltb target (getD (t .sizes) n 0))
   where

@@ -1,7 +1,7 @@
 -- The split by sizes alone: each shard's size and entries, how often it was cut off, and what the files come to. No operation is held.
 use mathlib.Core.Path.{_≡_}
 use Prim.Native.Nat.{_≤_}
-use Rattle.rules.specs.Base.{Bool, false, _||_, List, [], _∷_, _++_, ℕ, suc, _+_, _*_, _^_, length, getD, set, replicate, take, ltb, eqb, pick, any, sum}
+use Rattle.rules.specs.Base.{false, _||_, List, [], _∷_, _++_, ℕ, suc, _+_, _*_, _^_, length, getD, set, replicate, take, ltb, eqb, pick, any, sum}
 use Rattle.rules.specs.Ops.{Op, sizeOf, shardFor, objectsOf, fileBytes}
 use Rattle.gc_split.specs.declared.Totals.{Totals}
 

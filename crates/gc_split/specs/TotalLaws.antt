@@ -5,11 +5,11 @@ use native.Mathlib.Nat.{zero-add}
 use native.Mathlib.Omega.{arith}
 use borrow.Author.Tests.{ne-eqb}
 use lib.ListN.{length-append, List·getD-map}
-use Rattle.rules.specs.Base.{Bool, true, false, _&&_, _||_, List, [], _∷_, _++_, map, ℕ, zero, suc, _+_, _*_, _^_, length, getD, set, replicate, ltb, eqb, pick, keep, each, any, sum}
+use Rattle.rules.specs.Base.{Bool, true, false, _&&_, _||_, List, [], _∷_, _++_, map, ℕ, zero, suc, _+_, _^_, length, getD, set, replicate, ltb, eqb, pick, keep, any, sum}
 use Rattle.rules.specs.declared.Refusal.the-variants.{SlotRoom, NoEmptySlot, PositionsSpent}
-use Rattle.rules.specs.Refusal.{_gives_}
-use Rattle.rules.specs.Ops.{Content, Op, sizeOf, shardFor, objectsOf, fileBytes}
-use Rattle.rules.specs.OpsLaws.{objects-nil, objects-cons, objects-length, file-length}
+use Rattle.rules.specs.Refusal.{Test, _gives_}
+use Rattle.rules.specs.Ops.{Op, sizeOf, shardFor, objectsOf, fileBytes}
+use Rattle.rules.specs.OpsLaws.{objects-nil, objects-length, file-length}
 use Rattle.rules.specs.Install.{roomTests, positionTests}
 use Rattle.rules.specs.Maintenance.{Shard, noEntries, Split, cutOff, joining, splitFrom, hasEntries, filesOf}
 use Rattle.gc_split.specs.declared.Totals.{Totals}
@@ -197,19 +197,17 @@ split-totals target slotSize ops =
     rw (told .counts, told .objects, told .totals)
     (rests-told slotSize (0 + length ops) (split .shards) (split .fragments) ∙ totals-swap slotSize (0 + length ops) (split .fragments) _ ∙ ap (λ (n : ℕ). totalsFor slotSize n (keep hasEntries (map (λ (s : Shard). s .ops) (split .shards)) ++ split .fragments)) (zero-add (length ops)))
 
--- so 4 and 5 are decided by them
-pub room-told : (target slotSize emptyOnes : ℕ) (ops : List Op)
-    → roomTests slotSize emptyOnes (filesOf target ops)
-    ≡ (closedOf slotSize (tallyOf target slotSize ops) .large gives SlotRoom
-    ∷ ltb emptyOnes (closedOf slotSize (tallyOf target slotSize ops) .files) gives NoEmptySlot
-    ∷ [])
-unfolding roomTests totalsFor
-room-told target slotSize emptyOnes ops = rw (split-totals target slotSize ops) refl
+-- 4, 5 and 7, by the totals
+unfoldable pub totalsTests : Totals → ℕ → ℕ → List Test
+totalsTests t emptyOnes base =
+    t .large gives SlotRoom
+    ∷ ltb emptyOnes (t .files) gives NoEmptySlot
+    ∷ (ltb 0 (t .files) && ltb (2 ^ 62) (base + t .positions)) gives PositionsSpent
+    ∷ []
 
--- and 7
-pub positions-told : (target slotSize base : ℕ) (ops : List Op)
-    → positionTests base (filesOf target ops)
-    ≡ ((ltb 0 (closedOf slotSize (tallyOf target slotSize ops) .files) && ltb (2 ^ 62) (base + closedOf slotSize (tallyOf target slotSize ops) .positions)) gives PositionsSpent
-    ∷ [])
-unfolding positionTests totalsFor
-positions-told target slotSize base ops = rw (split-totals target slotSize ops) refl
+-- are those of the files that come out
+pub tests-told : (target slotSize emptyOnes base : ℕ) (ops : List Op)
+    → roomTests slotSize emptyOnes (filesOf target ops) ++ positionTests base (filesOf target ops)
+    ≡ totalsTests (closedOf slotSize (tallyOf target slotSize ops)) emptyOnes base
+unfolding roomTests positionTests totalsTests totalsFor
+tests-told target slotSize emptyOnes base ops = rw (split-totals target slotSize ops) refl

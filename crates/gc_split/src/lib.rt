@@ -1,6 +1,8 @@
 // The split of a group's entries into files (`src/writepath.rs`), by sizes alone: no entry is held, each gets the number
 // of the piece that it is in.
 
+use rules::Answer;
+use rules::Refusal;
 ghost use mathlib.Core.Path.{_≡_};
 ghost use mathlib.Core.Bool.{_||_};
 ghost use mathlib.Core.List.{_++_};
@@ -9,7 +11,12 @@ ghost use lib.Dec.{ltb, eqb};
 ghost use lib.ListN.{length, getD, set, take};
 ghost use Rattle.numbers.specs.Choice.{pick};
 ghost use Rattle.numbers.specs.Parts.{front, putAt};
+ghost use Rattle.rules.specs.Refusal.{decide};
+ghost use Rattle.gc_split.specs.TotalLaws.{totalsTests};
 ghost use Rattle.gc_split.specs.Tally.{tally, pieceOf, closing, cutting, taking, closingRests, restOf, restsFrom, Within, Closable, Numbered};
+
+// Where positions end: 2^62.
+const POSITIONS: u64 = 1 << 62;
 
 // Entries taken, files closed, the sum of T + 1 over these, and whether one is too large for a slot.
 pub struct Totals {
@@ -160,6 +167,28 @@ pub fn close_rests(sizes: &[u64], counts: &[u64], totals: Totals, slot_bytes: u6
         n += 1;
     }
     t
+}
+
+// "4, 5, 7 are decided first, for the whole group": by the totals of all its files.
+pub fn decided(t: Totals, empty: u64, base: u64) -> Answer
+    ensures { λ r. ⌜ r ≡ decide (totalsTests t empty base) ⌝ }
+{
+    if t.large {
+        return Answer::Refused(Refusal::SlotRoom);
+    }
+    if empty < t.files {
+        return Answer::Refused(Refusal::NoEmptySlot);
+    }
+    if t.files == 0 {
+        return Answer::Done;
+    }
+    if POSITIONS < base {
+        return Answer::Refused(Refusal::PositionsSpent);
+    }
+    if POSITIONS - base < t.positions {
+        return Answer::Refused(Refusal::PositionsSpent);
+    }
+    Answer::Done
 }
 
 // What is left of a shard takes the next place, if there is anything.

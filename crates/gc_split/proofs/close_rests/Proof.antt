@@ -4,11 +4,11 @@ use lib.Dec.{eqb}
 use lib.ListN.{drop}
 use Rattle.gc_split.specs.Tally.{closingRests}
 use Rattle.gc_split.proofs.Turns.{closing-next, closing-end, closing-bounds}
-use Prim.Native.Nat.{ℕ, _+_, _≤_, _<_, _-_}
+use Prim.Native.Nat.{_+_, _≤_, _<_, _-_}
 use mathlib.Core.Path.{_≡_}
 use native.Mathlib.Omega.{arith}
 use borrow.Author.Needs.{needs}
-use lib.ListN.{length, getD, set, length-set}
+use lib.ListN.{length, getD}
 use Rattle.gc_split.proofs.close_rests.Statement.{statement}
 use Rattle.gc_split.proofs.close_rests.Tie as tie
 

@@ -1,11 +1,10 @@
 use mathlib.Core.Path.{ap}
 use Rattle.gc_split.specs.Tally.{Tally, entering, taking}
 use Rattle.gc_split.specs.BoundLaws.{cut-within}
-use Prim.Native.Nat.{ℕ, _+_, _≤_, _<_, _-_}
-use mathlib.Core.Path.{_≡_}
+use Prim.Native.Nat.{_-_}
 use native.Mathlib.Omega.{arith}
 use borrow.Author.Needs.{needs}
-use lib.ListN.{length, getD, set, length-set}
+use lib.ListN.{getD}
 use borrow.Author.Needs.{needs}
 use Rattle.gc_split.proofs.join.Statement.{statement}
 use Rattle.gc_split.proofs.join.Tie as tie

@@ -1,10 +1,8 @@
 use mathlib.Core.Path.{sym}
 use lib.Seq.{set-out}
-use Prim.Native.Nat.{ℕ, _+_, _≤_, _<_, _-_}
-use mathlib.Core.Path.{_≡_}
+use Prim.Native.Nat.{_-_}
 use native.Mathlib.Omega.{arith}
 use borrow.Author.Needs.{needs}
-use lib.ListN.{length, getD, set, length-set}
 use borrow.Author.Needs.{needs}
 use Rattle.gc_split.proofs.note.Statement.{statement}
 use Rattle.gc_split.proofs.note.Tie as tie

@@ -3,11 +3,10 @@ use mathlib.Core.List.{[]}
 use borrow.Author.Tests.{eq-eqb, ne-eqb}
 use Rattle.numbers.specs.Parts.{put-step, put-none}
 use Rattle.gc_split.specs.Tally.{restOf}
-use Prim.Native.Nat.{ℕ, _+_, _≤_, _<_, _-_}
-use mathlib.Core.Path.{_≡_}
+use Prim.Native.Nat.{_+_, _<_, _-_}
 use native.Mathlib.Omega.{arith}
 use borrow.Author.Needs.{needs}
-use lib.ListN.{length, getD, set, length-set}
+use lib.ListN.{length, set}
 use borrow.Author.Needs.{needs}
 use Rattle.gc_split.proofs.put_rest.Statement.{statement}
 use Rattle.gc_split.proofs.put_rest.Tie as tie

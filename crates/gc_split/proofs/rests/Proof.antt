@@ -1,12 +1,10 @@
-use mathlib.Core.Path.{sym, _∙_}
 use Rattle.numbers.specs.Parts.{front}
 use Rattle.gc_split.specs.Tally.{restsFrom}
 use Rattle.gc_split.proofs.Turns.{Placing, placing-start, placing-turn, placing-end}
-use Prim.Native.Nat.{ℕ, _+_, _≤_, _<_, _-_}
-use mathlib.Core.Path.{_≡_}
+use Prim.Native.Nat.{_≤_, _<_, _-_}
 use native.Mathlib.Omega.{arith}
 use borrow.Author.Needs.{needs}
-use lib.ListN.{length, getD, set, length-set}
+use lib.ListN.{length}
 use Rattle.gc_split.proofs.rests.Statement.{statement}
 use Rattle.gc_split.proofs.rests.Tie as tie
 

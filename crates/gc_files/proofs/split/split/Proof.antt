@@ -1,0 +1,139 @@
+use mathlib.Core.Path.{sym, _∙_}
+use Rattle.gc_split.specs.Tally.{tally}
+use Rattle.gc_files.proofs.Turns.{Along, along-start, along-turn, along-end}
+use Prim.Native.Nat.{_≤_, _<_, _-_}
+use native.Mathlib.Omega.{arith}
+use borrow.Author.Needs.{needs}
+use lib.ListN.{length}
+use Rattle.gc_files.proofs.split.split.Statement.{statement}
+use Rattle.gc_files.proofs.split.split.Tie as tie
+
+abbrev Inv-loop : tie.InvT-loop
+Inv-loop heap ids places sizes₀ counts₀ rounds₀ cuts₀ pieces₀ target slot-bytes t₀ i₀ sizes counts rounds cuts pieces t i =
+    Along target slot-bytes heap ids places pieces₀ (tally sizes₀ counts₀ rounds₀ cuts₀ t₀) (tally sizes counts rounds cuts t) pieces i
+
+abbrev μ-loop : tie.MeasureT-loop
+μ-loop heap ids places sizes₀ counts₀ rounds₀ cuts₀ pieces₀ target slot-bytes t₀ i₀ sizes counts rounds cuts pieces t i = length ids - i
+
+loop-holds : tie.Need-loop-holds Inv-loop μ-loop
+loop-holds c =
+    let start = c .before .before .before .before .before .before .before .before in
+    along-start (start .args .target) (start .args .slot-bytes) (start .args .heap .now) (start .args .ids .now) (start .args .places .now) (start .args .pieces .now) _ (start .pre .1)
+
+mul-split-entry : tie.Need-mul-split-entry Inv-loop μ-loop
+mul-split-entry c = search needs
+
+shared-slice-read-split-entry : tie.Need-shared-slice-read-split-entry Inv-loop μ-loop
+shared-slice-read-split-entry c = search needs
+
+mul-split-entry-2 : tie.Need-mul-split-entry-2 Inv-loop μ-loop
+mul-split-entry-2 c = search needs
+
+shared-slice-read-split-entry-2 : tie.Need-shared-slice-read-split-entry-2 Inv-loop μ-loop
+shared-slice-read-split-entry-2 c = search needs
+
+split-entry-requires : tie.Need-split-entry-requires Inv-loop μ-loop
+split-entry-requires c κs =
+    let at = c .before .before .before .before .before .before .before .before in
+    let start = at .before .before .before .before .before .before .before .before .before in
+    let along = at .loop .inv in
+    let asked = start .pre .0 in
+    let low : at .loop .i < length (start .args .ids .now) = omega arith in
+    let wide = asked .pieces in
+    let long = along .long in
+    (asked .standing (at .loop .i), (omega arith, (omega (arith, along .entries, asked .room), along .within)))
+
+add-i : tie.Need-add-i Inv-loop μ-loop
+add-i c = search needs
+
+loop-less : tie.Need-loop-less Inv-loop μ-loop
+loop-less c =
+    let at = c .before .before .before .before .before .before .before .before .before .before .before .before .before .before .before .before .before .before .before in
+    let start = at .before .before .before .before .before .before .before .before .before in
+    let along = at .loop .inv in
+    let asked = start .pre .0 in
+    omega (arith, along .low, c .before .before .before .before .before .before .before .before .before .before .before .before .before .before .before .before .before .before .loop-test .taken)
+
+loop-again : tie.Need-loop-again Inv-loop μ-loop
+loop-again c =
+    let at = c .before .before .before .before .before .before .before .before .before .before .before .before .before .before .before .before .before .before .before in
+    let start = at .before .before .before .before .before .before .before .before .before in
+    let along = at .loop .inv in
+    let asked = start .pre .0 in
+    let done = c .before .before .before .before .before .before .before .before .before .before .split-entry .ensures in
+    let i = at .loop .i in
+    let low : i < length (start .args .ids .now) = c .before .before .before .before .before .before .before .before .before .before .before .before .before .before .before .before .before .before .loop-test .taken in
+    let room : i < length (at .loop .pieces) = omega (arith, asked .pieces, along .long) in
+    along-turn (start .args .target) (start .args .slot-bytes) (start .args .heap .now) (start .args .ids .now) (start .args .places .now) (start .args .pieces .now) _ _ _ (at .loop .pieces) _ i
+    low (omega (arith, asked .places)) room (asked .standing i) (omega (arith, along .entries, asked .room)) along (done .0) (done .1)
+
+same-length : tie.Need-same-length Inv-loop μ-loop
+same-length c =
+    let at = c .before in
+    let start = at .before .before .before .before .before .before .before .before .before in
+    let along = at .loop .inv in
+    let asked = start .pre .0 in
+    along .within .sizeShards ∙ sym (start .pre .1 .sizeShards)
+
+same-length-2 : tie.Need-same-length-2 Inv-loop μ-loop
+same-length-2 c =
+    let at = c .before in
+    let start = at .before .before .before .before .before .before .before .before .before in
+    let along = at .loop .inv in
+    let asked = start .pre .0 in
+    along .within .countShards ∙ sym (start .pre .1 .countShards)
+
+same-length-3 : tie.Need-same-length-3 Inv-loop μ-loop
+same-length-3 c =
+    let at = c .before in
+    let start = at .before .before .before .before .before .before .before .before .before in
+    let along = at .loop .inv in
+    let asked = start .pre .0 in
+    along .within .roundShards ∙ sym (start .pre .1 .roundShards)
+
+same-length-4 : tie.Need-same-length-4 Inv-loop μ-loop
+same-length-4 c =
+    let at = c .before in
+    let start = at .before .before .before .before .before .before .before .before .before in
+    let along = at .loop .inv in
+    let asked = start .pre .0 in
+    along .cuts
+
+same-length-5 : tie.Need-same-length-5 Inv-loop μ-loop
+same-length-5 c =
+    let at = c .before in
+    let start = at .before .before .before .before .before .before .before .before .before in
+    let along = at .loop .inv in
+    let asked = start .pre .0 in
+    along .long
+
+returns : tie.Need-returns Inv-loop μ-loop
+returns c =
+    let at = c .before in
+    let start = at .before .before .before .before .before .before .before .before .before in
+    let along = at .loop .inv in
+    let asked = start .pre .0 in
+    let past : length (start .args .ids .now) ≤ at .loop .i = omega arith in
+    along-end (start .args .target) (start .args .slot-bytes) (start .args .heap .now) (start .args .ids .now) (start .args .places .now) (start .args .pieces .now) _ _ (at .loop .pieces) (at .loop .i) past along
+
+pub split-spec : {M : Type 1} → statement M
+split-spec =
+    tie.close
+    (tie.spec
+    Inv-loop
+    μ-loop
+    loop-holds
+    mul-split-entry
+    shared-slice-read-split-entry
+    mul-split-entry-2
+    shared-slice-read-split-entry-2
+    split-entry-requires
+    add-i
+    loop-less
+    loop-again
+    same-length
+    same-length-2
+    same-length-3
+    same-length-4
+    same-length-5
+    returns)

@@ -1,0 +1,124 @@
+-- A group's operations by their places: turns of the loops over them, and which of them are in which file.
+use mathlib.Core.Path.{_≡_, refl, sym, ap}
+use mathlib.Core.List.{append-assoc}
+use mathlib.Core.Logic.{_⊎_, inl, inr}
+use Prim.Native.Nat.{_≤_, _<_}
+use native.Mathlib.Numerals.{add-one}
+use native.Mathlib.Omega.{arith}
+use borrow.Author.Tests.{eq-eqb, ne-eqb}
+use lib.Seq.{take-suc-set, drop-set-lt}
+use Rattle.rules.specs.Base.{Bool, true, false, List, [], _∷_, _++_, ℕ, _+_, _^_, length, getD, set, take, drop, eqb, pick}
+use Rattle.rules.specs.TurnLaws.{left-next, left-none}
+use Rattle.rules.specs.Ops.{put, delete, Op, sizeOf, shardFor}
+use Rattle.gc_split.specs.Tally.{Tally, taking, tallyFrom, pieceIn, piecesFrom, inPiece}
+use Rattle.disk_location.specs.Locations.{shardOf}
+use Rattle.rules.specs.BaseLaws.{same?}
+use Rattle.batch.specs.declared.Operation.{Operation}
+use Rattle.batch.specs.ReadingLaws.{piece-length}
+use Rattle.batch.specs.Sizes.{sizeIn}
+use Rattle.batch_file.specs.Steps.{size-told}
+use Rattle.gc_files.specs.Places.{lengthAt, movingAt, Whole, opAt, placedOps, filedOps, entryTaken, entryPiece, piecesAlong}
+
+-- ---- a turn over all entries, and the end
+module _ (target slotSize : ℕ) (heap xs ps : List ℕ) (i : ℕ) where
+  pub along-tally : i < length xs → i < length ps → (t : Tally)
+      → tallyFrom target slotSize (placedOps heap (drop i xs) (drop i ps)) t
+      ≡ tallyFrom target slotSize (placedOps heap (drop (i + 1) xs) (drop (i + 1) ps)) (entryTaken target slotSize heap (getD xs i 0) (getD ps i 0) t)
+  unfolding placedOps entryTaken tallyFrom
+  along-tally h g t = rw (left-next xs i 0 h, left-next ps i 0 g) (go (eqb (getD ps i 0) 0))
+    where
+      op : Op
+      op = opAt heap (getD xs i 0) (getD ps i 0)
+
+      rest : List Op
+      rest = placedOps heap (drop (i + 1) xs) (drop (i + 1) ps)
+
+      go : (b : Bool) → tallyFrom target slotSize (pick b rest (op ∷ rest)) t
+          ≡ tallyFrom target slotSize rest (pick b t (taking target slotSize (shardFor (op .content)) (sizeOf (op .content)) t))
+      go true = refl
+      go false = refl
+
+  pub along-tally-end : length xs ≤ i → (t : Tally) → tallyFrom target slotSize (placedOps heap (drop i xs) (drop i ps)) t ≡ t
+  unfolding placedOps tallyFrom
+  along-tally-end h t = rw (left-none xs i h) refl
+
+  pub along-pieces : i < length xs → i < length ps → (gs : List ℕ) → i < length gs → (t : Tally)
+      → take i gs ++ piecesAlong target slotSize heap (drop i xs) (drop i ps) (drop i gs) t
+      ≡ take (i + 1) (set gs i (entryPiece target slotSize heap (getD xs i 0) (getD ps i 0) (getD gs i 0) t))
+      ++ piecesAlong target slotSize heap (drop (i + 1) xs) (drop (i + 1) ps) (drop (i + 1) (set gs i (entryPiece target slotSize heap (getD xs i 0) (getD ps i 0) (getD gs i 0) t)))
+      (entryTaken target slotSize heap (getD xs i 0) (getD ps i 0) t)
+  unfolding piecesAlong
+  along-pieces h g gs k t =
+      let v = entryPiece target slotSize heap (getD xs i 0) (getD ps i 0) (getD gs i 0) t in
+      let next = entryTaken target slotSize heap (getD xs i 0) (getD ps i 0) t in
+      let first : take (i + 1) (set gs i v) ≡ take i gs ++ (v ∷ []) = rw add-one (take-suc-set gs i v k) in
+      let rest : drop (i + 1) (set gs i v) ≡ drop (i + 1) gs = drop-set-lt (i + 1) gs i v (omega arith) in
+      rw (first, rest, left-next xs i 0 h, left-next ps i 0 g, left-next gs i 0 k)
+      (sym (append-assoc (take i gs) (v ∷ []) (piecesAlong target slotSize heap (drop (i + 1) xs) (drop (i + 1) ps) (drop (i + 1) gs) next)))
+
+  pub along-pieces-end : length xs ≤ i → (gs : List ℕ) (t : Tally) → piecesAlong target slotSize heap (drop i xs) (drop i ps) (drop i gs) t ≡ drop i gs
+  unfolding piecesAlong
+  along-pieces-end h gs t = rw (left-none xs i h) refl
+
+-- ---- the operations with one number are those of one piece
+pub filed-piece : (target slotSize piece : ℕ) (heap xs ps gs : List ℕ) (t : Tally) → length xs ≤ length gs
+    → filedOps piece heap xs ps (piecesAlong target slotSize heap xs ps gs t)
+    ≡ inPiece piece (piecesFrom target slotSize (placedOps heap xs ps) t) (placedOps heap xs ps)
+unfolding filedOps piecesAlong placedOps piecesFrom inPiece entryPiece entryTaken
+filed-piece target slotSize piece heap [] ps gs t h = refl
+filed-piece target slotSize piece heap (x ∷ xs) [] gs t h = refl
+filed-piece target slotSize piece heap (x ∷ xs) (p ∷ ps) [] t h = absurd (omega arith)
+filed-piece target slotSize piece heap (x ∷ xs) (p ∷ ps) (g ∷ gs) t h = go (eqb p 0) (λ u. filed-piece target slotSize piece heap xs ps gs u (omega arith))
+  where
+    op : Op
+    op = opAt heap x p
+
+    joined : Tally
+    joined = taking target slotSize (shardFor (op .content)) (sizeOf (op .content)) t
+
+    ops : List Op
+    ops = placedOps heap xs ps
+
+    left : Tally → List Op
+    left u = filedOps piece heap xs ps (piecesAlong target slotSize heap xs ps gs u)
+
+    go : (b : Bool) → ((u : Tally) → left u ≡ inPiece piece (piecesFrom target slotSize ops u) ops)
+        → pick b (left (pick b t joined))
+        (pick (eqb (pick b g (pieceIn (shardFor (op .content)) (pick b t joined))) piece) (op ∷ left (pick b t joined)) (left (pick b t joined)))
+        ≡ inPiece piece (piecesFrom target slotSize (pick b ops (op ∷ ops)) t) (pick b ops (op ∷ ops))
+    go true ih = ih t
+    go false ih = rw (ih joined) refl
+
+-- ---- what the numbers of a placed operation tell
+pub record MovingTold (heap : List ℕ) (id place : ℕ) : Type 0 where
+  pub inside : movingAt heap id place .start + movingAt heap id place .len ≤ length heap
+  pub short : movingAt heap id place .len < 2 ^ 20
+  pub shard : shardFor (opAt heap id place .content) ≡ pick (movingAt heap id place .delete) 0 (shardOf (movingAt heap id place .len))
+  pub size : sizeOf (opAt heap id place .content) ≡ sizeIn (movingAt heap id place)
+
+moving-inside : (heap : List ℕ) (id place : ℕ) → 0 < place → (1 < place → Whole heap place)
+    → (movingAt heap id place .start + movingAt heap id place .len ≤ length heap) × (movingAt heap id place .len < 2 ^ 20)
+unfolding movingAt
+moving-inside heap id place some whole = go (same? place 1)
+  where
+    at : Bool → Operation
+    at b = pick b (record { id = id; delete = true; start = 0; len = 0 }) (record { id = id; delete = false; start = place + 20; len = lengthAt heap place })
+
+    go : (place ≡ 1) ⊎ (place ≡ 1 → ⊥) → (at (eqb place 1) .start + at (eqb place 1) .len ≤ length heap) × (at (eqb place 1) .len < 2 ^ 20)
+    go (inl e) = rw (eq-eqb place 1 e) (omega arith, omega arith)
+    go (inr d) =
+        let w = whole (omega (arith, d)) in
+        rw (ne-eqb place 1 d) (omega (arith, w .inside), w .short)
+
+pub moving-told : (heap : List ℕ) (id place : ℕ) → 0 < place → (1 < place → Whole heap place) → MovingTold heap id place
+moving-told heap id place some whole =
+    let o = movingAt heap id place in
+    let w = moving-inside heap id place some whole in
+    record { inside = w .0; short = w .1; shard = go (o .delete) (piece-length heap (o .start) (o .len) (w .0)); size = size-told heap (opAt heap id place ∷ []) o [] (refl, w .0) }
+  where
+    body : List ℕ
+    body = take (movingAt heap id place .len) (drop (movingAt heap id place .start) heap)
+
+    go : (d : Bool) → length body ≡ movingAt heap id place .len → shardFor (pick d delete (put body)) ≡ pick d 0 (shardOf (movingAt heap id place .len))
+    go true e = refl
+    go false e = ap shardOf e

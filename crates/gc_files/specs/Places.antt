@@ -1,0 +1,72 @@
+-- Operations that stand in the heap: a number for each entry of the table. 0 where nothing is moved, 1 for a delete, else the place of an object.
+use Prim.Native.Nat.{_≤_, _<_}
+use Rattle.numbers.specs.LittleEndian.{leValue}
+use Rattle.rules.specs.Base.{true, false, List, [], _∷_, ℕ, _+_, _^_, length, getD, take, drop, eqb, pick}
+use Rattle.rules.specs.Ops.{Op, sizeOf, shardFor}
+use Rattle.batch.specs.declared.Operation.{Operation}
+use Rattle.batch.specs.Reading.{opIn}
+use Rattle.gc_split.specs.Tally.{Tally, taking, pieceIn}
+
+-- "length 8", behind checksum and id of an object
+abbrev pub lengthAt : List ℕ → ℕ → ℕ
+lengthAt heap place = leValue (take 8 (drop (place + 12) heap))
+
+-- the operation on an id at a place, as numbers
+unfoldable pub movingAt : List ℕ → ℕ → ℕ → Operation
+movingAt heap id place =
+    pick (eqb place 1)
+    (record { id = id; delete = true; start = 0; len = 0 })
+    (record { id = id; delete = false; start = place + 20; len = lengthAt heap place })
+
+-- the operation
+abbrev pub opAt : List ℕ → ℕ → ℕ → Op
+opAt heap id place = opIn heap (movingAt heap id place)
+
+-- the operations of ids at their places, in the order of the ids
+unfoldable pub placedOps : List ℕ → List ℕ → List ℕ → List Op
+placedOps heap [] ps = []
+placedOps heap (x ∷ xs) [] = []
+placedOps heap (x ∷ xs) (p ∷ ps) = pick (eqb p 0) (placedOps heap xs ps) (opAt heap x p ∷ placedOps heap xs ps)
+
+-- those of one piece, where each has the number of its piece
+unfoldable pub filedOps : ℕ → List ℕ → List ℕ → List ℕ → List ℕ → List Op
+filedOps piece heap [] ps gs = []
+filedOps piece heap (x ∷ xs) [] gs = []
+filedOps piece heap (x ∷ xs) (p ∷ ps) [] = []
+filedOps piece heap (x ∷ xs) (p ∷ ps) (g ∷ gs) =
+    pick (eqb p 0) (filedOps piece heap xs ps gs) (pick (eqb g piece) (opAt heap x p ∷ filedOps piece heap xs ps gs) (filedOps piece heap xs ps gs))
+
+-- an object lies in the heap, and is no longer than any
+pub record Whole (heap : List ℕ) (place : ℕ) : Type 0 where
+  pub inside : place + (20 + lengthAt heap place) ≤ length heap
+  pub short : lengthAt heap place < 2 ^ 20
+
+-- each object does
+abbrev pub Standing : List ℕ → List ℕ → Type 0
+Standing heap places = (k : ℕ) → 1 < getD places k 0 → Whole heap (getD places k 0)
+
+-- ---- the split of placed operations
+-- one entry joins its shard, if it is placed
+unfoldable pub entryTaken : ℕ → ℕ → List ℕ → ℕ → ℕ → Tally → Tally
+entryTaken target slotSize heap id place t =
+    pick (eqb place 0) t (taking target slotSize (shardFor (opAt heap id place .content)) (sizeOf (opAt heap id place .content)) t)
+
+-- and has the number of its piece; else the number that was there
+unfoldable pub entryPiece : ℕ → ℕ → List ℕ → ℕ → ℕ → ℕ → Tally → ℕ
+entryPiece target slotSize heap id place old t =
+    pick (eqb place 0) old (pieceIn (shardFor (opAt heap id place .content)) (entryTaken target slotSize heap id place t))
+
+-- entry by entry
+unfoldable pub piecesAlong : ℕ → ℕ → List ℕ → List ℕ → List ℕ → List ℕ → Tally → List ℕ
+piecesAlong target slotSize heap [] ps gs t = gs
+piecesAlong target slotSize heap (x ∷ xs) [] gs t = gs
+piecesAlong target slotSize heap (x ∷ xs) (p ∷ ps) [] t = []
+piecesAlong target slotSize heap (x ∷ xs) (p ∷ ps) (g ∷ gs) t =
+    entryPiece target slotSize heap x p g t ∷ piecesAlong target slotSize heap xs ps gs (entryTaken target slotSize heap x p t)
+
+-- what the split of the table's entries asks for
+pub record Splitting (heap xs ps gs : List ℕ) (entries : ℕ) : Type 0 where
+  pub places : length xs ≤ length ps
+  pub pieces : length xs ≤ length gs
+  pub standing : Standing heap ps
+  pub room : entries + length xs ≤ 65536

@@ -1,0 +1,68 @@
+use mathlib.Core.Path.{refl}
+use Prim.Native.Nat.{_^_}
+use borrow.Author.Tests.{lt-ltb, le-ltb}
+use Rattle.rules.specs.Refusal.{decide}
+use Rattle.gc_split.specs.TotalLaws.{totalsTests}
+use Prim.Native.Nat.{_+_, _≤_, _<_, _-_}
+use native.Mathlib.Omega.{arith}
+use Rattle.gc_split.proofs.decided.Statement.{statement}
+use Rattle.gc_split.proofs.decided.Tie as tie
+
+returns : tie.Need-returns
+unfolding totalsTests decide
+returns c = rw (c .if1 .taken) refl
+
+returns-2 : tie.Need-returns-2
+unfolding totalsTests decide
+returns-2 c =
+    let start = c .before .before .before in
+    let t = start .args .t in
+    let empty = start .args .empty in
+    let base = start .args .base in
+    rw (c .before .before .if1 .left, lt-ltb empty (t .files) (c .if2 .taken)) refl
+
+returns-3 : tie.Need-returns-3
+unfolding totalsTests decide
+returns-3 c =
+    let start = c .before .before .before .before .before in
+    let t = start .args .t in
+    let empty = start .args .empty in
+    let base = start .args .base in
+    let none : t .files ≤ 0 = omega arith in
+    rw (c .before .before .before .before .if1 .left, le-ltb empty (t .files) (omega (arith, c .before .before .if2 .left)), le-ltb 0 (t .files) none) refl
+
+returns-4 : tie.Need-returns-4
+unfolding totalsTests decide
+returns-4 c =
+    let start = c .before .before .before .before .before .before in
+    let t = start .args .t in
+    let empty = start .args .empty in
+    let base = start .args .base in
+    let some : 0 < t .files = omega arith in
+    let far : 2 ^ 62 < base + t .positions = omega arith in
+    rw (c .before .before .before .before .before .if1 .left, le-ltb empty (t .files) (omega (arith, c .before .before .before .if2 .left)), lt-ltb 0 (t .files) some, lt-ltb (2 ^ 62) (base + t .positions) far) refl
+
+returns-5 : tie.Need-returns-5
+unfolding totalsTests decide
+returns-5 c =
+    let start = c .before .before .before .before .before .before .before .before in
+    let t = start .args .t in
+    let empty = start .args .empty in
+    let base = start .args .base in
+    let some : 0 < t .files = omega arith in
+    let far : 2 ^ 62 < base + t .positions = omega arith in
+    rw (c .before .before .before .before .before .before .before .if1 .left, le-ltb empty (t .files) (omega (arith, c .before .before .before .before .before .if2 .left)), lt-ltb 0 (t .files) some, lt-ltb (2 ^ 62) (base + t .positions) far) refl
+
+returns-6 : tie.Need-returns-6
+unfolding totalsTests decide
+returns-6 c =
+    let start = c .before .before .before .before .before .before .before .before in
+    let t = start .args .t in
+    let empty = start .args .empty in
+    let base = start .args .base in
+    let some : 0 < t .files = omega arith in
+    let near : base + t .positions ≤ 2 ^ 62 = omega arith in
+    rw (c .before .before .before .before .before .before .before .if1 .left, le-ltb empty (t .files) (omega (arith, c .before .before .before .before .before .if2 .left)), lt-ltb 0 (t .files) some, le-ltb (2 ^ 62) (base + t .positions) near) refl
+
+pub decided-spec : {M : Type 1} → statement M
+decided-spec = tie.close (tie.spec returns returns-2 returns-3 returns-4 returns-5 returns-6)
