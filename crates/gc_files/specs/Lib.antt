@@ -1,3 +1,4 @@
 pub mod Places
 pub mod PlaceLaws
 pub mod FileLaws
+pub mod MarkedLaws

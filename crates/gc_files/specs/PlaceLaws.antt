@@ -1,5 +1,5 @@
 -- A group's operations by their places: turns of the loops over them, and which of them are in which file.
-use mathlib.Core.Path.{_≡_, refl, sym, ap}
+use mathlib.Core.Path.{_≡_, refl, sym, ap, ap₂}
 use mathlib.Core.List.{append-assoc}
 use mathlib.Core.Logic.{_⊎_, inl, inr}
 use Prim.Native.Nat.{_≤_, _<_}
@@ -17,7 +17,7 @@ use Rattle.batch.specs.declared.Operation.{Operation}
 use Rattle.batch.specs.ReadingLaws.{piece-length}
 use Rattle.batch.specs.Sizes.{sizeIn}
 use Rattle.batch_file.specs.Steps.{size-told}
-use Rattle.gc_files.specs.Places.{lengthAt, movingAt, Whole, opAt, placedOps, filedOps, entryTaken, entryPiece, piecesAlong}
+use Rattle.gc_files.specs.Places.{lengthAt, movingAt, Whole, placeFor, placesFor, opAt, placedOps, filedOps, entryTaken, entryPiece, piecesAlong}
 
 -- ---- a turn over all entries, and the end
 module _ (target slotSize : ℕ) (heap xs ps : List ℕ) (i : ℕ) where
@@ -122,3 +122,14 @@ moving-told heap id place some whole =
     go : (d : Bool) → length body ≡ movingAt heap id place .len → shardFor (pick d delete (put body)) ≡ pick d 0 (shardOf (movingAt heap id place .len))
     go true e = refl
     go false e = ap shardOf e
+
+-- ---- a turn over the entries that are placed, and the end
+module _ (size : ℕ) (lsns ls ms : List ℕ) (i : ℕ) where
+  pub places-next : i < length ls → i < length ms
+      → placesFor size lsns (drop i ls) (drop i ms) ≡ placeFor size lsns (getD ls i 0) (getD ms i 0) ∷ placesFor size lsns (drop (i + 1) ls) (drop (i + 1) ms)
+  unfolding placesFor
+  places-next h g = ap₂ (placesFor size lsns) (left-next ls i 0 h) (left-next ms i 0 g)
+
+  pub places-end : length ls ≤ i → placesFor size lsns (drop i ls) (drop i ms) ≡ []
+  unfolding placesFor
+  places-end h = ap (λ (xs : List ℕ). placesFor size lsns xs (drop i ms)) (left-none ls i h)

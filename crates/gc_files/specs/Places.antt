@@ -1,8 +1,10 @@
 -- Operations that stand in the heap: a number for each entry of the table. 0 where nothing is moved, 1 for a delete, else the place of an object.
+use mathlib.Core.Path.{_≡_}
 use Prim.Native.Nat.{_≤_, _<_}
 use Rattle.numbers.specs.LittleEndian.{leValue}
-use Rattle.rules.specs.Base.{true, false, List, [], _∷_, ℕ, _+_, _^_, length, getD, take, drop, eqb, pick}
+use Rattle.rules.specs.Base.{true, false, List, [], _∷_, ℕ, _+_, _-_, _*_, _^_, length, getD, take, drop, eqb, pick}
 use Rattle.rules.specs.Ops.{Op, sizeOf, shardFor}
+use Rattle.disk_location.specs.Locations.{positionOf, deleteOf}
 use Rattle.batch.specs.declared.Operation.{Operation}
 use Rattle.batch.specs.Reading.{opIn}
 use Rattle.gc_split.specs.Tally.{Tally, taking, pieceIn}
@@ -70,3 +72,27 @@ pub record Splitting (heap xs ps gs : List ℕ) (entries : ℕ) : Type 0 where
   pub pieces : length xs ≤ length gs
   pub standing : Standing heap ps
   pub room : entries + length xs ≤ 65536
+
+-- ---- where the operation of a marked entry stands, in the slot of its mark: slots of that size, files of these lsns
+unfoldable pub placeFor : ℕ → List ℕ → ℕ → ℕ → ℕ
+placeFor size lsns location mark =
+    pick (eqb mark 0) 0 (pick (deleteOf location) 1 ((mark - 1) * size + 64 + (positionOf location - getD lsns (mark - 1) 0)))
+
+-- of each entry
+unfoldable pub placesFor : ℕ → List ℕ → List ℕ → List ℕ → List ℕ
+placesFor size lsns [] ms = []
+placesFor size lsns (l ∷ ls) [] = []
+placesFor size lsns (l ∷ ls) (m ∷ ms) = placeFor size lsns l m ∷ placesFor size lsns ls ms
+
+-- a mark is of one of 256 slots, and an object's position is one of its file's
+pub record Placeable (lsns : List ℕ) (location mark : ℕ) : Type 0 where
+  pub slots : length lsns ≡ 256
+  pub slot : mark ≤ 256
+  pub low : 0 < mark → deleteOf location ≡ false → getD lsns (mark - 1) 0 ≤ positionOf location
+  pub high : 0 < mark → deleteOf location ≡ false → positionOf location - getD lsns (mark - 1) 0 ≤ 2 ^ 20
+
+-- of every entry
+pub record Placeables (lsns ls ms places : List ℕ) : Type 0 where
+  pub marks : length ls ≤ length ms
+  pub room : length ls ≤ length places
+  pub each : (i : ℕ) → i < length ls → Placeable lsns (getD ls i 0) (getD ms i 0)

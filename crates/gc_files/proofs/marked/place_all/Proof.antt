@@ -1,0 +1,113 @@
+use mathlib.Core.Path.{refl, sym, ap, _∙_}
+use lib.ListN.{drop}
+use Rattle.numbers.specs.Parts.{front, putAt, put-front, put-step, put-none}
+use Rattle.gc_files.specs.Places.{placesFor}
+use Rattle.gc_files.specs.PlaceLaws.{places-next, places-end}
+use Prim.Native.Nat.{_≤_, _<_, _-_}
+use mathlib.Core.Path.{_≡_}
+use native.Mathlib.Omega.{arith}
+use borrow.Author.Needs.{needs}
+use lib.ListN.{length, length-set}
+use Rattle.gc_files.proofs.marked.place_all.Statement.{statement}
+use Rattle.gc_files.proofs.marked.place_all.Tie as tie
+
+abbrev Inv-loop : tie.InvT-loop
+Inv-loop locations marks lsns slot-bytes places₀ i₀ places i =
+    (i ≤ length locations)
+    × (putAt places i (placesFor slot-bytes lsns (drop i locations) (drop i marks)) ≡ front (placesFor slot-bytes lsns locations marks) places₀)
+    × (length places ≡ length places₀)
+
+abbrev μ-loop : tie.MeasureT-loop
+μ-loop locations marks lsns slot-bytes places₀ i₀ places i = length locations - i
+
+loop-holds : tie.Need-loop-holds Inv-loop μ-loop
+loop-holds c =
+    let start = c .before .before .before .before in
+    (omega arith, put-front (start .args .places .now) (placesFor (start .args .slot-bytes) (start .args .lsns .now) (start .args .locations .now) (start .args .marks .now)), refl)
+
+mul-place-of : tie.Need-mul-place-of Inv-loop μ-loop
+mul-place-of c = search needs
+
+shared-slice-read-place-of : tie.Need-shared-slice-read-place-of Inv-loop μ-loop
+shared-slice-read-place-of c = search needs
+
+mul-place-of-2 : tie.Need-mul-place-of-2 Inv-loop μ-loop
+mul-place-of-2 c = search needs
+
+shared-slice-read-place-of-2 : tie.Need-shared-slice-read-place-of-2 Inv-loop μ-loop
+shared-slice-read-place-of-2 c = search needs
+
+place-of-requires : tie.Need-place-of-requires Inv-loop μ-loop
+place-of-requires c κs =
+    let at = c .before .before .before in
+    let start = at .before .before .before .before .before in
+    let asked = start .pre .1 in
+    let i = at .loop .i in
+    let size = at .loop .inv .2 in
+    (start .pre .0, asked .each i (omega arith))
+
+mul-places : tie.Need-mul-places Inv-loop μ-loop
+mul-places c = search needs
+
+slice-write-places : tie.Need-slice-write-places Inv-loop μ-loop
+slice-write-places c =
+    let at = c .before .before .before .before in
+    let start = at .before .before .before .before .before in
+    let asked = start .pre .1 in
+    let i = at .loop .i in
+    let size = at .loop .inv .2 in
+    omega (arith, asked .room)
+
+add-i : tie.Need-add-i Inv-loop μ-loop
+add-i c = search needs
+
+loop-less : tie.Need-loop-less Inv-loop μ-loop
+loop-less c = search needs
+
+loop-again : tie.Need-loop-again Inv-loop μ-loop
+loop-again c =
+    let at = c .before .before .before .before in
+    let start = at .before .before .before .before .before in
+    let asked = start .pre .1 in
+    let i = at .loop .i in
+    let size = at .loop .inv .2 in
+    let low : i < length (start .args .locations .now) = omega arith in
+    let room : i < length (at .loop .places) = omega (arith, asked .room) in
+    let next = places-next (start .args .slot-bytes) (start .args .lsns .now) (start .args .locations .now) (start .args .marks .now) i low (omega (arith, asked .marks)) in (
+      omega arith,
+      rw (c .place-of .ensures) (put-step (at .loop .places) i _ _ room ∙ ap (putAt (at .loop .places) i) (sym next) ∙ at .loop .inv .1),
+      length-set (at .loop .places) i _ ∙ at .loop .inv .2,
+    )
+
+same-length : tie.Need-same-length Inv-loop μ-loop
+same-length c = c .before .loop .inv .2
+
+returns : tie.Need-returns Inv-loop μ-loop
+returns c =
+    let at = c .before in
+    let start = at .before .before .before .before .before in
+    let asked = start .pre .1 in
+    let i = at .loop .i in
+    let size = at .loop .inv .2 in
+    let none = places-end (start .args .slot-bytes) (start .args .lsns .now) (start .args .locations .now) (start .args .marks .now) i (omega arith) in
+    sym (put-none (at .loop .places) i) ∙ ap (putAt (at .loop .places) i) (sym none) ∙ at .loop .inv .1
+
+pub place-all-spec : {M : Type 1} → statement M
+place-all-spec =
+    tie.close
+    (tie.spec
+    Inv-loop
+    μ-loop
+    loop-holds
+    mul-place-of
+    shared-slice-read-place-of
+    mul-place-of-2
+    shared-slice-read-place-of-2
+    place-of-requires
+    mul-places
+    slice-write-places
+    add-i
+    loop-less
+    loop-again
+    same-length
+    returns)
