@@ -43,7 +43,12 @@ pub record Whole (heap : List ℕ) (place : ℕ) : Type 0 where
   pub inside : place + (20 + lengthAt heap place) ≤ length heap
   pub short : lengthAt heap place < 2 ^ 20
 
--- each object does
+-- an object that lies in slot k, slots of that size, behind its label
+pub record InSlot (size : ℕ) (heap : List ℕ) (k place : ℕ) : Type 0 where
+  pub behind : k * size + 64 ≤ place
+  pub inside : place + (20 + lengthAt heap place) ≤ k * size + size
+
+-- each object lies in the heap
 abbrev pub Standing : List ℕ → List ℕ → Type 0
 Standing heap places = (k : ℕ) → 1 < getD places k 0 → Whole heap (getD places k 0)
 
