@@ -1,0 +1,4 @@
+pub mod IdLaws
+pub mod RecordLaws
+pub mod FiledLaws
+pub mod Rewriting
