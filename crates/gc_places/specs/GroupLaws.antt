@@ -140,6 +140,7 @@ record Lying (size : ℕ) (heap : List ℕ) (r : Record) (k p : ℕ) : Type 0 wh
   short : storedAt p (drop p (objectPart r (slotBytes size heap k))) .size < 2 ^ 20
   inside : InSlot size heap k (k * size + 64 + p)
 
+-- one that lies within its file's object bytes
 object-lies : (size : ℕ) (heap : List ℕ) (r : Record) (k p : ℕ) → 64 ≤ size → size ≤ 2 ^ 20 → k * size + size ≤ length heap → r .«trailer_offset» ≤ size - 64
     → let o = storedAt p (drop p (objectPart r (slotBytes size heap k))) in
     20 + o .size ≤ o .room → Lying size heap r k p
@@ -157,6 +158,7 @@ object-lies size heap r k p low high whole offset room =
     }
 
 module _ (limit size : ℕ) (heap : List ℕ) (records : List Record) (plan : List ℕ) (generation : ℕ) (is ls : List ℕ) (n : ℕ) where
+  -- the group's source, the lsns of its files, its slots, and its marks
   abbrev from : Source
   from = source size heap records (used is ls)
 
@@ -169,9 +171,11 @@ module _ (limit size : ℕ) (heap : List ℕ) (records : List Record) (plan : Li
   abbrev marks : List ℕ
   marks = marksOf from n slots
 
+  -- entry i of the table
   abbrev entryAt : ℕ → Entry
   entryAt i = getD (used is ls) i noEntry
 
+  -- its place in slot k
   abbrev place : ℕ → ℕ → ℕ
   place i k = placeFor size lsns (getD ls i 0) (suc k)
 
@@ -188,6 +192,7 @@ module _ (limit size : ℕ) (heap : List ℕ) (records : List Record) (plan : Li
     fits : length (used is ls) ≤ n
     fits = omega (arith, used-fits is ls (a .formed), a .wide)
 
+    -- a delete
     stood-delete : (i k : ℕ) → i < length (used is ls) → k < 256 → deleteOf (getD ls i 0) ≡ true → Stood i k
     unfolding contentAt
     stood-delete i k h few d =
@@ -203,6 +208,7 @@ module _ (limit size : ℕ) (heap : List ℕ) (records : List Record) (plan : Li
           kept = λ more. absurd (omega (arith, is-one));
         }
 
+    -- an object
     stood-object : (i k : ℕ) → i < length (used is ls) → k < 256 → getD plan k 0 ≡ generation → deleteOf (getD ls i 0) ≡ false → Moves limit from (entryAt i) k → Stood i k
     unfolding contentAt
     stood-object i k h few chosen d moves =
@@ -257,6 +263,7 @@ module _ (limit size : ℕ) (heap : List ℕ) (records : List Record) (plan : Li
             let back : suc k - 1 ≡ k = omega arith in
             record { slots = all; slot = omega (arith, w .slot); low = λ some d. rw back (w .low d); high = λ some d. rw back (w .high d) }
 
+    -- by lists that are the lsns and the marks
     pub placeables : (ns ms old : List ℕ) → length ns ≡ 256 → ns ≡ lsns → ms ≡ marks → length is ≤ length old → Placeables ns ls ms old
     placeables ns ms old all e f room = record {
       marks = omega (arith, a .formed .even, a .wide, marks-length from n slots, ap length f);
