@@ -77,7 +77,7 @@ pub record SameIds (b after : Buffers) : Type 0 where
   pub form : inForm after ≡ true
   pub used : length (usedEntries after) ≡ length (usedEntries b)
 
-module _ (b : Buffers) (formed : Formed b) (lsn : ℕ) (some : 0 < lsn) (ops : List Op) (there : There (idsIn (usedEntries b)) ops) where
+module _ (b : Buffers) (formed : Formed b) (lsn : ℕ) (ops : List Op) (there : There (idsIn (usedEntries b)) ops) where
   -- the entries of a file on ids that are there
   stored-ids : idsIn (insertAll (usedEntries b) (taken lsn (entriesOf 0 ops))) ≡ idsIn (usedEntries b)
   stored-ids = insert-all-ids (usedEntries b) (taken lsn (entriesOf 0 ops)) (form-rising b (formed .form)) (taken-there (idsIn (usedEntries b)) lsn 0 ops there)
@@ -88,18 +88,19 @@ module _ (b : Buffers) (formed : Formed b) (lsn : ℕ) (some : 0 < lsn) (ops : L
       sym (length-map (insertAll (usedEntries b) (taken lsn (entriesOf 0 ops))) (λ (e : Entry). e .id))
       ∙ ap length stored-ids ∙ length-map (usedEntries b) (λ (e : Entry). e .id)
 
-  stored-used : Used (insertAll (usedEntries b) (taken lsn (entriesOf 0 ops)))
-  stored-used = used-insert-all (usedEntries b) (taken lsn (entriesOf 0 ops)) (used-located b) (taken-located lsn (entriesOf 0 ops) some)
+  -- so there is room for them
+  pub stored-fits : length (insertAll (usedEntries b) (taken lsn (entriesOf 0 ops))) ≤ capacityOf b
+  stored-fits = omega (arith, stored-length, used-length b)
 
-  -- and leave the id buffer
-  pub ids-stay : SameIds b (laidOut (capacityOf b) (insertAll (usedEntries b) (taken lsn (entriesOf 0 ops))))
+  -- and they leave the id buffer
+  pub ids-stay : 0 < lsn → SameIds b (laidOut (capacityOf b) (insertAll (usedEntries b) (taken lsn (entriesOf 0 ops))))
   unfolding laidOut
-  ids-stay =
+  ids-stay some =
       let t = insertAll (usedEntries b) (taken lsn (entriesOf 0 ops)) in
-      let fits : length t ≤ capacityOf b = omega (arith, stored-length, used-length b) in
+      let used : Used t = used-insert-all (usedEntries b) (taken lsn (entriesOf 0 ops)) (used-located b) (taken-located lsn (entriesOf 0 ops) some) in
       record {
         ids = ap (padded (capacityOf b)) stored-ids ∙ ap (λ (x : Buffers). x .ids) (laid-out-used b (formed .form) (formed .even));
-        locations = laid-out-locations (capacityOf b) t fits ∙ formed .even;
-        form = form-laid-out (capacityOf b) t stored-used (rising-insert-all (usedEntries b) (taken lsn (entriesOf 0 ops)) (form-rising b (formed .form)));
-        used = ap length (used-laid-out (capacityOf b) t stored-used) ∙ stored-length;
+        locations = laid-out-locations (capacityOf b) t stored-fits ∙ formed .even;
+        form = form-laid-out (capacityOf b) t used (rising-insert-all (usedEntries b) (taken lsn (entriesOf 0 ops)) (form-rising b (formed .form)));
+        used = ap length (used-laid-out (capacityOf b) t used) ∙ stored-length;
       }

@@ -51,7 +51,7 @@ module _ (generation : ℕ) (w : World) (ops : List Op) (f : Rewritable generati
   pub same-ids : SameIds (w .table) (tableWith (newLsn 0 w) w ops)
   unfolding tableWith
   same-ids =
-      ids-stay (w .table) (passed-formed (w .settings) (length (w .heap)) (w .table) (w .state) (f .passed)) (newLsn 0 w) (omega (arith, f .passed .next)) ops (f .there)
+      ids-stay (w .table) (passed-formed (w .settings) (length (w .heap)) (w .table) (w .state) (f .passed)) (newLsn 0 w) ops (f .there) (omega (arith, f .passed .next))
 
   -- its record is a file's
   new-some : isEmpty (newRecord (newLsn 0 w) generation ops) ≡ false
