@@ -31,6 +31,7 @@ pub mod Maintaining
 -- demand 3, and that stores accept writes
 pub mod History
 pub mod Accepting
+pub mod Writes
 -- C: which refusals and which count maintenance answers
 pub mod Checked
 pub mod Stopping

@@ -1,0 +1,100 @@
+-- Write in a reader's words: what an accepted one leaves to be read and to be reopened, and that a refused one changes nothing.
+use mathlib.Core.Path.{_≡_, refl, sym, ap, _∙_, subst}
+use Rattle.rules.specs.Base.{false, List, [], _++_, ℕ, length}
+use Rattle.theory.specs.Types.{Refusal, Answer, Done, Refused, ReadAnswer, Found, Nothing, ReadRefused}
+use Rattle.rules.specs.Refusal.{decide, after}
+use Rattle.rules.specs.Condition1.{outOfRange}
+use Rattle.rules.specs.Ops.{put, delete, Op, settled}
+use Rattle.rules.specs.SettledLaws.{Last, silent, last, orEarlier, lastOn}
+use Rattle.rules.specs.Batch.{batchIn, opsOf}
+use Rattle.rules.specs.Read.{readOf, partOf}
+use Rattle.rules.specs.Write.{writeTests, written, writeCall}
+use Rattle.rules.specs.Reopen.{reopenCall}
+use Rattle.rules.specs.World.{World, recordsOf, Given, accepted, After, unchanged}
+use Rattle.theory.specs.SoundWorld.{SoundWorld}
+use Rattle.theory.specs.Told.{last-append}
+use Rattle.theory.specs.Writing.{engine, heard, sound-write}
+use Rattle.theory.specs.Reading.{Reads, sound-read}
+use Rattle.theory.specs.Again.{reopen-accepted}
+use Rattle.theory.specs.Fresh.{Blank}
+use Rattle.theory.specs.History.{Call, lived, born, sound-history}
+
+-- what a read gives a host: nothing, the bytes of a part of the heap, or a refusal
+pub data Got : Type 0 where
+  nothing : Got
+  bytes : List ℕ → Got
+  unread : Refusal → Got
+
+-- by the answer
+abbrev pub gotBy : ReadAnswer → List ℕ → Got
+gotBy (Found start size) part = bytes part
+gotBy Nothing part = nothing
+gotBy (ReadRefused r) part = unread r
+
+-- of an id
+abbrev pub got : World → ℕ → Got
+got w id = gotBy (readOf w id) (partOf (readOf w id) (w .heap))
+
+-- what the last of some operations on an id leaves to be read: where there is none, what was read before
+abbrev pub leftBy : Last → Got → Got
+leftBy silent before = before
+leftBy (last (put body)) before = bytes body
+leftBy (last delete) before = nothing
+
+-- what an accepted write leaves
+pub record Wrote (w : World) (batch : List ℕ) : Type 0 where
+  -- each id of the batch reads as its last put or as nothing, every other id as before
+  pub reads : (id : ℕ) → got (writeCall w batch .world) id ≡ leftBy (lastOn (opsOf (batchIn batch)) id) (got w id)
+  -- a reopening is accepted, with the table, the records and the live counts that the write left
+  pub reopens : reopenCall (writeCall w batch .world) .answer ≡ accepted []
+  pub same-table : reopenCall (writeCall w batch .world) .world .table ≡ writeCall w batch .world .table
+  pub same-records : recordsOf (reopenCall (writeCall w batch .world) .world) ≡ recordsOf (writeCall w batch .world)
+
+-- a read by the engine's last word
+got-last : (w : World) (history : List Op) → SoundWorld w (engine history) → (id : ℕ) → got w id ≡ leftBy (lastOn history id) nothing
+got-last w history s id = go (lastOn history id) (readOf w id) (sound-read w history s id)
+  where
+    go : (l : Last) (a : ReadAnswer) → Reads w a l → gotBy a (partOf a (w .heap)) ≡ leftBy l nothing
+    go silent a e = ap (λ (b : ReadAnswer). gotBy b (partOf b (w .heap))) e
+    go (last delete) a e = ap (λ (b : ReadAnswer). gotBy b (partOf b (w .heap))) e
+    go (last (put body)) a e = ap (λ (b : ReadAnswer). gotBy b (partOf a (w .heap))) (e .1) ∙ ap bytes (e .2)
+
+-- the later word over the earlier
+left-over : (a b : Last) → leftBy (orEarlier a b) nothing ≡ leftBy a (leftBy b nothing)
+left-over silent b = refl
+left-over (last (put body)) b = refl
+left-over (last delete) b = refl
+
+-- LAW: an accepted write on a store of the invariant
+pub write-means : (w : World) (history : List Op) → SoundWorld w (engine history) → (batch : List ℕ) → writeCall w batch .answer ≡ accepted [] → Wrote w batch
+write-means w history s batch e =
+    let ops = opsOf (batchIn batch) in
+    let after-write : SoundWorld (writeCall w batch .world) (engine (history ++ opsOf (batchIn batch)))
+    = subst (λ (g : Given). SoundWorld (writeCall w batch .world) (engine (heard history batch g))) e (sound-write w history s batch) in
+    let again = reopen-accepted (writeCall w batch .world) (engine (history ++ opsOf (batchIn batch))) after-write in
+    record {
+      reads = λ id.
+          got-last (writeCall w batch .world) (history ++ ops) after-write id
+          ∙ ap (λ (l : Last). leftBy l nothing) (last-append history ops id)
+          ∙ left-over (lastOn ops id) (lastOn history id)
+          ∙ ap (leftBy (lastOn ops id)) (sym (got-last w history s id));
+      reopens = ap (λ (a : After). a .answer) again;
+      same-table = ap (λ (a : After). a .world .table) again;
+      same-records = ap (λ (a : After). recordsOf (a .world)) again;
+    }
+
+-- LAW: so it is on every store of demand 3
+pub any-write : (w : World) → outOfRange (w .settings) (length (w .heap)) (w .table) ≡ false → Blank w
+    → (calls : List Call) (batch : List ℕ) → writeCall (lived (born w) calls .world) batch .answer ≡ accepted [] → Wrote (lived (born w) calls .world) batch
+any-write w range blank calls batch e =
+    write-means (lived (born w) calls .world) (lived (born w) calls .history) (sound-history w range blank calls) batch e
+
+-- LAW: a write that is not accepted changes nothing, on any world
+pub write-refused : (w : World) (batch : List ℕ) → (writeCall w batch .answer ≡ accepted [] → ⊥) → writeCall w batch .world ≡ w
+unfolding writeCall
+write-refused w batch n = go (decide (writeTests w batch)) n
+  where
+    go : (a : Answer) → (after a (unchanged w) (record { answer = accepted []; world = written w (settled (opsOf (batchIn batch))) }) .answer ≡ accepted [] → ⊥)
+        → after a (unchanged w) (record { answer = accepted []; world = written w (settled (opsOf (batchIn batch))) }) .world ≡ w
+    go Done n = absurd (n refl)
+    go (Refused r) n = refl
