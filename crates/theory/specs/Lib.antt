@@ -19,6 +19,7 @@ pub mod Reopened
 pub mod SoundWorld
 pub mod Told
 pub mod Adding
+pub mod Standing
 pub mod Writing
 pub mod Reading
 pub mod Again

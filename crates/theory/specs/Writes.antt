@@ -1,6 +1,8 @@
--- Write in a reader's words: what an accepted one leaves to be read and to be reopened, and that a refused one changes nothing.
+-- Write in a reader's words: where the file of an accepted one stands, what is read and reopened after it; a refused one changes nothing.
 use mathlib.Core.Path.{_≡_, refl, sym, ap, _∙_, subst}
-use Rattle.rules.specs.Base.{false, List, [], _++_, ℕ, length}
+use Prim.Native.Nat.{_<_}
+use native.Mathlib.Omega.{arith}
+use Rattle.rules.specs.Base.{false, List, [], _∷_, _++_, ℕ, _^_, length}
 use Rattle.theory.specs.Types.{Refusal, Answer, Done, Refused, ReadAnswer, Found, Nothing, ReadRefused}
 use Rattle.rules.specs.Refusal.{decide, after}
 use Rattle.rules.specs.Condition1.{outOfRange}
@@ -8,12 +10,16 @@ use Rattle.rules.specs.Ops.{put, delete, Op, settled}
 use Rattle.rules.specs.SettledLaws.{Last, silent, last, orEarlier, lastOn}
 use Rattle.rules.specs.Batch.{batchIn, opsOf}
 use Rattle.rules.specs.Read.{readOf, partOf}
+use Rattle.rules.specs.Install.{installed, installedAll}
 use Rattle.rules.specs.Write.{writeTests, written, writeCall}
+use Rattle.rules.specs.WriteLaws.{opsIn, write-accepted}
 use Rattle.rules.specs.Reopen.{reopenCall}
 use Rattle.rules.specs.World.{World, recordsOf, Given, accepted, After, unchanged}
 use Rattle.theory.specs.SoundWorld.{SoundWorld}
 use Rattle.theory.specs.Told.{last-append}
-use Rattle.theory.specs.Writing.{engine, heard, sound-write}
+use Rattle.theory.specs.Reopened.{refused-not}
+use Rattle.theory.specs.Standing.{Stood, fitting-stands}
+use Rattle.theory.specs.Writing.{engine, heard, fits-write, sound-write}
 use Rattle.theory.specs.Reading.{Reads, sound-read}
 use Rattle.theory.specs.Again.{reopen-accepted}
 use Rattle.theory.specs.Fresh.{Blank}
@@ -43,6 +49,8 @@ leftBy (last delete) before = nothing
 
 -- what an accepted write leaves
 pub record Wrote (w : World) (batch : List ℕ) : Type 0 where
+  -- the batch's file, unless it is empty, stands in the lowest empty slot
+  pub stands : 0 < length (opsIn batch) → (writeCall w batch .world ≡ installed (2 ^ 62) 0 w (opsIn batch)) × Stood (2 ^ 62) 0 w (opsIn batch)
   -- each id of the batch reads as its last put or as nothing, every other id as before
   pub reads : (id : ℕ) → got (writeCall w batch .world) id ≡ leftBy (lastOn (opsOf (batchIn batch)) id) (got w id)
   -- a reopening is accepted, with the table, the records and the live counts that the write left
@@ -65,6 +73,25 @@ left-over silent b = refl
 left-over (last (put body)) b = refl
 left-over (last delete) b = refl
 
+-- none of 1 to 7 held
+accepted-done : (w : World) (batch : List ℕ) → writeCall w batch .answer ≡ accepted [] → decide (writeTests w batch) ≡ Done
+unfolding writeCall
+accepted-done w batch e = go (decide (writeTests w batch)) e
+  where
+    go : (a : Answer) → after a (unchanged w) (record { answer = accepted []; world = written w (settled (opsOf (batchIn batch))) }) .answer ≡ accepted [] → a ≡ Done
+    go Done e = refl
+    go (Refused r) e = absurd (refused-not r (ap (λ (g : Given). g .number) e))
+
+-- so its file was added
+file-stands : (w : World) (history : List Op) → SoundWorld w (engine history) → (batch : List ℕ) → decide (writeTests w batch) ≡ Done
+    → 0 < length (opsIn batch) → (writeCall w batch .world ≡ installed (2 ^ 62) 0 w (opsIn batch)) × Stood (2 ^ 62) 0 w (opsIn batch)
+unfolding writeCall written installedAll
+file-stands w history s batch e some = rw e (go (opsIn batch) refl some)
+  where
+    go : (os : List Op) → opsIn batch ≡ os → 0 < length os → (written w os ≡ installed (2 ^ 62) 0 w os) × Stood (2 ^ 62) 0 w os
+    go [] q h = absurd (omega arith)
+    go (o ∷ os) q h = (refl, fitting-stands w (engine history) s (2 ^ 62) 0 (o ∷ os) (fits-write w history s batch o os q (write-accepted w batch e)))
+
 -- LAW: an accepted write on a store of the invariant
 pub write-means : (w : World) (history : List Op) → SoundWorld w (engine history) → (batch : List ℕ) → writeCall w batch .answer ≡ accepted [] → Wrote w batch
 write-means w history s batch e =
@@ -73,6 +100,7 @@ write-means w history s batch e =
     = subst (λ (g : Given). SoundWorld (writeCall w batch .world) (engine (heard history batch g))) e (sound-write w history s batch) in
     let again = reopen-accepted (writeCall w batch .world) (engine (history ++ opsOf (batchIn batch))) after-write in
     record {
+      stands = file-stands w history s batch (accepted-done w batch e);
       reads = λ id.
           got-last (writeCall w batch .world) (history ++ ops) after-write id
           ∙ ap (λ (l : Last). leftBy l nothing) (last-append history ops id)
