@@ -1,11 +1,13 @@
--- Write in a reader's words: where the file of an accepted one stands, what is read and reopened after it; a refused one changes nothing.
+-- Write in a reader's words: where the file of an accepted one stands, what is read and reopened after it. Refused calls change nothing.
 use mathlib.Core.Path.{_≡_, refl, sym, ap, _∙_, subst}
 use Prim.Native.Nat.{_<_}
 use native.Mathlib.Omega.{arith}
-use Rattle.rules.specs.Base.{false, List, [], _∷_, _++_, ℕ, _^_, length}
-use Rattle.theory.specs.Types.{Refusal, Answer, Done, Refused, ReadAnswer, Found, Nothing, ReadRefused}
-use Rattle.rules.specs.Refusal.{decide, after}
-use Rattle.rules.specs.Condition1.{outOfRange}
+use Rattle.rules.specs.Base.{false, not, _||_, List, [], _∷_, _++_, ℕ, _^_, length}
+use Rattle.theory.specs.Types.{Refusal, Limits, Claim, Answer, Done, Refused, ReadAnswer, Found, Nothing, ReadRefused}
+use Rattle.rules.specs.Refusal.{_gives_, decide, after}
+use Rattle.rules.specs.Condition1.{outOfRange, refused1}
+use Rattle.rules.specs.Claims.{isClaimed, notAFile, claimSet, claimCleared, withClaims, claimCall, releaseCall}
+use Rattle.rules.specs.Prune.{pruned, pruneCall}
 use Rattle.rules.specs.Ops.{put, delete, Op, settled}
 use Rattle.rules.specs.SettledLaws.{Last, silent, last, orEarlier, lastOn}
 use Rattle.rules.specs.Batch.{batchIn, opsOf}
@@ -23,7 +25,7 @@ use Rattle.theory.specs.Writing.{engine, heard, fits-write, sound-write}
 use Rattle.theory.specs.Reading.{Reads, sound-read}
 use Rattle.theory.specs.Again.{reopen-accepted}
 use Rattle.theory.specs.Fresh.{Blank}
-use Rattle.theory.specs.History.{Call, lived, born, sound-history}
+use Rattle.theory.specs.History.{Call, write, maintain, prune, claim, release, reopen, called, lived, born, sound-history}
 
 -- what a read gives a host: nothing, the bytes of a part of the heap, or a refusal
 pub data Got : Type 0 where
@@ -117,12 +119,29 @@ pub any-write : (w : World) → outOfRange (w .settings) (length (w .heap)) (w .
 any-write w range blank calls batch e =
     write-means (lived (born w) calls .world) (lived (born w) calls .history) (sound-history w range blank calls) batch e
 
--- LAW: a write that is not accepted changes nothing, on any world
-pub write-refused : (w : World) (batch : List ℕ) → (writeCall w batch .answer ≡ accepted [] → ⊥) → writeCall w batch .world ≡ w
-unfolding writeCall
-write-refused w batch n = go (decide (writeTests w batch)) n
-  where
-    go : (a : Answer) → (after a (unchanged w) (record { answer = accepted []; world = written w (settled (opsOf (batchIn batch))) }) .answer ≡ accepted [] → ⊥)
-        → after a (unchanged w) (record { answer = accepted []; world = written w (settled (opsOf (batchIn batch))) }) .world ≡ w
-    go Done n = absurd (n refl)
-    go (Refused r) n = refl
+-- ---- refused calls
+-- all but maintenance, which keeps finished groups, and reopening, which gives the old table up
+abbrev pub Plain : Call → Type 0
+Plain (write batch) = Unit {0}
+Plain maintain = ⊥
+Plain prune = Unit {0}
+Plain (claim slot) = Unit {0}
+Plain (release slot) = Unit {0}
+Plain reopen = ⊥
+
+or-unchanged : (w v : World) (a : Answer) → (after a (unchanged w) (record { answer = accepted []; world = v }) .answer ≡ accepted [] → ⊥)
+    → after a (unchanged w) (record { answer = accepted []; world = v }) .world ≡ w
+or-unchanged w v Done n = absurd (n refl)
+or-unchanged w v (Refused r) n = refl
+
+-- LAW: "A refusal changes no state or buffer", on any world
+pub refused-unchanged : (w : World) (c : Call) → Plain c → (called w c .answer ≡ accepted [] → ⊥) → called w c .world ≡ w
+unfolding writeCall pruneCall claimCall releaseCall
+refused-unchanged w (write batch) p n = or-unchanged w (written w (settled (opsOf (batchIn batch)))) (decide (writeTests w batch)) n
+refused-unchanged w maintain p n = absurd p
+refused-unchanged w prune p n = or-unchanged w (pruned w) (decide (refused1 w gives Limits ∷ [])) n
+refused-unchanged w (claim slot) p n =
+    or-unchanged w (withClaims w (claimSet (w .claims) slot)) (decide (refused1 w gives Limits ∷ (notAFile w slot || isClaimed (w .claims) slot) gives Claim ∷ [])) n
+refused-unchanged w (release slot) p n =
+    or-unchanged w (withClaims w (claimCleared (w .claims) slot)) (decide (refused1 w gives Limits ∷ (notAFile w slot || not (isClaimed (w .claims) slot)) gives Claim ∷ [])) n
+refused-unchanged w reopen p n = absurd p
