@@ -1,0 +1,5 @@
+pub mod Stub
+pub mod Courses
+pub mod Fitting
+pub mod Kept
+pub mod Putting
