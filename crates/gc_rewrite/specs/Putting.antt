@@ -2,7 +2,9 @@
 use mathlib.Core.Path.{_≡_, refl, sym, ap, _∙_, subst}
 use Prim.Native.Nat.{_≤_, _<_}
 use native.Mathlib.Omega.{arith}
-use Rattle.rules.specs.Base.{false, List, [], _∷_, map, ℕ, _+_, _^_, length, getD, drop}
+use lib.ListN.{length-append}
+use lib.Seq.{length-take-le, getD-take}
+use Rattle.rules.specs.Base.{false, List, [], _∷_, map, ℕ, _+_, _^_, length, getD, take, drop, _++_}
 use Rattle.rules.specs.TurnLaws.{left-next, left-none}
 use Rattle.rules.specs.declared.Settings.{Settings}
 use Rattle.rules.specs.declared.State.{State}
@@ -51,6 +53,8 @@ pub record Added (s : Settings) (generation : ℕ) (places pieces : List ℕ) (t
   pub filed : (p : ℕ) → filedOps p heap′ ids′ places pieces ≡ filedOps p heap ids places pieces
   pub fewer : emptyIn s r heap′ + 1 ≡ emptyIn s t heap
   pub next : r .«next_position» ≡ t .«next_position» + span (filedOps q heap ids places pieces)
+  pub sameHeap : length heap′ ≡ length heap
+  pub sameIds : ids′ ≡ ids
 
 -- ---- file by file
 module _ (s : Settings) (generation : ℕ) (places pieces order : List ℕ) (t : State) (heap ids locations : List ℕ) where
@@ -63,37 +67,36 @@ module _ (s : Settings) (generation : ℕ) (places pieces order : List ℕ) (t :
     pub left : (c : Claims) → installedAll 0 generation (world s r c heap′ ids′ locations′) (filesIn heap ids places pieces (drop f order))
         ≡ installedAll 0 generation (world s t c heap ids locations) (filesIn heap ids places pieces order)
     pub kept : Kept t r
+    pub sameHeap : length heap′ ≡ length heap
+    pub sameIds : ids′ ≡ ids
 
   pub put-start : Puttable s t heap ids locations places pieces order → Put 0 t heap ids locations
-  put-start w = record { low = omega arith; placing = w .placing; filed = λ q. refl; fitting = w .fitting; left = λ c. refl; kept = λ k some. some }
+  put-start w = record { low = omega arith; placing = w .placing; filed = λ q. refl; fitting = w .fitting; left = λ c. refl; kept = λ k some. some; sameHeap = refl; sameIds = refl }
 
-  module _ (f : ℕ) (r : State) (heap′ ids′ locations′ : List ℕ) (w : Put f r heap′ ids′ locations′) (h : f < length order) where
-    -- the next file
-    piece : ℕ
-    piece = getD order f 0
-
+  module _ (f : ℕ) (r : State) (heap′ ids′ locations′ : List ℕ) (w : Put f r heap′ ids′ locations′) (h : f < length order) (p : ℕ) (is : p ≡ getD order f 0) where
+    -- the file with the number p, then the others
     rest : List (List Op)
     rest = filesIn heap ids places pieces (drop (f + 1) order)
 
-    step : filesIn heap ids places pieces (drop f order) ≡ filedOps (getD order f 0) heap ids places pieces ∷ rest
+    step : filesIn heap ids places pieces (drop f order) ≡ filedOps p heap ids places pieces ∷ rest
     unfolding rest
-    step = ap (filesIn heap ids places pieces) (left-next order f 0 h)
+    step = ap (filesIn heap ids places pieces) (left-next order f 0 h) ∙ ap (λ (q : ℕ). filedOps q heap ids places pieces ∷ rest) (sym is)
 
-    fits : Fitting (s .«slot_bytes») (emptyIn s r heap′) (r .«next_position») (filedOps (getD order f 0) heap ids places pieces ∷ rest)
+    fits : Fitting (s .«slot_bytes») (emptyIn s r heap′) (r .«next_position») (filedOps p heap ids places pieces ∷ rest)
     fits = subst (Fitting (s .«slot_bytes») (emptyIn s r heap′) (r .«next_position»)) step (w .fitting)
 
     -- what it asks for
-    pub put-asks : let ops = filedOps (getD order f 0) heap′ ids′ places pieces in
+    pub put-asks : let ops = filedOps p heap′ ids′ places pieces in
         (64 + length (fileBytes ops) ≤ s .«slot_bytes») × (0 < emptyIn s r heap′) × (r .«next_position» + span ops ≤ 2 ^ 62)
-    put-asks = rw (w .filed (getD order f 0)) (first-fits _ _ _ _ _ fits, first-room _ _ _ _ _ fits, first-positions _ _ _ _ _ fits)
+    put-asks = rw (w .filed p) (first-fits _ _ _ _ _ fits, first-room _ _ _ _ _ fits, first-positions _ _ _ _ _ fits)
 
-    pub put-turn : (q : State) (heap″ ids″ locations″ : List ℕ) → Added s generation places pieces r heap′ ids′ locations′ (getD order f 0) q heap″ ids″ locations″
+    pub put-turn : (q : State) (heap″ ids″ locations″ : List ℕ) → Added s generation places pieces r heap′ ids′ locations′ p q heap″ ids″ locations″
         → Put (f + 1) q heap″ ids″ locations″
     unfolding installedAll rest
     put-turn q heap″ ids″ locations″ a = record {
       low = omega arith;
       placing = a .placing;
-      filed = λ p. a .filed p ∙ w .filed p;
+      filed = λ n. a .filed n ∙ w .filed n;
       fitting = fitting-rest _ _ _ _ _ fits (emptyIn s q heap″) (q .«next_position») (a .fewer) (a .next ∙ ap (λ (ops : List Op). r .«next_position» + span ops) same);
       left = λ c.
           ap (λ (v : World). installedAll 0 generation v rest) (a .worlds c ∙ ap (installed 0 generation (world s r c heap′ ids′ locations′)) same)
@@ -103,10 +106,12 @@ module _ (s : Settings) (generation : ℕ) (places pieces order : List ℕ) (t :
           ap (λ (v : World). isEmpty (recordAt (recordsOf v) k)) (a .worlds noClaims)
           ∙ installed-kept 0 generation (world s r noClaims heap′ ids′ locations′) _ k (w .placing .limits .next)
           (passed-lsn s (length heap′) (table ids′ locations′) r (w .placing .limits) k (w .kept k some));
+      sameHeap = a .sameHeap ∙ w .sameHeap;
+      sameIds = a .sameIds ∙ w .sameIds;
     }
       where
-        same : filedOps (getD order f 0) heap′ ids′ places pieces ≡ filedOps (getD order f 0) heap ids places pieces
-        same = w .filed (getD order f 0)
+        same : filedOps p heap′ ids′ places pieces ≡ filedOps p heap ids places pieces
+        same = w .filed p
 
   -- none is left
   pub put-end : (f : ℕ) (r : State) (heap′ ids′ locations′ : List ℕ) → Put f r heap′ ids′ locations′ → length order ≤ f
@@ -117,3 +122,14 @@ module _ (s : Settings) (generation : ℕ) (places pieces order : List ℕ) (t :
     limits = w .placing .limits;
     kept = w .kept;
   }
+
+-- the numbers of that many files, by the two lists of places
+abbrev pub orderIn : ℕ → ℕ → List ℕ → List ℕ → List ℕ
+orderIn files left rests cuts = take files (take left rests ++ cuts)
+
+pub order-long : (files left : ℕ) (rests cuts : List ℕ) → left ≤ length rests → files ≤ left + length cuts → length (orderIn files left rests cuts) ≡ files
+order-long files left rests cuts h g = length-take-le files (take left rests ++ cuts) (omega (arith, length-append (take left rests) cuts, length-take-le left rests h))
+
+-- file k's number
+pub order-piece : (files left : ℕ) (rests cuts : List ℕ) (k : ℕ) → k < files → getD (take left rests ++ cuts) k 0 ≡ getD (orderIn files left rests cuts) k 0
+order-piece files left rests cuts k h = sym (getD-take files (take left rests ++ cuts) k 0 h)
