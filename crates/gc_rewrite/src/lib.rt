@@ -2,3 +2,13 @@
 
 pub mod files;
 pub mod stub;
+
+use rules::Answer;
+use rules::State;
+
+// The refusal that stops the call or none, the ids moved so far, and the state.
+pub struct Course {
+    pub answer: Answer,
+    pub moved: u64,
+    pub state: State,
+}
