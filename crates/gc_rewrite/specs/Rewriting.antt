@@ -39,7 +39,6 @@ use Rattle.gc_rewrite.specs.Orders.{Tallied, placed-short, placed-count,
 -- a group's operations stand at their places: those of used entries, each object in a slot that has a file
 pub record Moving (s : Settings) (t : State) (heap ids locations places : List ℕ) : Type 0 where
   pub limits : Passed s (length heap) (table ids locations) t
-  pub records : length (t .files .records) ≡ 256
   pub wide : length ids ≤ length places
   pub used : (i : ℕ) → 0 < getD places i 0 → i < length (usedEntries (table ids locations))
   pub kept : (i : ℕ) → 1 < getD places i 0 → Whole heap (getD places i 0)
@@ -115,7 +114,7 @@ module _ (s : Settings) (t : State) (heap ids locations places : List ℕ) where
           → total ≡ closingRests (s .«slot_bytes») counts sizes totals → SplitUp pieces counts rounds cuts total
       unfolding closedOf
       split-up old total wide long p q = record {
-        placing = record { limits = m .limits; records = m .records; wide = m .wide; numbered = long; used = m .used; kept = m .kept };
+        placing = record { limits = m .limits; wide = m .wide; numbered = long; used = m .used; kept = m .kept };
         counted = ap (λ (u : Tally). u .counts) told;
         turned = ap (λ (u : Tally). u .rounds) told;
         cut = ap (λ (u : Tally). u .cuts) told;

@@ -12,17 +12,8 @@ use Rattle.gc_files.specs.Places.{Whole, InSlot}
 
 pub record Placing (s : Settings) (t : State) (heap ids locations places pieces : List ℕ) : Type 0 where
   pub limits : Passed s (length heap) (table ids locations) t
-  pub records : length (t .files .records) ≡ 256
   pub wide : length ids ≤ length places
   pub numbered : length ids ≤ length pieces
   pub used : (i : ℕ) → 0 < getD places i 0 → i < length (usedEntries (table ids locations))
   pub kept : (i : ℕ) → 1 < getD places i 0 → Whole heap (getD places i 0)
       × ((k : ℕ) × (isEmpty (recordAt (t .files .records) k) ≡ false) × InSlot (s .«slot_bytes») heap k (getD places i 0))
-
-abbrev pub Blank : List ℕ → Type 0
-Blank places = (i : ℕ) → getD places i 0 ≡ 0
-
-pub record InGroup (size : ℕ) (heap plan : List ℕ) (generation : ℕ) (entries : List Entry) (places : List ℕ) : Type 0 where
-  pub found : (i : ℕ) → 0 < getD places i 0 → i < length entries
-  pub kept : (i : ℕ) → 1 < getD places i 0 → Whole heap (getD places i 0)
-      × ((k : ℕ) × (getD plan k 0 ≡ generation) × (k < 256) × InSlot size heap k (getD places i 0))

@@ -1,48 +1,16 @@
-use rules::FileMap;
 use rules::Settings;
 use rules::State;
 ghost use mathlib.Core.Path.{_≡_};
 ghost use Prim.Native.Nat.{ℕ, _+_, _*_, _^_, _≤_, _<_};
 ghost use lib.ListN.{length, getD};
-ghost use Rattle.rules.specs.Base.{each};
 ghost use Rattle.rules.specs.declared.Claims.{Claims};
-ghost use Rattle.rules.specs.declared.Answer.the-variants.{Done};
-ghost use Rattle.rules.specs.Refusal.{decide};
 ghost use Rattle.rules.specs.Settings.{slotsIn};
-ghost use Rattle.rules.specs.SettingsLaws.{InRanges};
 ghost use Rattle.rules.specs.FileMap.{emptySlots};
-ghost use Rattle.rules.specs.Ops.{objectsOf, fileBytes, settled};
+ghost use Rattle.rules.specs.Ops.{objectsOf, fileBytes};
 ghost use Rattle.rules.specs.Install.{installed};
 ghost use Rattle.rules.specs.World.{world};
-ghost use Rattle.location_table.specs.Tables.{table, Formed};
-ghost use Rattle.location_table.specs.LayoutLaws.{used};
-ghost use Rattle.gc_group.specs.Plan.{planned};
-ghost use Rattle.gc_group.specs.Source.{source, Ready};
-ghost use Rattle.gc_group.specs.Checks.{groupChecks};
-ghost use Rattle.gc_group.specs.Marks.{foundAt};
-ghost use Rattle.gc_files.specs.Places.{placedOps, filedOps, Standing};
-ghost use Rattle.gc_rewrite.specs.Stub.{Placing, Blank, InGroup};
-
-pub fn place_group(
-    s: Settings,
-    heap: &[u8],
-    m: FileMap,
-    plan: &[u64],
-    generation: u64,
-    ids: &[u64],
-    locations: &[u64],
-    places: &mut [u32],
-)
-    requires { ⌜ InRanges s ⌝ }
-    requires { ⌜ Ready (s .«slot_bytes») (length (now heap)) (m .records) (now plan) generation ⌝ }
-    requires { ⌜ decide (groupChecks (s .«max_object_size») (source (s .«slot_bytes») (now heap) (m .records) (used (now ids) (now locations))) (planned (now plan) generation)) ≡ Done ⌝ }
-    requires { ⌜ Formed (table (now ids) (now locations)) ⌝ }
-    requires { ⌜ (length (now ids) ≤ length (now places)) × (length (now ids) ≤ 65536) ⌝ }
-    requires { ⌜ Blank (now places) ⌝ }
-    ensures { λ _. ⌜ placedOps (now (heap .entry)) (now (ids .entry)) (now (places .exit)) ≡ settled (each (foundAt (source (s .«slot_bytes») (now (heap .entry)) (m .records) (used (now (ids .entry)) (now (locations .entry))))) (planned (now (plan .entry)) generation)) ⌝ }
-    ensures { λ _. ⌜ InGroup (s .«slot_bytes») (now (heap .entry)) (now (plan .entry)) generation (used (now (ids .entry)) (now (locations .entry))) (now (places .exit)) ⌝ }
-{
-}
+ghost use Rattle.gc_files.specs.Places.{filedOps};
+ghost use Rattle.gc_rewrite.specs.Stub.{Placing};
 
 pub fn add_piece(
     settings: Settings,
