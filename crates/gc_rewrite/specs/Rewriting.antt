@@ -28,7 +28,7 @@ use Rattle.gc_split.specs.Tally.{Tally, tally, tallyFrom, tallyOf, emptyTally, 
 use Rattle.gc_split.specs.BoundLaws.{closable, numbered}
 use Rattle.gc_split.specs.TotalLaws.{totalsTests, split-totals}
 use Rattle.gc_split.specs.OrderLaws.{fragments-among, files-counted}
-use Rattle.gc_files.specs.Places.{Whole, InSlot, Standing, placedOps, piecesAlong, Splitting}
+use Rattle.gc_files.specs.Places.{Whole, InSlot, Standing, placedOps, entryTaken, piecesAlong, Splitting}
 use Rattle.gc_files.specs.FileLaws.{files-filed}
 use Rattle.gc_rewrite.specs.Stub.{Placing}
 use Rattle.gc_rewrite.specs.Courses.{courseGiven, filesTests, rewritten, files-refused, files-added}
@@ -66,6 +66,14 @@ unfolding emptySlots
 empty-most n rs = omega (arith, where-most (λ (i : ℕ) (r : Record). isEmpty r) 0 (take n rs), length-take n rs, min-le-left n (length rs))
 
 -- ---- the split
+-- each entry has its piece
+along-length : (target slotSize : ℕ) (heap xs ps gs : List ℕ) (t : Tally) → length (piecesAlong target slotSize heap xs ps gs t) ≡ length gs
+unfolding piecesAlong
+along-length target slotSize heap [] ps gs t = refl
+along-length target slotSize heap (x ∷ xs) [] gs t = refl
+along-length target slotSize heap (x ∷ xs) (p ∷ ps) [] t = refl
+along-length target slotSize heap (x ∷ xs) (p ∷ ps) (g ∷ gs) t = ap suc (along-length target slotSize heap xs ps gs (entryTaken target slotSize heap x p t))
+
 module _ (s : Settings) (t : State) (heap ids locations places : List ℕ) where
   -- the operations, and their tally
   abbrev ops : List Op
@@ -98,7 +106,7 @@ module _ (s : Settings) (t : State) (heap ids locations places : List ℕ) where
     pub moving-tallied : Tallied whole
     moving-tallied = tallied (s .«target_file_size») (s .«slot_bytes») ops (placed-short heap ids places standing) (omega (arith, placed-count heap ids places, few))
 
-    module _ (pieces sizes counts rounds cuts : List ℕ) (totals : Totals)
+    module _ (sizes counts rounds cuts : List ℕ) (totals : Totals)
         (e : tally sizes counts rounds cuts totals ≡ tallyFrom (s .«target_file_size») (s .«slot_bytes») ops emptyTally) where
       told : tally sizes counts rounds cuts totals ≡ whole
       unfolding tallyOf
@@ -109,12 +117,12 @@ module _ (s : Settings) (t : State) (heap ids locations places : List ℕ) where
       split-closable = closable (tally sizes counts rounds cuts totals) (subst Within (sym told) (moving-tallied .within))
 
       -- closed
-      pub split-up : (old : List ℕ) (total : Totals) → length ids ≤ length old → length ids ≤ length pieces
+      pub split-up : (old pieces : List ℕ) (total : Totals) → length ids ≤ length old
           → pieces ≡ piecesAlong (s .«target_file_size») (s .«slot_bytes») heap ids places old emptyTally
           → total ≡ closingRests (s .«slot_bytes») counts sizes totals → SplitUp pieces counts rounds cuts total
       unfolding closedOf
-      split-up old total wide long p q = record {
-        placing = record { limits = m .limits; wide = m .wide; numbered = long; used = m .used; kept = m .kept };
+      split-up old pieces total wide p q = record {
+        placing = record { limits = m .limits; wide = m .wide; numbered = omega (arith, ap length p, along-length (s .«target_file_size») (s .«slot_bytes») heap ids places old emptyTally); used = m .used; kept = m .kept };
         counted = ap (λ (u : Tally). u .counts) told;
         turned = ap (λ (u : Tally). u .rounds) told;
         cut = ap (λ (u : Tally). u .cuts) told;
