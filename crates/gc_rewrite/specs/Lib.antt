@@ -5,3 +5,4 @@ pub mod Kept
 pub mod Putting
 pub mod Orders
 pub mod Rewriting
+pub mod Groups
