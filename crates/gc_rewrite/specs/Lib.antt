@@ -1,4 +1,3 @@
-pub mod Stub
 pub mod Courses
 pub mod Fitting
 pub mod Kept

@@ -18,7 +18,7 @@ use Rattle.rules.specs.Install.{installed, installedAll}
 use Rattle.rules.specs.World.{World, world, recordsOf}
 use Rattle.location_table.specs.Tables.{table}
 use Rattle.gc_files.specs.Places.{filedOps}
-use Rattle.gc_rewrite.specs.Stub.{Placing}
+use Rattle.gc_install.specs.Placing.{Placing}
 use Rattle.gc_rewrite.specs.Kept.{passed-lsn, installed-kept}
 use Rattle.gc_rewrite.specs.Fitting.{Fitting, span, first-fits, first-room, first-positions, fitting-rest}
 

@@ -30,7 +30,7 @@ use Rattle.gc_split.specs.TotalLaws.{totalsTests, split-totals}
 use Rattle.gc_split.specs.OrderLaws.{fragments-among, files-counted}
 use Rattle.gc_files.specs.Places.{Whole, InSlot, Standing, placedOps, entryTaken, piecesAlong, Splitting}
 use Rattle.gc_files.specs.FileLaws.{files-filed}
-use Rattle.gc_rewrite.specs.Stub.{Placing}
+use Rattle.gc_install.specs.Placing.{Placing}
 use Rattle.gc_rewrite.specs.Courses.{courseGiven, filesTests, rewritten, files-refused, files-added}
 use Rattle.gc_rewrite.specs.Fitting.{Fitting, fitting-clear}
 use Rattle.gc_rewrite.specs.Putting.{filesIn, emptyIn, orderIn, Puttable, PutAll, Kept}

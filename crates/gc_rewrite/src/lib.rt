@@ -1,7 +1,6 @@
 // One generation of maintenance (`src/gc.rs`): its files are checked, 4, 5 and 7 decided for all that come out, then each is added.
 
 pub mod files;
-pub mod stub;
 
 use files::rewrite_placed;
 use gc_group::check::check_group;
@@ -49,10 +48,24 @@ fn rewrite_found(
 {
     let files = state.files;
     place_group(
-        settings, heap, files, plan, generation, ids, locations, places,
+        settings,
+        heap,
+        files,
+        plan,
+        generation,
+        ids,
+        locations,
+        places,
     );
     rewrite_placed(
-        settings, state, heap, ids, locations, places, generation, moved,
+        settings,
+        state,
+        heap,
+        ids,
+        locations,
+        places,
+        generation,
+        moved,
     )
 }
 
