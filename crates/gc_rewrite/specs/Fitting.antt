@@ -1,10 +1,10 @@
 -- Files that 4, 5 and 7 do not refuse: room and positions for each, one after the other.
-use mathlib.Core.Path.{_≡_, refl, sym, ap, _∙_, subst}
+use mathlib.Core.Path.{_≡_, ap, _∙_}
 use Prim.Native.Nat.{_≤_, _<_}
 use native.Mathlib.Omega.{arith}
-use Rattle.rules.specs.Base.{List, [], _∷_, ℕ, suc, _+_, _^_, length, sum}
+use Rattle.rules.specs.Base.{List, _∷_, ℕ, _+_, _^_, length, sum}
 use Rattle.rules.specs.declared.Answer.the-variants.{Done}
-use Rattle.rules.specs.Refusal.{NoneHolds, decide, clear-when, none-first, none-rest}
+use Rattle.rules.specs.Refusal.{decide, clear-when, none-first, none-rest}
 use Rattle.rules.specs.Ops.{Op, objectsOf, fileBytes}
 use Rattle.rules.specs.Install.{roomTests, positionTests}
 use Rattle.rules.specs.InstallLaws.{Room, room-clear, positions-clear}

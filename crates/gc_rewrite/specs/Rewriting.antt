@@ -1,11 +1,11 @@
 -- A group's operations at their places, split and rewritten: what each step asks for and leaves.
-use mathlib.Core.Path.{_≡_, refl, sym, ap, ap₂, _∙_, subst}
+use mathlib.Core.Path.{_≡_, refl, sym, ap, _∙_, subst}
 use Prim.Native.Nat.{_≤_, _<_}
 use native.Mathlib.Omega.{arith}
 use lib.ListN.{length-take}
 use native.Mathlib.Nat.{min-le-left}
 use Rattle.numbers.specs.Parts.{front}
-use Rattle.rules.specs.Base.{Bool, true, false, List, [], _∷_, map, ℕ, suc, _+_, _^_, length, getD, take, pick}
+use Rattle.rules.specs.Base.{Bool, true, false, List, [], _∷_, ℕ, suc, _+_, length, getD, take, pick}
 use Rattle.rules.specs.declared.Record.{Record}
 use Rattle.rules.specs.declared.Settings.{Settings}
 use Rattle.rules.specs.declared.State.{State}
@@ -21,7 +21,7 @@ use Rattle.rules.specs.FileMap.{isEmpty, recordAt, slotsWhere, emptySlots}
 use Rattle.rules.specs.Condition1Laws.{Passed}
 use Rattle.rules.specs.Install.{installedAll}
 use Rattle.rules.specs.Maintenance.{filesOf}
-use Rattle.rules.specs.World.{World, world}
+use Rattle.rules.specs.World.{world}
 use Rattle.location_table.specs.Tables.{table}
 use Rattle.gc_split.specs.declared.Totals.{Totals}
 use Rattle.gc_split.specs.Tally.{Tally, tally, tallyFrom, tallyOf, emptyTally, closingRests, closedOf, restsFrom, orderOf, totalsFor, Within, Closable, Numbered}
