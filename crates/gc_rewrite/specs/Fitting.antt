@@ -34,16 +34,20 @@ fitting-clear target slotSize emptyOnes base ops e =
 
 -- ---- the first of them, and the others after it
 module _ (slotSize emptyOnes base : ℕ) (f : List Op) (fs : List (List Op)) (w : Fitting slotSize emptyOnes base (f ∷ fs)) where
+  -- it fits its slot
   pub first-fits : 64 + length (fileBytes f) ≤ slotSize
   first-fits = w .room .fits .0
 
+  -- there is one
   pub first-room : 0 < emptyOnes
   first-room = omega (arith, w .room .slots)
 
+  -- and positions for it
   pub first-positions : base + span f ≤ 2 ^ 62
   unfolding sum
   first-positions = omega (arith, w .positions (omega arith))
 
+  -- as for the others, once it was added
   pub fitting-rest : (emptyAfter next : ℕ) → emptyAfter + 1 ≡ emptyOnes → next ≡ base + span f → Fitting slotSize emptyAfter next fs
   unfolding sum
   fitting-rest emptyAfter next e d = record {
