@@ -14,7 +14,7 @@ use rules::Settings;
 use rules::State;
 ghost use mathlib.Core.Path.{_≡_};
 ghost use mathlib.Core.List.{List};
-ghost use Prim.Native.Nat.{ℕ, _+_, _*_, _≤_, _<_};
+ghost use Prim.Native.Nat.{ℕ, _+_, _^_, _≤_, _<_};
 ghost use lib.ListN.{length};
 ghost use Rattle.rules.specs.declared.Claims.{Claims};
 ghost use Rattle.rules.specs.Condition1Laws.{Passed};
@@ -73,10 +73,10 @@ fn generation_step(
     generation: u64,
 ) -> Run
     requires { ⌜ Underway settings (length (now heap)) (table (now ids) (now locations)) (run .state) (now plan) ⌝ }
-    requires { ⌜ (0 < generation) × (generation ≤ 3) × (run .moved ≤ generation * 65536) ⌝ }
+    requires { ⌜ (0 < generation) × (generation ≤ 3) × (run .moved ≤ 2 ^ 32) ⌝ }
     ensures { λ r. ⌜ ((c : Claims) → standing r (world settings (r .state) c (now (heap .exit)) (now (ids .exit)) (now (locations .exit))) ≡ onward (stopOf (run .halt)) generation (planned (now (plan .entry)) generation) (standing run (world settings (run .state) c (now (heap .entry)) (now (ids .entry)) (now (locations .entry))))) ⌝ }
     ensures { λ r. ⌜ Underway settings (length (now (heap .exit))) (table (now (ids .exit)) (now (locations .exit))) (r .state) (now (plan .entry)) ⌝ }
-    ensures { λ r. ⌜ r .moved ≤ generation * 65536 + 65536 ⌝ }
+    ensures { λ r. ⌜ r .moved ≤ run .moved + 65536 ⌝ }
 {
     let halt = run.halt;
     if !is_going(halt) {
@@ -160,10 +160,10 @@ fn finish(settings: Settings, run: Run, claims: Claims, heap: &mut [u8]) -> Main
     requires { ⌜ LabelsIn (settings .«slot_bytes») (run .state .files .records) (length (now heap)) ⌝ }
     ensures { λ r. ⌜ ((ids locations : List ℕ) → leaving (maintainGiven (r .answer)) (world settings (r .state) claims (now (heap .exit)) ids locations) ≡ finished (standing run (world settings (run .state) claims (now (heap .entry)) ids locations))) ⌝ }
 {
-    let halt = run.halt;
+    let end = run.halt;
     let state = run.state;
-    let answer = answer_of(halt, run.moved);
-    if !is_going(halt) {
+    let answer = answer_of(end, run.moved);
+    if !is_going(end) {
         return Maintained {
             answer: answer,
             state: state,

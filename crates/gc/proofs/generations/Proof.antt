@@ -12,7 +12,12 @@ generation-step-requires-2 : tie.Need-generation-step-requires-2
 generation-step-requires-2 c κs = search needs
 
 generation-step-requires-3 : tie.Need-generation-step-requires-3
-generation-step-requires-3 c κs = search needs
+generation-step-requires-3 c κs =
+    let second = c .before .before .before .before .before .before .before .before .before in
+    let first = second .before .before .before .before .before .before .before .before .before .before in
+    let n = second .generation-step2 .ensures .1 in
+    let m = first .generation-step .ensures .1 .1 in
+    (n .0, (omega arith, omega arith, omega (arith, n .1, m)))
 
 same-length : tie.Need-same-length
 same-length c =
