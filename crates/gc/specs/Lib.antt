@@ -1,3 +1,4 @@
 pub mod Rewritten
 pub mod Runs
 pub mod RunLaws
+pub mod Unique
