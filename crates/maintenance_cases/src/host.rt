@@ -107,9 +107,13 @@ fn dated(state: State, slot: usize, generation: u64) -> State {
     aged(state, slot, generation)
 }
 
+fn turned(b: u8) -> u8 {
+    255 - b
+}
+
 fn damage(heap: &mut [u8], at: usize) {
     if at < heap.len() {
-        heap[at] = 255 - heap[at];
+        heap[at] = turned(heap[at]);
     }
 }
 
