@@ -62,7 +62,10 @@ fn four(c: Counts) {
 pub fn counted(a: CountsAnswer) {
     match a {
         CountsAnswer::Counted(c) => four(c),
-        CountsAnswer::CountsRefused(_) => text(b"counts refused"),
+        CountsAnswer::CountsRefused(r) => {
+            text(b"counts refused");
+            number(number_of(r));
+        }
     }
     text(b"\n");
 }
