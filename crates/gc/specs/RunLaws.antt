@@ -1,5 +1,5 @@
 -- The steps of the call: its groups, its end, and what is known from group to group.
-use mathlib.Core.Path.{_≡_, refl, sym, ap, _∙_}
+use mathlib.Core.Path.{_≡_, refl, sym, _∙_}
 use mathlib.Core.Bool.{true≢false}
 use mathlib.Core.Logic.{_⊎_, inl, inr}
 use Prim.Native.Nat.{_≤_, _<_}
@@ -7,7 +7,7 @@ use native.Mathlib.Omega.{arith}
 use lib.ListN.{List·getD-eq-default}
 use borrow.Author.Tests.{lt-ltb, le-ltb}
 use Rattle.numbers.specs.GroupLaws.{either-way}
-use Rattle.rules.specs.Base.{Bool, true, false, List, [], _∷_, ℕ, length, getD, pick}
+use Rattle.rules.specs.Base.{Bool, true, false, List, ℕ, length, getD, pick}
 use Rattle.rules.specs.declared.Settings.{Settings}
 use Rattle.rules.specs.declared.Record.{Record}
 use Rattle.rules.specs.declared.State.{State}
@@ -25,8 +25,8 @@ use Rattle.rules.specs.Condition1Laws.{Passed}
 use Rattle.rules.specs.Maintenance.{newGeneration, isCandidate, Stop, going, Course, rewriteGroup, onward, groupsFrom, courseOf, finished, maintainCall}
 use Rattle.rules.specs.MaintenanceLaws.{candidate}
 use Rattle.rules.specs.Prune.{pruned}
-use Rattle.rules.specs.World.{World, recordsOf, maintainGiven, After, leaving}
-use Rattle.gc_group.specs.Plan.{planFor, planOf, planned, group-planned, plan-length, plan-at}
+use Rattle.rules.specs.World.{World, recordsOf, maintainGiven, leaving}
+use Rattle.gc_group.specs.Plan.{planFor, planOf, group-planned, plan-length, plan-at}
 use Rattle.gc_group.specs.Source.{Ready, passed-lie}
 use Rattle.gc.specs.declared.Halt.{Halt}
 use Rattle.gc.specs.declared.Halt.the-variants.{Going, Halted}

@@ -44,6 +44,7 @@ pub struct Run {
     pub state: State,
 }
 
+// No group was refused.
 fn is_going(halt: Halt) -> bool
     ensures { λ b. ⌜ b ≡ isGoing halt ⌝ }
 {
@@ -53,6 +54,7 @@ fn is_going(halt: Halt) -> bool
     }
 }
 
+// What a group's answer makes of the call.
 fn halt_of(answer: Answer, generation: u64) -> Halt
     ensures { λ h. ⌜ stopOf h ≡ stopGiven generation answer ⌝ }
 {
@@ -146,6 +148,7 @@ fn rewrite_groups(
     generations(settings, state, heap, ids, locations, &candidates)
 }
 
+// "gives number, generation and ids moved so far"; "gives the count of ids moved"
 fn answer_of(halt: Halt, moved: u64) -> MaintainAnswer
     ensures { λ a. ⌜ a ≡ answerOf halt moved ⌝ }
 {
@@ -176,7 +179,7 @@ fn finish(settings: Settings, run: Run, claims: Claims, heap: &mut [u8]) -> Main
     }
 }
 
-// "(0 and 0 with 1)"
+// Refusal 1 first, "(0 and 0 with 1)"; then the groups, then the end.
 pub fn maintain(
     settings: Settings,
     state: State,

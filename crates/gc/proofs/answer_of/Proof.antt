@@ -1,6 +1,5 @@
-use mathlib.Core.Path.{_≡_, sym, ap}
+use mathlib.Core.Path.{sym, ap}
 use borrow.Author.Needs.{needs}
-use Rattle.rules.specs.declared.MaintainAnswer.{MaintainAnswer}
 use Rattle.gc.specs.declared.Halt.{Halt}
 use Rattle.gc.specs.Runs.{answerOf}
 use Rattle.gc.proofs.answer_of.Statement.{statement}

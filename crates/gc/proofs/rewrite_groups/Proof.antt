@@ -1,14 +1,11 @@
-use mathlib.Core.Path.{_≡_, ap, _∙_, subst}
-use native.Mathlib.Omega.{arith}
+use mathlib.Core.Path.{_≡_, _∙_}
 use borrow.Author.Needs.{needs}
 use lib.ListN.{length}
-use Rattle.rules.specs.Base.{List, ℕ}
 use Rattle.rules.specs.World.{world}
 use Rattle.location_table.specs.Tables.{table}
 use Rattle.file_map.proofs.Turns.{mapped-length}
 use Rattle.limits.specs.Settled.{passed-bounded}
 use Rattle.prune.specs.Labels.{passed-labels}
-use Rattle.gc.specs.Runs.{Underway}
 use Rattle.gc.specs.RunLaws.{under-start, by-plan}
 use Rattle.gc.proofs.rewrite_groups.Statement.{statement}
 use Rattle.gc.proofs.rewrite_groups.Tie as tie
