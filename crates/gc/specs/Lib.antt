@@ -1,4 +1,3 @@
-pub mod Rewritten
 pub mod Runs
 pub mod RunLaws
 pub mod Unique

@@ -28,10 +28,10 @@ use Rattle.rules.specs.Prune.{pruned}
 use Rattle.rules.specs.World.{World, recordsOf, maintainGiven, leaving}
 use Rattle.gc_group.specs.Plan.{planFor, planOf, group-planned, plan-length, plan-at}
 use Rattle.gc_group.specs.Source.{Ready, passed-lie}
+use Rattle.gc_rewrite.specs.Courses.{courseGiven}
 use Rattle.gc.specs.declared.Halt.{Halt}
 use Rattle.gc.specs.declared.Halt.the-variants.{Going, Halted}
 use Rattle.gc.specs.declared.Run.{Run}
-use Rattle.gc.specs.Rewritten.{courseGiven}
 use Rattle.gc.specs.Runs.{isGoing, stopOf, stopGiven, standing, answerOf, byPlan, Underway}
 
 -- ---- what is known from group to group

@@ -1,11 +1,9 @@
 // Maintenance (`src/gc.rs`): the groups of the candidates, generation by generation, then a prune.
-pub mod rewrite;
 
 use gc_group::plan::group_count;
 use gc_group::plan::plan;
+use gc_rewrite::rewrite_group;
 use prune::pruned;
-use rewrite::Course;
-use rewrite::rewrite_group;
 use rules::Answer;
 use rules::Claims;
 use rules::MaintainAnswer;
