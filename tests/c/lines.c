@@ -87,6 +87,7 @@ static void p10(void) {
     expect("P10 second id", from_le(trailer + 28, 8), 9);
     expect("P10 second location", from_le(trailer + 36, 8), 43);
     holds(7, 1, 0x41);
+    expect("P10 the part's start", out[0], 84);
     holds_nothing(9);
     expect("P10 again", reopen(), MARBLE_OK);
     expect("P10 next after reopening", w.state->next_position, 67);
