@@ -160,6 +160,12 @@ uint64_t marble_release(marble_settings settings, const marble_state *state, mar
 uint64_t marble_prune(marble_settings settings, marble_state *state, const marble_claims *claims, uint8_t *heap, size_t heap_len,
                       const uint64_t *ids, size_t ids_len, const uint64_t *locations, size_t locations_len);
 
+/* "Maintenance": live objects and deletes of mostly dead or small files are gathered into new ones, group by group, then a prune. moved is
+   the count of ids moved, generation 0. A refusal (3, 4, 5, 7, 9, 10, 11, 16, 18, 20) stops the call and keeps finished groups:
+   generation is where, moved is the count so far, and nothing is pruned. 1: both 0. The claim record stays. */
+uint64_t marble_maintain(marble_settings settings, marble_state *state, const marble_claims *claims, uint8_t *heap, size_t heap_len,
+                         uint64_t *ids, size_t ids_len, uint64_t *locations, size_t locations_len, uint64_t *generation, uint64_t *moved);
+
 /* "Counts": files, bytes, present, live, summed over files. Refused with 1: four zeros. */
 uint64_t marble_counts(marble_settings settings, const marble_state *state, const uint8_t *heap, size_t heap_len, const uint64_t *ids,
                        size_t ids_len, const uint64_t *locations, size_t locations_len, marble_totals *counts);

@@ -42,6 +42,7 @@ uint64_t read_id(uint64_t id);
 uint64_t claim(uint64_t slot);
 uint64_t release(uint64_t slot);
 uint64_t prune(void);
+uint64_t maintain(void);
 uint64_t counts(void);
 uint64_t load(uint64_t id);
 uint64_t store_at(uint64_t id, uint64_t location);
@@ -88,4 +89,5 @@ void stack_told(void);
 /* ---- the tests */
 void lines(void);
 void life(void);
+void maintenance(void);
 void refusals(void);

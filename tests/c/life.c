@@ -86,6 +86,7 @@ static void every_call(void) {
     expect("claim", claim(0), MARBLE_LIMITS);
     expect("release", release(0), MARBLE_LIMITS);
     expect("prune", prune(), MARBLE_LIMITS);
+    expect("maintain", maintain(), MARBLE_LIMITS);
     expect("counts", counts(), MARBLE_LIMITS);
 }
 

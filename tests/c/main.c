@@ -7,6 +7,7 @@ _Static_assert(sizeof(marble_claims) == 32 && sizeof(marble_totals) == 32, "four
 int main(void) {
     lines();
     life();
+    maintenance();
     refusals();
     printf("state %llu\n", (unsigned long long)sizeof(marble_state));
     stack_told();

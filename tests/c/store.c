@@ -87,25 +87,26 @@ marble_settings small(uint64_t slot_bytes) {
 }
 
 /* ---- stack: painted before each call, looked at behind it */
-#define DEPTH (256 * 1024)
-enum { REOPEN, WRITE, READ, CLAIM, RELEASE, PRUNE, COUNTS, LOAD, STORE, COMPARE, GREATER, CALLS };
-static const char *const names[CALLS] = {"reopen", "write", "read", "claim", "release", "prune", "counts", "load", "store", "compare_and_store", "store_if_greater"};
+#define DEPTH (4096 * 1024)
+enum { REOPEN, WRITE, READ, CLAIM, RELEASE, PRUNE, MAINTAIN, COUNTS, LOAD, STORE, COMPARE, GREATER, CALLS };
+static const char *const names[CALLS] = {"reopen", "write", "read", "claim", "release", "prune", "maintain", "counts", "load", "store", "compare_and_store", "store_if_greater"};
 /* README has these figures; a call that needs more fails here */
-static const size_t allowed[CALLS] = {51200, 93184, 64512, 50176, 50176, 62464, 50176, 128, 128, 128, 128};
+static const size_t allowed[CALLS] = {51200, 119808, 64512, 50176, 50176, 99328, 700416, 50176, 128, 128, 128, 128};
 static size_t used[CALLS];
 
-/* Both from the same frame, so that the bytes are the same ones: painted (call < 0), and how deep the paint is gone. */
-__attribute__((noinline)) static void stack_below(int call) {
+/* Both from the same frame, so that the bytes are the same ones: painted, and how deep the paint is gone. Maintenance goes deepest. */
+__attribute__((noinline)) static void stack_below(int call, int painting) {
     volatile uint8_t below[DEPTH];
-    size_t i = 0;
-    if (call < 0) {
+    const size_t low = call == MAINTAIN ? 0 : DEPTH - DEPTH / 16;
+    size_t i = low;
+    if (painting) {
         for (; i < DEPTH; i++) below[i] = PAINT;
         return;
     }
     while (i < DEPTH && below[i] == PAINT) i++;
     size_t deep = (size_t)((uint8_t *)__builtin_frame_address(0) + 16 - (uint8_t *)&below[i]);
     if (used[call] < deep) used[call] = deep;
-    expect("deep enough", below[0], PAINT);
+    expect("deep enough", i > low, 1);
 }
 
 void stack_told(void) {
@@ -156,9 +157,9 @@ static void behind(int call, unsigned kept) {
 /* ---- the calls */
 uint64_t reopen(void) {
     before();
-    stack_below(-1);
+    stack_below(REOPEN, 1);
     uint64_t n = marble_reopen(w.s, w.state, w.claims, w.heap, w.heap_len, w.ids, w.ids_len, w.locations, w.locations_len);
-    stack_below(REOPEN);
+    stack_below(REOPEN, 0);
     behind(REOPEN, n == MARBLE_LIMITS ? ALL : HEAP);
     if (n != MARBLE_LIMITS) {
         const marble_claims none = {{0, 0, 0, 0}};
@@ -181,9 +182,9 @@ uint64_t write_batch(const uint8_t *batch, size_t len) {
     paint(batch_area, len, sizeof batch_area);
     if (len) memcpy(BATCH, batch, len);
     before();
-    stack_below(-1);
+    stack_below(WRITE, 1);
     uint64_t n = marble_write(w.s, w.state, w.heap, w.heap_len, w.ids, w.ids_len, w.locations, w.locations_len, len ? BATCH : NULL, len);
-    stack_below(WRITE);
+    stack_below(WRITE, 0);
     behind(WRITE, n == MARBLE_OK && len ? CLAIMS : ALL);
     guard("write", "batch", batch_area, len, sizeof batch_area);
     same("write", "batch", BATCH, batch, len);
@@ -192,9 +193,9 @@ uint64_t write_batch(const uint8_t *batch, size_t len) {
 
 uint64_t read_id(uint64_t id) {
     before();
-    stack_below(-1);
+    stack_below(READ, 1);
     uint64_t n = marble_read(w.s, w.state, w.heap, w.heap_len, w.ids, w.ids_len, w.locations, w.locations_len, id, OUT(0), OUT(1));
-    stack_below(READ);
+    stack_below(READ, 0);
     behind(READ, ALL);
     if (n != MARBLE_OK) expect("refused read: no part", out[0] | out[1], 0);
     return n;
@@ -202,36 +203,45 @@ uint64_t read_id(uint64_t id) {
 
 uint64_t claim(uint64_t slot) {
     before();
-    stack_below(-1);
+    stack_below(CLAIM, 1);
     uint64_t n = marble_claim(w.s, w.state, w.claims, w.heap, w.heap_len, w.ids, w.ids_len, w.locations, w.locations_len, slot);
-    stack_below(CLAIM);
+    stack_below(CLAIM, 0);
     behind(CLAIM, n == MARBLE_OK ? HEAP | TABLE | STATE : ALL);
     return n;
 }
 
 uint64_t release(uint64_t slot) {
     before();
-    stack_below(-1);
+    stack_below(RELEASE, 1);
     uint64_t n = marble_release(w.s, w.state, w.claims, w.heap, w.heap_len, w.ids, w.ids_len, w.locations, w.locations_len, slot);
-    stack_below(RELEASE);
+    stack_below(RELEASE, 0);
     behind(RELEASE, n == MARBLE_OK ? HEAP | TABLE | STATE : ALL);
     return n;
 }
 
 uint64_t prune(void) {
     before();
-    stack_below(-1);
+    stack_below(PRUNE, 1);
     uint64_t n = marble_prune(w.s, w.state, w.claims, w.heap, w.heap_len, w.ids, w.ids_len, w.locations, w.locations_len);
-    stack_below(PRUNE);
+    stack_below(PRUNE, 0);
     behind(PRUNE, n == MARBLE_OK ? TABLE | CLAIMS : ALL);
+    return n;
+}
+
+uint64_t maintain(void) {
+    before();
+    stack_below(MAINTAIN, 1);
+    uint64_t n = marble_maintain(w.s, w.state, w.claims, w.heap, w.heap_len, w.ids, w.ids_len, w.locations, w.locations_len, OUT(0), OUT(1));
+    stack_below(MAINTAIN, 0);
+    behind(MAINTAIN, n == MARBLE_LIMITS ? ALL : CLAIMS);
     return n;
 }
 
 uint64_t counts(void) {
     before();
-    stack_below(-1);
+    stack_below(COUNTS, 1);
     uint64_t n = marble_counts(w.s, w.state, w.heap, w.heap_len, w.ids, w.ids_len, w.locations, w.locations_len, TOTALS);
-    stack_below(COUNTS);
+    stack_below(COUNTS, 0);
     behind(COUNTS, ALL);
     totals = *TOTALS;
     if (n != MARBLE_OK) expect("refused counts: zeros", totals.files | totals.bytes | totals.present | totals.live, 0);
@@ -240,9 +250,9 @@ uint64_t counts(void) {
 
 uint64_t load(uint64_t id) {
     before();
-    stack_below(-1);
+    stack_below(LOAD, 1);
     uint64_t n = marble_load(w.ids, w.ids_len, w.locations, w.locations_len, id, OUT(0));
-    stack_below(LOAD);
+    stack_below(LOAD, 0);
     behind(LOAD, ALL);
     if (n != MARBLE_OK) expect("refused load: 0", out[0], 0);
     return n;
@@ -250,27 +260,27 @@ uint64_t load(uint64_t id) {
 
 uint64_t store_at(uint64_t id, uint64_t location) {
     before();
-    stack_below(-1);
+    stack_below(STORE, 1);
     uint64_t n = marble_store(w.ids, w.ids_len, w.locations, w.locations_len, id, location);
-    stack_below(STORE);
+    stack_below(STORE, 0);
     behind(STORE, n == MARBLE_OK ? HEAP | STATE | CLAIMS : ALL);
     return n;
 }
 
 uint64_t compare_and_store(uint64_t id, uint64_t old, uint64_t location) {
     before();
-    stack_below(-1);
+    stack_below(COMPARE, 1);
     uint64_t n = marble_compare_and_store(w.ids, w.ids_len, w.locations, w.locations_len, id, old, location, OUT(0));
-    stack_below(COMPARE);
+    stack_below(COMPARE, 0);
     behind(COMPARE, n == MARBLE_OK && *OUT(0) == 0 ? HEAP | STATE | CLAIMS : ALL);
     return n;
 }
 
 uint64_t store_if_greater(uint64_t id, uint64_t location) {
     before();
-    stack_below(-1);
+    stack_below(GREATER, 1);
     uint64_t n = marble_store_if_greater(w.ids, w.ids_len, w.locations, w.locations_len, id, location, OUT(0));
-    stack_below(GREATER);
+    stack_below(GREATER, 0);
     behind(GREATER, n == MARBLE_OK && *OUT(0) < location ? HEAP | STATE | CLAIMS : ALL);
     return n;
 }

@@ -3,6 +3,7 @@
 use as_numbers::answers::compare_shown;
 use as_numbers::answers::counts_shown;
 use as_numbers::answers::load_shown;
+use as_numbers::answers::maintain_shown;
 use as_numbers::answers::number;
 use as_numbers::answers::put_counts;
 use as_numbers::answers::read_shown;
@@ -16,6 +17,7 @@ ghost use mathlib.Core.List.{[], _∷_};
 ghost use Rattle.rules.specs.declared.Claims.{Claims};
 ghost use Rattle.rules.specs.Claims.{claimCall, releaseCall};
 ghost use Rattle.rules.specs.Counts.{countsCall};
+ghost use Rattle.rules.specs.Maintenance.{maintainCall};
 ghost use Rattle.rules.specs.Prune.{pruneCall};
 ghost use Rattle.rules.specs.Read.{readCall};
 ghost use Rattle.rules.specs.Reopen.{reopenCall};
@@ -26,7 +28,7 @@ ghost use Rattle.location_table.specs.Tables.{table};
 ghost use Rattle.location_table.specs.Tables.{leaving as tableLeaving};
 ghost use Rattle.as_numbers.specs.ClaimWords.{claimsIn};
 ghost use Rattle.as_numbers.specs.Numbered.{numbered};
-ghost use Rattle.as_numbers.specs.Shown.{given, shown, shownTable};
+ghost use Rattle.as_numbers.specs.Shown.{given, shown, stopAfter, shownTable};
 ghost use Rattle.as_numbers.specs.StateWords.{stateIn};
 
 // ---- the store
@@ -157,6 +159,32 @@ pub extern "C" fn marble_prune(
     let after = done.state;
     put_state(state, after);
     number(answer)
+}
+
+// "Maintenance": the generation where it stopped, or 0, and the ids moved.
+#[no_mangle]
+pub extern "C" fn marble_maintain(
+    settings: Settings,
+    state: &mut [u64; 1545],
+    claims: &[u64; 4],
+    heap: &mut [u8],
+    ids: &mut [u64],
+    locations: &mut [u64],
+    generation: &mut u64,
+    moved: &mut u64,
+) -> u64
+    ensures { λ r. ⌜ leaving (given r (now (generation .exit) ∷ now (moved .exit) ∷ [])) (world settings (stateIn (now (state .exit))) (claimsIn (now (claims .entry))) (now (heap .exit)) (now (ids .exit)) (now (locations .exit))) ≡ stopAfter (maintainCall (world settings (stateIn (now (state .entry))) (claimsIn (now (claims .entry))) (now (heap .entry)) (now (ids .entry)) (now (locations .entry)))) ⌝ }
+{
+    let was = state_in(state);
+    let held = claims_in(claims);
+    let done = gc::maintain(settings, was, held, heap, ids, locations);
+    let answer = done.answer;
+    let after = done.state;
+    put_state(state, after);
+    let told = maintain_shown(answer);
+    *generation = told.first;
+    *moved = told.second;
+    told.number
 }
 
 // "Files, bytes, present, live, summed over files."
