@@ -11,8 +11,8 @@ use mathlib.Core.Path.{_≡_}
 use native.Mathlib.Omega.{arith}
 use borrow.Author.Needs.{needs}
 use lib.ListN.{length, set, length-set}
-use Rattle.as_numbers.proofs.state.files_in.Statement.{statement}
-use Rattle.as_numbers.proofs.state.files_in.Tie as tie
+use Rattle.as_numbers.proofs.state_words.files_in.Statement.{statement}
+use Rattle.as_numbers.proofs.state_words.files_in.Tie as tie
 
 abbrev Inv-loop : tie.InvT-loop
 Inv-loop words files₀ k₀ files k = (k ≤ 256) × (length (files .records) ≡ 256) × (take k (files .records) ++ recordsFrom (256 - k) words (8 + 6 * k) ≡ recordsFrom 256 words 8)

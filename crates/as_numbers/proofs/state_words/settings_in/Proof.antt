@@ -1,8 +1,8 @@
 use mathlib.Core.Path.{refl}
 use Rattle.as_numbers.specs.StateWords.{settingsIn}
 use borrow.Author.Needs.{needs}
-use Rattle.as_numbers.proofs.state.settings_in.Statement.{statement}
-use Rattle.as_numbers.proofs.state.settings_in.Tie as tie
+use Rattle.as_numbers.proofs.state_words.settings_in.Statement.{statement}
+use Rattle.as_numbers.proofs.state_words.settings_in.Tie as tie
 
 shared-slice-read-t3 : tie.Need-shared-slice-read-t3
 shared-slice-read-t3 c = search needs

@@ -2,8 +2,8 @@ use Rattle.as_numbers.specs.ClaimWords.{claims-put}
 use native.Mathlib.Omega.{arith}
 use borrow.Author.Needs.{needs}
 use lib.ListN.{length-set}
-use Rattle.as_numbers.proofs.claims.put_claims.Statement.{statement}
-use Rattle.as_numbers.proofs.claims.put_claims.Tie as tie
+use Rattle.as_numbers.proofs.claim_words.put_claims.Statement.{statement}
+use Rattle.as_numbers.proofs.claim_words.put_claims.Tie as tie
 
 slice-write-words : tie.Need-slice-write-words
 slice-write-words c = search needs

@@ -3,8 +3,8 @@ use Rattle.as_numbers.specs.StateLaws.{put-six}
 use native.Mathlib.Omega.{arith}
 use borrow.Author.Needs.{needs}
 use lib.ListN.{length-set}
-use Rattle.as_numbers.proofs.state.put_record.Statement.{statement}
-use Rattle.as_numbers.proofs.state.put_record.Tie as tie
+use Rattle.as_numbers.proofs.state_words.put_record.Statement.{statement}
+use Rattle.as_numbers.proofs.state_words.put_record.Tie as tie
 
 mul-words : tie.Need-mul-words
 mul-words c = search needs

@@ -13,8 +13,8 @@ use mathlib.Core.Path.{_≡_}
 use native.Mathlib.Omega.{arith}
 use borrow.Author.Needs.{needs}
 use lib.ListN.{length, getD}
-use Rattle.as_numbers.proofs.state.put_files.Statement.{statement}
-use Rattle.as_numbers.proofs.state.put_files.Tie as tie
+use Rattle.as_numbers.proofs.state_words.put_files.Statement.{statement}
+use Rattle.as_numbers.proofs.state_words.put_files.Tie as tie
 
 abbrev Inv-loop : tie.InvT-loop
 Inv-loop words₀ files k₀ words k = (k ≤ 256) × (length words ≡ 1545) × (putAt words (8 + 6 * k) (recordsWords (drop k (files .records))) ≡ putAt words₀ 8 (recordsWords (files .records)))

@@ -1,8 +1,8 @@
 use mathlib.Core.Path.{refl}
 use Rattle.as_numbers.specs.StateWords.{recordAt}
 use borrow.Author.Needs.{needs}
-use Rattle.as_numbers.proofs.state.record_at.Statement.{statement}
-use Rattle.as_numbers.proofs.state.record_at.Tie as tie
+use Rattle.as_numbers.proofs.state_words.record_at.Statement.{statement}
+use Rattle.as_numbers.proofs.state_words.record_at.Tie as tie
 
 mul-t3 : tie.Need-mul-t3
 mul-t3 c = search needs

@@ -1,8 +1,8 @@
 use mathlib.Core.Path.{refl}
 use Rattle.as_numbers.specs.StateWords.{stateIn}
 use borrow.Author.Needs.{needs}
-use Rattle.as_numbers.proofs.state.state_in.Statement.{statement}
-use Rattle.as_numbers.proofs.state.state_in.Tie as tie
+use Rattle.as_numbers.proofs.state_words.state_in.Statement.{statement}
+use Rattle.as_numbers.proofs.state_words.state_in.Tie as tie
 
 settings-in-requires : tie.Need-settings-in-requires
 settings-in-requires c κs = search needs

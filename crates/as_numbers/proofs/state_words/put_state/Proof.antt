@@ -4,8 +4,8 @@ use borrow.Author.Needs.{needs}
 use lib.ListN.{length, length-set}
 use Rattle.file_map.proofs.Turns.{mapped-length}
 use Rattle.as_numbers.specs.StateLaws.{put-all}
-use Rattle.as_numbers.proofs.state.put_state.Statement.{statement}
-use Rattle.as_numbers.proofs.state.put_state.Tie as tie
+use Rattle.as_numbers.proofs.state_words.put_state.Statement.{statement}
+use Rattle.as_numbers.proofs.state_words.put_state.Tie as tie
 
 all-records : (start : tie.Start) → length (start .args .s .files .records) ≡ 256
 all-records start = search (mapped-length, needs)

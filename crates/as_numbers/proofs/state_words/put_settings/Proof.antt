@@ -3,8 +3,8 @@ use Rattle.as_numbers.specs.StateLaws.{put-six}
 use native.Mathlib.Omega.{arith}
 use borrow.Author.Needs.{needs}
 use lib.ListN.{length-set}
-use Rattle.as_numbers.proofs.state.put_settings.Statement.{statement}
-use Rattle.as_numbers.proofs.state.put_settings.Tie as tie
+use Rattle.as_numbers.proofs.state_words.put_settings.Statement.{statement}
+use Rattle.as_numbers.proofs.state_words.put_settings.Tie as tie
 
 slice-write-words : tie.Need-slice-write-words
 slice-write-words c = search needs
