@@ -2,11 +2,12 @@
 """Compares the port with the original Rust by running both on the same scenarios.
 
     compare.py [--model | --console PATH] [--rust PATH | --stored FILE] [--seed S] [--from K] [--count N] [--seconds T] [--small] [--store FILE]
+               [--without COMMAND]
 
 After every call: each id's read, the answer, the growth of the next position, counts, each file's numbers, live count and claim;
-after reopenings and rewrites also each file as a set of entries. A heap that the port wrote is renamed to the original's files,
-opened and read by it, and every number must be the same; files that the original wrote are labelled, put into slots, reopened and
-read by the port. A difference that is not in known.py fails. The port's bytes are the model's bytes: the console shows the heap's
+after reopenings and rewrites also each file as a set of entries. At a scenario's end the heap that the port wrote is renamed to the
+original's files, opened and read by it, and every number must be the same; the files that the original wrote until then are labelled,
+put into slots, reopened and read by the port. A difference that is not in known.py fails. The port's bytes are the model's bytes: the console shows the heap's
 checksum, and every answer of it, that checksum among them, must be the model's."""
 import argparse
 import collections
@@ -76,7 +77,8 @@ def can_be_cut(store):
 
 
 def plan(lines):
-    """the scenario's steps. Where the two sides cannot stay alike, a reopening is put in and the original takes over the port's heap"""
+    """the scenario's steps. Where the two sides cannot stay alike, and at the end, a reopening is put in for which the original takes over
+    the port's heap"""
     console, steps, by_hand = Console(), [], False
     for line in lines:
         word, store = line.split()[0], console.store
@@ -89,9 +91,15 @@ def plan(lines):
             if answer != 'ok':
                 raise Difference(f'reopening outside the domain: {answer}')
         if word == 'maintain' and (cut or answer.startswith('refused')):
-            console.line('reopen')
-            steps.append(Step('reopen', store, True, False))
-    return steps
+            steps.append(taken_over(console))
+    return steps + [taken_over(console)]
+
+
+def taken_over(console):
+    answer = console.line('reopen')
+    if answer != ['ok']:
+        raise Difference(f"the port's own heap is not reopened: {answer}")
+    return Step('reopen', console.store, True, False)
 
 
 CALLS = ('reopen', 'write', 'claim', 'release', 'prune', 'maintain')
@@ -153,6 +161,7 @@ def must(same, what, port, rust):
 class Comparison:
     def __init__(self, rust):
         self.rust = rust
+        self.left = []
         self.known = collections.Counter()
         self.calls = collections.Counter()
 
@@ -166,7 +175,7 @@ class Comparison:
         return self.rust.ask(command)
 
     def one(self, command):
-        return self.rust.ask(command)[0]
+        return self.ask(command)[0]
 
     def rust_files(self):
         return [File(*map(int, line.split()[1:])) for line in self.ask('records')[:-1]]
@@ -181,20 +190,27 @@ class Comparison:
         return data
 
     def run(self, steps, port_views, ids):
+        """leaves in self.left the files (name, bytes) that the original had before it took over the port's heap at the end"""
         self.ids = ids
         self.port_next = self.rust_next = 0
         self.one('wipe')
         for k, (step, view) in enumerate(zip(steps, port_views)):
-            word, *words = step.line.split()
+            if k == len(steps) - 1:
+                self.left = [(line.split()[1], bytes.fromhex(line.split()[2])) for line in self.ask('files')[:-1]]
             try:
-                if word in TABLE_CALLS:
-                    self.table_call(step.line, view)
-                elif view is not None:
-                    must(view.heap_sum == zlib.crc32(step.heap), "the heap's bytes are not the model's", view.heap_sum, zlib.crc32(step.heap))
-                    self.calls[word] += 1
-                    getattr(self, word)(step, view, *words)
+                self.take(step, view)
             except Difference as d:
                 raise Difference(f'step {k}: {step.line[:200]}\n  {d}')
+
+    def take(self, step, view):
+        """one step, on the original's side"""
+        word, *words = step.line.split()
+        if word in TABLE_CALLS:
+            self.table_call(step.line, view)
+        elif view is not None:
+            must(view.heap_sum == zlib.crc32(step.heap), "the heap's bytes are not the model's", view.heap_sum, zlib.crc32(step.heap))
+            self.calls[word] += 1
+            getattr(self, word)(step, view, *words)
 
     # one method for each call
 
@@ -376,8 +392,7 @@ def compare_jobs(comparison, jobs):
             comparison.run(job.steps, job_views, job.ids)
         except Difference as d:
             raise Difference(f'scenario {job.name}, {d}\n\n' + '\n'.join(job.lines))
-        files = [(line.split()[1], bytes.fromhex(line.split()[2])) for line in comparison.ask('files')[:-1]]
-        left[job.name] = files, [v for v in job_views if isinstance(v, PortView)][-1].reads
+        left[job.name] = comparison.left, [v for v in job_views if isinstance(v, PortView)][-1].reads
     return left
 
 
@@ -486,8 +501,8 @@ def main():
     against = 'stored answers of the original' if options.stored else 'original'
     not_made = sum(comparison.known[name] for name in NOT_MADE)
     calls = sum(comparison.calls.values()) - not_made
-    print(f'{port.name} and {against}: {cases} smallest inputs, {done} scenarios and {carried} of carried files, {calls} calls alike and {not_made} made by the port alone, seed {options.seed}, '
-          f'{time.time() - began:.0f} s')
+    print(f"{port.name} and {against}: {cases} smallest inputs, {done} scenarios and {carried} on the original's files, {done + carried} heaps of the port "
+          f'opened by the original, {calls} calls alike and {not_made} made by the port alone, seed {options.seed}, {time.time() - began:.0f} s')
     print('  calls: ' + ', '.join(f'{n} {w}' for w, n in sorted(comparison.calls.items())))
     print('  known: ' + ', '.join(f'{w} {n}' for w, n in sorted(comparison.known.items())))
 

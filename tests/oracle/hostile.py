@@ -1,7 +1,7 @@
 #!/usr/bin/env python3
 """Arbitrary states, heaps, labels, trailers, tables and batches, as console scripts.
 
-    hostile.py [--model | --console PATH] [--seed S] [--from K] [--count N] [--seconds T]
+    hostile.py [--model | --console PATH] [--seed S] [--from K] [--count N] [--seconds T] [--without COMMAND]
 
 Checked without a second implementation: every line is answered in its form; a refused call leaves everything as it was, except
 as document 01 says of maintenance and reopening; a call changes no heap byte outside the slots that its dump shows as changed
@@ -39,11 +39,15 @@ RESET = ['settings 128 0 1 1 0 1', 'heap 128', 'table 1 1', 'reopen', f'state{" 
 STATE_CALLS = ('reopen', 'write', 'claim', 'release', 'prune', 'maintain', 'read', 'counts', 'list', 'load', 'store', 'cas', 'max')
 
 
+def first_word(line):
+    return (line.split() or [''])[0]
+
+
 class Maker:
     """one script: a store by hand, then calls, each followed by a dump"""
 
-    def __init__(self, seed, number):
-        self.r = random.Random(f'{seed} hostile {number}')
+    def __init__(self, seed, number, without=None):
+        self.r, self.without = random.Random(f'{seed} hostile {number}'), without
         self.lines, self.chunks = [], []  # chunks: (offset, bytes) poked
 
     def rarely(self, usual, strange, chance=0.02):
@@ -154,13 +158,14 @@ class Maker:
         r = self.r
         ident = r.choice(self.ids + [r.randrange(60)])
         slot, raw = self.rarely(r.randrange(self.slots + 1), self.edge(), 0.1), r.choice([1, 2, 3, self.edge()])
-        return r.choice(['maintain'] * 5 + [f'write {self.batch()}'] * 5 + [f'read {i}' for i in self.ids] + ['prune', 'counts', 'list', 'reopen',
-                        f'claim {slot}', f'claim {slot}', f'release {slot}', f'load {ident}', f'store {ident} {raw}',
-                        f'cas {ident} {raw} {self.edge()}', f'max {ident} {raw}', self.bad_line()])
+        calls = ['maintain'] * 5 + [f'write {self.batch()}'] * 5 + [f'read {i}' for i in self.ids]
+        calls += ['prune', 'counts', 'list', 'reopen', f'claim {slot}', f'claim {slot}', f'release {slot}', f'load {ident}', f'store {ident} {raw}',
+                  f'cas {ident} {raw} {self.edge()}', f'max {ident} {raw}', self.bad_line()]
+        return r.choice([call for call in calls if first_word(call) != self.without])
 
     def bad_line(self):
         big = 2 ** 64 + self.r.randrange(5)
-        return self.r.choice(['nonsense', 'read', 'read x', f'read {big}', 'write 0', 'write xy', 'heap 1048577', 'table 65537 1', f'poke {self.heap_bytes} 00',
+        return self.r.choice(['nonsense', '', ' \t', 'read', 'read x', f'read {big}', 'write 0', 'write xy', 'heap 1048577', 'table 65537 1', f'poke {self.heap_bytes} 00',
                               f'entry {self.room} 1 1', 'record 256 1 1 1 1 1 1', 'claims 1 2 3', 'reopen now', 'settings 1 2 3 4 5', 'read -1'])
 
 
@@ -183,7 +188,7 @@ def check(maker, answers):
     """forms, and what a call may change. Gives, of the first call that wrote: the number of lines up to its dump and the slots written"""
     before, wrote = None, None
     for k, (line, answer) in enumerate(zip(maker.lines, answers)):
-        word = line.split()[0]
+        word = first_word(line)
         if word == 'dump':
             if not all(DUMP.match(a) for a in answer) or not heap_sum(answer).startswith('heap '):
                 raise wrong(maker, line, answer, 'not the form of a dump')
@@ -200,7 +205,7 @@ def check(maker, answers):
 
 def check_call(maker, line, answer, before, after):
     """one call between two dumps; gives the slots whose heap bytes it may have changed"""
-    word = line.split()[0]
+    word = first_word(line)
     refused, number = answer.startswith('refused'), answer.split()[1] if answer.startswith('refused') else ''
     if answer == 'bad line' or word in ('read', 'counts', 'load', 'list') or refused and (number == '1' or word not in ('reopen', 'maintain')):
         if before != after:
@@ -243,14 +248,14 @@ def undoing(maker, lines, slots):
     return maker.lines[:lines] + back + ['dump'], f'heap {zlib.crc32(heap)}'
 
 
-def run(port, seed, numbers):
+def run(port, seed, numbers, without):
     """one round; gives the calls made, and how many had the bytes outside looked at"""
-    makers = [Maker(seed, k).make() for k in numbers]
+    makers = [Maker(seed, k, without).make() for k in numbers]
     answers = iter(port.run([line for m in makers for line in m.lines]))
     calls, undo = 0, []
     for k, maker in zip(numbers, makers):
         said = [next(answers) for _ in maker.lines]
-        calls += sum(line.split()[0] in STATE_CALLS for line in maker.lines)
+        calls += sum(first_word(line) in STATE_CALLS for line in maker.lines)
         try:
             wrote = check(maker, said)
             if port.name != 'model':
@@ -282,6 +287,7 @@ def main():
     parser.add_argument('--from', dest='start', type=int, default=0)
     parser.add_argument('--count', type=int, default=500)
     parser.add_argument('--seconds', type=float, default=1e9, help='begin no round after so long')
+    parser.add_argument('--without', help='leave out this command, which the console does not have yet')
     options = parser.parse_args()
     port = Model() if options.model else Port(options.console)
     began, scripts, calls, undone = time.time(), 0, 0, 0
@@ -290,7 +296,7 @@ def main():
             if time.time() - began > options.seconds:
                 break
             numbers = range(at, min(at + 100, options.start + options.count))
-            c, u = run(port, options.seed, numbers)
+            c, u = run(port, options.seed, numbers, options.without)
             scripts, calls, undone = scripts + len(numbers), calls + c, undone + u
     except Difference as d:
         raise SystemExit(f'DIFFERENCE (seed {options.seed}) {d}')
