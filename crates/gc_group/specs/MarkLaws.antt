@@ -369,7 +369,7 @@ marks-past m ids [] ms = refl
 marks-past m ids (e ∷ es) [] = refl
 marks-past m ids (e ∷ es) (n ∷ ns) = marks-past m ids es ns
 
-from-past : (s : Source) (slots ms : List ℕ) → drop (length (s .table)) (marksFrom s slots ms) ≡ drop (length (s .table)) ms
+pub from-past : (s : Source) (slots ms : List ℕ) → drop (length (s .table)) (marksFrom s slots ms) ≡ drop (length (s .table)) ms
 unfolding marksFrom
 from-past s [] ms = refl
 from-past s (k ∷ ks) ms = from-past s ks (marked (suc k) (idsOf (foundAt s k)) (s .table) ms) ∙ marks-past (suc k) (idsOf (foundAt s k)) (s .table) ms

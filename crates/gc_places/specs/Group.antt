@@ -1,0 +1,34 @@
+-- Where everything that a group found stands: a place for each entry of the table that is moved.
+use mathlib.Core.Path.{_≡_}
+use Prim.Native.Nat.{_≤_, _<_}
+use Rattle.rules.specs.Base.{List, ℕ, _^_, length, getD}
+use Rattle.rules.specs.declared.Record.{Record}
+use Rattle.rules.specs.declared.Answer.the-variants.{Done}
+use Rattle.rules.specs.Refusal.{decide}
+use Rattle.location_table.specs.Tables.{table, Formed}
+use Rattle.location_table.specs.LayoutLaws.{used}
+use Rattle.gc_group.specs.Plan.{planned}
+use Rattle.gc_group.specs.Source.{source, Ready}
+use Rattle.gc_group.specs.Checks.{groupChecks}
+use Rattle.gc_files.specs.Places.{Whole, InSlot}
+
+-- what is known of a group whose checks are clear, its files and its table, where there are n marks
+pub record Checked (limit size : ℕ) (heap : List ℕ) (records : List Record) (plan : List ℕ) (generation : ℕ) (is ls : List ℕ) (n : ℕ) : Type 0 where
+  pub low : 64 ≤ size
+  pub high : size ≤ 2 ^ 20
+  pub ready : Ready size (length heap) records plan generation
+  pub clear : decide (groupChecks limit (source size heap records (used is ls)) (planned plan generation)) ≡ Done
+  pub formed : Formed (table is ls)
+  pub wide : length is ≤ n
+
+-- only used entries of the table are moved
+abbrev pub OfUsed : List ℕ → List ℕ → List ℕ → Type 0
+OfUsed ids locations places = (i : ℕ) → 0 < getD places i 0 → i < length (used ids locations)
+
+-- an object lies whole in a slot of the group, behind its label
+abbrev pub Kept : ℕ → List ℕ → List ℕ → ℕ → ℕ → Type 0
+Kept size heap plan generation place = Whole heap place × ((k : ℕ) × (getD plan k 0 ≡ generation) × (k < 256) × InSlot size heap k place)
+
+-- each object does
+abbrev pub InGroup : ℕ → List ℕ → List ℕ → ℕ → List ℕ → Type 0
+InGroup size heap plan generation places = (i : ℕ) → 1 < getD places i 0 → Kept size heap plan generation (getD places i 0)

@@ -1,0 +1,372 @@
+-- The places of a group's marked entries: what stands there is what the group found.
+use mathlib.Core.Path.{_≡_, refl, sym, ap, ap₂, _∙_, subst}
+use mathlib.Core.Logic.{_⊎_, inl, inr}
+use Prim.Native.Nat.{_≤_, _<_}
+use native.Mathlib.Nat.{le-of-suc-le-suc, not-suc-le-zero}
+use native.Mathlib.Omega.{arith}
+use lib.ListN.{length-drop, List·getD-map, List·getD-eq-default, length-replicate}
+use lib.Seq.{getD-drop}
+use borrow.Author.Tests.{eq-eqb, ne-eqb}
+use Rattle.numbers.specs.GroupLaws.{either-way}
+use Rattle.numbers.specs.Parts.{front, front-length}
+use Rattle.disk_location.specs.Locations.{positionOf, deleteOf}
+use Rattle.rules.specs.Base.{Bool, true, false, List, [], _∷_, _++_, ℕ, zero, suc, _+_, _-_, _*_, _^_, length, getD, drop, replicate, each}
+use Rattle.rules.specs.TurnLaws.{left-next}
+use Rattle.rules.specs.declared.Entry.{Entry}
+use Rattle.rules.specs.declared.Record.{Record}
+use Rattle.rules.specs.declared.Settings.{Settings}
+use Rattle.rules.specs.declared.Answer.the-variants.{Done}
+use Rattle.rules.specs.Refusal.{decide}
+use Rattle.rules.specs.SettingsLaws.{InRanges}
+use Rattle.rules.specs.Object.{storedAt}
+use Rattle.rules.specs.SlotFile.{slotBytes, objectPart}
+use Rattle.rules.specs.FileMap.{emptyRecord, recordAt}
+use Rattle.rules.specs.Ops.{put, delete, Op, settled}
+use Rattle.rules.specs.Maintenance.{found}
+use Rattle.rules.specs.World.{World}
+use Rattle.location_table.specs.Tables.{table, Formed}
+use Rattle.location_table.specs.LayoutLaws.{used, used-id, used-location, used-rising, used-fits}
+use Rattle.location_table.specs.EntryLaws.{noEntry}
+use Rattle.file_map.specs.Lists.{lsnsOf}
+use Rattle.gc_group.specs.Plan.{planned, planned-all}
+use Rattle.gc_group.specs.Source.{Source, source, sourceOf, Ready, part-length}
+use Rattle.gc_group.specs.Checks.{groupChecks}
+use Rattle.gc_group.specs.Marks.{foundAt, idsOf, marked, marksFrom, marksOf, contentAt, markedOps}
+use Rattle.gc_group.specs.MarkLaws.{marked-length, marked-settled, blank-at, from-past}
+use Rattle.gc_group.specs.MovedLaws.{Moves, marks-backed, marked-here, marked-next, marked-end}
+use Rattle.gc_files.specs.Places.{opAt, placedOps, InSlot, Standing, placeFor, placesFor, Placeable, Placeables}
+use Rattle.gc_files.specs.MarkedLaws.{object-there, object-part-stands, place-delete, place-object}
+use Rattle.gc_places.specs.Group.{Checked, OfUsed, Kept, InGroup}
+
+-- what stands in the slots of a group is what a call finds in them
+pub settled-found : (w : World) (slots : List ℕ) → settled (each (foundAt (sourceOf w)) slots) ≡ found w slots
+unfolding found
+settled-found w slots = refl
+
+-- settings in their ranges have slots of a fitting size
+pub group-checked : (s : Settings) (heap : List ℕ) (records : List Record) (plan : List ℕ) (generation : ℕ) (is ls : List ℕ) (n : ℕ) → InRanges s
+    → Ready (s .«slot_bytes») (length heap) records plan generation
+    → decide (groupChecks (s .«max_object_size») (source (s .«slot_bytes») heap records (used is ls)) (planned plan generation)) ≡ Done
+    → Formed (table is ls) → length is ≤ n → Checked (s .«max_object_size») (s .«slot_bytes») heap records plan generation is ls n
+group-checked s heap records plan generation is ls n ranges ready clear formed wide =
+    record { low = omega (arith, ranges .slot-low); high = ranges .slot-high; ready = ready; clear = clear; formed = formed; wide = wide }
+
+-- ---- places one by one
+-- as many as locations
+places-length : (size : ℕ) (lsns ls ms : List ℕ) → length ls ≤ length ms → length (placesFor size lsns ls ms) ≡ length ls
+unfolding placesFor
+places-length size lsns [] ms h = refl
+places-length size lsns (l ∷ ls) [] h = absurd (not-suc-le-zero h)
+places-length size lsns (l ∷ ls) (m ∷ ms) h = ap suc (places-length size lsns ls ms (le-of-suc-le-suc h))
+
+-- that of entry i
+places-at : (size : ℕ) (lsns ls ms : List ℕ) (i : ℕ) → i < length ls → i < length ms → getD (placesFor size lsns ls ms) i 0 ≡ placeFor size lsns (getD ls i 0) (getD ms i 0)
+unfolding placesFor
+places-at size lsns [] ms i h g = absurd (not-suc-le-zero h)
+places-at size lsns (l ∷ ls) [] i h g = absurd (not-suc-le-zero g)
+places-at size lsns (l ∷ ls) (m ∷ ms) zero h g = refl
+places-at size lsns (l ∷ ls) (m ∷ ms) (suc i) h g = places-at size lsns ls ms i (le-of-suc-le-suc h) (le-of-suc-le-suc g)
+
+-- behind what is put into zeros stand zeros
+behind-zero : (ps : List ℕ) (k n i : ℕ) → getD (ps ++ drop k (replicate n 0)) i 0 ≡ getD ps i 0
+behind-zero [] k n i = getD-drop k (replicate n 0) i 0 ∙ blank-at n (k + i)
+behind-zero (p ∷ ps) k n zero = refl
+behind-zero (p ∷ ps) k n (suc i) = behind-zero ps k n i
+
+front-zero : (ps : List ℕ) (n i : ℕ) → getD (front ps (replicate n 0)) i 0 ≡ getD ps i 0
+unfolding front
+front-zero ps n i = behind-zero ps (length ps) n i
+
+-- an entry without a mark has no place
+place-none : (size : ℕ) (lsns : List ℕ) (location : ℕ) → placeFor size lsns location 0 ≡ 0
+unfolding placeFor
+place-none size lsns location = refl
+
+-- a delete's place
+place-gone : (size : ℕ) (lsns : List ℕ) (location k : ℕ) → deleteOf location ≡ true → placeFor size lsns location (suc k) ≡ 1
+unfolding placeFor
+place-gone size lsns location k d = rw (ne-eqb (suc k) 0 (λ z. omega arith), d) refl
+
+-- an object's place
+place-object-is : (size : ℕ) (lsns : List ℕ) (location k : ℕ) → deleteOf location ≡ false
+    → placeFor size lsns location (suc k) ≡ k * size + 64 + (positionOf location - getD lsns k 0)
+unfolding placeFor
+place-object-is size lsns location k d =
+    let back : suc k - 1 ≡ k = omega arith in
+    rw (ne-eqb (suc k) 0 (λ z. omega arith), d, back) refl
+
+-- ---- marks one by one
+from-length : (s : Source) (slots ms : List ℕ) → length (marksFrom s slots ms) ≡ length ms
+unfolding marksFrom
+from-length s [] ms = refl
+from-length s (k ∷ ks) ms = from-length s ks (marked (suc k) (idsOf (foundAt s k)) (s .table) ms) ∙ marked-length (suc k) (idsOf (foundAt s k)) (s .table) ms
+
+marks-length : (s : Source) (n : ℕ) (slots : List ℕ) → length (marksOf s n slots) ≡ n
+unfolding marksOf
+marks-length s n slots = from-length s slots (replicate n 0) ∙ length-replicate {A = ℕ} n 0
+
+-- none behind the table
+marks-behind : (s : Source) (n : ℕ) (slots : List ℕ) (i : ℕ) → length (s .table) ≤ i → getD (marksOf s n slots) i 0 ≡ 0
+unfolding marksOf
+marks-behind s n slots i h =
+    let t = length (s .table) in
+    let j = i - t in
+    let at : t + j ≡ i = omega arith in
+    let ms = marksFrom s slots (replicate n 0) in
+    ap (λ (k : ℕ). getD ms k 0) (sym at) ∙ sym (getD-drop t ms j 0) ∙ ap (λ (l : List ℕ). getD l j 0) (from-past s slots (replicate n 0))
+    ∙ getD-drop t (replicate n 0) j 0 ∙ blank-at n (t + j)
+
+-- ---- a turn over the entries that are placed
+-- nothing stands at no place
+placed-none : (heap xs ps : List ℕ) → ((i : ℕ) → getD ps i 0 ≡ 0) → placedOps heap xs ps ≡ []
+unfolding placedOps
+placed-none heap [] ps z = refl
+placed-none heap (x ∷ xs) [] z = refl
+placed-none heap (x ∷ xs) (p ∷ ps) z = rw (eq-eqb p 0 (z 0)) (placed-none heap xs ps (λ i. z (suc i)))
+
+module _ (heap xs ps : List ℕ) (i : ℕ) (h : i < length xs) (g : i < length ps) where
+  placed-here : 0 < getD ps i 0 → placedOps heap (drop i xs) (drop i ps) ≡ opAt heap (getD xs i 0) (getD ps i 0) ∷ placedOps heap (drop (i + 1) xs) (drop (i + 1) ps)
+  unfolding placedOps
+  placed-here some = rw (left-next xs i 0 h, left-next ps i 0 g, ne-eqb (getD ps i 0) 0 (λ z. omega arith)) refl
+
+  placed-next : getD ps i 0 ≡ 0 → placedOps heap (drop i xs) (drop i ps) ≡ placedOps heap (drop (i + 1) xs) (drop (i + 1) ps)
+  unfolding placedOps
+  placed-next z = rw (left-next xs i 0 h, left-next ps i 0 g, eq-eqb (getD ps i 0) 0 z) refl
+
+-- ---- an object of a file
+-- an object in the file of slot k, from position p of its object bytes on
+record Lying (size : ℕ) (heap : List ℕ) (r : Record) (k p : ℕ) : Type 0 where
+  high : p ≤ 2 ^ 20
+  short : storedAt p (drop p (objectPart r (slotBytes size heap k))) .size < 2 ^ 20
+  inside : InSlot size heap k (k * size + 64 + p)
+
+-- one that lies within its file's object bytes
+object-lies : (size : ℕ) (heap : List ℕ) (r : Record) (k p : ℕ) → 64 ≤ size → size ≤ 2 ^ 20 → k * size + size ≤ length heap → r .«trailer_offset» ≤ size - 64
+    → let o = storedAt p (drop p (objectPart r (slotBytes size heap k))) in
+    20 + o .size ≤ o .room → Lying size heap r k p
+unfolding storedAt
+object-lies size heap r k p low high whole offset room =
+    let part = objectPart r (slotBytes size heap k) in
+    let stands = object-part-stands r size heap k low whole in
+    let there = object-there part (stands .0) heap (k * size + 64) p (stands .1) room in
+    let long = part-length r (slotBytes size heap k) in
+    let left = length-drop p part in
+    record {
+      high = omega (arith, room, long, left);
+      short = omega (arith, room, long, left);
+      inside = record { behind = omega arith; inside = omega (arith, there .size, room, long, left) };
+    }
+
+module _ (limit size : ℕ) (heap : List ℕ) (records : List Record) (plan : List ℕ) (generation : ℕ) (is ls : List ℕ) (n : ℕ) where
+  -- the group's source, the lsns of its files, its slots, and its marks
+  abbrev from : Source
+  from = source size heap records (used is ls)
+
+  abbrev lsns : List ℕ
+  lsns = lsnsOf records
+
+  abbrev slots : List ℕ
+  slots = planned plan generation
+
+  abbrev marks : List ℕ
+  marks = marksOf from n slots
+
+  -- entry i of the table
+  abbrev entryAt : ℕ → Entry
+  entryAt i = getD (used is ls) i noEntry
+
+  -- its place in slot k
+  abbrev place : ℕ → ℕ → ℕ
+  place i k = placeFor size lsns (getD ls i 0) (suc k)
+
+  -- entry i with the mark of slot k
+  record Stood (i k : ℕ) : Type 0 where
+    some : 0 < place i k
+    op : opAt heap (getD is i 0) (place i k) ≡ record { id = entryAt i .id; content = contentAt from (entryAt i .location) k }
+    slot : k < 256
+    low : deleteOf (getD ls i 0) ≡ false → getD lsns k 0 ≤ positionOf (getD ls i 0)
+    high : deleteOf (getD ls i 0) ≡ false → positionOf (getD ls i 0) - getD lsns k 0 ≤ 2 ^ 20
+    kept : 1 < place i k → Kept size heap plan generation (place i k)
+
+  module _ (a : Checked limit size heap records plan generation is ls n) where
+    fits : length (used is ls) ≤ n
+    fits = omega (arith, used-fits is ls (a .formed), a .wide)
+
+    -- a delete
+    stood-delete : (i k : ℕ) → i < length (used is ls) → k < 256 → deleteOf (getD ls i 0) ≡ true → Stood i k
+    unfolding contentAt
+    stood-delete i k h few d =
+        let is-one = place-gone size lsns (getD ls i 0) k d in
+        let next : suc k ≡ k + 1 = omega arith in
+        let gone : deleteOf (entryAt i .location) ≡ true = rw (← used-location is ls i h) d in
+        record {
+          some = omega (arith, is-one);
+          op = place-delete size heap lsns (getD ls i 0) k (suc k) next (getD is i 0) d ∙ rw (gone, used-id is ls i h) refl;
+          slot = few;
+          low = λ e. absurd (let z : true ≡ false = sym d ∙ e in let y : _≡_ {A = ℕ} 0 1 = cc in omega arith);
+          high = λ e. absurd (let z : true ≡ false = sym d ∙ e in let y : _≡_ {A = ℕ} 0 1 = cc in omega arith);
+          kept = λ more. absurd (omega (arith, is-one));
+        }
+
+    -- an object
+    stood-object : (i k : ℕ) → i < length (used is ls) → k < 256 → getD plan k 0 ≡ generation → deleteOf (getD ls i 0) ≡ false → Moves limit from (entryAt i) k → Stood i k
+    unfolding contentAt
+    stood-object i k h few chosen d moves =
+        let location = getD ls i 0 in
+        let r = recordAt records k in
+        let lsn : getD lsns k 0 ≡ r .lsn = List·getD-map (λ (q : Record). q .lsn) records k emptyRecord in
+        let at : location ≡ entryAt i .location = used-location is ls i h in
+        let p = positionOf location - getD lsns k 0 in
+        let same : positionOf (entryAt i .location) - r .lsn ≡ p = ap₂ (λ (l m : ℕ). positionOf l - m) (sym at) (sym lsn) in
+        let part = objectPart r (slotBytes size heap k) in
+        let room : 20 + storedAt p (drop p part) .size ≤ storedAt p (drop p part) .room =
+        subst (λ (m : ℕ). 20 + storedAt m (drop m part) .size ≤ storedAt m (drop m part) .room) same (moves .whole .room) in
+        let whole = a .ready .standing k chosen in
+        let lies = object-lies size heap r k p (a .low) (a .high) whole (omega (arith, a .ready .files k .offset, a .ready .files k .inside)) room in
+        let next : suc k ≡ k + 1 = omega arith in
+        let stands = place-object size heap lsns location k (suc k) next (getD is i 0) r d (a .low) whole room (lies .short) in
+        let is-at = place-object-is size lsns location k d in
+        let there : deleteOf (entryAt i .location) ≡ false = rw (← at) d in
+        record {
+          some = omega (arith, is-at);
+          op = stands .0 ∙ rw (there, same, used-id is ls i h) refl;
+          slot = few;
+          low = λ e. omega (arith, lsn, ap positionOf at, moves .low);
+          high = λ e. lies .high;
+          kept = λ more. (stands .1, (k, chosen, few, subst (InSlot size heap k) (sym is-at) (lies .inside)));
+        }
+
+    -- every mark is of a slot where the entry stands
+    stood : (i k : ℕ) → i < length (used is ls) → getD marks i 0 ≡ suc k → Stood i k
+    stood i k h e =
+        let w = marks-backed limit from (λ (j : ℕ). (j < length plan) × (getD plan j 0 ≡ generation)) slots n (used-rising is ls (a .formed)) fits (a .clear) (planned-all plan generation) i k h e in
+        let few : k < 256 = omega (arith, w .0 .0, a .ready .slots) in
+        go (deleteOf (getD ls i 0)) refl (w .0 .1) (w .1) few
+      where
+        go : (t : Bool) → deleteOf (getD ls i 0) ≡ t → getD plan k 0 ≡ generation → (deleteOf (entryAt i .location) ≡ false → Moves limit from (entryAt i) k) → k < 256 → Stood i k
+        go true d chosen backed few = stood-delete i k h few d
+        go false d chosen backed few = stood-object i k h few chosen d (backed (rw (← used-location is ls i h) d))
+
+    -- an entry behind the used ones has no mark
+    unmarked : (i k : ℕ) → length (used is ls) ≤ i → getD marks i 0 ≡ suc k → ⊥
+    unmarked i k past e = omega (arith, marks-behind from n slots i past, e)
+
+    -- so every mark can be turned into a place
+    placeable : length lsns ≡ 256 → (i : ℕ) → Placeable lsns (getD ls i 0) (getD marks i 0)
+    placeable all i = go (either-way i (length (used is ls))) (getD marks i 0) refl
+      where
+        go : (i < length (used is ls)) ⊎ (length (used is ls) ≤ i) → (m : ℕ) → getD marks i 0 ≡ m → Placeable lsns (getD ls i 0) m
+        go w zero e = record { slots = all; slot = omega arith; low = λ some d. absurd (not-suc-le-zero some); high = λ some d. absurd (not-suc-le-zero some) }
+        go (inr past) (suc k) e = absurd (unmarked i k past e)
+        go (inl inside) (suc k) e =
+            let w = stood i k inside e in
+            let back : suc k - 1 ≡ k = omega arith in
+            record { slots = all; slot = omega (arith, w .slot); low = λ some d. rw back (w .low d); high = λ some d. rw back (w .high d) }
+
+    -- by lists that are the lsns and the marks
+    pub placeables : (ns ms old : List ℕ) → length ns ≡ 256 → ns ≡ lsns → ms ≡ marks → length is ≤ length old → Placeables ns ls ms old
+    placeables ns ms old all e f room = record {
+      marks = omega (arith, a .formed .even, a .wide, marks-length from n slots, ap length f);
+      room = omega (arith, a .formed .even);
+      each = λ i h. rw (e, f) (placeable (ap length (sym e) ∙ all) i);
+    }
+
+    -- ---- the places of all entries, put into zeros
+    module _ (m : ℕ) (room : length is ≤ m) where
+      abbrev places : List ℕ
+      places = front (placesFor size lsns ls marks) (replicate m 0)
+
+      place-at : (i : ℕ) → i < length is → getD places i 0 ≡ placeFor size lsns (getD ls i 0) (getD marks i 0)
+      place-at i h =
+          front-zero (placesFor size lsns ls marks) m i
+          ∙ places-at size lsns ls marks i (omega (arith, a .formed .even)) (omega (arith, a .wide, marks-length from n slots))
+
+      -- none behind the used entries
+      place-behind : (i : ℕ) → length (used is ls) ≤ i → getD places i 0 ≡ 0
+      place-behind i past = go (either-way i (length is))
+        where
+          go : (i < length is) ⊎ (length is ≤ i) → getD places i 0 ≡ 0
+          go (inl h) = place-at i h ∙ ap (placeFor size lsns (getD ls i 0)) (marks-behind from n slots i past) ∙ place-none size lsns (getD ls i 0)
+          go (inr h) =
+              let few : length (placesFor size lsns ls marks) ≤ i =
+              omega (arith, places-length size lsns ls marks (omega (arith, a .formed .even, a .wide, marks-length from n slots)), a .formed .even) in
+              front-zero (placesFor size lsns ls marks) m i ∙ List·getD-eq-default (placesFor size lsns ls marks) 0 {n = i} few
+
+      pub places-used : OfUsed is ls places
+      places-used i some = go (either-way i (length (used is ls)))
+        where
+          go : (i < length (used is ls)) ⊎ (length (used is ls) ≤ i) → i < length (used is ls)
+          go (inl h) = h
+          go (inr past) = absurd (omega (arith, place-behind i past))
+
+      -- the place of entry i, by its mark
+      marked-place : (i k : ℕ) → i < length (used is ls) → getD marks i 0 ≡ k → getD places i 0 ≡ placeFor size lsns (getD ls i 0) k
+      marked-place i k h e = place-at i (omega (arith, used-fits is ls (a .formed))) ∙ ap (placeFor size lsns (getD ls i 0)) e
+
+      pub places-kept : InGroup size heap plan generation places
+      places-kept i more = go (places-used i (omega arith)) (getD marks i 0) refl
+        where
+          go : i < length (used is ls) → (k : ℕ) → getD marks i 0 ≡ k → Kept size heap plan generation (getD places i 0)
+          go h zero e = absurd (omega (arith, marked-place i 0 h e, place-none size lsns (getD ls i 0)))
+          go h (suc k) e =
+              let at = marked-place i (suc k) h e in
+              subst (Kept size heap plan generation) (sym at) (stood i k h e .kept (omega (arith, at)))
+
+      pub places-standing : Standing heap places
+      places-standing i more = places-kept i more .0
+
+      wide-places : length is ≤ length places
+      wide-places =
+          let few = places-length size lsns ls marks (omega (arith, a .formed .even, a .wide, marks-length from n slots)) in
+          let zeros = length-replicate {A = ℕ} m 0 in
+          omega (arith, few, zeros, a .formed .even, front-length (replicate m 0) (placesFor size lsns ls marks) (omega (arith, few, zeros, a .formed .even)))
+
+      -- the lists are as long as the used entries
+      of-ids : (i : ℕ) → i < length (used is ls) → i < length is
+      of-ids i h = omega (arith, used-fits is ls (a .formed))
+
+      of-places : (i : ℕ) → i < length (used is ls) → i < length places
+      of-places i h = omega (arith, used-fits is ls (a .formed), wide-places)
+
+      of-marks : (i : ℕ) → i < length (used is ls) → i < length marks
+      of-marks i h = omega (arith, fits, marks-length from n slots)
+
+      -- nothing stands behind the used entries
+      placed-past : (i : ℕ) → length (used is ls) ≤ i → placedOps heap (drop i is) (drop i places) ≡ markedOps from (drop i (used is ls)) (drop i marks)
+      placed-past i past =
+          placed-none heap (drop i is) (drop i places) (λ j. getD-drop i places j 0 ∙ place-behind (i + j) (omega arith))
+          ∙ sym (marked-end from (used is ls) marks i past)
+
+      -- entry by entry, what stands at the places is what is marked
+      placed-from : (left i : ℕ) → length (used is ls) ≤ i + left → placedOps heap (drop i is) (drop i places) ≡ markedOps from (drop i (used is ls)) (drop i marks)
+      placed-from zero i h = placed-past i (omega arith)
+      placed-from (suc left) i h = go (either-way i (length (used is ls))) (getD marks i 0) refl (placed-from left (i + 1) (omega arith))
+        where
+          rest : Type 0
+          rest = placedOps heap (drop (i + 1) is) (drop (i + 1) places) ≡ markedOps from (drop (i + 1) (used is ls)) (drop (i + 1) marks)
+
+          go : (i < length (used is ls)) ⊎ (length (used is ls) ≤ i) → (k : ℕ) → getD marks i 0 ≡ k → rest
+              → placedOps heap (drop i is) (drop i places) ≡ markedOps from (drop i (used is ls)) (drop i marks)
+          go (inr past) k e ih = placed-past i past
+          go (inl inside) zero e ih =
+              let none = marked-place i 0 inside e ∙ place-none size lsns (getD ls i 0) in
+              placed-next heap is places i (of-ids i inside) (of-places i inside) none ∙ ih ∙ sym (marked-next from (used is ls) marks i inside (of-marks i inside) e)
+          go (inl inside) (suc k) e ih =
+              let at = marked-place i (suc k) inside e in
+              let w = stood i k inside e in
+              placed-here heap is places i (of-ids i inside) (of-places i inside) (omega (arith, at, w .some))
+              ∙ ap₂ (λ (o : Op) (os : List Op). o ∷ os) (ap (opAt heap (getD is i 0)) at ∙ w .op) ih
+              ∙ sym (marked-here from (used is ls) marks i inside (of-marks i inside) k e)
+
+      -- "one found twice only once, as last found"
+      pub placed-found : placedOps heap is places ≡ settled (each (foundAt from) slots)
+      placed-found = placed-from (length (used is ls)) 0 (omega arith) ∙ marked-settled from slots n (used-rising is ls (a .formed)) fits
+
+    -- ---- what is known of the places, once they are put into a list of zeros
+    abbrev Told : List ℕ → Type 0
+    Told ps = (placedOps heap is ps ≡ settled (each (foundAt from) slots)) × (OfUsed is ls ps × (Standing heap ps × InGroup size heap plan generation ps))
+
+    pub places-told : (old ps : List ℕ) → length is ≤ length old → old ≡ replicate (length old) 0 → ps ≡ front (placesFor size lsns ls marks) old → Told ps
+    places-told old ps room zeros e =
+        let m = length old in
+        subst Told (sym (e ∙ ap (front (placesFor size lsns ls marks)) zeros)) (placed-found m room, (places-used m room, (places-standing m room, places-kept m room)))
