@@ -21,7 +21,7 @@ ghost use Rattle.batch.specs.Sizes.{sizeIn};
 ghost use Rattle.batch_file.specs.Steps.{entryIn, Sized};
 
 // "A delete's relative position is the object bytes before it", and an object's too.
-fn entry_of(o: Operation, position: u64) -> Entry
+pub fn entry_of(o: Operation, position: u64) -> Entry
     requires { ⌜ position < 2 ^ 63 ⌝ }
     ensures { λ r. ⌜ r ≡ entryIn position o ⌝ }
 {

@@ -1,2 +1,3 @@
 pub mod Losing
 pub mod Adding
+pub mod Standing

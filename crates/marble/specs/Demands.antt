@@ -4,8 +4,9 @@
 pub use Rattle.rules.specs.WrittenLaws.{views-made, object-written, read-clear}
 -- reopening maps each id to its entry of greatest masked position; live counts; the next position above every file
 pub use Rattle.theory.specs.Reopened.{reopened-means}
--- maintenance on a store of demand 3: what it moves, and what it refuses with
+-- maintenance on a store of demand 3: what it moves, and what it refuses with; the same of a result of the code, and that it keeps the store
 pub use Rattle.theory.specs.Finished.{any-maintenance}
+pub use Rattle.marble.specs.Maintaining.{maintain-moves, maintain-keeps}
 -- after any calls a read gives the last accepted put, and a reopening finds the same store
 pub use Rattle.theory.specs.History.{any-history}
 -- a fresh heap opens, and a write in limits is accepted

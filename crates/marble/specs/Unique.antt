@@ -15,10 +15,11 @@ use Rattle.rules.specs.World.{World, Given, After, world, leaving, answerGiven,
 use Rattle.rules.specs.TableCalls.{TableAfter}
 use Rattle.location_table.specs.Tables.{table}
 use Rattle.claims.specs.declared.ClaimAnswer.{ClaimAnswer}
--- reopen, write, read and prune have theirs beside their code
+-- reopen, write, read, maintain and prune have theirs beside their code
 pub use Rattle.recovery.specs.Unique.{reopen-one}
 pub use Rattle.writepath.specs.Unique.{write-one}
 pub use Rattle.readpath.specs.ReadLaws.{read-one, part-one}
+pub use Rattle.gc.specs.Unique.{maintain-one}
 pub use Rattle.prune.specs.CallLaws.{prune-one}
 
 -- ---- claim and release: what their contracts say of a result, for the call's definition

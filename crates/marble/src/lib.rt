@@ -18,6 +18,10 @@ pub use claims::claim;
 pub use claims::counts;
 pub use claims::release;
 
+// "Maintenance"
+pub use gc::Maintained;
+pub use gc::maintain;
+
 // "Prune"
 pub use prune::PruneAnswer;
 pub use prune::prune;

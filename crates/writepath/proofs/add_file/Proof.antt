@@ -1,5 +1,5 @@
 use mathlib.Core.Path.{_≡_, ap, _∙_}
-use Prim.Native.Nat.{_+_, _-_, _*_}
+use Prim.Native.Nat.{_+_, _-_, _*_, _^_}
 use native.Mathlib.Omega.{arith}
 use borrow.Author.Needs.{needs}
 use lib.ListN.{length}
@@ -10,7 +10,8 @@ use Rattle.rules.specs.TrailerLaws.{trailer-length}
 use Rattle.location_table.specs.Tables.{table}
 use Rattle.limits.specs.Settled.{passed-formed}
 use Rattle.batch.specs.Reading.{opsIn}
-use Rattle.writepath.specs.Standing.{slot-inside, sizes-small, record-new, trailer-there, entries-there, count-there, entries-placed, entries-room, added}
+use Rattle.install.specs.Standing.{slot-inside, sizes-small, record-new, trailer-there, entries-there, count-there, entries-placed, added}
+use Rattle.writepath.specs.Standing.{filed-addable}
 use Rattle.writepath.proofs.add_file.Statement.{statement}
 use Rattle.writepath.proofs.add_file.Tie as tie
 
@@ -20,8 +21,9 @@ new-record-requires c κs =
     let a = start .args in
     let b = table (a .ids .now) (a .locations .now) in
     let f = start .pre in
-    let inside = slot-inside (a .settings) (a .state) (a .heap .now) b (a .batch .now) (a .slot) (a .count) (a .total) f in
-    let small = sizes-small (a .settings) (a .state) (a .heap .now) b (a .batch .now) (a .slot) (a .count) (a .total) f in
+    let d = filed-addable (a .settings) (a .state) (a .heap .now) b (a .batch .now) (a .slot) (a .count) (a .total) f in
+    let inside = slot-inside (2 ^ 62) (settled (opsIn (a .batch .now))) (a .settings) (a .state) (a .heap .now) b (a .slot) (a .count) (a .total) d in
+    let small = sizes-small (2 ^ 62) (settled (opsIn (a .batch .now))) (a .settings) (a .state) (a .heap .now) b (a .slot) (a .count) (a .total) d in
     (omega (arith, f .last), omega (arith, small .0, small .1))
 
 mul-start : tie.Need-mul-start
@@ -30,8 +32,9 @@ mul-start c =
     let a = start .args in
     let b = table (a .ids .now) (a .locations .now) in
     let f = start .pre in
-    let inside = slot-inside (a .settings) (a .state) (a .heap .now) b (a .batch .now) (a .slot) (a .count) (a .total) f in
-    let small = sizes-small (a .settings) (a .state) (a .heap .now) b (a .batch .now) (a .slot) (a .count) (a .total) f in
+    let d = filed-addable (a .settings) (a .state) (a .heap .now) b (a .batch .now) (a .slot) (a .count) (a .total) f in
+    let inside = slot-inside (2 ^ 62) (settled (opsIn (a .batch .now))) (a .settings) (a .state) (a .heap .now) b (a .slot) (a .count) (a .total) d in
+    let small = sizes-small (2 ^ 62) (settled (opsIn (a .batch .now))) (a .settings) (a .state) (a .heap .now) b (a .slot) (a .count) (a .total) d in
     omega (arith, inside, start .good)
 
 put-file-requires : tie.Need-put-file-requires
@@ -40,8 +43,9 @@ put-file-requires c κs =
     let a = start .args in
     let b = table (a .ids .now) (a .locations .now) in
     let f = start .pre in
-    let inside = slot-inside (a .settings) (a .state) (a .heap .now) b (a .batch .now) (a .slot) (a .count) (a .total) f in
-    let small = sizes-small (a .settings) (a .state) (a .heap .now) b (a .batch .now) (a .slot) (a .count) (a .total) f in
+    let d = filed-addable (a .settings) (a .state) (a .heap .now) b (a .batch .now) (a .slot) (a .count) (a .total) f in
+    let inside = slot-inside (2 ^ 62) (settled (opsIn (a .batch .now))) (a .settings) (a .state) (a .heap .now) b (a .slot) (a .count) (a .total) d in
+    let small = sizes-small (2 ^ 62) (settled (opsIn (a .batch .now))) (a .settings) (a .state) (a .heap .now) b (a .slot) (a .count) (a .total) d in
     (f .sized, inside)
 
 add-from : tie.Need-add-from
@@ -52,8 +56,9 @@ add-from c =
     let a = start .args in
     let b = table (a .ids .now) (a .locations .now) in
     let f = start .pre in
-    let inside = slot-inside (a .settings) (a .state) (a .heap .now) b (a .batch .now) (a .slot) (a .count) (a .total) f in
-    let small = sizes-small (a .settings) (a .state) (a .heap .now) b (a .batch .now) (a .slot) (a .count) (a .total) f in
+    let d = filed-addable (a .settings) (a .state) (a .heap .now) b (a .batch .now) (a .slot) (a .count) (a .total) f in
+    let inside = slot-inside (2 ^ 62) (settled (opsIn (a .batch .now))) (a .settings) (a .state) (a .heap .now) b (a .slot) (a .count) (a .total) d in
+    let small = sizes-small (2 ^ 62) (settled (opsIn (a .batch .now))) (a .settings) (a .state) (a .heap .now) b (a .slot) (a .count) (a .total) d in
     omega (arith, inside, small .0, start .good)
 
 add-from-2 : tie.Need-add-from-2
@@ -64,8 +69,9 @@ add-from-2 c =
     let a = start .args in
     let b = table (a .ids .now) (a .locations .now) in
     let f = start .pre in
-    let inside = slot-inside (a .settings) (a .state) (a .heap .now) b (a .batch .now) (a .slot) (a .count) (a .total) f in
-    let small = sizes-small (a .settings) (a .state) (a .heap .now) b (a .batch .now) (a .slot) (a .count) (a .total) f in
+    let d = filed-addable (a .settings) (a .state) (a .heap .now) b (a .batch .now) (a .slot) (a .count) (a .total) f in
+    let inside = slot-inside (2 ^ 62) (settled (opsIn (a .batch .now))) (a .settings) (a .state) (a .heap .now) b (a .slot) (a .count) (a .total) d in
+    let small = sizes-small (2 ^ 62) (settled (opsIn (a .batch .now))) (a .settings) (a .state) (a .heap .now) b (a .slot) (a .count) (a .total) d in
     omega (arith, inside, small .0, start .good)
 
 mul-end : tie.Need-mul-end
@@ -76,8 +82,9 @@ mul-end c =
     let a = start .args in
     let b = table (a .ids .now) (a .locations .now) in
     let f = start .pre in
-    let inside = slot-inside (a .settings) (a .state) (a .heap .now) b (a .batch .now) (a .slot) (a .count) (a .total) f in
-    let small = sizes-small (a .settings) (a .state) (a .heap .now) b (a .batch .now) (a .slot) (a .count) (a .total) f in
+    let d = filed-addable (a .settings) (a .state) (a .heap .now) b (a .batch .now) (a .slot) (a .count) (a .total) f in
+    let inside = slot-inside (2 ^ 62) (settled (opsIn (a .batch .now))) (a .settings) (a .state) (a .heap .now) b (a .slot) (a .count) (a .total) d in
+    let small = sizes-small (2 ^ 62) (settled (opsIn (a .batch .now))) (a .settings) (a .state) (a .heap .now) b (a .slot) (a .count) (a .total) d in
     omega (arith, inside, small .0, start .good)
 
 add-end : tie.Need-add-end
@@ -88,8 +95,9 @@ add-end c =
     let a = start .args in
     let b = table (a .ids .now) (a .locations .now) in
     let f = start .pre in
-    let inside = slot-inside (a .settings) (a .state) (a .heap .now) b (a .batch .now) (a .slot) (a .count) (a .total) f in
-    let small = sizes-small (a .settings) (a .state) (a .heap .now) b (a .batch .now) (a .slot) (a .count) (a .total) f in
+    let d = filed-addable (a .settings) (a .state) (a .heap .now) b (a .batch .now) (a .slot) (a .count) (a .total) f in
+    let inside = slot-inside (2 ^ 62) (settled (opsIn (a .batch .now))) (a .settings) (a .state) (a .heap .now) b (a .slot) (a .count) (a .total) d in
+    let small = sizes-small (2 ^ 62) (settled (opsIn (a .batch .now))) (a .settings) (a .state) (a .heap .now) b (a .slot) (a .count) (a .total) d in
     omega (arith, inside, small .0, start .good)
 
 add-end-2 : tie.Need-add-end-2
@@ -100,8 +108,9 @@ add-end-2 c =
     let a = start .args in
     let b = table (a .ids .now) (a .locations .now) in
     let f = start .pre in
-    let inside = slot-inside (a .settings) (a .state) (a .heap .now) b (a .batch .now) (a .slot) (a .count) (a .total) f in
-    let small = sizes-small (a .settings) (a .state) (a .heap .now) b (a .batch .now) (a .slot) (a .count) (a .total) f in
+    let d = filed-addable (a .settings) (a .state) (a .heap .now) b (a .batch .now) (a .slot) (a .count) (a .total) f in
+    let inside = slot-inside (2 ^ 62) (settled (opsIn (a .batch .now))) (a .settings) (a .state) (a .heap .now) b (a .slot) (a .count) (a .total) d in
+    let small = sizes-small (2 ^ 62) (settled (opsIn (a .batch .now))) (a .settings) (a .state) (a .heap .now) b (a .slot) (a .count) (a .total) d in
     omega (arith, inside, small .0, start .good)
 
 sub-install : tie.Need-sub-install
@@ -118,8 +127,9 @@ part-install-end c =
     let a = start .args in
     let b = table (a .ids .now) (a .locations .now) in
     let f = start .pre in
-    let inside = slot-inside (a .settings) (a .state) (a .heap .now) b (a .batch .now) (a .slot) (a .count) (a .total) f in
-    let small = sizes-small (a .settings) (a .state) (a .heap .now) b (a .batch .now) (a .slot) (a .count) (a .total) f in
+    let d = filed-addable (a .settings) (a .state) (a .heap .now) b (a .batch .now) (a .slot) (a .count) (a .total) f in
+    let inside = slot-inside (2 ^ 62) (settled (opsIn (a .batch .now))) (a .settings) (a .state) (a .heap .now) b (a .slot) (a .count) (a .total) d in
+    let small = sizes-small (2 ^ 62) (settled (opsIn (a .batch .now))) (a .settings) (a .state) (a .heap .now) b (a .slot) (a .count) (a .total) d in
     omega (arith, inside, small .0, ap length (p .put-file .ensures) ∙ made-length _ (a .heap .now))
 
 install-requires : tie.Need-install-requires
@@ -130,18 +140,19 @@ install-requires c κs =
     let a = start .args in
     let b = table (a .ids .now) (a .locations .now) in
     let f = start .pre in
-    let inside = slot-inside (a .settings) (a .state) (a .heap .now) b (a .batch .now) (a .slot) (a .count) (a .total) f in
-    let small = sizes-small (a .settings) (a .state) (a .heap .now) b (a .batch .now) (a .slot) (a .count) (a .total) f in
+    let d = filed-addable (a .settings) (a .state) (a .heap .now) b (a .batch .now) (a .slot) (a .count) (a .total) f in
+    let inside = slot-inside (2 ^ 62) (settled (opsIn (a .batch .now))) (a .settings) (a .state) (a .heap .now) b (a .slot) (a .count) (a .total) d in
+    let small = sizes-small (2 ^ 62) (settled (opsIn (a .batch .now))) (a .settings) (a .state) (a .heap .now) b (a .slot) (a .count) (a .total) d in
     let from = a .slot * a .settings .«slot_bytes» + 64 + a .total in
     let size : from + (12 + 16 * a .count) - from ≡ 12 + 16 * a .count = omega arith in
-    let there = trailer-there (a .settings) (a .state) (a .heap .now) b (a .batch .now) (a .slot) (a .count) (a .total) f (n .new-record .result) _ (p .put-file .ensures) in
+    let there = trailer-there (2 ^ 62) (settled (opsIn (a .batch .now))) (a .settings) (a .state) (a .heap .now) b (a .slot) (a .count) (a .total) d (n .new-record .result) _ (p .put-file .ensures) in
     let ops = settled (opsIn (a .batch .now)) in
-    rw (size, there, entries-there (a .settings) (a .state) (a .heap .now) b (a .batch .now) (a .slot) (a .count) (a .total) f, count-there (a .settings) (a .state) (a .heap .now) b (a .batch .now) (a .slot) (a .count) (a .total) f, n .new-record .ensures) (
+    rw (size, there, entries-there (2 ^ 62) (settled (opsIn (a .batch .now))) (a .settings) (a .state) (a .heap .now) b (a .slot) (a .count) (a .total) d, count-there (2 ^ 62) (settled (opsIn (a .batch .now))) (a .settings) (a .state) (a .heap .now) b (a .slot) (a .count) (a .total) d, n .new-record .ensures) (
       passed-formed (a .settings) _ b (a .state) (f .limits),
       omega (arith, trailer-length (entriesOf 0 ops), entries-of-length 0 ops, f .sized .entries),
-      entries-placed (a .settings) (a .state) (a .heap .now) b (a .batch .now) (a .slot) (a .count) (a .total) f,
+      entries-placed (2 ^ 62) (settled (opsIn (a .batch .now))) (a .settings) (a .state) (a .heap .now) b (a .slot) (a .count) (a .total) d,
       omega (arith, f .limits .next),
-      entries-room (a .settings) (a .state) (a .heap .now) b (a .batch .now) (a .slot) (a .count) (a .total) f _,
+      d .room _,
       omega (arith, f .free, f .limits .limits .heap .most),
       omega (arith, f .last),
     )
@@ -164,12 +175,13 @@ returns c =
     let a = start .args in
     let b = table (a .ids .now) (a .locations .now) in
     let f = start .pre in
+    let d = filed-addable (a .settings) (a .state) (a .heap .now) b (a .batch .now) (a .slot) (a .count) (a .total) f in
     let from = a .slot * a .settings .«slot_bytes» + 64 + a .total in
     let size : from + (12 + 16 * a .count) - from ≡ 12 + 16 * a .count = omega arith in
-    let there = trailer-there (a .settings) (a .state) (a .heap .now) b (a .batch .now) (a .slot) (a .count) (a .total) f (n .new-record .result) _ (p .put-file .ensures) in
+    let there = trailer-there (2 ^ 62) (settled (opsIn (a .batch .now))) (a .settings) (a .state) (a .heap .now) b (a .slot) (a .count) (a .total) d (n .new-record .result) _ (p .put-file .ensures) in
     let ops = settled (opsIn (a .batch .now)) in
-    let left = rw (size, there, entries-there (a .settings) (a .state) (a .heap .now) b (a .batch .now) (a .slot) (a .count) (a .total) f) at (i .install .ensures) in
-    λ w. added (a .settings) (a .state) (a .heap .now) b (a .batch .now) (a .slot) (a .count) (a .total) f w (n .new-record .result) _ _ _ (n .new-record .ensures ∙ record-new (a .settings) (a .state) (a .heap .now) b (a .batch .now) (a .slot) (a .count) (a .total) f) (p .put-file .ensures) (left .0) (left .1)
+    let left = rw (size, there, entries-there (2 ^ 62) (settled (opsIn (a .batch .now))) (a .settings) (a .state) (a .heap .now) b (a .slot) (a .count) (a .total) d) at (i .install .ensures) in
+    λ w. added (2 ^ 62) (settled (opsIn (a .batch .now))) (a .settings) (a .state) (a .heap .now) b (a .slot) (a .count) (a .total) d 0 w (n .new-record .result) _ _ _ (n .new-record .ensures ∙ record-new (2 ^ 62) (settled (opsIn (a .batch .now))) (a .settings) (a .state) (a .heap .now) b (a .slot) (a .count) (a .total) d 0) (p .put-file .ensures) (left .0) (left .1)
 
 pub add-file-spec : {M : Type 1} → statement M
 add-file-spec =

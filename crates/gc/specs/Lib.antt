@@ -1,0 +1,3 @@
+pub mod Runs
+pub mod RunLaws
+pub mod Unique

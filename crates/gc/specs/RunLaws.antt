@@ -1,0 +1,137 @@
+-- The steps of the call: its groups, its end, and what is known from group to group.
+use mathlib.Core.Path.{_≡_, refl, sym, _∙_}
+use mathlib.Core.Bool.{true≢false}
+use mathlib.Core.Logic.{_⊎_, inl, inr}
+use Prim.Native.Nat.{_≤_, _<_}
+use native.Mathlib.Omega.{arith}
+use lib.ListN.{List·getD-eq-default}
+use borrow.Author.Tests.{lt-ltb, le-ltb}
+use Rattle.numbers.specs.GroupLaws.{either-way}
+use Rattle.rules.specs.Base.{Bool, true, false, List, ℕ, length, getD, pick}
+use Rattle.rules.specs.declared.Settings.{Settings}
+use Rattle.rules.specs.declared.Record.{Record}
+use Rattle.rules.specs.declared.State.{State}
+use Rattle.rules.specs.declared.Claims.{Claims}
+use Rattle.rules.specs.declared.Answer.{Answer}
+use Rattle.rules.specs.declared.Answer.the-variants.{Done, Refused}
+use Rattle.rules.specs.declared.Refusal.the-variants.{Limits}
+use Rattle.rules.specs.declared.MaintainAnswer.the-variants.{Stopped}
+use Rattle.rules.specs.Refusal.{decide}
+use Rattle.rules.specs.Layout.{Buffers}
+use Rattle.rules.specs.FileMap.{isEmpty, recordAt, fileCount}
+use Rattle.rules.specs.SettingsLaws.{slot-within}
+use Rattle.rules.specs.Condition1.{refused1}
+use Rattle.rules.specs.Condition1Laws.{Passed}
+use Rattle.rules.specs.Maintenance.{newGeneration, isCandidate, Stop, going, Course, rewriteGroup, onward, groupsFrom, courseOf, finished, maintainCall}
+use Rattle.rules.specs.MaintenanceLaws.{candidate}
+use Rattle.rules.specs.Prune.{pruned}
+use Rattle.rules.specs.World.{World, recordsOf, maintainGiven, leaving}
+use Rattle.gc_group.specs.Plan.{planFor, planOf, group-planned, plan-length, plan-at}
+use Rattle.gc_group.specs.Source.{Ready, passed-lie}
+use Rattle.gc_rewrite.specs.Courses.{courseGiven}
+use Rattle.gc.specs.declared.Halt.{Halt}
+use Rattle.gc.specs.declared.Halt.the-variants.{Going, Halted}
+use Rattle.gc.specs.declared.Run.{Run}
+use Rattle.gc.specs.Runs.{isGoing, stopOf, stopGiven, standing, answerOf, byPlan, Underway}
+
+-- ---- what is known from group to group
+plan-file : (s : Settings) (claims : Claims) (files slot : ℕ) (r : Record) → 0 < planFor s claims files slot r → isEmpty r ≡ false
+unfolding planFor
+plan-file s claims files slot r h = go (isCandidate s claims files slot r) refl h
+  where
+    go : (t : Bool) → isCandidate s claims files slot r ≡ t → 0 < pick t (newGeneration (r .generation)) 0 → isEmpty r ≡ false
+    go true e h = candidate s claims files slot r e .file
+    go false e h = absurd (omega arith)
+
+-- a slot of the plan has a file
+pub plan-files : (s : Settings) (claims : Claims) (rs : List Record) (k : ℕ) → 0 < getD (planOf s claims rs) k 0 → isEmpty (recordAt rs k) ≡ false
+plan-files s claims rs k h = go (either-way k (length rs))
+  where
+    go : (k < length rs) ⊎ (length rs ≤ k) → isEmpty (recordAt rs k) ≡ false
+    go (inl i) = let n = plan-at s claims rs k i in plan-file s claims (fileCount rs) k (recordAt rs k) (omega arith)
+    go (inr i) =
+        let z : getD (planOf s claims rs) k 0 ≡ 0 = List·getD-eq-default (planOf s claims rs) 0 {n = k} (omega (arith, plan-length s claims rs)) in
+        absurd (omega arith)
+
+-- as the call starts
+pub under-start : (s : Settings) (claims : Claims) (n : ℕ) (b : Buffers) (t : State) → Passed s n b t → length (t .files .records) ≡ 256
+    → Underway s n b t (planOf s claims (t .files .records))
+under-start s claims n b t w l =
+    record { limits = w; slots = plan-length s claims (t .files .records) ∙ l; files = plan-files s claims (t .files .records) }
+
+-- after a group that leaves no file's record empty
+pub under-after : (s : Settings) (n : ℕ) (b : Buffers) (t : State) (plan : List ℕ) → Underway s n b t plan → (m : ℕ) (d : Buffers) (u : State) → Passed s m d u
+    → ((k : ℕ) → isEmpty (recordAt (t .files .records) k) ≡ false → isEmpty (recordAt (u .files .records) k) ≡ false) → Underway s m d u plan
+under-after s n b t plan w m d u p stay = record { limits = p; slots = w .slots; files = λ k h. stay k (w .files k h) }
+
+-- a group's loops may run
+pub under-ready : (s : Settings) (n : ℕ) (b : Buffers) (t : State) (plan : List ℕ) (generation : ℕ) → Underway s n b t plan → 0 < generation
+    → Ready (s .«slot_bytes») n (t .files .records) plan generation
+under-ready s n b t plan generation w g = record {
+  slots = w .slots;
+  files = passed-lie s n b t (w .limits);
+  standing = λ k e. slot-within s n k (w .limits .limits .heap) (w .limits .records k (w .files k (omega arith)) .place);
+}
+
+-- ---- one generation
+module _ (halt : Halt) (generation : ℕ) (slots : List ℕ) (c : Course) where
+  -- "A refusal stops the call"
+  pub step-halted : isGoing halt ≡ false → c ≡ onward (stopOf halt) generation slots c
+  step-halted e = go halt e
+    where
+      go : (h : Halt) → isGoing h ≡ false → c ≡ onward (stopOf h) generation slots c
+      go Going e = absurd (true≢false e)
+      go (Halted r g) e = refl
+
+  goes : (h : Halt) → isGoing h ≡ true → stopOf h ≡ going
+  goes Going e = refl
+  goes (Halted r g) e = absurd (true≢false (sym e))
+
+  -- "one with fewer files than min_compaction_files is skipped"
+  pub step-skipped : isGoing halt ≡ true → length slots < c .world .settings .«min_compaction_files» → c ≡ onward (stopOf halt) generation slots c
+  step-skipped e h = rw (goes halt e, lt-ltb (length slots) (c .world .settings .«min_compaction_files») h) refl
+
+  -- any other is rewritten
+  pub step-rewritten : isGoing halt ≡ true → c .world .settings .«min_compaction_files» ≤ length slots
+      → rewriteGroup generation slots (c .moved) (c .world) ≡ onward (stopOf halt) generation slots c
+  step-rewritten e h = rw (goes halt e, le-ltb (length slots) (c .world .settings .«min_compaction_files») h) refl
+
+-- where the call stands after a group
+pub given-course : (generation : ℕ) (answer : Answer) (stop : Stop) (moved : ℕ) (w : World) → stop ≡ stopGiven generation answer
+    → record { stop = stop; moved = moved; world = w } ≡ courseGiven generation answer moved w
+given-course generation Done stop moved w e = λ i. record { stop = e i; moved = moved; world = w }
+given-course generation (Refused q) stop moved w e = λ i. record { stop = e i; moved = moved; world = w }
+
+-- ---- all of them
+-- "Groups go in ascending generation", each as the plan of the start has it
+pub by-plan : (w : World) (plan : List ℕ) → plan ≡ planOf (w .settings) (w .claims) (recordsOf w) → byPlan plan w ≡ courseOf w
+unfolding courseOf groupsFrom
+by-plan w plan e = rw (group-planned w 1 (omega arith), group-planned w 2 (omega arith), group-planned w 3 (omega arith), ← e) refl
+
+-- ---- the end
+module _ (r : Run) (w : World) where
+  -- "nothing is pruned"
+  pub finish-halted : isGoing (r .halt) ≡ false → leaving (maintainGiven (answerOf (r .halt) (r .moved))) w ≡ finished (standing r w)
+  finish-halted e = go (r .halt) e
+    where
+      go : (h : Halt) → isGoing h ≡ false → leaving (maintainGiven (answerOf h (r .moved))) w ≡ finished (record { stop = stopOf h; moved = r .moved; world = w })
+      go Going e = absurd (true≢false e)
+      go (Halted q g) e = refl
+
+  -- "Success prunes and gives the count of ids moved"
+  pub finish-going : isGoing (r .halt) ≡ true → leaving (maintainGiven (answerOf (r .halt) (r .moved))) (pruned w) ≡ finished (standing r w)
+  finish-going e = go (r .halt) e
+    where
+      go : (h : Halt) → isGoing h ≡ true → leaving (maintainGiven (answerOf h (r .moved))) (pruned w) ≡ finished (record { stop = stopOf h; moved = r .moved; world = w })
+      go Going e = refl
+      go (Halted q g) e = absurd (true≢false (sym e))
+
+-- 1
+pub maintain-refused : (w : World) → refused1 w ≡ true → leaving (maintainGiven (Stopped Limits 0 0)) w ≡ maintainCall w
+unfolding maintainCall decide
+maintain-refused w e = rw e
+
+-- not 1
+pub maintain-accepted : (w : World) → refused1 w ≡ false → finished (courseOf w) ≡ maintainCall w
+unfolding maintainCall decide
+maintain-accepted w e = rw e

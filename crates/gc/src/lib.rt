@@ -1,0 +1,199 @@
+// Maintenance (`src/gc.rs`): the groups of the candidates, generation by generation, then a prune.
+
+use gc_group::plan::group_count;
+use gc_group::plan::plan;
+use gc_rewrite::rewrite_group;
+use prune::pruned;
+use rules::Answer;
+use rules::Claims;
+use rules::MaintainAnswer;
+use rules::Refusal;
+use rules::Settings;
+use rules::State;
+ghost use mathlib.Core.Path.{_≡_};
+ghost use mathlib.Core.List.{List};
+ghost use Prim.Native.Nat.{ℕ, _+_, _^_, _≤_, _<_};
+ghost use lib.ListN.{length};
+ghost use Rattle.rules.specs.declared.Claims.{Claims};
+ghost use Rattle.rules.specs.Condition1Laws.{Passed};
+ghost use Rattle.rules.specs.Maintenance.{onward, courseOf, finished, maintainCall};
+ghost use Rattle.rules.specs.World.{world, leaving, maintainGiven};
+ghost use Rattle.location_table.specs.Tables.{table};
+ghost use Rattle.prune.specs.Labels.{LabelsIn};
+ghost use Rattle.gc_group.specs.Plan.{planned};
+ghost use Rattle.gc.specs.Runs.{isGoing, stopOf, stopGiven, standing, answerOf, byPlan, Underway};
+
+// What maintenance answers, and the state after it.
+pub struct Maintained {
+    pub answer: MaintainAnswer,
+    pub state: State,
+}
+
+// "A refusal stops the call": its number and generation.
+pub enum Halt {
+    Going,
+    Halted(Refusal, u64),
+}
+
+// Where the call stands between two groups.
+pub struct Run {
+    pub halt: Halt,
+    pub moved: u64,
+    pub state: State,
+}
+
+// No group was refused.
+fn is_going(halt: Halt) -> bool
+    ensures { λ b. ⌜ b ≡ isGoing halt ⌝ }
+{
+    match halt {
+        Halt::Going => true,
+        Halt::Halted(_, _) => false,
+    }
+}
+
+// What a group's answer makes of the call.
+fn halt_of(answer: Answer, generation: u64) -> Halt
+    ensures { λ h. ⌜ stopOf h ≡ stopGiven generation answer ⌝ }
+{
+    match answer {
+        Answer::Done => Halt::Going,
+        Answer::Refused(refusal) => Halt::Halted(refusal, generation),
+    }
+}
+
+// "one with fewer files than min_compaction_files is skipped"; nothing is done once a group was refused.
+fn generation_step(
+    settings: Settings,
+    run: Run,
+    heap: &mut [u8],
+    ids: &mut [u64],
+    locations: &mut [u64],
+    plan: &[u64],
+    generation: u64,
+) -> Run
+    requires { ⌜ Underway settings (length (now heap)) (table (now ids) (now locations)) (run .state) (now plan) ⌝ }
+    requires { ⌜ (0 < generation) × (generation ≤ 3) × (run .moved ≤ 2 ^ 32) ⌝ }
+    ensures { λ r. ⌜ ((c : Claims) → standing r (world settings (r .state) c (now (heap .exit)) (now (ids .exit)) (now (locations .exit))) ≡ onward (stopOf (run .halt)) generation (planned (now (plan .entry)) generation) (standing run (world settings (run .state) c (now (heap .entry)) (now (ids .entry)) (now (locations .entry))))) ⌝ }
+    ensures { λ r. ⌜ Underway settings (length (now (heap .exit))) (table (now (ids .exit)) (now (locations .exit))) (r .state) (now (plan .entry)) ⌝ }
+    ensures { λ r. ⌜ r .moved ≤ run .moved + 65536 ⌝ }
+{
+    let halt = run.halt;
+    if !is_going(halt) {
+        return run;
+    }
+    if group_count(plan, generation) < settings.min_compaction_files {
+        return run;
+    }
+    let state = run.state;
+    let course = rewrite_group(
+        settings,
+        state,
+        heap,
+        ids,
+        locations,
+        plan,
+        generation,
+        run.moved,
+    );
+    let answer = course.answer;
+    let after = course.state;
+    Run {
+        halt: halt_of(answer, generation),
+        moved: course.moved,
+        state: after,
+    }
+}
+
+// "Groups go in ascending generation"
+fn generations(
+    settings: Settings,
+    state: State,
+    heap: &mut [u8],
+    ids: &mut [u64],
+    locations: &mut [u64],
+    plan: &[u64],
+) -> Run
+    requires { ⌜ Underway settings (length (now heap)) (table (now ids) (now locations)) state (now plan) ⌝ }
+    ensures { λ r. ⌜ ((c : Claims) → standing r (world settings (r .state) c (now (heap .exit)) (now (ids .exit)) (now (locations .exit))) ≡ byPlan (now (plan .entry)) (world settings state c (now (heap .entry)) (now (ids .entry)) (now (locations .entry)))) ⌝ }
+    ensures { λ r. ⌜ Underway settings (length (now (heap .exit))) (table (now (ids .exit)) (now (locations .exit))) (r .state) (now (plan .entry)) ⌝ }
+{
+    let start = Run {
+        halt: Halt::Going,
+        moved: 0,
+        state: state,
+    };
+    let first = generation_step(settings, start, heap, ids, locations, plan, 1);
+    let second = generation_step(settings, first, heap, ids, locations, plan, 2);
+    generation_step(settings, second, heap, ids, locations, plan, 3)
+}
+
+// "Candidates, fixed as the call starts": their plan is made once.
+fn rewrite_groups(
+    settings: Settings,
+    state: State,
+    claims: Claims,
+    heap: &mut [u8],
+    ids: &mut [u64],
+    locations: &mut [u64],
+) -> Run
+    requires { ⌜ Passed settings (length (now heap)) (table (now ids) (now locations)) state ⌝ }
+    ensures { λ r. ⌜ standing r (world settings (r .state) claims (now (heap .exit)) (now (ids .exit)) (now (locations .exit))) ≡ courseOf (world settings state claims (now (heap .entry)) (now (ids .entry)) (now (locations .entry))) ⌝ }
+    ensures { λ r. ⌜ LabelsIn (settings .«slot_bytes») (r .state .files .records) (length (now (heap .exit))) ⌝ }
+{
+    let files = state.files;
+    let candidates = plan(settings, claims, files);
+    generations(settings, state, heap, ids, locations, &candidates)
+}
+
+// "gives number, generation and ids moved so far"; "gives the count of ids moved"
+fn answer_of(halt: Halt, moved: u64) -> MaintainAnswer
+    ensures { λ a. ⌜ a ≡ answerOf halt moved ⌝ }
+{
+    match halt {
+        Halt::Going => MaintainAnswer::Moved(moved),
+        Halt::Halted(refusal, generation) => MaintainAnswer::Stopped(refusal, generation, moved),
+    }
+}
+
+// "nothing is pruned. Success prunes and gives the count of ids moved."
+fn finish(settings: Settings, run: Run, claims: Claims, heap: &mut [u8]) -> Maintained
+    requires { ⌜ LabelsIn (settings .«slot_bytes») (run .state .files .records) (length (now heap)) ⌝ }
+    ensures { λ r. ⌜ ((ids locations : List ℕ) → leaving (maintainGiven (r .answer)) (world settings (r .state) claims (now (heap .exit)) ids locations) ≡ finished (standing run (world settings (run .state) claims (now (heap .entry)) ids locations))) ⌝ }
+{
+    let end = run.halt;
+    let state = run.state;
+    let answer = answer_of(end, run.moved);
+    if !is_going(end) {
+        return Maintained {
+            answer: answer,
+            state: state,
+        };
+    }
+    let after = pruned(settings, state, claims, heap);
+    Maintained {
+        answer: answer,
+        state: after,
+    }
+}
+
+// Refusal 1 first, "(0 and 0 with 1)"; then the groups, then the end.
+pub fn maintain(
+    settings: Settings,
+    state: State,
+    claims: Claims,
+    heap: &mut [u8],
+    ids: &mut [u64],
+    locations: &mut [u64],
+) -> Maintained
+    ensures { λ r. ⌜ leaving (maintainGiven (r .answer)) (world settings (r .state) claims (now (heap .exit)) (now (ids .exit)) (now (locations .exit))) ≡ maintainCall (world settings state claims (now (heap .entry)) (now (ids .entry)) (now (locations .entry))) ⌝ }
+{
+    if limits::refused(settings, heap.len() as u64, ids, locations, state) {
+        return Maintained {
+            answer: MaintainAnswer::Stopped(Refusal::Limits, 0, 0),
+            state: state,
+        };
+    }
+    let run = rewrite_groups(settings, state, claims, heap, ids, locations);
+    finish(settings, run, claims, heap)
+}

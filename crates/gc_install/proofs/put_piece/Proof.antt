@@ -1,0 +1,23 @@
+use native.Mathlib.Omega.{arith}
+use borrow.Author.Needs.{needs}
+use Rattle.rules.specs.Ops.{fileBytes}
+use Rattle.batch_file.specs.Whole.{file-whole}
+use Rattle.gc_files.specs.Places.{filedOps}
+use Rattle.gc_install.proofs.put_piece.Statement.{statement}
+use Rattle.gc_install.proofs.put_piece.Tie as tie
+
+write-piece-requires : tie.Need-write-piece-requires
+write-piece-requires c κs = search needs
+
+same-length : tie.Need-same-length
+same-length c = search needs
+
+returns : tie.Need-returns
+returns c =
+    let w = c .before .before in
+    let start = w .before .before .before .before .before .before in
+    let a = start .args in
+    file-whole (a .start) (a .new) (fileBytes (filedOps (a .piece) (a .heap .now) (a .ids .now) (a .places .now) (a .pieces .now))) (omega (arith, start .pre .room, start .pre .inside)) (w .write-piece .ensures)
+
+pub put-piece-spec : {M : Type 1} → statement M
+put-piece-spec = tie.close (tie.spec write-piece-requires same-length returns)

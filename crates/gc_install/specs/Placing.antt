@@ -1,0 +1,160 @@
+-- What holds between the files of a group: every object still to be moved stands in a file, and the slot that the next file takes is none.
+use mathlib.Core.Path.{_≡_, refl, sym, ap, _∙_, subst}
+use mathlib.Core.Bool.{true≢false}
+use Prim.Native.Nat.{_≤_, _<_}
+use native.Mathlib.Omega.{arith}
+use lib.Seq.{take-all}
+use Rattle.rules.specs.Base.{false, List, ℕ, _+_, _-_, _*_, _^_, length, getD}
+use Rattle.rules.specs.declared.Settings.{Settings}
+use Rattle.rules.specs.declared.State.{State}
+use Rattle.rules.specs.Claims.{noClaims}
+use Rattle.rules.specs.Settings.{slotsIn}
+use Rattle.rules.specs.SettingsLaws.{slot-within}
+use Rattle.rules.specs.Ops.{Op, objectsOf, fileBytes}
+use Rattle.rules.specs.Label.{labelBytes}
+use Rattle.rules.specs.Layout.{usedEntries}
+use Rattle.rules.specs.FileMap.{isEmpty, recordAt, emptySlots, lowestEmpty}
+use Rattle.rules.specs.FileMapLaws.{Lowest, lowest-empty}
+use Rattle.rules.specs.Condition1Laws.{Passed}
+use Rattle.rules.specs.Stores.{Store, made, fileStores}
+use Rattle.rules.specs.Install.{newRecord, newLsn, installed, storesFor}
+use Rattle.rules.specs.World.{World, world}
+use Rattle.stores.specs.Runs.{Made}
+use Rattle.location_table.specs.Tables.{table}
+use Rattle.limits.specs.Settled.{passed-formed}
+use Rattle.install.specs.Standing.{Addable}
+use Rattle.gc_files.specs.Places.{filedOps, Whole, InSlot}
+use Rattle.gc_writer.specs.Elsewhere.{Elsewhere, Apart, file-elsewhere, filed-elsewhere, slots-off, slots-elsewhere}
+use Rattle.gc_writer.specs.Walk.{Walking}
+use Rattle.gc_writer.specs.Writing.{Writing}
+use Rattle.gc_install.specs.IdLaws.{idsIn, There, stored-fits}
+use Rattle.gc_install.specs.FiledLaws.{filed-few, filed-there, filed-fit}
+use Rattle.gc_install.specs.Rewriting.{Rewritable, Rewritten, passed-installed}
+
+-- refusal 1 does not hold; places are of used entries, and each object that is to be moved stands in a slot that has a file
+pub record Placing (s : Settings) (t : State) (heap ids locations places pieces : List ℕ) : Type 0 where
+  pub limits : Passed s (length heap) (table ids locations) t
+  pub wide : length ids ≤ length places
+  pub numbered : length ids ≤ length pieces
+  pub used : (i : ℕ) → 0 < getD places i 0 → i < length (usedEntries (table ids locations))
+  pub kept : (i : ℕ) → 1 < getD places i 0 → Whole heap (getD places i 0)
+      × ((k : ℕ) × (isEmpty (recordAt (t .files .records) k) ≡ false) × InSlot (s .«slot_bytes») heap k (getD places i 0))
+
+-- the sizes of a piece ask for no more
+pub placing-walking : (s : Settings) (t : State) (heap ids locations places pieces : List ℕ) → Placing s t heap ids locations places pieces → Walking heap ids places pieces
+placing-walking s t heap ids locations places pieces p = record { wide = p .wide; numbered = p .numbered; standing = λ i h. p .kept i h .0 }
+
+-- 4, 5 and 7 do not refuse the file of this piece
+pub record Fits (s : Settings) (t : State) (heap : List ℕ) (ops : List Op) (generation : ℕ) : Type 0 where
+  pub young : generation ≤ 255
+  pub room : 64 + length (fileBytes ops) ≤ s .«slot_bytes»
+  pub free : 0 < length (emptySlots (slotsIn s (length heap)) (t .files .records))
+  pub last : t .«next_position» + (length (objectsOf ops) + 1) ≤ 2 ^ 62
+
+-- what is left after it was added
+pub record Left (s : Settings) (t : State) (heap ids places pieces : List ℕ) (ops : List Op) (r : State) (heap′ ids′ locations′ : List ℕ) : Type 0 where
+  pub placing : Placing s r heap′ ids′ locations′ places pieces
+  pub same : ids′ ≡ ids
+  pub filed : (q : ℕ) → filedOps q heap′ ids′ places pieces ≡ filedOps q heap ids places pieces
+  pub fewer : length (emptySlots (slotsIn s (length heap′)) (r .files .records)) + 1 ≡ length (emptySlots (slotsIn s (length heap)) (t .files .records))
+  pub next : r .«next_position» ≡ t .«next_position» + (length (objectsOf ops) + 1)
+
+module _ (s : Settings) (t : State) (heap ids locations places pieces : List ℕ) (p : Placing s t heap ids locations places pieces) (piece generation : ℕ)
+    (f : Fits s t heap (filedOps piece heap ids places pieces) generation) where
+  -- the slot that it takes
+  lowest : Lowest (slotsIn s (length heap)) (t .files .records) (lowestEmpty (slotsIn s (length heap)) (t .files .records))
+  lowest = lowest-empty (slotsIn s (length heap)) (t .files .records) (f .free)
+
+  -- no file stands in it
+  other : (k : ℕ) → isEmpty (recordAt (t .files .records) k) ≡ false → k ≡ lowestEmpty (slotsIn s (length heap)) (t .files .records) → ⊥
+  other k e q = true≢false (sym (lowest .free) ∙ ap (λ (j : ℕ). isEmpty (recordAt (t .files .records) j)) (sym q) ∙ e)
+
+  -- so no object that is moved lies in it
+  apart : Apart (lowestEmpty (slotsIn s (length heap)) (t .files .records) * s .«slot_bytes») (s .«slot_bytes») heap places
+  apart i h =
+      let w = p .kept i h in
+      let slot = lowestEmpty (slotsIn s (length heap)) (t .files .records) in
+      (w .0, slots-off (s .«slot_bytes») heap (w .1 .0) slot (getD places i 0) (other (w .1 .0) (w .1 .1)) (w .1 .2))
+
+  -- each operation is on an id of the table
+  there : There (idsIn (usedEntries (table ids locations))) (filedOps piece heap ids places pieces)
+  there = filed-there piece heap (table ids locations) places pieces (p .used)
+
+  -- the file may be written there
+  module _ (slot count total : ℕ) (is : slot ≡ lowestEmpty (slotsIn s (length heap)) (t .files .records))
+      (entries : count ≡ length (filedOps piece heap ids places pieces)) (objects : total ≡ length (objectsOf (filedOps piece heap ids places pieces))) where
+    pub piece-writing : Writing (slot * s .«slot_bytes») (s .«slot_bytes») heap ids places pieces piece count total
+    piece-writing = record {
+      wide = p .wide;
+      numbered = p .numbered;
+      apart = rw is apart;
+      entries = entries;
+      objects = objects;
+      inside = slot-within s (length heap) slot (p .limits .limits .heap) (omega (arith, is, lowest .place));
+      room = f .room;
+      small = omega (arith, p .limits .limits .settings .slot-high);
+    }
+
+    -- and added
+    pub piece-addable : ((i : ℕ) → getD ids i 0 < 2 ^ 64) → Addable 0 (filedOps piece heap ids places pieces) s t heap (table ids locations) slot count total
+    piece-addable fit = record {
+      limits = p .limits;
+      plain = omega arith;
+      ids = filed-fit piece heap ids places pieces fit;
+      entries = entries;
+      objects = objects;
+      fits = f .room;
+      lowest = is;
+      free = omega (arith, is, lowest .place);
+      room = λ lsn. stored-fits (table ids locations) (passed-formed s (length heap) (table ids locations) t (p .limits)) lsn (filedOps piece heap ids places pieces) there;
+      last = omega (arith, objects, f .last);
+    }
+
+  -- what holds once it was added
+  module _ (r : State) (heap′ ids′ locations′ : List ℕ)
+      (e : world s r noClaims heap′ ids′ locations′ ≡ installed 0 generation (world s t noClaims heap ids locations) (filedOps piece heap ids places pieces)) where
+    after : Rewritten (world s t noClaims heap ids locations) (filedOps piece heap ids places pieces) (world s r noClaims heap′ ids′ locations′)
+    after = subst (Rewritten (world s t noClaims heap ids locations) (filedOps piece heap ids places pieces)) (sym e)
+        (passed-installed generation (world s t noClaims heap ids locations) (filedOps piece heap ids places pieces) (record {
+          passed = p .limits;
+          young = f .young;
+          fits = f .room;
+          free = f .free;
+          last = f .last;
+          there = there;
+          few = filed-few piece heap ids places pieces;
+        }))
+
+    -- all else stands
+    elsewhere : Elsewhere (lowestEmpty (slotsIn s (length heap)) (t .files .records) * s .«slot_bytes») (s .«slot_bytes») heap heap′
+    unfolding installed storesFor
+    elsewhere =
+        let ops = filedOps piece heap ids places pieces in
+        let new = newRecord (newLsn 0 (world s t noClaims heap ids locations)) generation ops in
+        let start = lowestEmpty (slotsIn s (length heap)) (t .files .records) * s .«slot_bytes» in
+        let run = fileStores start (labelBytes new) (fileBytes ops) in
+        let whole : Made (length run) run heap heap′ (length run - length run) =
+        record { heap = ap (λ (w : World). w .heap) e ∙ ap (λ (ss : List Store). made ss heap) (sym (take-all (length run) run (omega arith))); rest = refl } in
+        file-elsewhere start (s .«slot_bytes») new (fileBytes ops) (f .room) whole
+
+    -- LAW: the same holds again, and the other files' operations are as they were
+    pub piece-left : Left s t heap ids places pieces (filedOps piece heap ids places pieces) r heap′ ids′ locations′
+    piece-left =
+        let same = after .ids in
+        record {
+          placing = record {
+            limits = after .passed;
+            wide = rw same (p .wide);
+            numbered = rw same (p .numbered);
+            used = λ i h. omega (arith, after .used, p .used i h);
+            kept = λ i h.
+                let w = p .kept i h in
+                let slot = lowestEmpty (slotsIn s (length heap)) (t .files .records) in
+                let v = slots-elsewhere (s .«slot_bytes») slot elsewhere (w .1 .0) (getD places i 0) (other (w .1 .0) (w .1 .1)) (w .0) (w .1 .2) in
+                (v .0, (w .1 .0, after .files (w .1 .0) (w .1 .1), v .1));
+          };
+          same = same;
+          filed = λ q. ap (λ (xs : List ℕ). filedOps q heap′ xs places pieces) same ∙ filed-elsewhere elsewhere q ids places pieces apart;
+          fewer = after .empty;
+          next = after .next;
+        }

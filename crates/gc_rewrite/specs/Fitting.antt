@@ -1,0 +1,52 @@
+-- Files that 4, 5 and 7 do not refuse: room and positions for each, one after the other.
+use mathlib.Core.Path.{_≡_, refl, sym, ap, _∙_, subst}
+use Prim.Native.Nat.{_≤_, _<_}
+use native.Mathlib.Omega.{arith}
+use Rattle.rules.specs.Base.{List, [], _∷_, ℕ, suc, _+_, _^_, length, sum}
+use Rattle.rules.specs.declared.Answer.the-variants.{Done}
+use Rattle.rules.specs.Refusal.{NoneHolds, decide, clear-when, none-first, none-rest}
+use Rattle.rules.specs.Ops.{Op, objectsOf, fileBytes}
+use Rattle.rules.specs.Install.{roomTests, positionTests}
+use Rattle.rules.specs.InstallLaws.{Room, room-clear, positions-clear}
+use Rattle.rules.specs.Maintenance.{filesOf}
+use Rattle.gc_split.specs.Tally.{tallyOf, closedOf}
+use Rattle.gc_split.specs.TotalLaws.{totalsTests, tests-told}
+
+-- "T + 1"
+abbrev pub span : List Op → ℕ
+span f = length (objectsOf f) + 1
+
+-- slots of that size, that many empty ones, and positions from a base on do for these files
+pub record Fitting (slotSize emptyOnes base : ℕ) (files : List (List Op)) : Type 0 where
+  pub room : Room slotSize emptyOnes files
+  pub positions : 0 < length files → base + sum span files ≤ 2 ^ 62
+
+-- 4, 5 and 7 do not hold
+pub fitting-clear : (target slotSize emptyOnes base : ℕ) (ops : List Op)
+    → decide (totalsTests (closedOf slotSize (tallyOf target slotSize ops)) emptyOnes base) ≡ Done → Fitting slotSize emptyOnes base (filesOf target ops)
+fitting-clear target slotSize emptyOnes base ops e =
+    let files = filesOf target ops in
+    let none = clear-when _ (ap decide (tests-told target slotSize emptyOnes base ops) ∙ e) in
+    record {
+      room = room-clear slotSize emptyOnes files (none-first (roomTests slotSize emptyOnes files) (positionTests base files) none);
+      positions = positions-clear base files (none-rest (roomTests slotSize emptyOnes files) (positionTests base files) none);
+    }
+
+-- ---- the first of them, and the others after it
+module _ (slotSize emptyOnes base : ℕ) (f : List Op) (fs : List (List Op)) (w : Fitting slotSize emptyOnes base (f ∷ fs)) where
+  pub first-fits : 64 + length (fileBytes f) ≤ slotSize
+  first-fits = w .room .fits .0
+
+  pub first-room : 0 < emptyOnes
+  first-room = omega (arith, w .room .slots)
+
+  pub first-positions : base + span f ≤ 2 ^ 62
+  unfolding sum
+  first-positions = omega (arith, w .positions (omega arith))
+
+  pub fitting-rest : (emptyAfter next : ℕ) → emptyAfter + 1 ≡ emptyOnes → next ≡ base + span f → Fitting slotSize emptyAfter next fs
+  unfolding sum
+  fitting-rest emptyAfter next e d = record {
+    room = record { fits = w .room .fits .1; slots = omega (arith, w .room .slots) };
+    positions = λ some. omega (arith, w .positions (omega arith));
+  }

@@ -1,0 +1,7 @@
+pub mod Courses
+pub mod Fitting
+pub mod Kept
+pub mod Putting
+pub mod Orders
+pub mod Rewriting
+pub mod Groups

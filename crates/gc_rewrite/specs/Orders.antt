@@ -1,0 +1,172 @@
+-- The numbers of a group's files, as the code has them: what is left of the shards in one list of places, fragments in another.
+use mathlib.Core.Path.{_≡_, refl, sym, ap, ap₂, _∙_}
+use mathlib.Core.Logic.{_⊎_, inl, inr}
+use Prim.Native.Nat.{_≤_, _<_}
+use native.Mathlib.Omega.{arith}
+use borrow.Author.Tests.{eq-eqb, ne-eqb}
+use lib.ListN.{length-append, length-replicate, List·getD-append, List·getD-eq-default, getD-replicate}
+use lib.Seq.{length-take-le, getD-take, take-append-seam, take-append-add, getD-append-add, getD-set-same, getD-set-other, set-out}
+use Rattle.numbers.specs.Parts.{front}
+use Rattle.numbers.specs.GroupLaws.{either-way}
+use Rattle.rules.specs.Base.{Bool, true, false, List, [], _∷_, _++_, ℕ, zero, suc, _+_, _-_, _*_, _^_, length, getD, set, take, drop, replicate, ltb, eqb, pick}
+use Rattle.rules.specs.BaseLaws.{All, same?, zero-or-more}
+use Rattle.rules.specs.Ops.{Op, sizeOf, shardFor}
+use Rattle.batch.specs.SizeLaws.{size-bound}
+use Rattle.gc_split.specs.Tally.{Tally, pieceOf, closing, cutting, entering, taking, tallyFrom, tallyOf, emptyTally, closedOf, restOf, restsFrom, orderOf, Within}
+use Rattle.gc_split.specs.BoundLaws.{cut-within, take-within, empty-within}
+use Rattle.gc_split.specs.PieceLaws.{shard-most, take-cuts}
+use Rattle.gc_split.specs.OrderLaws.{fragments-among, order-counted}
+use Rattle.gc_files.specs.Places.{Standing, movingAt, opAt, placedOps}
+use Rattle.gc_files.specs.PlaceLaws.{moving-told}
+use Rattle.gc_rewrite.specs.Putting.{orderIn}
+
+-- ---- a group's operations
+-- an operation is not larger than a slot's object
+abbrev pub Short : Op → Type 0
+Short o = sizeOf (o .content) ≤ 2 ^ 21
+
+-- placed ones are not
+pub placed-short : (heap xs ps : List ℕ) → Standing heap ps → All Short (placedOps heap xs ps)
+unfolding placedOps
+placed-short heap [] ps s = tt
+placed-short heap (x ∷ xs) [] s = tt
+placed-short heap (x ∷ xs) (p ∷ ps) s = go (zero-or-more p) (placed-short heap xs ps (λ k. s (suc k)))
+  where
+    go : (p ≡ 0) ⊎ (0 < p) → All Short (placedOps heap xs ps) → All Short (pick (eqb p 0) (placedOps heap xs ps) (opAt heap x p ∷ placedOps heap xs ps))
+    go (inl e) ih = rw (eq-eqb p 0 e) ih
+    go (inr some) ih =
+        let told = moving-told heap x p some (s 0) in
+        let few = size-bound (movingAt heap x p) in
+        rw (ne-eqb p 0 (λ z. omega arith)) (omega (arith, told .size, told .short), ih)
+
+-- nor more than entries
+pub placed-count : (heap xs ps : List ℕ) → length (placedOps heap xs ps) ≤ length xs
+unfolding placedOps
+placed-count heap [] ps = omega arith
+placed-count heap (x ∷ xs) [] = omega arith
+placed-count heap (x ∷ xs) (p ∷ ps) = go (eqb p 0) (placed-count heap xs ps)
+  where
+    go : (b : Bool) → length (placedOps heap xs ps) ≤ length xs → length (pick b (placedOps heap xs ps) (opAt heap x p ∷ placedOps heap xs ps)) ≤ suc (length xs)
+    go true ih = omega arith
+    go false ih = omega arith
+
+-- ---- their tally
+-- within bounds, and every fragment's number fits 32 bits
+pub record Tallied (t : Tally) : Type 0 where
+  pub within : Within t
+  pub cuts : (k : ℕ) → getD (t .cuts) k 0 < 2 ^ 32
+  pub room : length (t .cuts) ≡ 256
+
+set-small : (xs : List ℕ) (n x k : ℕ) → x < 2 ^ 32 → getD xs k 0 < 2 ^ 32 → getD (set xs n x) k 0 < 2 ^ 32
+set-small xs n x k new old = go (same? k n) (either-way n (length xs))
+  where
+    go : (k ≡ n) ⊎ (k ≡ n → ⊥) → (n < length xs) ⊎ (length xs ≤ n) → getD (set xs n x) k 0 < 2 ^ 32
+    go (inr d) h = rw (getD-set-other xs n k x 0 d) old
+    go (inl e) (inl h) = rw (e, getD-set-same xs n x 0 h) new
+    go (inl e) (inr h) = rw (set-out xs n x h) old
+
+take-small : (target slotSize n size : ℕ) (t : Tally) → n < 65 → Tallied t → (k : ℕ) → getD (taking target slotSize n size t .cuts) k 0 < 2 ^ 32
+unfolding taking entering cutting
+take-small target slotSize n size t low w k = go (ltb target (getD (t .sizes) n 0))
+  where
+    cut : Tally
+    cut = record {
+      sizes = set (t .sizes) n 0;
+      counts = set (t .counts) n 0;
+      rounds = set (t .rounds) n (getD (t .rounds) n 0 + 1);
+      cuts = set (t .cuts) (t .totals .files) (pieceOf n (getD (t .rounds) n 0));
+      totals = closing slotSize (getD (t .sizes) n 0) (getD (t .counts) n 0) (t .totals);
+    }
+
+    go : (b : Bool) → getD (pick b cut t .cuts) k 0 < 2 ^ 32
+    go true = set-small (t .cuts) (t .totals .files) (pieceOf n (getD (t .rounds) n 0)) k (omega (arith, w .within .rounds n, w .within .entries)) (w .cuts k)
+    go false = w .cuts k
+
+taken : (target slotSize n size : ℕ) (t : Tally) → Within t → taking target slotSize n size t .totals .entries ≡ t .totals .entries + 1
+unfolding taking entering
+taken target slotSize n size t within = ap (λ (k : ℕ). k + 1) (cut-within target slotSize n t within .entries)
+
+from-tallied : (target slotSize : ℕ) (ops : List Op) (t : Tally) → All Short ops → t .totals .entries + length ops ≤ 65536 → Tallied t → Tallied (tallyFrom target slotSize ops t)
+unfolding tallyFrom
+from-tallied target slotSize [] t all room w = w
+from-tallied target slotSize (o ∷ os) t all room w =
+    let n = shardFor (o .content) in
+    let size = sizeOf (o .content) in
+    let low = shard-most (o .content) in
+    from-tallied target slotSize os (taking target slotSize n size t) (all .1) (omega (arith, taken target slotSize n size t (w .within)))
+    (record {
+      within = take-within target slotSize n size t (w .within) (omega arith) (all .0);
+      cuts = take-small target slotSize n size t low w;
+      room = take-cuts target slotSize n size t ∙ w .room;
+    })
+
+none-small : (n k : ℕ) → getD (replicate n 0) k 0 < 2 ^ 32
+none-small n k = go (either-way k n)
+  where
+    go : (k < n) ⊎ (n ≤ k) → getD (replicate n 0) k 0 < 2 ^ 32
+    go (inl h) = rw (getD-replicate {A = ℕ} n k 0 0 h) (omega arith)
+    go (inr h) = rw (List·getD-eq-default {A = ℕ} (replicate n 0) 0 {n = k} (omega (arith, length-replicate {A = ℕ} n 0))) (omega arith)
+
+-- before the first
+pub none-tallied : Tallied emptyTally
+none-tallied = record { within = empty-within; cuts = none-small 256; room = length-replicate {A = ℕ} 256 0 }
+
+-- behind the last
+pub tallied : (target slotSize : ℕ) (ops : List Op) → All Short ops → length ops ≤ 65536 → Tallied (tallyOf target slotSize ops)
+unfolding tallyOf
+tallied target slotSize ops all room = from-tallied target slotSize ops emptyTally all (omega arith) none-tallied
+
+-- ---- the order
+rests-small : (n : ℕ) (cs rs : List ℕ) → n + length cs ≤ 65 → ((k : ℕ) → getD rs k 0 ≤ 65536) → (k : ℕ) → getD (restsFrom n cs rs) k 0 < 2 ^ 32
+unfolding restsFrom restOf
+rests-small n [] rs h g k = omega arith
+rests-small n (c ∷ cs) [] h g k = omega arith
+rests-small n (c ∷ cs) (r ∷ rs) h g k = go (eqb c 0) k (rests-small (suc n) cs rs (omega arith) (λ j. g (suc j)))
+  where
+    go : (b : Bool) (j : ℕ) → ((i : ℕ) → getD (restsFrom (suc n) cs rs) i 0 < 2 ^ 32) → getD (pick b [] (pieceOf n r ∷ []) ++ restsFrom (suc n) cs rs) j 0 < 2 ^ 32
+    go true j ih = ih j
+    go false zero ih = omega (arith, g 0)
+    go false (suc j) ih = ih j
+
+front-small : (n : ℕ) (xs : List ℕ) → ((k : ℕ) → getD xs k 0 < 2 ^ 32) → (k : ℕ) → getD (take n xs) k 0 < 2 ^ 32
+front-small zero xs h k = omega arith
+front-small (suc n) [] h k = omega arith
+front-small (suc n) (x ∷ xs) h zero = h 0
+front-small (suc n) (x ∷ xs) h (suc k) = front-small n xs (λ j. h (suc j)) k
+
+both-small : (xs ys : List ℕ) → ((k : ℕ) → getD xs k 0 < 2 ^ 32) → ((k : ℕ) → getD ys k 0 < 2 ^ 32) → (k : ℕ) → getD (xs ++ ys) k 0 < 2 ^ 32
+both-small [] ys h g k = g k
+both-small (x ∷ xs) ys h g zero = h 0
+both-small (x ∷ xs) ys h g (suc k) = both-small xs ys (λ j. h (suc j)) g k
+
+-- every file's number fits 32 bits
+pub order-small : (t : Tally) → Tallied t → (k : ℕ) → getD (orderOf t) k 0 < 2 ^ 32
+unfolding orderOf
+order-small t w =
+    both-small (restsFrom 0 (t .counts) (t .rounds)) (take (t .totals .files) (t .cuts))
+    (rests-small 0 (t .counts) (t .rounds) (omega (arith, w .within .countShards)) (λ k. omega (arith, w .within .rounds k, w .within .entries)))
+    (front-small (t .totals .files) (t .cuts) (w .cuts))
+
+-- what the two lists say, places holding whatever they held
+pub record InOrder (t : Tally) (places : List ℕ) (files : ℕ) : Type 0 where
+  pub order : orderIn files (length (restsFrom 0 (t .counts) (t .rounds))) (front (restsFrom 0 (t .counts) (t .rounds)) places) (t .cuts) ≡ orderOf t
+  pub left : length (restsFrom 0 (t .counts) (t .rounds)) ≤ length (front (restsFrom 0 (t .counts) (t .rounds)) places)
+  pub enough : files ≤ length (restsFrom 0 (t .counts) (t .rounds)) + length (t .cuts)
+
+pub in-order : (target slotSize : ℕ) (ops : List Op) (places : List ℕ) → Tallied (tallyOf target slotSize ops) → closedOf slotSize (tallyOf target slotSize ops) .files ≤ 256
+    → InOrder (tallyOf target slotSize ops) places (closedOf slotSize (tallyOf target slotSize ops) .files)
+unfolding orderOf front
+in-order target slotSize ops places w most =
+    let t = tallyOf target slotSize ops in
+    let rests = restsFrom 0 (t .counts) (t .rounds) in
+    let few : t .totals .files ≤ 256 = omega (arith, fragments-among slotSize t) in
+    let cut = length-take-le (t .totals .files) (t .cuts) (omega (arith, w .room)) in
+    let count : closedOf slotSize t .files ≡ length rests + t .totals .files =
+    omega (arith, order-counted target slotSize ops most, length-append rests (take (t .totals .files) (t .cuts)), cut) in
+    record {
+      order =
+          ap₂ (λ (n : ℕ) (xs : List ℕ). take n (xs ++ t .cuts)) count (take-append-seam rests (drop (length rests) places))
+          ∙ take-append-add rests (t .cuts) (t .totals .files);
+      left = omega (arith, length-append rests (drop (length rests) places));
+      enough = omega (arith, count, w .room);
+    }

@@ -1,0 +1,211 @@
+-- A group's operations at their places, split and rewritten: what each step asks for and leaves.
+use mathlib.Core.Path.{_≡_, refl, sym, ap, ap₂, _∙_, subst}
+use Prim.Native.Nat.{_≤_, _<_}
+use native.Mathlib.Omega.{arith}
+use lib.ListN.{length-take}
+use native.Mathlib.Nat.{min-le-left}
+use Rattle.numbers.specs.Parts.{front}
+use Rattle.rules.specs.Base.{Bool, true, false, List, [], _∷_, map, ℕ, suc, _+_, _^_, length, getD, take, pick}
+use Rattle.rules.specs.declared.Record.{Record}
+use Rattle.rules.specs.declared.Settings.{Settings}
+use Rattle.rules.specs.declared.State.{State}
+use Rattle.rules.specs.declared.Claims.{Claims}
+use Rattle.rules.specs.declared.Refusal.{Refusal}
+use Rattle.rules.specs.declared.Answer.{Answer}
+use Rattle.rules.specs.declared.Answer.the-variants.{Done, Refused}
+use Rattle.rules.specs.Refusal.{decide}
+use Rattle.rules.specs.Settings.{slotsIn}
+use Rattle.rules.specs.Ops.{Op}
+use Rattle.rules.specs.Layout.{usedEntries}
+use Rattle.rules.specs.FileMap.{isEmpty, recordAt, slotsWhere, emptySlots}
+use Rattle.rules.specs.Condition1Laws.{Passed}
+use Rattle.rules.specs.Install.{installedAll}
+use Rattle.rules.specs.Maintenance.{filesOf}
+use Rattle.rules.specs.World.{World, world}
+use Rattle.location_table.specs.Tables.{table}
+use Rattle.gc_split.specs.declared.Totals.{Totals}
+use Rattle.gc_split.specs.Tally.{Tally, tally, tallyFrom, tallyOf, emptyTally, closingRests, closedOf, restsFrom, orderOf, totalsFor, Within, Closable, Numbered}
+use Rattle.gc_split.specs.BoundLaws.{closable, numbered}
+use Rattle.gc_split.specs.TotalLaws.{totalsTests, split-totals}
+use Rattle.gc_split.specs.OrderLaws.{fragments-among, files-counted}
+use Rattle.gc_files.specs.Places.{Whole, InSlot, Standing, placedOps, entryTaken, piecesAlong, Splitting}
+use Rattle.gc_files.specs.FileLaws.{files-filed}
+use Rattle.gc_install.specs.Placing.{Placing}
+use Rattle.gc_rewrite.specs.Courses.{courseGiven, filesTests, rewritten, files-refused, files-added}
+use Rattle.gc_rewrite.specs.Fitting.{Fitting, fitting-clear}
+use Rattle.gc_rewrite.specs.Putting.{filesIn, emptyIn, orderIn, Puttable, PutAll, Kept}
+use Rattle.gc_rewrite.specs.Orders.{Tallied, placed-short, placed-count, tallied, order-small, InOrder, in-order}
+
+-- a group's operations stand at their places: those of used entries, each object in a slot that has a file
+pub record Moving (s : Settings) (t : State) (heap ids locations places : List ℕ) : Type 0 where
+  pub limits : Passed s (length heap) (table ids locations) t
+  pub wide : length ids ≤ length places
+  pub used : (i : ℕ) → 0 < getD places i 0 → i < length (usedEntries (table ids locations))
+  pub kept : (i : ℕ) → 1 < getD places i 0 → Whole heap (getD places i 0)
+      × ((k : ℕ) × (isEmpty (recordAt (t .files .records) k) ≡ false) × InSlot (s .«slot_bytes») heap k (getD places i 0))
+
+-- what rewriting these operations leaves
+pub record Rewritten (s : Settings) (generation : ℕ) (ops : List Op) (moved : ℕ) (t : State) (heap ids locations : List ℕ) (answer : Answer) (moved′ : ℕ) (r : State) (heap′ ids′ locations′ : List ℕ) : Type 0 where
+  pub course : (c : Claims) → courseGiven generation answer moved′ (world s r c heap′ ids′ locations′) ≡ rewritten generation ops moved (world s t c heap ids locations)
+  pub limits : Passed s (length heap′) (table ids′ locations′) r
+  pub count : moved′ ≤ moved + 65536
+  pub kept : Kept t r
+
+-- no more empty slots than slots
+where-most : (f : ℕ → Record → Bool) (i : ℕ) (rs : List Record) → length (slotsWhere f i rs) ≤ length rs
+unfolding slotsWhere
+where-most f i [] = omega arith
+where-most f i (r ∷ rs) = go (f i r) (where-most f (suc i) rs)
+  where
+    go : (b : Bool) → length (slotsWhere f (suc i) rs) ≤ length rs → length (pick b (i ∷ slotsWhere f (suc i) rs) (slotsWhere f (suc i) rs)) ≤ suc (length rs)
+    go true h = omega arith
+    go false h = omega arith
+
+empty-most : (n : ℕ) (rs : List Record) → length (emptySlots n rs) ≤ n
+unfolding emptySlots
+empty-most n rs = omega (arith, where-most (λ (i : ℕ) (r : Record). isEmpty r) 0 (take n rs), length-take n rs, min-le-left n (length rs))
+
+-- ---- the split
+-- each entry has its piece
+along-length : (target slotSize : ℕ) (heap xs ps gs : List ℕ) (t : Tally) → length (piecesAlong target slotSize heap xs ps gs t) ≡ length gs
+unfolding piecesAlong
+along-length target slotSize heap [] ps gs t = refl
+along-length target slotSize heap (x ∷ xs) [] gs t = refl
+along-length target slotSize heap (x ∷ xs) (p ∷ ps) [] t = refl
+along-length target slotSize heap (x ∷ xs) (p ∷ ps) (g ∷ gs) t = ap suc (along-length target slotSize heap xs ps gs (entryTaken target slotSize heap x p t))
+
+module _ (s : Settings) (t : State) (heap ids locations places : List ℕ) where
+  -- the operations, and their tally
+  abbrev ops : List Op
+  ops = placedOps heap ids places
+
+  abbrev whole : Tally
+  whole = tallyOf (s .«target_file_size») (s .«slot_bytes») (placedOps heap ids places)
+
+  -- what the split left: each entry's piece, the tally's lists and all files' totals
+  pub record SplitUp (pieces counts rounds cuts : List ℕ) (total : Totals) : Type 0 where
+    pub placing : Placing s t heap ids locations places pieces
+    pub counted : counts ≡ whole .counts
+    pub turned : rounds ≡ whole .rounds
+    pub cut : cuts ≡ whole .cuts
+    pub closed : total ≡ closedOf (s .«slot_bytes») whole
+    pub bounds : Tallied whole
+    pub files : whole .totals .files ≤ 256 → filesOf (s .«target_file_size») ops ≡ filesIn heap ids places pieces (orderOf whole)
+
+  module _ (m : Moving s t heap ids locations places) where
+    few : length ids ≤ 65536
+    few = m .limits .limits .table .most
+
+    standing : Standing heap places
+    standing k some = m .kept k some .0
+
+    -- what the split asks for
+    pub moving-splits : (pieces : List ℕ) → length ids ≤ length pieces → Splitting heap ids places pieces 0
+    moving-splits pieces wide = record { places = m .wide; pieces = wide; standing = standing; room = omega (arith, few) }
+
+    pub moving-tallied : Tallied whole
+    moving-tallied = tallied (s .«target_file_size») (s .«slot_bytes») ops (placed-short heap ids places standing) (omega (arith, placed-count heap ids places, few))
+
+    module _ (sizes counts rounds cuts : List ℕ) (totals : Totals)
+        (e : tally sizes counts rounds cuts totals ≡ tallyFrom (s .«target_file_size») (s .«slot_bytes») ops emptyTally) where
+      told : tally sizes counts rounds cuts totals ≡ whole
+      unfolding tallyOf
+      told = e
+
+      -- what closing it asks for
+      pub split-closable : Closable counts sizes totals
+      split-closable = closable (tally sizes counts rounds cuts totals) (subst Within (sym told) (moving-tallied .within))
+
+      -- closed
+      pub split-up : (old pieces : List ℕ) (total : Totals) → length ids ≤ length old
+          → pieces ≡ piecesAlong (s .«target_file_size») (s .«slot_bytes») heap ids places old emptyTally
+          → total ≡ closingRests (s .«slot_bytes») counts sizes totals → SplitUp pieces counts rounds cuts total
+      unfolding closedOf
+      split-up old pieces total wide p q = record {
+        placing = record { limits = m .limits; wide = m .wide; numbered = omega (arith, ap length p, along-length (s .«target_file_size») (s .«slot_bytes») heap ids places old emptyTally); used = m .used; kept = m .kept };
+        counted = ap (λ (u : Tally). u .counts) told;
+        turned = ap (λ (u : Tally). u .rounds) told;
+        cut = ap (λ (u : Tally). u .cuts) told;
+        closed = q ∙ ap (λ (u : Tally). closingRests (s .«slot_bytes») (u .counts) (u .sizes) (u .totals)) told;
+        bounds = moving-tallied;
+        files = λ room.
+            files-filed (s .«target_file_size») (s .«slot_bytes») heap ids places old wide room
+            ∙ ap (λ (gs : List ℕ). filesIn heap ids places gs (orderOf whole)) (sym p);
+      }
+
+  -- ---- the files
+  module _ (pieces counts rounds cuts : List ℕ) (total : Totals) (w : SplitUp pieces counts rounds cuts total) where
+    -- what numbering them asks for
+    pub split-numbered : (rests : List ℕ) → length rests ≡ 65 → Numbered counts rounds rests
+    split-numbered rests room = rw (w .counted, w .turned) (numbered whole rests (w .bounds .within) room)
+
+    -- 4, 5 and 7 are decided by their totals
+    module _ (moved generation : ℕ) where
+      tests-are : (c : Claims) → decide (totalsTests total (emptyIn s t heap) (t .«next_position»)) ≡ decide (filesTests ops (world s t c heap ids locations))
+      tests-are c = ap (λ (u : Totals). decide (totalsTests u (emptyIn s t heap) (t .«next_position»))) (w .closed)
+
+      -- one of them
+      pub split-refused : (r : Refusal) → decide (totalsTests total (emptyIn s t heap) (t .«next_position»)) ≡ Refused r
+          → Rewritten s generation ops moved t heap ids locations (Refused r) moved t heap ids locations
+      split-refused r e = record {
+        course = λ c. files-refused generation ops moved (world s t c heap ids locations) r (sym (tests-are c) ∙ e);
+        limits = w .placing .limits;
+        count = omega arith;
+        kept = λ k some. some;
+      }
+
+      -- none
+      module _ (e : decide (totalsTests total (emptyIn s t heap) (t .«next_position»)) ≡ Done) where
+        fitting : Fitting (s .«slot_bytes») (emptyIn s t heap) (t .«next_position») (filesOf (s .«target_file_size») ops)
+        fitting = fitting-clear (s .«target_file_size») (s .«slot_bytes») (emptyIn s t heap) (t .«next_position») ops
+            (ap (λ (u : Totals). decide (totalsTests u (emptyIn s t heap) (t .«next_position»))) (sym (w .closed)) ∙ e)
+
+        most : closedOf (s .«slot_bytes») whole .files ≤ 256
+        most =
+            omega (
+              arith,
+              fitting .room .slots,
+              files-counted (s .«target_file_size») (s .«slot_bytes») ops,
+              empty-most (slotsIn s (length heap)) (t .files .records),
+              w .placing .limits .limits .heap .most,
+            )
+
+        filed : filesOf (s .«target_file_size») ops ≡ filesIn heap ids places pieces (orderOf whole)
+        filed = w .files (omega (arith, most, fragments-among (s .«slot_bytes») whole))
+
+        pub split-count : (total .entries ≡ length ops) × (total .entries ≤ 65536) × (total .files ≤ 256)
+        unfolding totalsFor
+        split-count =
+            let n : total .entries ≡ length ops = ap (λ (u : Totals). u .entries) (w .closed ∙ split-totals (s .«target_file_size») (s .«slot_bytes») ops) in
+            (n, omega (arith, n, placed-count heap ids places, w .placing .limits .limits .table .most), omega (arith, most, ap (λ (u : Totals). u .files) (w .closed)))
+
+        module _ (blank rests : List ℕ) (left : ℕ) (there : rests ≡ front (restsFrom 0 counts rounds) blank) (many : left ≡ length (restsFrom 0 counts rounds)) where
+          told-order : InOrder whole blank (closedOf (s .«slot_bytes») whole .files)
+          told-order = in-order (s .«target_file_size») (s .«slot_bytes») ops blank (w .bounds) most
+
+          same-order : orderIn (total .files) left rests cuts ≡ orderOf whole
+          same-order = rw (w .closed, many, there, w .cut, w .counted, w .turned) (told-order .order)
+
+          -- what adding the files asks for
+          pub split-puttable : Puttable s t heap ids locations places pieces (orderIn (total .files) left rests cuts)
+          split-puttable = rw same-order (record {
+            placing = w .placing;
+            fitting = subst (Fitting (s .«slot_bytes») (emptyIn s t heap) (t .«next_position»)) filed fitting;
+            small = order-small whole (w .bounds);
+          })
+
+          pub split-places : (left ≤ length rests) × (total .files ≤ left + length cuts)
+          split-places = rw (w .closed, many, there, w .cut, w .counted, w .turned) (told-order .left, told-order .enough)
+
+          -- and what it leaves
+          pub split-rewritten : (r : State) (heap′ ids′ locations′ : List ℕ)
+              → PutAll s generation t heap ids locations (filesIn heap ids places pieces (orderIn (total .files) left rests cuts)) r heap′ ids′ locations′
+              → Rewritten s generation ops moved t heap ids locations Done (moved + total .entries) r heap′ ids′ locations′
+          split-rewritten r heap′ ids′ locations′ p = record {
+            course = λ c.
+                files-added generation ops moved (world s t c heap ids locations) (sym (tests-are c) ∙ e) (total .entries) (split-count .0) (world s r c heap′ ids′ locations′)
+                (p .worlds c ∙ ap (installedAll 0 generation (world s t c heap ids locations)) (ap (filesIn heap ids places pieces) same-order ∙ sym filed));
+            limits = p .limits;
+            count = omega (arith, split-count .1);
+            kept = p .kept;
+          }

@@ -1,0 +1,115 @@
+// One generation of maintenance (`src/gc.rs`): its files are checked, 4, 5 and 7 decided for all that come out, then each is added.
+
+pub mod files;
+
+use files::rewrite_placed;
+use gc_group::check::check_group;
+use gc_places::place_group;
+use rules::Answer;
+use rules::Settings;
+use rules::State;
+ghost use mathlib.Core.Path.{_≡_};
+ghost use Prim.Native.Nat.{ℕ, _+_, _^_, _≤_, _<_};
+ghost use lib.ListN.{length, replicate};
+ghost use Rattle.rules.specs.declared.Claims.{Claims};
+ghost use Rattle.rules.specs.Condition1Laws.{Passed};
+ghost use Rattle.rules.specs.Maintenance.{rewriteGroup};
+ghost use Rattle.rules.specs.World.{world};
+ghost use Rattle.location_table.specs.Tables.{table};
+ghost use Rattle.gc_group.specs.Plan.{planned};
+ghost use Rattle.gc_group.specs.Source.{Ready};
+ghost use Rattle.gc_rewrite.specs.Courses.{courseGiven};
+ghost use Rattle.gc_rewrite.specs.Putting.{Kept};
+ghost use Rattle.gc_rewrite.specs.Groups.{Filled, Checked, Regrouped};
+
+// A group's answer, the ids moved so far, and the state after it.
+pub struct Course {
+    pub answer: Answer,
+    pub moved: u64,
+    pub state: State,
+}
+
+// What is found in a group whose checks are clear, rewritten; `places` has where each of it stands.
+fn rewrite_found(
+    settings: Settings,
+    state: State,
+    heap: &mut [u8],
+    ids: &mut [u64],
+    locations: &mut [u64],
+    plan: &[u64],
+    generation: u64,
+    moved: u64,
+    places: &mut [u32],
+) -> Course
+    requires { ⌜ Checked settings state (now heap) (now ids) (now locations) (now plan) generation ⌝ }
+    requires { ⌜ (generation ≤ 255) × (moved ≤ 2 ^ 40) ⌝ }
+    requires { ⌜ (length (now ids) ≤ length (now places)) × (now places ≡ replicate (length (now places)) 0) ⌝ }
+    ensures { λ r. ⌜ Regrouped settings state (now (heap .entry)) (now (ids .entry)) (now (locations .entry)) (now (plan .entry)) generation moved (r .answer) (r .moved) (r .state) (now (heap .exit)) (now (ids .exit)) (now (locations .exit)) ⌝ }
+{
+    let files = state.files;
+    place_group(
+        settings,
+        heap,
+        files,
+        plan,
+        generation,
+        ids,
+        locations,
+        places,
+    );
+    rewrite_placed(
+        settings,
+        state,
+        heap,
+        ids,
+        locations,
+        places,
+        generation,
+        moved,
+    )
+}
+
+// "All files of a group are checked before it writes"; a refusal changes nothing.
+pub fn rewrite_group(
+    settings: Settings,
+    state: State,
+    heap: &mut [u8],
+    ids: &mut [u64],
+    locations: &mut [u64],
+    plan: &[u64],
+    generation: u64,
+    moved: u64,
+) -> Course
+    requires { ⌜ Passed settings (length (now heap)) (table (now ids) (now locations)) state ⌝ }
+    requires { ⌜ Ready (settings .«slot_bytes») (length (now heap)) (state .files .records) (now plan) generation ⌝ }
+    requires { ⌜ Filled state (now plan) generation ⌝ }
+    requires { ⌜ (0 < generation) × (generation ≤ 3) × (moved ≤ 2 ^ 40) ⌝ }
+    ensures { λ r. ⌜ ((c : Claims) → courseGiven generation (r .answer) (r .moved) (world settings (r .state) c (now (heap .exit)) (now (ids .exit)) (now (locations .exit))) ≡ rewriteGroup generation (planned (now (plan .entry)) generation) moved (world settings state c (now (heap .entry)) (now (ids .entry)) (now (locations .entry)))) ⌝ }
+    ensures { λ r. ⌜ Passed settings (length (now (heap .exit))) (table (now (ids .exit)) (now (locations .exit))) (r .state) ⌝ }
+    ensures { λ r. ⌜ (r .moved ≤ moved + 65536) × (length (now (heap .exit)) ≡ length (now (heap .entry))) ⌝ }
+    ensures { λ r. ⌜ Kept state (r .state) ⌝ }
+{
+    let files = state.files;
+    match check_group(settings, heap, files, plan, generation, ids, locations) {
+        Answer::Refused(refusal) => {
+            return Course {
+                answer: Answer::Refused(refusal),
+                moved: moved,
+                state: state,
+            };
+        }
+        Answer::Done => {}
+    }
+    let mut places = [0u32; 65536];
+    rewrite_found(
+        settings,
+        state,
+        heap,
+        ids,
+        locations,
+        plan,
+        generation,
+        moved,
+        &mut places,
+    )
+}

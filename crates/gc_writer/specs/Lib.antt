@@ -1,0 +1,3 @@
+pub mod Elsewhere
+pub mod Walk
+pub mod Writing

@@ -1,0 +1,215 @@
+// The file of one piece of a group, straight from the old places of its objects into a slot: a walk over the entries of the table.
+// Each writer makes as many stores of the file's run as `left` reaches, and answers how many are left.
+use batch::Operation;
+use batch_file::entry_of;
+use gc_files::places::moving_at;
+use gc_files::places::size_of;
+use rules::Record;
+use trailer::write;
+ghost use mathlib.Core.Logic.{_⊎_};
+ghost use mathlib.Core.Path.{_≡_};
+ghost use Prim.Native.Nat.{_+_, _*_, _≤_, _<_, _^_};
+ghost use lib.ListN.{length};
+ghost use Rattle.checksum.specs.Checksum.{crc32};
+ghost use Rattle.rules.specs.Base.{each};
+ghost use Rattle.rules.specs.Ops.{contentBytes, objectsOf, entriesOf, fileBytes};
+ghost use Rattle.rules.specs.Label.{labelBytes};
+ghost use Rattle.rules.specs.Trailer.{entryBytes, listed, trailerBytes};
+ghost use Rattle.rules.specs.Stores.{storesOf, fileStores};
+ghost use Rattle.stores.specs.Runs.{Made};
+ghost use Rattle.batch.specs.Reading.{opIn};
+ghost use Rattle.batch.specs.Sizes.{sizeIn};
+ghost use Rattle.gc_files.specs.Places.{filedOps};
+ghost use Rattle.gc_writer.specs.Walk.{Next, Walking, filedHere};
+ghost use Rattle.gc_writer.specs.Writing.{Free, Writing};
+
+// How many entries a piece has, and T, its object bytes.
+pub struct Sizes {
+    pub count: u64,
+    pub total: u64,
+}
+
+// Whether an entry is moved, and in this piece.
+fn filed(place: u32, number: u32, piece: u32) -> bool
+    ensures { λ r. ⌜ r ≡ filedHere piece place number ⌝ }
+{
+    if place == 0 {
+        return false;
+    }
+    number == piece
+}
+
+// The first entry of a piece from `from` on; behind the last one where there is none.
+fn next_filed(ids: &[u64], places: &[u32], pieces: &[u32], piece: u32, from: usize) -> usize
+    requires { ⌜ (length (now ids) ≤ length (now places)) × (length (now ids) ≤ length (now pieces)) ⌝ }
+    ensures { λ r. ⌜ Next piece (now (ids .entry)) (now (places .entry)) (now (pieces .entry)) from r ⌝ }
+{
+    let mut i = from;
+    while i < ids.len() {
+        if filed(places[i], pieces[i], piece) {
+            return i;
+        }
+        i += 1;
+    }
+    i
+}
+
+// The sizes of a piece's file.
+pub fn sized(heap: &[u8], ids: &[u64], places: &[u32], pieces: &[u32], piece: u32) -> Sizes
+    requires { ⌜ Walking (now heap) (now ids) (now places) (now pieces) ⌝ }
+    requires { ⌜ length (now ids) ≤ 65536 ⌝ }
+    ensures { λ r. ⌜ (r .count ≡ length (filedOps piece (now (heap .entry)) (now (ids .entry)) (now (places .entry)) (now (pieces .entry)))) × (r .total ≡ length (objectsOf (filedOps piece (now (heap .entry)) (now (ids .entry)) (now (places .entry)) (now (pieces .entry))))) ⌝ }
+{
+    let mut count: u64 = 0;
+    let mut total: u64 = 0;
+    let mut i = next_filed(ids, places, pieces, piece, 0);
+    while i < ids.len() {
+        let o = moving_at(heap, ids[i], places[i]);
+        count += 1;
+        total += size_of(o);
+        i = next_filed(ids, places, pieces, piece, i + 1);
+    }
+    Sizes {
+        count: count,
+        total: total,
+    }
+}
+
+// "checksum 4, over all that follows it": the count and the entries.
+fn sum(heap: &[u8], ids: &[u64], places: &[u32], pieces: &[u32], piece: u32, count: u64) -> u32
+    requires { ⌜ Walking (now heap) (now ids) (now places) (now pieces) ⌝ }
+    requires { ⌜ count ≡ length (filedOps piece (now heap) (now ids) (now places) (now pieces)) ⌝ }
+    requires { ⌜ length (objectsOf (filedOps piece (now heap) (now ids) (now places) (now pieces))) < 2 ^ 62 ⌝ }
+    ensures { λ r. ⌜ r ≡ crc32 (listed (entriesOf 0 (filedOps piece (now (heap .entry)) (now (ids .entry)) (now (places .entry)) (now (pieces .entry))))) ⌝ }
+{
+    let mut register = write::sum_count(count);
+    let mut position: u64 = 0;
+    let mut i = next_filed(ids, places, pieces, piece, 0);
+    while i < ids.len() {
+        let o = moving_at(heap, ids[i], places[i]);
+        let e = entry_of(o, position);
+        register = write::sum_entry(register, e);
+        position += size_of(o);
+        i = next_filed(ids, places, pieces, piece, i + 1);
+    }
+    write::sum_end(register)
+}
+
+// An operation's object, its body a piece of the heap itself. "Deletes have no object bytes."
+fn put_content(heap: &mut [u8], at: usize, o: Operation, left: u64) -> u64
+    requires { ⌜ (at + sizeIn o ≤ length (now heap)) × (o .start + o .len ≤ length (now heap)) × ((at + sizeIn o ≤ o .start) ⊎ (o .start + o .len ≤ at)) ⌝ }
+    ensures { λ r. ⌜ Made left (storesOf at (contentBytes (o .id) (opIn (now (heap .entry)) o .content))) (now (heap .entry)) (now (heap .exit)) r ⌝ }
+{
+    if o.delete {
+        return left;
+    }
+    slot_writer::move_object(heap, at, o.id, o.start, o.len, left)
+}
+
+// The object bytes, ids ascending, from `at` on.
+fn put_objects(
+    heap: &mut [u8],
+    at: usize,
+    ids: &[u64],
+    places: &[u32],
+    pieces: &[u32],
+    piece: u32,
+    left: u64,
+) -> u64
+    requires { ⌜ Free at (length (objectsOf (filedOps piece (now heap) (now ids) (now places) (now pieces)))) (now heap) (now ids) (now places) (now pieces) ⌝ }
+    ensures { λ r. ⌜ Made left (storesOf at (objectsOf (filedOps piece (now (heap .entry)) (now (ids .entry)) (now (places .entry)) (now (pieces .entry))))) (now (heap .entry)) (now (heap .exit)) r ⌝ }
+{
+    let mut rest = left;
+    let mut to = at;
+    let mut i = next_filed(ids, places, pieces, piece, 0);
+    while i < ids.len() {
+        let o = moving_at(heap, ids[i], places[i]);
+        rest = put_content(heap, to, o, rest);
+        to += size_of(o) as usize;
+        i = next_filed(ids, places, pieces, piece, i + 1);
+    }
+    rest
+}
+
+// The entries, from `at` on.
+fn put_entries(
+    heap: &mut [u8],
+    at: usize,
+    ids: &[u64],
+    places: &[u32],
+    pieces: &[u32],
+    piece: u32,
+    left: u64,
+) -> u64
+    requires { ⌜ Free at (16 * length (filedOps piece (now heap) (now ids) (now places) (now pieces))) (now heap) (now ids) (now places) (now pieces) ⌝ }
+    requires { ⌜ length (objectsOf (filedOps piece (now heap) (now ids) (now places) (now pieces))) < 2 ^ 62 ⌝ }
+    ensures { λ r. ⌜ Made left (storesOf at (each entryBytes (entriesOf 0 (filedOps piece (now (heap .entry)) (now (ids .entry)) (now (places .entry)) (now (pieces .entry)))))) (now (heap .entry)) (now (heap .exit)) r ⌝ }
+{
+    let mut rest = left;
+    let mut to = at;
+    let mut position: u64 = 0;
+    let mut i = next_filed(ids, places, pieces, piece, 0);
+    while i < ids.len() {
+        let o = moving_at(heap, ids[i], places[i]);
+        let e = entry_of(o, position);
+        rest = write::put_entry(heap, to, e, rest);
+        to += 16;
+        position += size_of(o);
+        i = next_filed(ids, places, pieces, piece, i + 1);
+    }
+    rest
+}
+
+// The trailer, from `at` on: its checksum stands first, so that the entries are gone through twice.
+fn put_trailer(
+    heap: &mut [u8],
+    at: usize,
+    ids: &[u64],
+    places: &[u32],
+    pieces: &[u32],
+    piece: u32,
+    count: u64,
+    left: u64,
+) -> u64
+    requires { ⌜ Free at (12 + 16 * count) (now heap) (now ids) (now places) (now pieces) ⌝ }
+    requires { ⌜ count ≡ length (filedOps piece (now heap) (now ids) (now places) (now pieces)) ⌝ }
+    requires { ⌜ length (objectsOf (filedOps piece (now heap) (now ids) (now places) (now pieces))) < 2 ^ 62 ⌝ }
+    ensures { λ r. ⌜ Made left (storesOf at (trailerBytes (entriesOf 0 (filedOps piece (now (heap .entry)) (now (ids .entry)) (now (places .entry)) (now (pieces .entry)))))) (now (heap .entry)) (now (heap .exit)) r ⌝ }
+{
+    let checksum = sum(heap, ids, places, pieces, piece, count);
+    let rest = write::put_head(heap, at, checksum, count, left);
+    put_entries(heap, at + 12, ids, places, pieces, piece, rest)
+}
+
+// A piece's file and its label into the slot that begins at `start`, in the order of the file's run.
+pub fn write_piece(
+    heap: &mut [u8],
+    start: usize,
+    slot_bytes: u64,
+    ids: &[u64],
+    places: &[u32],
+    pieces: &[u32],
+    piece: u32,
+    new: Record,
+    count: u64,
+    total: u64,
+    k: u64,
+) -> u64
+    requires { ⌜ Writing start «slot_bytes» (now heap) (now ids) (now places) (now pieces) piece count total ⌝ }
+    ensures { λ r. ⌜ Made k (fileStores start (labelBytes new) (fileBytes (filedOps piece (now (heap .entry)) (now (ids .entry)) (now (places .entry)) (now (pieces .entry))))) (now (heap .entry)) (now (heap .exit)) r ⌝ }
+{
+    let objects = start + 64;
+    let behind_objects = put_objects(heap, objects, ids, places, pieces, piece, k);
+    let trailer = objects + total as usize;
+    let behind_trailer = put_trailer(
+        heap,
+        trailer,
+        ids,
+        places,
+        pieces,
+        piece,
+        count,
+        behind_objects,
+    );
+    slot_writer::label::put(heap, start, new, behind_trailer)
+}

@@ -1,0 +1,133 @@
+-- A file that was written: its trailer stands in the heap and is read back, and what adding it by that trailer leaves is what document 01 says.
+use mathlib.Core.Path.{_≡_, refl, sym, ap, ap₂, _∙_}
+use mathlib.Core.List.{append-assoc, append-nil}
+use Prim.Native.Nat.{_≤_, _<_}
+use native.Mathlib.Omega.{arith}
+use lib.ListN.{length-append}
+use Rattle.numbers.specs.Parts.{putAt, put-field}
+use Rattle.disk_location.specs.Locations.{positionOf}
+use Rattle.disk_location.specs.LocationLaws.{position-raw}
+use Rattle.rules.specs.Base.{List, [], _∷_, _++_, ℕ, zero, suc, _+_, _*_, _^_, length, getD, set, take, drop}
+use Rattle.rules.specs.declared.Settings.{Settings}
+use Rattle.rules.specs.declared.Record.{Record}
+use Rattle.rules.specs.declared.State.{State}
+use Rattle.rules.specs.declared.Claims.{Claims}
+use Rattle.rules.specs.Settings.{slotsIn}
+use Rattle.rules.specs.Ops.{Op, isDelete, sizeOf, objectsOf, entriesOf, fileBytes}
+use Rattle.rules.specs.OpsLaws.{IdsFit, objects-length, entries-of-length, entries-of-fits, file-length}
+use Rattle.rules.specs.Label.{labelBytes}
+use Rattle.rules.specs.LabelLaws.{label-length}
+use Rattle.rules.specs.Trailer.{countIn, entriesIn, trailerBytes}
+use Rattle.rules.specs.TrailerLaws.{trailer-length, trailer-back, count-back}
+use Rattle.rules.specs.Table.{insertAll}
+use Rattle.rules.specs.Layout.{Buffers, usedEntries, laidOut, capacityOf}
+use Rattle.rules.specs.SettingsLaws.{slot-within}
+use Rattle.rules.specs.FileMap.{lowestEmpty}
+use Rattle.rules.specs.Condition1Laws.{Passed}
+use Rattle.rules.specs.Stores.{made, fileStores}
+use Rattle.rules.specs.StoreLaws.{file-made}
+use Rattle.rules.specs.Install.{newRecord, installed, recordsWith, storesFor, tableWith, nextWith, newSlot}
+use Rattle.rules.specs.World.{World, stateWith}
+use Rattle.file_map.specs.Records.{fresh, new-record}
+use Rattle.install.specs.Losing.{losingBy, losing-entries}
+use Rattle.install.specs.Adding.{taken, Placed}
+
+-- `world` of a table in one piece
+abbrev pub worldOf : Settings → State → Claims → List ℕ → Buffers → World
+worldOf s t c heap b = record { settings = s; state = t; claims = c; heap = heap; table = b }
+
+-- a file of these operations that none of 1 and 4 to 7 refuses: its batch bit or 0, its slot, its count of entries and T
+pub record Addable (bit : ℕ) (ops : List Op) (s : Settings) (t : State) (heap : List ℕ) (b : Buffers) (slot count total : ℕ) : Type 0 where
+  pub limits : Passed s (length heap) b t
+  pub plain : bit ≤ 2 ^ 62
+  pub ids : IdsFit ops
+  pub entries : count ≡ length ops
+  pub objects : total ≡ length (objectsOf ops)
+  pub fits : 64 + length (fileBytes ops) ≤ s .«slot_bytes»
+  pub lowest : slot ≡ lowestEmpty (slotsIn s (length heap)) (t .files .records)
+  pub free : slot < slotsIn s (length heap)
+  pub room : (lsn : ℕ) → length (insertAll (usedEntries b) (taken lsn (entriesOf 0 ops))) ≤ capacityOf b
+  pub last : t .«next_position» + (total + 1) ≤ 2 ^ 62
+
+-- an entry's position is within the object bytes
+position-within : (q : ℕ) (ops : List Op) (k : ℕ) → positionOf (getD (entriesOf q ops) k (record { id = 0; location = 0 }) .location) ≤ q + length (objectsOf ops)
+unfolding entriesOf
+position-within q [] k = omega arith
+position-within q (o ∷ os) zero = omega (arith, position-raw q (isDelete (o .content)))
+position-within q (o ∷ os) (suc k) = omega (arith, position-within (q + sizeOf (o .content)) os k, objects-length o os)
+
+parts : (label objects trailer : List ℕ) → label ++ (objects ++ trailer) ≡ ((label ++ objects) ++ trailer) ++ []
+parts label objects trailer = sym (append-nil ((label ++ objects) ++ trailer) ∙ append-assoc label objects trailer)
+
+module _ (bit : ℕ) (ops : List Op) (s : Settings) (t : State) (heap : List ℕ) (b : Buffers) (slot count total : ℕ) (f : Addable bit ops s t heap b slot count total) where
+  -- the file lies within the heap
+  pub slot-inside : slot * s .«slot_bytes» + (64 + length (fileBytes ops)) ≤ length heap
+  slot-inside = omega (arith, slot-within s (length heap) slot (f .limits .limits .heap) (f .free), f .fits)
+
+  -- its sizes
+  pub sizes-small : (total + (12 + 16 * count) ≡ length (fileBytes ops)) × (length (fileBytes ops) ≤ 1048576)
+  sizes-small =
+      let size = file-length ops in
+      (omega (arith, f .entries, f .objects), omega (arith, f .fits, f .limits .limits .settings .slot-high))
+
+  -- its record
+  pub record-new : (generation : ℕ)
+      → fresh (t .«next_position» + bit) total (total + (12 + 16 * count)) count generation ≡ newRecord (t .«next_position» + bit) generation ops
+  record-new generation = rw (sizes-small .0, f .objects, f .entries) (sym (new-record (t .«next_position» + bit) generation ops))
+
+  -- its trailer stands behind its objects
+  pub trailer-there : (new : Record) (after : List ℕ) → after ≡ made (fileStores (slot * s .«slot_bytes») (labelBytes new) (fileBytes ops)) heap
+      → take (12 + 16 * count) (drop (slot * s .«slot_bytes» + 64 + total) after) ≡ trailerBytes (entriesOf 0 ops)
+  unfolding fileBytes
+  trailer-there new after e =
+      let start = slot * s .«slot_bytes» in
+      let label = labelBytes new in
+      let objects = objectsOf ops in
+      let trailer = trailerBytes (entriesOf 0 ops) in
+      let size : 12 + 16 * count ≡ length trailer = omega (arith, trailer-length (entriesOf 0 ops), entries-of-length 0 ops, f .entries) in
+      let place : start + 64 + total ≡ start + length (label ++ objects) = omega (arith, length-append label objects, label-length new, f .objects) in
+      let whole : after ≡ putAt heap start (((label ++ objects) ++ trailer) ++ []) =
+      e ∙ file-made start label (fileBytes ops) heap (label-length new) slot-inside ∙ ap (putAt heap start) (parts label objects trailer) in
+      rw (size, place, whole) (put-field heap start (label ++ objects) trailer [] (omega (arith, slot-inside)))
+
+  -- and is read back
+  pub entries-there : entriesIn (trailerBytes (entriesOf 0 ops)) ≡ entriesOf 0 ops
+  entries-there =
+      trailer-back (entriesOf 0 ops) (omega (arith, entries-of-length 0 ops, f .entries, sizes-small .0, sizes-small .1))
+      (entries-of-fits 0 ops (f .ids) (omega (arith, f .objects, f .last)))
+
+  -- so is its count
+  pub count-there : countIn (trailerBytes (entriesOf 0 ops)) ≡ count
+  count-there =
+      count-back (entriesOf 0 ops) (omega (arith, entries-of-length 0 ops, f .entries, sizes-small .0, sizes-small .1))
+      ∙ entries-of-length 0 ops ∙ sym (f .entries)
+
+  -- its entries have absolute locations
+  pub entries-placed : Placed (t .«next_position» + bit) (entriesOf 0 ops)
+  entries-placed k = omega (arith, position-within 0 ops k, f .objects, f .last, f .plain)
+
+  -- ---- what adding it leaves
+  pub added : (generation : ℕ) (c : Claims) (new : Record) (r : State) (after : List ℕ) (b′ : Buffers)
+      → new ≡ newRecord (t .«next_position» + bit) generation ops
+      → after ≡ made (fileStores (slot * s .«slot_bytes») (labelBytes new) (fileBytes ops)) heap
+      → r ≡ stateWith t (set (losingBy (usedEntries b) (entriesOf 0 ops) (t .files .records)) slot new) (t .«next_position» + (new .«trailer_offset» + 1))
+      → b′ ≡ laidOut (capacityOf b) (insertAll (usedEntries b) (taken (new .lsn) (entriesOf 0 ops)))
+      → worldOf s r c after b′ ≡ installed bit generation (worldOf s t c heap b) ops
+  unfolding installed recordsWith storesFor tableWith nextWith newRecord
+  added generation c new r after b′ e h q g =
+      let es = entriesOf 0 ops in
+      let w = worldOf s t c heap b in
+      let n = newRecord (t .«next_position» + bit) generation ops in
+      let state : r ≡ stateWith t (recordsWith n w ops) (nextWith w ops) =
+      q
+      ∙ ap₂ (λ (k : ℕ) (m : Record). stateWith t (set (losingBy (usedEntries b) es (t .files .records)) k m) (t .«next_position» + (m .«trailer_offset» + 1))) (f .lowest) e
+      ∙ ap (λ (rs : List Record). stateWith t (set rs (newSlot w) n) (nextWith w ops)) (sym (losing-entries (usedEntries b) 0 ops (t .files .records))) in
+      let stores : after ≡ made (storesFor n w ops) heap =
+      h ∙ ap₂ (λ (k : ℕ) (m : Record). made (fileStores (k * s .«slot_bytes») (labelBytes m) (fileBytes ops)) heap) (f .lowest) e in
+      let entries : b′ ≡ tableWith (t .«next_position» + bit) w ops =
+      g ∙ ap (λ (m : Record). laidOut (capacityOf b) (insertAll (usedEntries b) (taken (m .lsn) es))) e in
+      same-world state stores entries
+    where
+      same-world : {r q : State} {h k : List ℕ} {x y : Buffers} → r ≡ q → h ≡ k → x ≡ y
+          → worldOf s r c h x ≡ worldOf s q c k y
+      same-world e f g = rw (e, f, g) refl

@@ -1,0 +1,148 @@
+// The host of every case: eight slots of 1,024 bytes, a table of eight.
+use crate::batches;
+use crate::show;
+use rules::Claims;
+use rules::Settings;
+use rules::State;
+
+// What is changed by hand before the maintenance: generations of the first three files and the next position, where not 0; a heap byte; the
+// first word of the claims.
+pub struct ByHand {
+    pub first: u64,
+    pub second: u64,
+    pub third: u64,
+    pub damaged: usize,
+    pub next: u64,
+    pub claimed: u64,
+}
+
+// Nothing: the heap has no byte 8,192.
+pub fn nothing() -> ByHand {
+    ByHand {
+        first: 0,
+        second: 0,
+        third: 0,
+        damaged: 8192,
+        next: 0,
+        claimed: 0,
+    }
+}
+
+pub fn settings(percent: u64, least: u64, target: u64, threshold: u64) -> Settings {
+    Settings {
+        slot_bytes: 1024,
+        file_compaction_percent: percent,
+        min_compaction_files: least,
+        target_file_size: target,
+        small_file_cleanup_threshold: threshold,
+        max_object_size: 512,
+    }
+}
+
+fn claim_words(first: u64) -> Claims {
+    Claims {
+        a: first,
+        b: 0,
+        c: 0,
+        d: 0,
+    }
+}
+
+// What a host has before its first reopening.
+fn no_state(s: Settings) -> State {
+    State {
+        settings: s,
+        heap_len: 0,
+        table_len: 0,
+        files: file_map::no_files(),
+        next_position: 0,
+    }
+}
+
+pub fn reopened(s: Settings, heap: &[u8], ids: &mut [u64], locations: &mut [u64]) -> State {
+    let r = recovery::reopen(s, no_state(s), claim_words(0), heap, ids, locations);
+    let state = r.state;
+    state
+}
+
+pub fn write(
+    s: Settings,
+    state: State,
+    heap: &mut [u8],
+    ids: &mut [u64],
+    locations: &mut [u64],
+    pairs: &[u64],
+) -> State {
+    let mut batch = [0u8; 2048];
+    let end = batches::make(&mut batch, pairs);
+    let w = writepath::write(s, state, heap, ids, locations, &batch[0..end]);
+    let after = w.state;
+    after
+}
+
+fn aged(state: State, slot: usize, generation: u64) -> State {
+    if 256 <= slot {
+        return state;
+    }
+    let mut n = state;
+    let mut m = state.files;
+    m.records[slot].generation = generation;
+    n.files = m;
+    n
+}
+
+fn moved_on(state: State, next: u64) -> State {
+    if next == 0 {
+        return state;
+    }
+    let mut n = state;
+    n.next_position = next;
+    n
+}
+
+fn dated(state: State, slot: usize, generation: u64) -> State {
+    if generation == 0 {
+        return state;
+    }
+    aged(state, slot, generation)
+}
+
+fn turned(b: u8) -> u8 {
+    255 - b
+}
+
+fn damage(heap: &mut [u8], at: usize) {
+    if at < heap.len() {
+        heap[at] = turned(heap[at]);
+    }
+}
+
+pub fn by_hand(state: State, heap: &mut [u8], hand: ByHand) -> State {
+    damage(heap, hand.damaged);
+    let a = dated(state, 0, hand.first);
+    let b = dated(a, 1, hand.second);
+    let c = dated(b, 2, hand.third);
+    moved_on(c, hand.next)
+}
+
+pub fn maintain(
+    s: Settings,
+    state: State,
+    hand: ByHand,
+    heap: &mut [u8],
+    ids: &mut [u64],
+    locations: &mut [u64],
+) -> State {
+    let m = gc::maintain(s, state, claim_words(hand.claimed), heap, ids, locations);
+    let answer = m.answer;
+    let after = m.state;
+    show::maintained(answer);
+    show::store(after, heap, ids, locations);
+    show::counted(claims::counts(s, after, heap, ids, locations));
+    after
+}
+
+pub fn read(s: Settings, state: State, heap: &[u8], ids: &[u64], locations: &[u64], id: u64) {
+    let body = readpath::read(s, state, heap, ids, locations, id);
+    show::body(id, body);
+}
