@@ -2,7 +2,6 @@
 """Compares the port with the original Rust by running both on the same scenarios.
 
     compare.py [--model | --console PATH] [--rust PATH | --stored FILE] [--seed S] [--from K] [--count N] [--seconds T] [--small] [--store FILE]
-               [--without COMMAND]
 
 After every call: each id's read, the answer, the growth of the next position, counts, each file's numbers, live count and claim;
 after reopenings and rewrites also each file as a set of entries. At a scenario's end the heap that the port wrote is renamed to the
@@ -399,8 +398,8 @@ def compare_jobs(comparison, jobs):
 class Generated:
     """scenarios from a seed, and from the files that the original left of one"""
 
-    def __init__(self, seed, small, without):
-        self.seed, self.small, self.without, self.scenarios = seed, small, without, {}
+    def __init__(self, seed, small):
+        self.seed, self.small, self.scenarios = seed, small, {}
 
     def first(self, number):
         return self.kept(f'{number:03}', scenario(self.seed, number, self.small))
@@ -410,7 +409,6 @@ class Generated:
         return self.kept(f'{number:03}r', from_files(self.seed, number, files, settings, table)) if 0 < len(files) <= 170 else None
 
     def kept(self, name, lines):
-        lines = [line for line in lines if line.split()[0] != self.without]
         self.scenarios[name] = lines
         return Job(name, lines)
 
@@ -452,9 +450,9 @@ def compare(port, comparison, source, numbers):
     return len(jobs), len(carried)
 
 
-def compare_directed(port, rust, without):
+def compare_directed(port, rust):
     """the smallest inputs of known.py: each side says what the list has"""
-    cases = [case for case in directed() if without not in [line.split()[0] for line in case[1]]]
+    cases = directed()
     for k, (name, lines, port_says, commands, rust_says) in enumerate(cases):
         rust.begin(f'smallest input {k}')
         got = port.run(lines)[-1][0], [rust.ask(command)[0] for command in commands][-1]
@@ -476,16 +474,15 @@ def main():
     parser.add_argument('--count', type=int, default=100)
     parser.add_argument('--seconds', type=float, default=1e9, help='begin no round after so long')
     parser.add_argument('--small', action='store_true')
-    parser.add_argument('--without', help='leave out this command, which the console does not have yet')
     options = parser.parse_args()
     port = Model() if options.model else Port(options.console)
     rust = Stored(options.stored) if options.stored else Rust(options.rust)
     if options.stored:
         options.seed, options.count = 'of the stored answers', sum(name.isdigit() for name in rust.scenarios)
-    source = Kept(rust) if options.stored else Generated(options.seed, options.small, options.without)
+    source = Kept(rust) if options.stored else Generated(options.seed, options.small)
     began, comparison, done, carried = time.time(), Comparison(rust), 0, 0
     try:
-        cases = compare_directed(port, rust, options.without)
+        cases = compare_directed(port, rust)
         for at in range(options.start, options.start + options.count, 25):
             if time.time() - began > options.seconds:
                 break

@@ -1,7 +1,7 @@
 #!/usr/bin/env python3
 """Arbitrary states, heaps, labels, trailers, tables and batches, as console scripts.
 
-    hostile.py [--model | --console PATH] [--seed S] [--from K] [--count N] [--seconds T] [--without COMMAND]
+    hostile.py [--model | --console PATH] [--seed S] [--from K] [--count N] [--seconds T]
 
 Checked without a second implementation: every line is answered in its form; a refused call leaves everything as it was, except
 as document 01 says of maintenance and reopening; a call changes no heap byte outside the slots that its dump shows as changed
@@ -46,8 +46,8 @@ def first_word(line):
 class Maker:
     """one script: a store by hand, then calls, each followed by a dump"""
 
-    def __init__(self, seed, number, without=None):
-        self.r, self.without = random.Random(f'{seed} hostile {number}'), without
+    def __init__(self, seed, number):
+        self.r = random.Random(f'{seed} hostile {number}')
         self.lines, self.chunks = [], []  # chunks: (offset, bytes) poked
 
     def rarely(self, usual, strange, chance=0.02):
@@ -161,7 +161,7 @@ class Maker:
         calls = ['maintain'] * 5 + [f'write {self.batch()}'] * 5 + [f'read {i}' for i in self.ids]
         calls += ['prune', 'counts', 'list', 'reopen', f'claim {slot}', f'claim {slot}', f'release {slot}', f'load {ident}', f'store {ident} {raw}',
                   f'cas {ident} {raw} {self.edge()}', f'max {ident} {raw}', self.bad_line()]
-        return r.choice([call for call in calls if first_word(call) != self.without])
+        return r.choice(calls)
 
     def bad_line(self):
         big = 2 ** 64 + self.r.randrange(5)
@@ -248,9 +248,9 @@ def undoing(maker, lines, slots):
     return maker.lines[:lines] + back + ['dump'], f'heap {zlib.crc32(heap)}'
 
 
-def run(port, seed, numbers, without):
+def run(port, seed, numbers):
     """one round; gives the calls made, and how many had the bytes outside looked at"""
-    makers = [Maker(seed, k, without).make() for k in numbers]
+    makers = [Maker(seed, k).make() for k in numbers]
     answers = iter(port.run([line for m in makers for line in m.lines]))
     calls, undo = 0, []
     for k, maker in zip(numbers, makers):
@@ -287,7 +287,6 @@ def main():
     parser.add_argument('--from', dest='start', type=int, default=0)
     parser.add_argument('--count', type=int, default=500)
     parser.add_argument('--seconds', type=float, default=1e9, help='begin no round after so long')
-    parser.add_argument('--without', help='leave out this command, which the console does not have yet')
     options = parser.parse_args()
     port = Model() if options.model else Port(options.console)
     began, scripts, calls, undone = time.time(), 0, 0, 0
@@ -296,7 +295,7 @@ def main():
             if time.time() - began > options.seconds:
                 break
             numbers = range(at, min(at + 100, options.start + options.count))
-            c, u = run(port, options.seed, numbers, options.without)
+            c, u = run(port, options.seed, numbers)
             scripts, calls, undone = scripts + len(numbers), calls + c, undone + u
     except Difference as d:
         raise SystemExit(f'DIFFERENCE (seed {options.seed}) {d}')

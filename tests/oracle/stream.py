@@ -1,7 +1,7 @@
 #!/usr/bin/env python3
 """Arbitrary bytes on the console's standard input: damaged scripts, random bytes, lines about as long as the longest, no last line end.
 
-    stream.py [--console PATH] [--seed S] [--count N] [--seconds T] [--without COMMAND]
+    stream.py [--console PATH] [--seed S] [--count N] [--seconds T]
 
 Each stream is one process. It must end by itself with status 0, and write for its lines, its lines for people left out, exactly what
 the model answers: so every line has its answer, in its order, whatever stands before it."""
@@ -40,11 +40,11 @@ def long_line(r):
     return front + (filler * room)[:room] + back + b'\n'
 
 
-def stream(seed, number, without):
+def stream(seed, number):
     """pieces of all kinds, behind each other"""
     r, pieces = random.Random(f'{seed} stream {number}'), []
     for k in range(6):
-        script = '\n'.join(Maker(f'{seed} stream {number}', k, without).make().lines).encode() + b'\n'
+        script = '\n'.join(Maker(f'{seed} stream {number}', k).make().lines).encode() + b'\n'
         pieces += [damaged(r, script), r.choice(BYTES) * r.randint(0, 9) + b'\n', r.randbytes(r.choice([0, 1, 50, 3000]))]
         pieces += [b'\nheap 131072\n', long_line(r), b'\ndump\ncounts\n']
     return b''.join(pieces) + r.choice([b'', b'load 5', b'dump', b'#', b' ', b'\r', b'lo', long_line(r)[:-1]])
@@ -76,14 +76,13 @@ def main():
     parser.add_argument('--seed', default='1')
     parser.add_argument('--count', type=int, default=10)
     parser.add_argument('--seconds', type=float, default=1e9, help='begin no stream after so long')
-    parser.add_argument('--without', help='leave out this command, which the console does not have yet')
     options = parser.parse_args()
     began, streams, lines, answers, command = time.time(), 0, 0, 0, console_command(options.console)
     for number in range(options.count):
         if time.time() - began > options.seconds:
             break
         try:
-            n, a = check(command, stream(options.seed, number, options.without))
+            n, a = check(command, stream(options.seed, number))
         except SystemExit as end:
             raise SystemExit(f'DIFFERENCE (seed {options.seed}) stream {number}: {end}')
         streams, lines, answers = streams + 1, lines + n, answers + a

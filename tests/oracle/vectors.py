@@ -1,7 +1,7 @@
 #!/usr/bin/env python3
 """The list that the program vectors replays: a script, and what the original answered to it.
 
-    vectors.py FOLDER [--seed S] [--count N] [--without COMMAND]      writes FOLDER/stdin and FOLDER/stdout
+    vectors.py FOLDER [--seed S] [--count N]      writes FOLDER/stdin and FOLDER/stdout
 
 First checksums known from outside, then small scenarios, each followed by one on the files that the original left of it, labelled and
 put into slots. After every call each id's read and the counts. The answers are the original's, in the console's words (TOLD); `ok` to
@@ -83,12 +83,11 @@ def main():
     parser = argparse.ArgumentParser()
     parser.add_argument('folder')
     parser.add_argument('--seed', default='1')
-    parser.add_argument('--count', type=int, default=60)
-    parser.add_argument('--without', help='leave out this command, which the console does not have yet')
+    parser.add_argument('--count', type=int, default=100)
     options = parser.parse_args()
     rust = Rust(ORACLE)
     recorder = Recorder(rust)
-    done, carried = compare(Model(), recorder, Generated(options.seed, True, options.without), range(options.count))
+    done, carried = compare(Model(), recorder, Generated(options.seed, True), range(options.count))
     rust.close()
     title = f'# made from the original by tests/oracle/vectors.py, seed {options.seed}: {done} scenarios and {carried} on its files'
     made = [(title, title)] + list(checksums()) + recorder.list

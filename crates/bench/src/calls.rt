@@ -71,6 +71,19 @@ pub fn prune(b: Bench, heap: &mut [u8], ids: &[u64], locations: &[u64]) -> Bench
     next
 }
 
+pub fn maintain(b: Bench, heap: &mut [u8], ids: &mut [u64], locations: &mut [u64]) -> Bench {
+    let mut next = b;
+    let settings = b.settings;
+    let state = b.state;
+    let held = b.claims;
+    let done = gc::maintain(settings, state, held, heap, ids, locations);
+    let answer = done.answer;
+    let left = done.state;
+    next.state = left;
+    say::maintained(answer);
+    next
+}
+
 pub fn claim(b: Bench, heap: &[u8], ids: &[u64], locations: &[u64], slot: u64) -> Bench {
     let mut next = b;
     let settings = b.settings;

@@ -73,7 +73,7 @@ pub fn start() -> Bench {
     }
 }
 
-// The calls: a call that lands gets its arm here, its function in calls.rt, and leaves the first screen's list.
+// The calls: each has its arm here and its function in calls.rt.
 fn after_call(
     b: Bench,
     keyword: Keyword,
@@ -91,6 +91,7 @@ fn after_call(
             b
         }
         Keyword::Prune => calls::prune(b, heap, ids, locations),
+        Keyword::Maintain => calls::maintain(b, heap, ids, locations),
         Keyword::Claim => calls::claim(b, heap, ids, locations, n[0]),
         Keyword::Release => calls::release(b, heap, ids, locations, n[0]),
         Keyword::Counts => {

@@ -1,6 +1,7 @@
 // What the console writes: answers, and lines for people, which begin with `#`.
 use libc::STDOUT_FILENO;
 use rules::Answer;
+use rules::MaintainAnswer;
 use rules::Refusal;
 ghost use mathlib.Core.Path.{_≡_};
 ghost use Prim.Native.Nat.{_≤_};
@@ -75,6 +76,20 @@ pub fn answer(a: Answer) {
     }
 }
 
+// The count moved, or number, generation and ids moved so far.
+pub fn maintained(a: MaintainAnswer) {
+    match a {
+        MaintainAnswer::Moved(n) => named(b"ok", n),
+        MaintainAnswer::Stopped(r, generation, moved) => {
+            text(b"refused");
+            number(number_of(r));
+            number(generation);
+            number(moved);
+            end();
+        }
+    }
+}
+
 fn hex_piece(piece: &[u8])
     requires { ⌜ length (now piece) ≤ 2048 ⌝ }
 {
@@ -106,7 +121,6 @@ pub fn first_screen() {
         b"# Settings 4096 75 2 2048 64 1024, a heap of 65536 zeros (16 slots), a table of 1024, not reopened.\n",
     );
     text(b"# At most: heap 1048576 bytes, table 65536 entries, line 131200 bytes.\n");
-    text(b"# not yet: maintain\n");
 }
 
 pub fn help() {
