@@ -1,5 +1,5 @@
 -- What a group comes to: by the checks of its files, then by the totals of the files that come out.
-use mathlib.Core.Path.{_≡_, refl, sym, ap, _∙_}
+use mathlib.Core.Path.{_≡_, sym, ap, _∙_}
 use Rattle.rules.specs.Base.{List, _++_, ℕ, _+_, length, each}
 use Rattle.rules.specs.declared.Refusal.{Refusal}
 use Rattle.rules.specs.declared.Answer.{Answer}

@@ -1,10 +1,10 @@
 -- Files that 4, 5 and 7 do not refuse: room and positions for each, one after the other.
-use mathlib.Core.Path.{_≡_, refl, sym, ap, _∙_, subst}
+use mathlib.Core.Path.{_≡_, ap, _∙_}
 use Prim.Native.Nat.{_≤_, _<_}
 use native.Mathlib.Omega.{arith}
-use Rattle.rules.specs.Base.{List, [], _∷_, ℕ, suc, _+_, _^_, length, sum}
+use Rattle.rules.specs.Base.{List, _∷_, ℕ, _+_, _^_, length, sum}
 use Rattle.rules.specs.declared.Answer.the-variants.{Done}
-use Rattle.rules.specs.Refusal.{NoneHolds, decide, clear-when, none-first, none-rest}
+use Rattle.rules.specs.Refusal.{decide, clear-when, none-first, none-rest}
 use Rattle.rules.specs.Ops.{Op, objectsOf, fileBytes}
 use Rattle.rules.specs.Install.{roomTests, positionTests}
 use Rattle.rules.specs.InstallLaws.{Room, room-clear, positions-clear}
@@ -34,16 +34,20 @@ fitting-clear target slotSize emptyOnes base ops e =
 
 -- ---- the first of them, and the others after it
 module _ (slotSize emptyOnes base : ℕ) (f : List Op) (fs : List (List Op)) (w : Fitting slotSize emptyOnes base (f ∷ fs)) where
+  -- it fits its slot
   pub first-fits : 64 + length (fileBytes f) ≤ slotSize
   first-fits = w .room .fits .0
 
+  -- there is one
   pub first-room : 0 < emptyOnes
   first-room = omega (arith, w .room .slots)
 
+  -- and positions for it
   pub first-positions : base + span f ≤ 2 ^ 62
   unfolding sum
   first-positions = omega (arith, w .positions (omega arith))
 
+  -- as for the others, once it was added
   pub fitting-rest : (emptyAfter next : ℕ) → emptyAfter + 1 ≡ emptyOnes → next ≡ base + span f → Fitting slotSize emptyAfter next fs
   unfolding sum
   fitting-rest emptyAfter next e d = record {

@@ -1,6 +1,6 @@
 -- A group rewritten: what is known of it once its checks are clear, and what the call has of it.
-use mathlib.Core.Path.{_≡_, refl, sym, ap, _∙_}
-use Prim.Native.Nat.{_≤_, _<_}
+use mathlib.Core.Path.{_≡_, sym, ap, _∙_}
+use Prim.Native.Nat.{_≤_}
 use native.Mathlib.Omega.{arith}
 use lib.ListN.{length-replicate}
 use Rattle.rules.specs.Base.{false, List, ℕ, _+_, length, getD, replicate, each}

@@ -1,12 +1,12 @@
 -- A slot that has a file keeps one when another is added.
-use mathlib.Core.Path.{_≡_, refl, sym, ap, _∙_}
+use mathlib.Core.Path.{_≡_, ap}
 use mathlib.Core.Logic.{_⊎_, inl, inr}
 use Prim.Native.Nat.{_≤_, _<_}
 use native.Mathlib.Omega.{arith}
 use lib.Seq.{getD-set-same, getD-set-other, set-out}
 use Rattle.numbers.specs.GroupLaws.{either-way}
 use Rattle.disk_location.specs.Locations.{maskedOf}
-use Rattle.rules.specs.Base.{false, List, ℕ, _+_, length, set}
+use Rattle.rules.specs.Base.{false, List, ℕ, length, set}
 use Rattle.rules.specs.BaseLaws.{same?}
 use Rattle.rules.specs.declared.Record.{Record}
 use Rattle.rules.specs.declared.Settings.{Settings}

@@ -1,14 +1,14 @@
 -- The numbers of a group's files, as the code has them: what is left of the shards in one list of places, fragments in another.
-use mathlib.Core.Path.{_≡_, refl, sym, ap, ap₂, _∙_}
+use mathlib.Core.Path.{_≡_, ap, ap₂, _∙_}
 use mathlib.Core.Logic.{_⊎_, inl, inr}
 use Prim.Native.Nat.{_≤_, _<_}
 use native.Mathlib.Omega.{arith}
 use borrow.Author.Tests.{eq-eqb, ne-eqb}
-use lib.ListN.{length-append, length-replicate, List·getD-append, List·getD-eq-default, getD-replicate}
-use lib.Seq.{length-take-le, getD-take, take-append-seam, take-append-add, getD-append-add, getD-set-same, getD-set-other, set-out}
+use lib.ListN.{length-append, length-replicate}
+use lib.Seq.{length-take-le, take-append-seam, take-append-add, getD-set-same, getD-set-other, set-out}
 use Rattle.numbers.specs.Parts.{front}
 use Rattle.numbers.specs.GroupLaws.{either-way}
-use Rattle.rules.specs.Base.{Bool, true, false, List, [], _∷_, _++_, ℕ, zero, suc, _+_, _-_, _*_, _^_, length, getD, set, take, drop, replicate, ltb, eqb, pick}
+use Rattle.rules.specs.Base.{Bool, true, false, List, [], _∷_, _++_, ℕ, zero, suc, _+_, _^_, length, getD, set, take, drop, ltb, eqb, pick}
 use Rattle.rules.specs.BaseLaws.{All, same?, zero-or-more}
 use Rattle.rules.specs.Ops.{Op, sizeOf, shardFor}
 use Rattle.batch.specs.SizeLaws.{size-bound}
@@ -16,9 +16,10 @@ use Rattle.gc_split.specs.Tally.{Tally, pieceOf, closing, cutting, entering, ta
 use Rattle.gc_split.specs.BoundLaws.{cut-within, take-within, empty-within}
 use Rattle.gc_split.specs.PieceLaws.{shard-most, take-cuts}
 use Rattle.gc_split.specs.OrderLaws.{fragments-among, order-counted}
+use Rattle.gc_group.specs.MarkLaws.{blank-at}
 use Rattle.gc_files.specs.Places.{Standing, movingAt, opAt, placedOps}
 use Rattle.gc_files.specs.PlaceLaws.{moving-told}
-use Rattle.gc_rewrite.specs.Putting.{orderIn}
+use Rattle.gc_rewrite.specs.Putting.{Words, orderIn}
 
 -- ---- a group's operations
 -- an operation is not larger than a slot's object
@@ -54,9 +55,10 @@ placed-count heap (x ∷ xs) (p ∷ ps) = go (eqb p 0) (placed-count heap xs ps)
 -- within bounds, and every fragment's number fits 32 bits
 pub record Tallied (t : Tally) : Type 0 where
   pub within : Within t
-  pub cuts : (k : ℕ) → getD (t .cuts) k 0 < 2 ^ 32
+  pub cuts : Words (t .cuts)
   pub room : length (t .cuts) ≡ 256
 
+-- one number set
 set-small : (xs : List ℕ) (n x k : ℕ) → x < 2 ^ 32 → getD xs k 0 < 2 ^ 32 → getD (set xs n x) k 0 < 2 ^ 32
 set-small xs n x k new old = go (same? k n) (either-way n (length xs))
   where
@@ -65,7 +67,8 @@ set-small xs n x k new old = go (same? k n) (either-way n (length xs))
     go (inl e) (inl h) = rw (e, getD-set-same xs n x 0 h) new
     go (inl e) (inr h) = rw (set-out xs n x h) old
 
-take-small : (target slotSize n size : ℕ) (t : Tally) → n < 65 → Tallied t → (k : ℕ) → getD (taking target slotSize n size t .cuts) k 0 < 2 ^ 32
+-- a cut notes a number of 32 bits
+take-small : (target slotSize n size : ℕ) (t : Tally) → n < 65 → Tallied t → Words (taking target slotSize n size t .cuts)
 unfolding taking entering cutting
 take-small target slotSize n size t low w k = go (ltb target (getD (t .sizes) n 0))
   where
@@ -82,10 +85,12 @@ take-small target slotSize n size t low w k = go (ltb target (getD (t .sizes) n 
     go true = set-small (t .cuts) (t .totals .files) (pieceOf n (getD (t .rounds) n 0)) k (omega (arith, w .within .rounds n, w .within .entries)) (w .cuts k)
     go false = w .cuts k
 
+-- an entry more
 taken : (target slotSize n size : ℕ) (t : Tally) → Within t → taking target slotSize n size t .totals .entries ≡ t .totals .entries + 1
 unfolding taking entering
 taken target slotSize n size t within = ap (λ (k : ℕ). k + 1) (cut-within target slotSize n t within .entries)
 
+-- operation by operation
 from-tallied : (target slotSize : ℕ) (ops : List Op) (t : Tally) → All Short ops → t .totals .entries + length ops ≤ 65536 → Tallied t → Tallied (tallyFrom target slotSize ops t)
 unfolding tallyFrom
 from-tallied target slotSize [] t all room w = w
@@ -100,16 +105,9 @@ from-tallied target slotSize (o ∷ os) t all room w =
       room = take-cuts target slotSize n size t ∙ w .room;
     })
 
-none-small : (n k : ℕ) → getD (replicate n 0) k 0 < 2 ^ 32
-none-small n k = go (either-way k n)
-  where
-    go : (k < n) ⊎ (n ≤ k) → getD (replicate n 0) k 0 < 2 ^ 32
-    go (inl h) = rw (getD-replicate {A = ℕ} n k 0 0 h) (omega arith)
-    go (inr h) = rw (List·getD-eq-default {A = ℕ} (replicate n 0) 0 {n = k} (omega (arith, length-replicate {A = ℕ} n 0))) (omega arith)
-
 -- before the first
-pub none-tallied : Tallied emptyTally
-none-tallied = record { within = empty-within; cuts = none-small 256; room = length-replicate {A = ℕ} 256 0 }
+none-tallied : Tallied emptyTally
+none-tallied = record { within = empty-within; cuts = λ k. omega (arith, blank-at 256 k); room = length-replicate {A = ℕ} 256 0 }
 
 -- behind the last
 pub tallied : (target slotSize : ℕ) (ops : List Op) → All Short ops → length ops ≤ 65536 → Tallied (tallyOf target slotSize ops)
@@ -117,30 +115,33 @@ unfolding tallyOf
 tallied target slotSize ops all room = from-tallied target slotSize ops emptyTally all (omega arith) none-tallied
 
 -- ---- the order
-rests-small : (n : ℕ) (cs rs : List ℕ) → n + length cs ≤ 65 → ((k : ℕ) → getD rs k 0 ≤ 65536) → (k : ℕ) → getD (restsFrom n cs rs) k 0 < 2 ^ 32
+-- what is left of the shards from n on
+rests-small : (n : ℕ) (cs rs : List ℕ) → n + length cs ≤ 65 → ((k : ℕ) → getD rs k 0 ≤ 65536) → Words (restsFrom n cs rs)
 unfolding restsFrom restOf
 rests-small n [] rs h g k = omega arith
 rests-small n (c ∷ cs) [] h g k = omega arith
 rests-small n (c ∷ cs) (r ∷ rs) h g k = go (eqb c 0) k (rests-small (suc n) cs rs (omega arith) (λ j. g (suc j)))
   where
-    go : (b : Bool) (j : ℕ) → ((i : ℕ) → getD (restsFrom (suc n) cs rs) i 0 < 2 ^ 32) → getD (pick b [] (pieceOf n r ∷ []) ++ restsFrom (suc n) cs rs) j 0 < 2 ^ 32
+    go : (b : Bool) (j : ℕ) → Words (restsFrom (suc n) cs rs) → getD (pick b [] (pieceOf n r ∷ []) ++ restsFrom (suc n) cs rs) j 0 < 2 ^ 32
     go true j ih = ih j
     go false zero ih = omega (arith, g 0)
     go false (suc j) ih = ih j
 
-front-small : (n : ℕ) (xs : List ℕ) → ((k : ℕ) → getD xs k 0 < 2 ^ 32) → (k : ℕ) → getD (take n xs) k 0 < 2 ^ 32
+-- a front of such numbers
+front-small : (n : ℕ) (xs : List ℕ) → Words xs → Words (take n xs)
 front-small zero xs h k = omega arith
 front-small (suc n) [] h k = omega arith
 front-small (suc n) (x ∷ xs) h zero = h 0
 front-small (suc n) (x ∷ xs) h (suc k) = front-small n xs (λ j. h (suc j)) k
 
-both-small : (xs ys : List ℕ) → ((k : ℕ) → getD xs k 0 < 2 ^ 32) → ((k : ℕ) → getD ys k 0 < 2 ^ 32) → (k : ℕ) → getD (xs ++ ys) k 0 < 2 ^ 32
+-- one list behind the other
+both-small : (xs ys : List ℕ) → Words xs → Words ys → Words (xs ++ ys)
 both-small [] ys h g k = g k
 both-small (x ∷ xs) ys h g zero = h 0
 both-small (x ∷ xs) ys h g (suc k) = both-small xs ys (λ j. h (suc j)) g k
 
 -- every file's number fits 32 bits
-pub order-small : (t : Tally) → Tallied t → (k : ℕ) → getD (orderOf t) k 0 < 2 ^ 32
+pub order-small : (t : Tally) → Tallied t → Words (orderOf t)
 unfolding orderOf
 order-small t w =
     both-small (restsFrom 0 (t .counts) (t .rounds)) (take (t .totals .files) (t .cuts))
@@ -153,6 +154,7 @@ pub record InOrder (t : Tally) (places : List ℕ) (files : ℕ) : Type 0 where
   pub left : length (restsFrom 0 (t .counts) (t .rounds)) ≤ length (front (restsFrom 0 (t .counts) (t .rounds)) places)
   pub enough : files ≤ length (restsFrom 0 (t .counts) (t .rounds)) + length (t .cuts)
 
+-- they give the order, and there is room for it
 pub in-order : (target slotSize : ℕ) (ops : List Op) (places : List ℕ) → Tallied (tallyOf target slotSize ops) → closedOf slotSize (tallyOf target slotSize ops) .files ≤ 256
     → InOrder (tallyOf target slotSize ops) places (closedOf slotSize (tallyOf target slotSize ops) .files)
 unfolding orderOf front

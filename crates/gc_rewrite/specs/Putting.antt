@@ -4,7 +4,7 @@ use Prim.Native.Nat.{_≤_, _<_}
 use native.Mathlib.Omega.{arith}
 use lib.ListN.{length-append}
 use lib.Seq.{length-take-le, getD-take}
-use Rattle.rules.specs.Base.{false, List, [], _∷_, map, ℕ, _+_, _^_, length, getD, take, drop, _++_}
+use Rattle.rules.specs.Base.{false, List, _∷_, _++_, map, ℕ, _+_, _^_, length, getD, take, drop}
 use Rattle.rules.specs.TurnLaws.{left-next, left-none}
 use Rattle.rules.specs.declared.Settings.{Settings}
 use Rattle.rules.specs.declared.State.{State}
@@ -30,11 +30,15 @@ filesIn heap ids places pieces order = map (λ (q : ℕ). filedOps q heap ids pl
 abbrev pub emptyIn : Settings → State → List ℕ → ℕ
 emptyIn s t heap = length (emptySlots (slotsIn s (length heap)) (t .files .records))
 
+-- numbers of 32 bits
+abbrev pub Words : List ℕ → Type 0
+Words ns = (k : ℕ) → getD ns k 0 < 2 ^ 32
+
 -- what adding the files with these numbers asks for
 pub record Puttable (s : Settings) (t : State) (heap ids locations places pieces order : List ℕ) : Type 0 where
   pub placing : Placing s t heap ids locations places pieces
   pub fitting : Fitting (s .«slot_bytes») (emptyIn s t heap) (t .«next_position») (filesIn heap ids places pieces order)
-  pub small : (k : ℕ) → getD order k 0 < 2 ^ 32
+  pub small : Words order
 
 -- a slot that had a file has one
 abbrev pub Kept : State → State → Type 0
@@ -70,18 +74,21 @@ module _ (s : Settings) (generation : ℕ) (places pieces order : List ℕ) (t :
     pub sameHeap : length heap′ ≡ length heap
     pub sameIds : ids′ ≡ ids
 
+  -- before the first
   pub put-start : Puttable s t heap ids locations places pieces order → Put 0 t heap ids locations
   put-start w = record { low = omega arith; placing = w .placing; filed = λ q. refl; fitting = w .fitting; left = λ c. refl; kept = λ k some. some; sameHeap = refl; sameIds = refl }
 
   module _ (f : ℕ) (r : State) (heap′ ids′ locations′ : List ℕ) (w : Put f r heap′ ids′ locations′) (h : f < length order) (p : ℕ) (is : p ≡ getD order f 0) where
-    -- the file with the number p, then the others
+    -- the files behind it
     rest : List (List Op)
     rest = filesIn heap ids places pieces (drop (f + 1) order)
 
+    -- the file with the number p comes first
     step : filesIn heap ids places pieces (drop f order) ≡ filedOps p heap ids places pieces ∷ rest
     unfolding rest
     step = ap (filesIn heap ids places pieces) (left-next order f 0 h) ∙ ap (λ (q : ℕ). filedOps q heap ids places pieces ∷ rest) (sym is)
 
+    -- all of them fit
     fits : Fitting (s .«slot_bytes») (emptyIn s r heap′) (r .«next_position») (filedOps p heap ids places pieces ∷ rest)
     fits = subst (Fitting (s .«slot_bytes») (emptyIn s r heap′) (r .«next_position»)) step (w .fitting)
 
@@ -90,6 +97,7 @@ module _ (s : Settings) (generation : ℕ) (places pieces order : List ℕ) (t :
         (64 + length (fileBytes ops) ≤ s .«slot_bytes») × (0 < emptyIn s r heap′) × (r .«next_position» + span ops ≤ 2 ^ 62)
     put-asks = rw (w .filed p) (first-fits _ _ _ _ _ fits, first-room _ _ _ _ _ fits, first-positions _ _ _ _ _ fits)
 
+    -- and what is left after it
     pub put-turn : (q : State) (heap″ ids″ locations″ : List ℕ) → Added s generation places pieces r heap′ ids′ locations′ p q heap″ ids″ locations″
         → Put (f + 1) q heap″ ids″ locations″
     unfolding installedAll rest
@@ -127,6 +135,7 @@ module _ (s : Settings) (generation : ℕ) (places pieces order : List ℕ) (t :
 abbrev pub orderIn : ℕ → ℕ → List ℕ → List ℕ → List ℕ
 orderIn files left rests cuts = take files (take left rests ++ cuts)
 
+-- that many
 pub order-long : (files left : ℕ) (rests cuts : List ℕ) → left ≤ length rests → files ≤ left + length cuts → length (orderIn files left rests cuts) ≡ files
 order-long files left rests cuts h g = length-take-le files (take left rests ++ cuts) (omega (arith, length-append (take left rests) cuts, length-take-le left rests h))
 

@@ -1,11 +1,11 @@
 -- A group's operations at their places, split and rewritten: what each step asks for and leaves.
-use mathlib.Core.Path.{_≡_, refl, sym, ap, ap₂, _∙_, subst}
+use mathlib.Core.Path.{_≡_, refl, sym, ap, _∙_, subst}
 use Prim.Native.Nat.{_≤_, _<_}
 use native.Mathlib.Omega.{arith}
 use lib.ListN.{length-take}
 use native.Mathlib.Nat.{min-le-left}
 use Rattle.numbers.specs.Parts.{front}
-use Rattle.rules.specs.Base.{Bool, true, false, List, [], _∷_, map, ℕ, suc, _+_, _^_, length, getD, take, pick}
+use Rattle.rules.specs.Base.{Bool, true, false, List, [], _∷_, ℕ, suc, _+_, length, getD, take, pick}
 use Rattle.rules.specs.declared.Record.{Record}
 use Rattle.rules.specs.declared.Settings.{Settings}
 use Rattle.rules.specs.declared.State.{State}
@@ -21,7 +21,7 @@ use Rattle.rules.specs.FileMap.{isEmpty, recordAt, slotsWhere, emptySlots}
 use Rattle.rules.specs.Condition1Laws.{Passed}
 use Rattle.rules.specs.Install.{installedAll}
 use Rattle.rules.specs.Maintenance.{filesOf}
-use Rattle.rules.specs.World.{World, world}
+use Rattle.rules.specs.World.{world}
 use Rattle.location_table.specs.Tables.{table}
 use Rattle.gc_split.specs.declared.Totals.{Totals}
 use Rattle.gc_split.specs.Tally.{Tally, tally, tallyFrom, tallyOf, emptyTally, closingRests, closedOf, restsFrom, orderOf, totalsFor, Within, Closable, Numbered}
@@ -61,6 +61,7 @@ where-most f i (r ∷ rs) = go (f i r) (where-most f (suc i) rs)
     go true h = omega arith
     go false h = omega arith
 
+-- of the heap's n
 empty-most : (n : ℕ) (rs : List Record) → length (emptySlots n rs) ≤ n
 unfolding emptySlots
 empty-most n rs = omega (arith, where-most (λ (i : ℕ) (r : Record). isEmpty r) 0 (take n rs), length-take n rs, min-le-left n (length rs))
@@ -93,9 +94,11 @@ module _ (s : Settings) (t : State) (heap ids locations places : List ℕ) where
     pub files : whole .totals .files ≤ 256 → filesOf (s .«target_file_size») ops ≡ filesIn heap ids places pieces (orderOf whole)
 
   module _ (m : Moving s t heap ids locations places) where
+    -- no more entries than a table has
     few : length ids ≤ 65536
     few = m .limits .limits .table .most
 
+    -- each object lies in the heap
     standing : Standing heap places
     standing k some = m .kept k some .0
 
@@ -103,11 +106,13 @@ module _ (s : Settings) (t : State) (heap ids locations places : List ℕ) where
     pub moving-splits : (pieces : List ℕ) → length ids ≤ length pieces → Splitting heap ids places pieces 0
     moving-splits pieces wide = record { places = m .wide; pieces = wide; standing = standing; room = omega (arith, few) }
 
+    -- their tally is within bounds
     pub moving-tallied : Tallied whole
     moving-tallied = tallied (s .«target_file_size») (s .«slot_bytes») ops (placed-short heap ids places standing) (omega (arith, placed-count heap ids places, few))
 
     module _ (sizes counts rounds cuts : List ℕ) (totals : Totals)
         (e : tally sizes counts rounds cuts totals ≡ tallyFrom (s .«target_file_size») (s .«slot_bytes») ops emptyTally) where
+      -- what the code lends is that tally
       told : tally sizes counts rounds cuts totals ≡ whole
       unfolding tallyOf
       told = e
@@ -141,6 +146,7 @@ module _ (s : Settings) (t : State) (heap ids locations places : List ℕ) where
 
     -- 4, 5 and 7 are decided by their totals
     module _ (moved generation : ℕ) where
+      -- the totals are those of the definition
       tests-are : (c : Claims) → decide (totalsTests total (emptyIn s t heap) (t .«next_position»)) ≡ decide (filesTests ops (world s t c heap ids locations))
       tests-are c = ap (λ (u : Totals). decide (totalsTests u (emptyIn s t heap) (t .«next_position»))) (w .closed)
 
@@ -156,10 +162,12 @@ module _ (s : Settings) (t : State) (heap ids locations places : List ℕ) where
 
       -- none
       module _ (e : decide (totalsTests total (emptyIn s t heap) (t .«next_position»)) ≡ Done) where
+        -- room and positions for all files
         fitting : Fitting (s .«slot_bytes») (emptyIn s t heap) (t .«next_position») (filesOf (s .«target_file_size») ops)
         fitting = fitting-clear (s .«target_file_size») (s .«slot_bytes») (emptyIn s t heap) (t .«next_position») ops
             (ap (λ (u : Totals). decide (totalsTests u (emptyIn s t heap) (t .«next_position»))) (sym (w .closed)) ∙ e)
 
+        -- no more files than slots
         most : closedOf (s .«slot_bytes») whole .files ≤ 256
         most =
             omega (
@@ -170,9 +178,11 @@ module _ (s : Settings) (t : State) (heap ids locations places : List ℕ) where
               w .placing .limits .limits .heap .most,
             )
 
+        -- they are the pieces, in order
         filed : filesOf (s .«target_file_size») ops ≡ filesIn heap ids places pieces (orderOf whole)
         filed = w .files (omega (arith, most, fragments-among (s .«slot_bytes») whole))
 
+        -- the ids moved, and how many files
         pub split-count : (total .entries ≡ length ops) × (total .entries ≤ 65536) × (total .files ≤ 256)
         unfolding totalsFor
         split-count =
@@ -180,9 +190,11 @@ module _ (s : Settings) (t : State) (heap ids locations places : List ℕ) where
             (n, omega (arith, n, placed-count heap ids places, w .placing .limits .limits .table .most), omega (arith, most, ap (λ (u : Totals). u .files) (w .closed)))
 
         module _ (blank rests : List ℕ) (left : ℕ) (there : rests ≡ front (restsFrom 0 counts rounds) blank) (many : left ≡ length (restsFrom 0 counts rounds)) where
+          -- the files' numbers in the two lists
           told-order : InOrder whole blank (closedOf (s .«slot_bytes») whole .files)
           told-order = in-order (s .«target_file_size») (s .«slot_bytes») ops blank (w .bounds) most
 
+          -- as the code reads them
           same-order : orderIn (total .files) left rests cuts ≡ orderOf whole
           same-order = rw (w .closed, many, there, w .cut, w .counted, w .turned) (told-order .order)
 
@@ -194,6 +206,7 @@ module _ (s : Settings) (t : State) (heap ids locations places : List ℕ) where
             small = order-small whole (w .bounds);
           })
 
+          -- and where their numbers stand
           pub split-places : (left ≤ length rests) × (total .files ≤ left + length cuts)
           split-places = rw (w .closed, many, there, w .cut, w .counted, w .turned) (told-order .left, told-order .enough)
 

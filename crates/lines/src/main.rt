@@ -1,7 +1,6 @@
 // Runs the lines of the paper that numbers, checksums and locations can answer: what is computed, then what the paper says.
 
 ghost use mathlib.Core.Path.{_≡_};
-ghost use Prim.Native.Nat.{_+_, min};
 ghost use lib.Dec.{ltb};
 ghost use Rattle.disk_location.specs.Locations.{maskedOf};
 use disk_location::DiskLocation;
@@ -14,16 +13,6 @@ fn is_later(a: u64, b: u64) -> bool
     ensures { λ r. ⌜ r ≡ ltb (maskedOf b) (maskedOf a) ⌝ }
 {
     disk_location::masked(b) < disk_location::masked(a)
-}
-
-// P7: the generation after g.
-fn generation_after(g: u64) -> u64
-    ensures { λ r. ⌜ r ≡ min (g + 1) 3 ⌝ }
-{
-    if g < 3 {
-        return g + 1;
-    }
-    3
 }
 
 fn text(s: &[u8]) {
@@ -135,14 +124,6 @@ fn line_5() {
     text(b"| masked 205 without the bit is later than masked 101 with it\n");
 }
 
-fn line_7() {
-    text(b"P7 | ");
-    decimal(generation_after(0));
-    decimal(generation_after(3));
-    decimal(generation_after(255));
-    text(b"| generations 0, 3, 255 give 1, 3, 3\n");
-}
-
 fn line_8() {
     text(b"P8 | ");
     decimal(disk_location::shard(0) as u64);
@@ -187,7 +168,6 @@ fn main() {
     line_3();
     line_4();
     line_5();
-    line_7();
     line_8();
     line_checksum();
     line_object();

@@ -95,7 +95,8 @@ module _ (w : World) (told : ℕ → Said) (s : SoundWorld w told) where
           narrow = λ x l h. let a = absolute-has (newLsn bit w) (entriesOf 0 os) x l h in ids-fit os (f .ids) 0 x (a .0) (a .1);
         }
 
-    writable : Writable (w .settings .«slot_bytes») (newLsn bit w) g os
+    -- label and file may be written
+    pub writable : Writable (w .settings .«slot_bytes») (newLsn bit w) g os
     unfolding newRecord
     writable =
         let b = base in
@@ -119,7 +120,8 @@ module _ (w : World) (told : ℕ → Said) (s : SoundWorld w told) where
         (rows-used (added (newLsn bit w) g (pictureOf w) (newSlot w) os .views)
         (filed-added (boundsOf w) (pictureOf w) told (s .sound) (newSlot w) (newLsn bit w) g os addable .made))
 
-    views-after : viewsOf (installed bit g w os) ≡ set (viewsOf w) (newSlot w) (holds (fileOfOps (newLsn bit w) g os))
+    -- the new slot's view alone changes
+    pub views-after : viewsOf (installed bit g w os) ≡ set (viewsOf w) (newSlot w) (holds (fileOfOps (newLsn bit w) g os))
     unfolding installed storesFor
     views-after =
         let h = heap-whole (w .settings) (length (w .heap)) (s .tidy .limits .heap) in

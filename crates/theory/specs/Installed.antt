@@ -317,11 +317,11 @@ module _ (bounds : Bounds) (p : Picture) (told : ℕ → Said) (s : Sound bounds
       go Unmapped h = old-says x (lookup (p .table) x) refl
       go (Mapped r) h = new-says x r (lookup-has (entriesOf 0 os) x r h) ∙ sym (over-entry r x (heldSays p (lookup (p .table) x) x))
 
-  above-added : (j : ℕ) (h : File) → viewAt (added lsn g p k os .views) j ≡ holds h → maskedOf (h .label .lsn) + h .label .«trailer_offset» < p .next + (length (objectsOf os) + 1)
-  unfolding newRecord
+  above-added : (j : ℕ) (h : File) → viewAt (added lsn g p k os .views) j ≡ holds h → maskedOf (h .label .lsn) + h .label .«trailer_offset» < added lsn g p k os .next
+  unfolding newRecord added
   above-added j h e = go (same? j k)
     where
-      go : (j ≡ k) ⊎ (j ≡ k → ⊥) → maskedOf (h .label .lsn) + h .label .«trailer_offset» < p .next + (length (objectsOf os) + 1)
+      go : (j ≡ k) ⊎ (j ≡ k → ⊥) → maskedOf (h .label .lsn) + h .label .«trailer_offset» < added lsn g p k os .next
       go (inl z) =
           let u : maskedOf lsn + length (objectsOf os) ≡ maskedOf (h .label .lsn) + h .label .«trailer_offset»
           = ap (λ (d : File). maskedOf (d .label .lsn) + d .label .«trailer_offset») (is-new j h e z) in

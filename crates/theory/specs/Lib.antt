@@ -19,6 +19,7 @@ pub mod Reopened
 pub mod SoundWorld
 pub mod Told
 pub mod Adding
+pub mod Standing
 pub mod Writing
 pub mod Reading
 pub mod Again
@@ -31,6 +32,7 @@ pub mod Maintaining
 -- demand 3, and that stores accept writes
 pub mod History
 pub mod Accepting
+pub mod Writes
 -- C: which refusals and which count maintenance answers
 pub mod Checked
 pub mod Stopping

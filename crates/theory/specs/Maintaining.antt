@@ -15,6 +15,7 @@ use Rattle.rules.specs.Maintenance.{foundIn, found, filesOf, fileTests, slotOf,
 use Rattle.rules.specs.World.{World, recordsOf, mappings}
 use Rattle.theory.specs.SoundWorld.{SoundWorld, sound-fine}
 use Rattle.theory.specs.Writing.{engine}
+use Rattle.theory.specs.Standing.{AllStood}
 use Rattle.theory.specs.Pruning.{sound-pruned}
 use Rattle.theory.specs.Moving.{Movable, found-movable}
 use Rattle.theory.specs.Shards.{sub-rising, sub-all, PartOf, files-parts}
@@ -36,28 +37,34 @@ module _ (history : List Op) where
   -- 4, 5 and 7 decided for the whole group: its files come into empty slots
   group-installed : (w : World) → SoundWorld w (engine history) → (g : ℕ) → g ≤ 255 → (files : List (List Op)) → All (Rewritable (w .settings .«max_object_size») (engine history)) files
       → NoneHolds (roomTests (w .settings .«slot_bytes») (emptyOf w) files ++ positionTests (w .state .«next_position») files)
-      → SoundWorld (installedAll 0 g w files) (engine history)
+      → AllStood 0 g w files × SoundWorld (installedAll 0 g w files) (engine history)
   unfolding installedAll
-  group-installed w s g aged [] r n = s
+  group-installed w s g aged [] r n = (tt, s)
   group-installed w s g aged (f ∷ fs) r n =
       let tests = roomTests (w .settings .«slot_bytes») (emptyOf w) (f ∷ fs) in
       let a = room-clear (w .settings .«slot_bytes») (emptyOf w) (f ∷ fs) (none-first tests _ n) in
       let b = positions-clear (w .state .«next_position») (f ∷ fs) (none-rest tests _ n) (omega arith) in
       sound-rewritten (w .settings .«max_object_size») history g (f ∷ fs) w s aged refl r (a .fits) (a .slots) b
 
+  -- none of a group's tests holds: each of its files stands, and the invariant holds again
+  pub group-rewritten : (g : ℕ) → g ≤ 255 → (slots : List ℕ) (w : World) → SoundWorld w (engine history) → decide (groupTests w slots (filesOf (w .settings .«target_file_size») (found w slots))) ≡ Done
+      → AllStood 0 g w (filesOf (w .settings .«target_file_size») (found w slots)) × SoundWorld (installedAll 0 g w (filesOf (w .settings .«target_file_size») (found w slots))) (engine history)
+  unfolding groupTests
+  group-rewritten g aged slots w s e =
+      group-installed w s g aged (filesOf (w .settings .«target_file_size») (found w slots)) (files-rewritable w s slots (w .settings .«target_file_size»))
+      (none-rest (each (λ (k : ℕ). fileTests (w .settings .«max_object_size») (mappings w) (recordAt (recordsOf w) k) (slotOf w k)) slots) _
+      (clear-when (groupTests w slots (filesOf (w .settings .«target_file_size») (found w slots))) e))
+
   -- LAW: a group, rewritten or refused
   sound-group : (g : ℕ) → g ≤ 255 → (slots : List ℕ) (moved : ℕ) (w : World) → SoundWorld w (engine history) → SoundWorld (rewriteGroup g slots moved w .world) (engine history)
-  unfolding rewriteGroup groupTests
+  unfolding rewriteGroup
   sound-group g aged slots moved w s = go (decide (groupTests w slots (filesOf (w .settings .«target_file_size») (found w slots)))) refl
     where
       go : (a : Answer) → decide (groupTests w slots (filesOf (w .settings .«target_file_size») (found w slots))) ≡ a
           → SoundWorld (after {A = Course} a (λ (r : Refusal). record { stop = stopped r g; moved = moved; world = w })
           (record { stop = going; moved = moved + length (found w slots); world = installedAll 0 g w (filesOf (w .settings .«target_file_size») (found w slots)) }) .world) (engine history)
       go (Refused r) e = s
-      go Done e =
-          group-installed w s g aged (filesOf (w .settings .«target_file_size») (found w slots)) (files-rewritable w s slots (w .settings .«target_file_size»))
-          (none-rest (each (λ (k : ℕ). fileTests (w .settings .«max_object_size») (mappings w) (recordAt (recordsOf w) k) (slotOf w k)) slots) _
-          (clear-when (groupTests w slots (filesOf (w .settings .«target_file_size») (found w slots))) e))
+      go Done e = group-rewritten g aged slots w s e .1
 
   -- one generation: skipped, rewritten or refused
   pub sound-onward : (stop : Stop) (g : ℕ) → g ≤ 255 → (slots : List ℕ) (c : Course) → SoundWorld (c .world) (engine history) → SoundWorld (onward stop g slots c .world) (engine history)

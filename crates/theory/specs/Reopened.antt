@@ -61,7 +61,8 @@ pub record Passed (w : World) : Type 0 where
   pub room : length (tableOf (filesIn (viewsOf w))) ≤ capacityOf (w .table)
   pub is : reopenCall w ≡ opened w (viewsOf w)
 
-refused-not : (r : Refusal) → numberOf r ≡ 0 → ⊥
+-- a refusal's number is not 0
+pub refused-not : (r : Refusal) → numberOf r ≡ 0 → ⊥
 refused-not r e = true≢false (sym (eq-eqb (numberOf r) 0 e) ∙ known r .some)
 
 tests-passed : (w : World) → outOfRange (w .settings) (length (w .heap)) (w .table) ≡ false → NoneHolds (reopenTests w (viewsOf w))

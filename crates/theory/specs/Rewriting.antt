@@ -31,6 +31,7 @@ use Rattle.theory.specs.Installed.{over}
 use Rattle.theory.specs.Told.{file-says}
 use Rattle.theory.specs.SoundWorld.{boundsOf, SoundWorld}
 use Rattle.theory.specs.Adding.{Fitting, sound-installed}
+use Rattle.theory.specs.Standing.{AllStood, fitting-stands}
 use Rattle.theory.specs.Writing.{engine, sound-told}
 use Rattle.theory.specs.Moving.{Movable}
 
@@ -224,18 +225,19 @@ module _ (limit : ℕ) (history : List Op) where
   -- LAW: files of current contents, in as many empty slots
   pub sound-rewritten : (g : ℕ) (files : List (List Op)) (w : World) → SoundWorld w (engine history) → g ≤ 255 → limit ≡ w .settings .«max_object_size» → All (Rewritable limit (engine history)) files
       → All (λ (f : List Op). 64 + length (fileBytes f) ≤ w .settings .«slot_bytes») files → length files ≤ emptyOf w
-      → w .state .«next_position» + sum (λ (f : List Op). length (objectsOf f) + 1) files ≤ 2 ^ 62 → SoundWorld (installedAll 0 g w files) (engine history)
+      → w .state .«next_position» + sum (λ (f : List Op). length (objectsOf f) + 1) files ≤ 2 ^ 62 → AllStood 0 g w files × SoundWorld (installedAll 0 g w files) (engine history)
   unfolding installedAll sum
-  sound-rewritten g [] w s aged same r slot free positions = s
+  sound-rewritten g [] w s aged same r slot free positions = (tt, s)
   sound-rewritten g (f ∷ fs) w s aged same r slot free positions =
       let fit = fits-file w s g f (r .0) aged same (slot .0) (omega arith) (omega arith) in
       let n : length (objectsOf f) < 2 ^ 64 = omega arith in
       let e = installed-numbers g w f in
       let e1 = e .1 in
       let d = one-fewer 0 g w f in
-      sound-rewritten g fs (installed 0 g w f)
+      let rest = sound-rewritten g fs (installed 0 g w f)
       (sound-told (installed 0 g w f) (λ x. over (fileSays (fileOfOps (newLsn 0 w) g f) x) (engine history x)) (engine history)
       (λ x. still-said f (r .0) n (newLsn 0 w) g x) (sound-installed w (engine history) s 0 g f fit))
       aged (same ∙ ap (λ (c : Settings). c .«max_object_size») (sym (e .0))) (r .1)
       (subst (λ (c : Settings). All (λ (f : List Op). 64 + length (fileBytes f) ≤ c .«slot_bytes») fs) (sym (e .0)) (slot .1))
-      (omega arith) (omega arith)
+      (omega arith) (omega arith) in
+      ((fitting-stands w (engine history) s 0 g f fit, rest .0), rest .1)

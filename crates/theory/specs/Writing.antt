@@ -68,7 +68,7 @@ small-settled limit ops h =
 
 module _ (w : World) (history : List Op) (s : SoundWorld w (engine history)) (bytes : List ℕ) where
   -- 4 to 7 as facts about the file of a batch
-  fits-write : (o : Op) (os : List Op) → opsIn bytes ≡ o ∷ os → Accepted w bytes → Fitting (2 ^ 62) 0 w (o ∷ os)
+  pub fits-write : (o : Op) (os : List Op) → opsIn bytes ≡ o ∷ os → Accepted w bytes → Fitting (2 ^ 62) 0 w (o ∷ os)
   fits-write o os e a =
       let some : 0 < length (opsIn bytes) = subst (λ (l : List Op). 0 < length l) (sym e) (omega arith) in
       let q = a .ids in

@@ -1,6 +1,3 @@
 // Theorems on document 01's definitions. No code: specs/ holds the laws.
 // History: `any-history` (demand 3). Reopened: `reopened-means` (G). Finished: `any-maintenance` (C).
-// Fresh: `fresh-opens`, Accepting: `fresh-write`, `fresh-read` (N). Sound, SoundWorld: the invariant.
-pub fn nothing() -> u64 {
-    0
-}
+// Fresh: `fresh-opens`, Accepting: `fresh-write`, `fresh-read` (N). Writes: `any-write`, `refused-unchanged`. Sound, SoundWorld: the invariant.

@@ -1,18 +1,9 @@
-use Prim.Native.Nat.{ℕ, _+_, _≤_, _<_, _-_}
-use mathlib.Core.Path.{_≡_}
 use Rattle.limits.specs.Settled.{passed-formed}
 use Rattle.gc_rewrite.specs.Groups.{group-moving, group-rewritten}
 use borrow.Author.Needs.{needs}
-use lib.ListN.{length, getD, set, length-set}
-use borrow.Author.Needs.{needs}
 use Rattle.gc_rewrite.proofs.rewrite_found.Statement.{statement}
 use Rattle.gc_rewrite.proofs.rewrite_found.Tie as tie
-use Rattle.gc_rewrite.proofs.rewrite_found.Reads as reads
-use Rattle.gc_rewrite.proofs.rewrite_found.Lts as lts
-use Rattle.gc_places.proofs.place_group.Reads as place-group-reads
-use Rattle.gc_rewrite.proofs.files.rewrite_placed.Reads as rewrite-placed-reads
 
--- src/lib.rt:51:5
 place-group-requires : tie.Need-place-group-requires
 place-group-requires c κs =
     let start = c .before .before .before .before .before .before .before .before .before .before in
@@ -21,7 +12,6 @@ place-group-requires c κs =
     let formed = passed-formed _ _ _ _ (w .limits) in
     (limits .settings, (w .ready, (w .clear, (formed, (limits .table .most, (start .pre .1 .1 .0, start .pre .1 .1 .1))))))
 
--- src/lib.rt:54:5
 rewrite-placed-requires : tie.Need-rewrite-placed-requires
 rewrite-placed-requires c κs =
     let placed = c .before .before .before .before .before .before in
@@ -29,23 +19,18 @@ rewrite-placed-requires c κs =
     let told = placed .place-group .ensures in
     (group-moving _ _ _ _ _ _ _ (start .pre .0) _ (search needs) (told .1 .0) (told .1 .1 .1), (start .pre .1 .0 .0, start .pre .1 .0 .1))
 
--- src/lib.rt:34:1
 same-length : tie.Need-same-length
 same-length c = search needs
 
--- src/lib.rt:34:1
 same-length-2 : tie.Need-same-length-2
 same-length-2 c = search needs
 
--- src/lib.rt:34:1
 same-length-3 : tie.Need-same-length-3
 same-length-3 c = search needs
 
--- src/lib.rt:34:1
 same-length-4 : tie.Need-same-length-4
 same-length-4 c = search needs
 
--- src/lib.rt:34:1
 returns : tie.Need-returns
 returns c =
     let done = c .before .before .before .before .before .before in

@@ -1,41 +1,29 @@
-use Prim.Native.Nat.{ℕ, _+_, _≤_, _<_, _-_}
-use mathlib.Core.Path.{_≡_, refl, sym, _∙_}
+use mathlib.Core.Path.{refl, sym, _∙_}
 use Rattle.limits.specs.Settled.{passed-formed}
 use Rattle.gc_rewrite.specs.Groups.{places-enough, places-blank, group-stopped}
 use native.Mathlib.Omega.{arith}
 use borrow.Author.Needs.{needs}
-use lib.ListN.{length, getD, set, length-set}
-use borrow.Author.Needs.{needs}
+use lib.ListN.{length}
 use Rattle.gc_rewrite.proofs.rewrite_group.Statement.{statement}
 use Rattle.gc_rewrite.proofs.rewrite_group.Tie as tie
-use Rattle.gc_rewrite.proofs.rewrite_group.Reads as reads
-use Rattle.gc_rewrite.proofs.rewrite_group.Lts as lts
-use Rattle.gc_group.proofs.check.check_group.Reads as check-group-reads
-use Rattle.gc_rewrite.proofs.rewrite_found.Reads as rewrite-found-reads
 
--- src/lib.rt:80:11
 check-group-requires : tie.Need-check-group-requires
 check-group-requires c κs =
     let start = c .before .before .before .before .before .before .before .before in
     (start .pre .1 .0, passed-formed _ _ _ _ (start .pre .0))
 
--- src/lib.rt:81:25
 enum-known-refusal : tie.Need-enum-known-refusal
 enum-known-refusal c = search needs
 
--- src/lib.rt:82:13
 same-length : tie.Need-same-length
 same-length c = search needs
 
--- src/lib.rt:82:13
 same-length-2 : tie.Need-same-length-2
 same-length-2 c = search needs
 
--- src/lib.rt:82:13
 same-length-3 : tie.Need-same-length-3
 same-length-3 c = search needs
 
--- src/lib.rt:82:13
 returns : tie.Need-returns
 returns c =
     let told = c .before in
@@ -47,11 +35,9 @@ returns c =
 enum-told : tie.Need-enum-told
 enum-told c = search needs
 
--- src/lib.rt:100:9
 slice-aggregate-rewrite-found : tie.Need-slice-aggregate-rewrite-found
 slice-aggregate-rewrite-found c = search needs
 
--- src/lib.rt:91:5
 rewrite-found-requires : tie.Need-rewrite-found-requires
 rewrite-found-requires c κs =
     let told = c .before .before .before .before in
@@ -60,19 +46,15 @@ rewrite-found-requires c κs =
     let numbers = start .pre .1 .1 .1 in
     (record { limits = start .pre .0; ready = start .pre .1 .0; filled = start .pre .1 .1 .0; clear = sym (checked .check-group .ensures) ∙ told .enum-told .given .1 }, ((omega (arith, numbers .1), numbers .2), (places-enough (length (start .args .ids .now)) (start .pre .0 .limits .table .most), places-blank)))
 
--- src/lib.rt:60:1
 same-length-4 : tie.Need-same-length-4
 same-length-4 c = search needs
 
--- src/lib.rt:60:1
 same-length-5 : tie.Need-same-length-5
 same-length-5 c = search needs
 
--- src/lib.rt:60:1
 same-length-6 : tie.Need-same-length-6
 same-length-6 c = search needs
 
--- src/lib.rt:60:1
 returns-2 : tie.Need-returns-2
 returns-2 c =
     let left = c .before .before .before .before .before .before .before .rewrite-found .ensures in

@@ -69,10 +69,7 @@ shared-slice-read-moving-at-2 c =
     let a = start .args in
     let i = at .loop .i in
     let free = start .pre .0 in
-    let away = at .loop .inv .1 in
     let low : i < length (a .ids .now) = omega (arith, inside .loop-test .taken) in
-    let here = at .loop .inv .2 low in
-    let some = filed-moved (a .piece) (getD (a .places .now) i 0) (getD (a .pieces .now) i 0) here in
     let wide = free .wide in
     omega arith
 
@@ -106,7 +103,6 @@ put-entry-requires c κs =
     let away = at .loop .inv .1 in
     let low : i < length (a .ids .now) = omega (arith, inside .loop-test .taken) in
     let here = at .loop .inv .2 low in
-    let some = filed-moved (a .piece) (getD (a .places .now) i 0) (getD (a .pieces .now) i 0) here in
     let h = a .heap .now in
     let step = filed-step (a .piece) h (a .ids .now) (a .places .now) (a .pieces .now) i (free-walking free) low here in
     omega (arith, ap length (step .0), at .loop .inv .4, free .inside, away .long)
@@ -119,10 +115,8 @@ add-to c =
     let a = start .args in
     let i = at .loop .i in
     let free = start .pre .0 in
-    let away = at .loop .inv .1 in
     let low : i < length (a .ids .now) = omega (arith, inside .loop-test .taken) in
     let here = at .loop .inv .2 low in
-    let some = filed-moved (a .piece) (getD (a .places .now) i 0) (getD (a .pieces .now) i 0) here in
     let h = a .heap .now in
     let step = filed-step (a .piece) h (a .ids .now) (a .places .now) (a .pieces .now) i (free-walking free) low here in
     omega (arith, ap length (step .0), at .loop .inv .4, free .inside)

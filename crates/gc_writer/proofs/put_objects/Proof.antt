@@ -65,10 +65,7 @@ shared-slice-read-moving-at-2 c =
     let a = start .args in
     let i = at .loop .i in
     let free = start .pre in
-    let away = at .loop .inv .1 in
     let low : i < length (a .ids .now) = omega (arith, inside .loop-test .taken) in
-    let here = at .loop .inv .2 low in
-    let some = filed-moved (a .piece) (getD (a .places .now) i 0) (getD (a .pieces .now) i 0) here in
     let wide = free .wide in
     omega arith
 

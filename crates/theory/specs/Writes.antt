@@ -1,0 +1,147 @@
+-- Write in a reader's words: where the file of an accepted one stands, what is read and reopened after it. Refused calls change nothing.
+use mathlib.Core.Path.{_≡_, refl, sym, ap, _∙_, subst}
+use Prim.Native.Nat.{_<_}
+use native.Mathlib.Omega.{arith}
+use Rattle.rules.specs.Base.{false, not, _||_, List, [], _∷_, _++_, ℕ, _^_, length}
+use Rattle.theory.specs.Types.{Refusal, Limits, Claim, Answer, Done, Refused, ReadAnswer, Found, Nothing, ReadRefused}
+use Rattle.rules.specs.Refusal.{_gives_, decide, after}
+use Rattle.rules.specs.Condition1.{outOfRange, refused1}
+use Rattle.rules.specs.Claims.{isClaimed, notAFile, claimSet, claimCleared, withClaims, claimCall, releaseCall}
+use Rattle.rules.specs.Prune.{pruned, pruneCall}
+use Rattle.rules.specs.Ops.{put, delete, Op, settled}
+use Rattle.rules.specs.SettledLaws.{Last, silent, last, orEarlier, lastOn}
+use Rattle.rules.specs.Batch.{batchIn, opsOf}
+use Rattle.rules.specs.Read.{readOf, partOf}
+use Rattle.rules.specs.Install.{installed, installedAll}
+use Rattle.rules.specs.Write.{writeTests, written, writeCall}
+use Rattle.rules.specs.WriteLaws.{opsIn, write-accepted}
+use Rattle.rules.specs.Reopen.{reopenCall}
+use Rattle.rules.specs.World.{World, recordsOf, Given, accepted, After, unchanged}
+use Rattle.theory.specs.SoundWorld.{SoundWorld}
+use Rattle.theory.specs.Told.{last-append}
+use Rattle.theory.specs.Reopened.{refused-not}
+use Rattle.theory.specs.Standing.{Stood, fitting-stands}
+use Rattle.theory.specs.Writing.{engine, heard, fits-write, sound-write}
+use Rattle.theory.specs.Reading.{Reads, sound-read}
+use Rattle.theory.specs.Again.{reopen-accepted}
+use Rattle.theory.specs.Fresh.{Blank}
+use Rattle.theory.specs.History.{Call, write, maintain, prune, claim, release, reopen, called, lived, born, sound-history}
+
+-- what a read gives a host: nothing, the bytes of a part of the heap, or a refusal
+pub data Got : Type 0 where
+  nothing : Got
+  bytes : List ℕ → Got
+  unread : Refusal → Got
+
+-- by the answer
+abbrev pub gotBy : ReadAnswer → List ℕ → Got
+gotBy (Found start size) part = bytes part
+gotBy Nothing part = nothing
+gotBy (ReadRefused r) part = unread r
+
+-- of an id
+abbrev pub got : World → ℕ → Got
+got w id = gotBy (readOf w id) (partOf (readOf w id) (w .heap))
+
+-- what the last of some operations on an id leaves to be read: where there is none, what was read before
+abbrev pub leftBy : Last → Got → Got
+leftBy silent before = before
+leftBy (last (put body)) before = bytes body
+leftBy (last delete) before = nothing
+
+-- what an accepted write leaves
+pub record Wrote (w : World) (batch : List ℕ) : Type 0 where
+  -- the batch's file, unless it is empty, stands in the lowest empty slot
+  pub stands : 0 < length (opsIn batch) → (writeCall w batch .world ≡ installed (2 ^ 62) 0 w (opsIn batch)) × Stood (2 ^ 62) 0 w (opsIn batch)
+  -- each id of the batch reads as its last put or as nothing, every other id as before
+  pub reads : (id : ℕ) → got (writeCall w batch .world) id ≡ leftBy (lastOn (opsOf (batchIn batch)) id) (got w id)
+  -- a reopening is accepted, with the table, the records and the live counts that the write left
+  pub reopens : reopenCall (writeCall w batch .world) .answer ≡ accepted []
+  pub same-table : reopenCall (writeCall w batch .world) .world .table ≡ writeCall w batch .world .table
+  pub same-records : recordsOf (reopenCall (writeCall w batch .world) .world) ≡ recordsOf (writeCall w batch .world)
+
+-- a read by the engine's last word
+got-last : (w : World) (history : List Op) → SoundWorld w (engine history) → (id : ℕ) → got w id ≡ leftBy (lastOn history id) nothing
+got-last w history s id = go (lastOn history id) (readOf w id) (sound-read w history s id)
+  where
+    go : (l : Last) (a : ReadAnswer) → Reads w a l → gotBy a (partOf a (w .heap)) ≡ leftBy l nothing
+    go silent a e = ap (λ (b : ReadAnswer). gotBy b (partOf b (w .heap))) e
+    go (last delete) a e = ap (λ (b : ReadAnswer). gotBy b (partOf b (w .heap))) e
+    go (last (put body)) a e = ap (λ (b : ReadAnswer). gotBy b (partOf a (w .heap))) (e .1) ∙ ap bytes (e .2)
+
+-- the later word over the earlier
+left-over : (a b : Last) → leftBy (orEarlier a b) nothing ≡ leftBy a (leftBy b nothing)
+left-over silent b = refl
+left-over (last (put body)) b = refl
+left-over (last delete) b = refl
+
+-- none of 1 to 7 held
+accepted-done : (w : World) (batch : List ℕ) → writeCall w batch .answer ≡ accepted [] → decide (writeTests w batch) ≡ Done
+unfolding writeCall
+accepted-done w batch e = go (decide (writeTests w batch)) e
+  where
+    go : (a : Answer) → after a (unchanged w) (record { answer = accepted []; world = written w (settled (opsOf (batchIn batch))) }) .answer ≡ accepted [] → a ≡ Done
+    go Done e = refl
+    go (Refused r) e = absurd (refused-not r (ap (λ (g : Given). g .number) e))
+
+-- so its file was added
+file-stands : (w : World) (history : List Op) → SoundWorld w (engine history) → (batch : List ℕ) → decide (writeTests w batch) ≡ Done
+    → 0 < length (opsIn batch) → (writeCall w batch .world ≡ installed (2 ^ 62) 0 w (opsIn batch)) × Stood (2 ^ 62) 0 w (opsIn batch)
+unfolding writeCall written installedAll
+file-stands w history s batch e some = rw e (go (opsIn batch) refl some)
+  where
+    go : (os : List Op) → opsIn batch ≡ os → 0 < length os → (written w os ≡ installed (2 ^ 62) 0 w os) × Stood (2 ^ 62) 0 w os
+    go [] q h = absurd (omega arith)
+    go (o ∷ os) q h = (refl, fitting-stands w (engine history) s (2 ^ 62) 0 (o ∷ os) (fits-write w history s batch o os q (write-accepted w batch e)))
+
+-- LAW: an accepted write on a store of the invariant
+pub write-means : (w : World) (history : List Op) → SoundWorld w (engine history) → (batch : List ℕ) → writeCall w batch .answer ≡ accepted [] → Wrote w batch
+write-means w history s batch e =
+    let ops = opsOf (batchIn batch) in
+    let after-write : SoundWorld (writeCall w batch .world) (engine (history ++ opsOf (batchIn batch)))
+    = subst (λ (g : Given). SoundWorld (writeCall w batch .world) (engine (heard history batch g))) e (sound-write w history s batch) in
+    let again = reopen-accepted (writeCall w batch .world) (engine (history ++ opsOf (batchIn batch))) after-write in
+    record {
+      stands = file-stands w history s batch (accepted-done w batch e);
+      reads = λ id.
+          got-last (writeCall w batch .world) (history ++ ops) after-write id
+          ∙ ap (λ (l : Last). leftBy l nothing) (last-append history ops id)
+          ∙ left-over (lastOn ops id) (lastOn history id)
+          ∙ ap (leftBy (lastOn ops id)) (sym (got-last w history s id));
+      reopens = ap (λ (a : After). a .answer) again;
+      same-table = ap (λ (a : After). a .world .table) again;
+      same-records = ap (λ (a : After). recordsOf (a .world)) again;
+    }
+
+-- LAW: so it is on every store of demand 3
+pub any-write : (w : World) → outOfRange (w .settings) (length (w .heap)) (w .table) ≡ false → Blank w
+    → (calls : List Call) (batch : List ℕ) → writeCall (lived (born w) calls .world) batch .answer ≡ accepted [] → Wrote (lived (born w) calls .world) batch
+any-write w range blank calls batch e =
+    write-means (lived (born w) calls .world) (lived (born w) calls .history) (sound-history w range blank calls) batch e
+
+-- ---- refused calls
+-- all but maintenance, which keeps finished groups, and reopening, which gives the old table up
+abbrev pub Plain : Call → Type 0
+Plain (write batch) = Unit {0}
+Plain maintain = ⊥
+Plain prune = Unit {0}
+Plain (claim slot) = Unit {0}
+Plain (release slot) = Unit {0}
+Plain reopen = ⊥
+
+or-unchanged : (w v : World) (a : Answer) → (after a (unchanged w) (record { answer = accepted []; world = v }) .answer ≡ accepted [] → ⊥)
+    → after a (unchanged w) (record { answer = accepted []; world = v }) .world ≡ w
+or-unchanged w v Done n = absurd (n refl)
+or-unchanged w v (Refused r) n = refl
+
+-- LAW: "A refusal changes no state or buffer", on any world
+pub refused-unchanged : (w : World) (c : Call) → Plain c → (called w c .answer ≡ accepted [] → ⊥) → called w c .world ≡ w
+unfolding writeCall pruneCall claimCall releaseCall
+refused-unchanged w (write batch) p n = or-unchanged w (written w (settled (opsOf (batchIn batch)))) (decide (writeTests w batch)) n
+refused-unchanged w maintain p n = absurd p
+refused-unchanged w prune p n = or-unchanged w (pruned w) (decide (refused1 w gives Limits ∷ [])) n
+refused-unchanged w (claim slot) p n =
+    or-unchanged w (withClaims w (claimSet (w .claims) slot)) (decide (refused1 w gives Limits ∷ (notAFile w slot || isClaimed (w .claims) slot) gives Claim ∷ [])) n
+refused-unchanged w (release slot) p n =
+    or-unchanged w (withClaims w (claimCleared (w .claims) slot)) (decide (refused1 w gives Limits ∷ (notAFile w slot || not (isClaimed (w .claims) slot)) gives Claim ∷ [])) n
+refused-unchanged w reopen p n = absurd p
