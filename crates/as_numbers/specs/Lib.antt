@@ -1,0 +1,5 @@
+pub mod Numbered
+pub mod Shown
+pub mod ClaimWords
+pub mod StateWords
+pub mod StateLaws

@@ -1,0 +1,193 @@
+// An enum answer as the paper's number, 0 for success, and its values.
+use rules::Answer;
+use rules::CompareAnswer;
+use rules::Counts;
+use rules::CountsAnswer;
+use rules::LoadAnswer;
+use rules::MaintainAnswer;
+use rules::ReadAnswer;
+use rules::Refusal;
+ghost use mathlib.Core.Path.{_≡_};
+ghost use mathlib.Core.List.{[], _∷_};
+ghost use lib.ListN.{length};
+ghost use Rattle.rules.specs.Refusal.{numberOf};
+ghost use Rattle.rules.specs.World.{answerGiven, readGiven, maintainGiven, countsGiven, loadGiven, compareGiven};
+ghost use Rattle.as_numbers.specs.Numbered.{numbered};
+ghost use Rattle.as_numbers.specs.Shown.{given, shown, stopShown};
+
+// The table "No. | Condition".
+pub fn refusal_number(r: Refusal) -> u64
+    ensures { λ n. ⌜ n ≡ numberOf r ⌝ }
+{
+    match r {
+        Refusal::Limits => 1,
+        Refusal::BatchBytes => 2,
+        Refusal::ObjectSize => 3,
+        Refusal::SlotRoom => 4,
+        Refusal::NoEmptySlot => 5,
+        Refusal::TableRoom => 6,
+        Refusal::PositionsSpent => 7,
+        Refusal::LabelBytes => 8,
+        Refusal::TrailerShort => 9,
+        Refusal::Checksum => 10,
+        Refusal::EntryCount => 11,
+        Refusal::EntryPosition => 12,
+        Refusal::PresentCount => 13,
+        Refusal::Overlap => 14,
+        Refusal::NotRising => 15,
+        Refusal::CutShort => 16,
+        Refusal::OtherId => 17,
+        Refusal::NotThere => 18,
+        Refusal::EqualLocation => 19,
+        Refusal::Location => 20,
+        Refusal::Claim => 21,
+    }
+}
+
+// The number of an answer without values.
+pub fn number(a: Answer) -> u64
+    ensures { λ n. ⌜ numbered n ≡ answerGiven a ⌝ }
+{
+    match a {
+        Answer::Done => 0,
+        Answer::Refused(r) => refusal_number(r),
+    }
+}
+
+// A number and one place.
+pub struct One {
+    pub number: u64,
+    pub value: u64,
+}
+
+// A number and two places.
+pub struct Two {
+    pub number: u64,
+    pub first: u64,
+    pub second: u64,
+}
+
+// A number and the four counts.
+pub struct Four {
+    pub number: u64,
+    pub counts: Counts,
+}
+
+// The location or 0: load, and what a store-if-greater held before.
+pub fn load_shown(a: LoadAnswer) -> One
+    ensures { λ r. ⌜ given (r .number) (r .value ∷ []) ≡ shown 1 (loadGiven a) ⌝ }
+{
+    match a {
+        LoadAnswer::At(l) => One {
+            number: 0,
+            value: l,
+        },
+        LoadAnswer::NoLocation => One {
+            number: 0,
+            value: 0,
+        },
+        LoadAnswer::LoadRefused(r) => One {
+            number: refusal_number(r),
+            value: 0,
+        },
+    }
+}
+
+// The current location where it differs, or 0.
+pub fn compare_shown(a: CompareAnswer) -> One
+    ensures { λ r. ⌜ given (r .number) (r .value ∷ []) ≡ shown 1 (compareGiven a) ⌝ }
+{
+    match a {
+        CompareAnswer::Swapped => One {
+            number: 0,
+            value: 0,
+        },
+        CompareAnswer::Differs(l) => One {
+            number: 0,
+            value: l,
+        },
+        CompareAnswer::CompareRefused(r) => One {
+            number: refusal_number(r),
+            value: 0,
+        },
+    }
+}
+
+// The part's start and length, or two zeros.
+pub fn read_shown(a: ReadAnswer) -> Two
+    ensures { λ r. ⌜ given (r .number) (r .first ∷ r .second ∷ []) ≡ shown 2 (readGiven a) ⌝ }
+{
+    match a {
+        ReadAnswer::Found(start, size) => Two {
+            number: 0,
+            first: start,
+            second: size,
+        },
+        ReadAnswer::Nothing => Two {
+            number: 0,
+            first: 0,
+            second: 0,
+        },
+        ReadAnswer::ReadRefused(r) => Two {
+            number: refusal_number(r),
+            first: 0,
+            second: 0,
+        },
+    }
+}
+
+// The generation where maintenance stopped, or 0, and the ids moved.
+pub fn maintain_shown(a: MaintainAnswer) -> Two
+    ensures { λ r. ⌜ given (r .number) (r .first ∷ r .second ∷ []) ≡ stopShown (maintainGiven a) ⌝ }
+{
+    match a {
+        MaintainAnswer::Moved(n) => Two {
+            number: 0,
+            first: 0,
+            second: n,
+        },
+        MaintainAnswer::Stopped(r, generation, n) => Two {
+            number: refusal_number(r),
+            first: generation,
+            second: n,
+        },
+    }
+}
+
+// The counts, or four zeros.
+pub fn counts_shown(a: CountsAnswer) -> Four
+    ensures { λ r. ⌜ given (r .number) (r .counts .files ∷ r .counts .bytes ∷ r .counts .present ∷ r .counts .live ∷ []) ≡ shown 4 (countsGiven a) ⌝ }
+{
+    match a {
+        CountsAnswer::Counted(c) => Four {
+            number: 0,
+            counts: c,
+        },
+        CountsAnswer::CountsRefused(r) => Four {
+            number: refusal_number(r),
+            counts: no_counts(),
+        },
+    }
+}
+
+fn no_counts() -> Counts
+    ensures { λ c. ⌜ c .files ∷ c .bytes ∷ c .present ∷ c .live ∷ [] ≡ 0 ∷ 0 ∷ 0 ∷ 0 ∷ [] ⌝ }
+{
+    Counts {
+        files: 0,
+        bytes: 0,
+        present: 0,
+        live: 0,
+    }
+}
+
+// The counts into four lent words.
+pub fn put_counts(words: &mut [u64], c: Counts)
+    requires { ⌜ length (now words) ≡ 4 ⌝ }
+    ensures { λ _. ⌜ now (words .exit) ≡ c .files ∷ c .bytes ∷ c .present ∷ c .live ∷ [] ⌝ }
+{
+    words[0] = c.files;
+    words[1] = c.bytes;
+    words[2] = c.present;
+    words[3] = c.live;
+}

@@ -1,0 +1,5 @@
+// What a host in C sees: an answer's number, and the state and the claim record as lent numbers.
+
+pub mod answers;
+pub mod claims;
+pub mod state;

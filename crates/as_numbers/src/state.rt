@@ -1,0 +1,122 @@
+// The state as 1,545 lent words: the fields of `State` in their order, of each record its six.
+use file_map::no_files;
+use rules::FileMap;
+use rules::Record;
+use rules::Settings;
+use rules::State;
+ghost use mathlib.Core.Path.{_≡_};
+ghost use Prim.Native.Nat.{_+_, _≤_};
+ghost use lib.ListN.{length};
+ghost use Rattle.numbers.specs.Parts.{putAt};
+ghost use Rattle.as_numbers.specs.StateWords.{recordAt, recordsFrom, settingsIn, stateIn, recordWords, recordsWords, settingsWords};
+
+// ---- from words
+// "A record holds the label's five numbers and the live count"
+fn record_at(words: &[u64], at: usize) -> Record
+    requires { ⌜ at + 6 ≤ length (now words) ⌝ }
+    ensures { λ r. ⌜ r ≡ recordAt (now (words .entry)) at ⌝ }
+{
+    Record {
+        lsn: words[at],
+        trailer_offset: words[at + 1],
+        file_size: words[at + 2],
+        present_objects: words[at + 3],
+        generation: words[at + 4],
+        live: words[at + 5],
+    }
+}
+
+// "a file map of 256 records"
+fn files_in(words: &[u64]) -> FileMap
+    requires { ⌜ length (now words) ≡ 1545 ⌝ }
+    ensures { λ m. ⌜ m .records ≡ recordsFrom 256 (now (words .entry)) 8 ⌝ }
+{
+    let mut files = no_files();
+    let mut k: usize = 0;
+    while k < 256 {
+        let r = record_at(words, 8 + 6 * k);
+        files.records[k] = r;
+        k += 1;
+    }
+    files
+}
+
+fn settings_in(words: &[u64]) -> Settings
+    requires { ⌜ length (now words) ≡ 1545 ⌝ }
+    ensures { λ s. ⌜ s ≡ settingsIn (now (words .entry)) ⌝ }
+{
+    Settings {
+        slot_bytes: words[0],
+        file_compaction_percent: words[1],
+        min_compaction_files: words[2],
+        target_file_size: words[3],
+        small_file_cleanup_threshold: words[4],
+        max_object_size: words[5],
+    }
+}
+
+// The state that the words hold.
+pub fn state_in(words: &[u64]) -> State
+    requires { ⌜ length (now words) ≡ 1545 ⌝ }
+    ensures { λ s. ⌜ s ≡ stateIn (now (words .entry)) ⌝ }
+{
+    let settings = settings_in(words);
+    let files = files_in(words);
+    State {
+        settings: settings,
+        heap_len: words[6],
+        table_len: words[7],
+        files: files,
+        next_position: words[1544],
+    }
+}
+
+// ---- to words
+fn put_record(words: &mut [u64], at: usize, r: Record)
+    requires { ⌜ at + 6 ≤ length (now words) ⌝ }
+    ensures { λ _. ⌜ now (words .exit) ≡ putAt (now (words .entry)) at (recordWords r) ⌝ }
+{
+    words[at] = r.lsn;
+    words[at + 1] = r.trailer_offset;
+    words[at + 2] = r.file_size;
+    words[at + 3] = r.present_objects;
+    words[at + 4] = r.generation;
+    words[at + 5] = r.live;
+}
+
+fn put_files(words: &mut [u64], files: FileMap)
+    requires { ⌜ length (now words) ≡ 1545 ⌝ }
+    ensures { λ _. ⌜ now (words .exit) ≡ putAt (now (words .entry)) 8 (recordsWords (files .records)) ⌝ }
+{
+    let mut k: usize = 0;
+    while k < 256 {
+        put_record(words, 8 + 6 * k, files.records[k]);
+        k += 1;
+    }
+}
+
+fn put_settings(words: &mut [u64], s: Settings)
+    requires { ⌜ length (now words) ≡ 1545 ⌝ }
+    ensures { λ _. ⌜ now (words .exit) ≡ putAt (now (words .entry)) 0 (settingsWords s) ⌝ }
+{
+    words[0] = s.slot_bytes;
+    words[1] = s.file_compaction_percent;
+    words[2] = s.min_compaction_files;
+    words[3] = s.target_file_size;
+    words[4] = s.small_file_cleanup_threshold;
+    words[5] = s.max_object_size;
+}
+
+// The words of a state, in the place of what stood there.
+pub fn put_state(words: &mut [u64], s: State)
+    requires { ⌜ length (now words) ≡ 1545 ⌝ }
+    ensures { λ _. ⌜ stateIn (now (words .exit)) ≡ s ⌝ }
+{
+    let settings = s.settings;
+    let files = s.files;
+    put_settings(words, settings);
+    words[6] = s.heap_len;
+    words[7] = s.table_len;
+    put_files(words, files);
+    words[1544] = s.next_position;
+}

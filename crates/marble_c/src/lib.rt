@@ -1,0 +1,264 @@
+// The public calls for a host in C (include/marble.h). State and claim record are lent as words and changed in place; an answer is the
+// paper's number, its values go to out-parameters. The contracts are those of the calls, by the same definitions.
+use as_numbers::answers::compare_shown;
+use as_numbers::answers::counts_shown;
+use as_numbers::answers::load_shown;
+use as_numbers::answers::maintain_shown;
+use as_numbers::answers::number;
+use as_numbers::answers::put_counts;
+use as_numbers::answers::read_shown;
+use as_numbers::claims::claims_in;
+use as_numbers::claims::put_claims;
+use as_numbers::state::put_state;
+use as_numbers::state::state_in;
+use rules::Settings;
+ghost use mathlib.Core.Path.{_≡_};
+ghost use mathlib.Core.List.{[], _∷_};
+ghost use Rattle.rules.specs.declared.Claims.{Claims};
+ghost use Rattle.rules.specs.Claims.{claimCall, releaseCall};
+ghost use Rattle.rules.specs.Counts.{countsCall};
+ghost use Rattle.rules.specs.Maintenance.{maintainCall};
+ghost use Rattle.rules.specs.Prune.{pruneCall};
+ghost use Rattle.rules.specs.Read.{readCall};
+ghost use Rattle.rules.specs.Reopen.{reopenCall};
+ghost use Rattle.rules.specs.TableCalls.{loadCall, storeCall, compareCall, greaterCall};
+ghost use Rattle.rules.specs.World.{world, leaving};
+ghost use Rattle.rules.specs.Write.{writeCall};
+ghost use Rattle.location_table.specs.Tables.{table};
+ghost use Rattle.location_table.specs.Tables.{leaving as tableLeaving};
+ghost use Rattle.as_numbers.specs.ClaimWords.{claimsIn};
+ghost use Rattle.as_numbers.specs.Numbered.{numbered};
+ghost use Rattle.as_numbers.specs.Shown.{given, shown, stopAfter, shownTable};
+ghost use Rattle.as_numbers.specs.StateWords.{stateIn};
+
+// ---- the store
+// "Reopen"
+#[no_mangle]
+pub extern "C" fn marble_reopen(
+    settings: Settings,
+    state: &mut [u64; 1545],
+    claims: &mut [u64; 4],
+    heap: &[u8],
+    ids: &mut [u64],
+    locations: &mut [u64],
+) -> u64
+    ensures { λ r. ⌜ leaving (numbered r) (world settings (stateIn (now (state .exit))) (claimsIn (now (claims .exit))) (now (heap .entry)) (now (ids .exit)) (now (locations .exit))) ≡ reopenCall (world settings (stateIn (now (state .entry))) (claimsIn (now (claims .entry))) (now (heap .entry)) (now (ids .entry)) (now (locations .entry))) ⌝ }
+{
+    let was = state_in(state);
+    let held = claims_in(claims);
+    let done = recovery::reopen(settings, was, held, heap, ids, locations);
+    let answer = done.answer;
+    let after = done.state;
+    let kept = done.claims;
+    put_state(state, after);
+    put_claims(claims, kept);
+    number(answer)
+}
+
+// "Write"
+#[no_mangle]
+pub extern "C" fn marble_write(
+    settings: Settings,
+    state: &mut [u64; 1545],
+    heap: &mut [u8],
+    ids: &mut [u64],
+    locations: &mut [u64],
+    batch: &[u8],
+) -> u64
+    ensures { λ r. ⌜ ((c : Claims) → leaving (numbered r) (world settings (stateIn (now (state .exit))) c (now (heap .exit)) (now (ids .exit)) (now (locations .exit))) ≡ writeCall (world settings (stateIn (now (state .entry))) c (now (heap .entry)) (now (ids .entry)) (now (locations .entry))) (now (batch .entry))) ⌝ }
+{
+    let was = state_in(state);
+    let done = writepath::write(settings, was, heap, ids, locations, batch);
+    let answer = done.answer;
+    let after = done.state;
+    put_state(state, after);
+    number(answer)
+}
+
+// "Read": where the part of the heap starts, and its length; an object never starts at 0.
+#[no_mangle]
+pub extern "C" fn marble_read(
+    settings: Settings,
+    state: &[u64; 1545],
+    heap: &[u8],
+    ids: &[u64],
+    locations: &[u64],
+    id: u64,
+    offset: &mut u64,
+    size: &mut u64,
+) -> u64
+    ensures { λ r. ⌜ ((c : Claims) → given r (now (offset .exit) ∷ now (size .exit) ∷ []) ≡ shown 2 (readCall (world settings (stateIn (now (state .entry))) c (now (heap .entry)) (now (ids .entry)) (now (locations .entry))) id .answer)) ⌝ }
+{
+    let was = state_in(state);
+    let found = read_shown(readpath::read_answer(settings, was, heap, ids, locations, id));
+    *offset = found.first;
+    *size = found.second;
+    found.number
+}
+
+// "21 for a slot out of range, an empty slot, a claimed one (claim)"
+#[no_mangle]
+pub extern "C" fn marble_claim(
+    settings: Settings,
+    state: &[u64; 1545],
+    claims: &mut [u64; 4],
+    heap: &[u8],
+    ids: &[u64],
+    locations: &[u64],
+    slot: u64,
+) -> u64
+    ensures { λ r. ⌜ leaving (numbered r) (world settings (stateIn (now (state .entry))) (claimsIn (now (claims .exit))) (now (heap .entry)) (now (ids .entry)) (now (locations .entry))) ≡ claimCall (world settings (stateIn (now (state .entry))) (claimsIn (now (claims .entry))) (now (heap .entry)) (now (ids .entry)) (now (locations .entry))) slot ⌝ }
+{
+    let was = state_in(state);
+    let held = claims_in(claims);
+    let done = claims::claim(settings, was, held, heap, ids, locations, slot);
+    let answer = done.answer;
+    let kept = done.claims;
+    put_claims(claims, kept);
+    number(answer)
+}
+
+// "or an unclaimed one (release)"
+#[no_mangle]
+pub extern "C" fn marble_release(
+    settings: Settings,
+    state: &[u64; 1545],
+    claims: &mut [u64; 4],
+    heap: &[u8],
+    ids: &[u64],
+    locations: &[u64],
+    slot: u64,
+) -> u64
+    ensures { λ r. ⌜ leaving (numbered r) (world settings (stateIn (now (state .entry))) (claimsIn (now (claims .exit))) (now (heap .entry)) (now (ids .entry)) (now (locations .entry))) ≡ releaseCall (world settings (stateIn (now (state .entry))) (claimsIn (now (claims .entry))) (now (heap .entry)) (now (ids .entry)) (now (locations .entry))) slot ⌝ }
+{
+    let was = state_in(state);
+    let held = claims_in(claims);
+    let done = claims::release(settings, was, held, heap, ids, locations, slot);
+    let answer = done.answer;
+    let kept = done.claims;
+    put_claims(claims, kept);
+    number(answer)
+}
+
+// "Prune"
+#[no_mangle]
+pub extern "C" fn marble_prune(
+    settings: Settings,
+    state: &mut [u64; 1545],
+    claims: &[u64; 4],
+    heap: &mut [u8],
+    ids: &[u64],
+    locations: &[u64],
+) -> u64
+    ensures { λ r. ⌜ leaving (numbered r) (world settings (stateIn (now (state .exit))) (claimsIn (now (claims .entry))) (now (heap .exit)) (now (ids .entry)) (now (locations .entry))) ≡ pruneCall (world settings (stateIn (now (state .entry))) (claimsIn (now (claims .entry))) (now (heap .entry)) (now (ids .entry)) (now (locations .entry))) ⌝ }
+{
+    let was = state_in(state);
+    let held = claims_in(claims);
+    let done = prune::prune(settings, was, held, heap, ids, locations);
+    let answer = done.answer;
+    let after = done.state;
+    put_state(state, after);
+    number(answer)
+}
+
+// "Maintenance": the generation where it stopped, or 0, and the ids moved.
+#[no_mangle]
+pub extern "C" fn marble_maintain(
+    settings: Settings,
+    state: &mut [u64; 1545],
+    claims: &[u64; 4],
+    heap: &mut [u8],
+    ids: &mut [u64],
+    locations: &mut [u64],
+    generation: &mut u64,
+    moved: &mut u64,
+) -> u64
+    ensures { λ r. ⌜ leaving (given r (now (generation .exit) ∷ now (moved .exit) ∷ [])) (world settings (stateIn (now (state .exit))) (claimsIn (now (claims .entry))) (now (heap .exit)) (now (ids .exit)) (now (locations .exit))) ≡ stopAfter (maintainCall (world settings (stateIn (now (state .entry))) (claimsIn (now (claims .entry))) (now (heap .entry)) (now (ids .entry)) (now (locations .entry)))) ⌝ }
+{
+    let was = state_in(state);
+    let held = claims_in(claims);
+    let done = gc::maintain(settings, was, held, heap, ids, locations);
+    let answer = done.answer;
+    let after = done.state;
+    put_state(state, after);
+    let told = maintain_shown(answer);
+    *generation = told.first;
+    *moved = told.second;
+    told.number
+}
+
+// "Files, bytes, present, live, summed over files."
+#[no_mangle]
+pub extern "C" fn marble_counts(
+    settings: Settings,
+    state: &[u64; 1545],
+    heap: &[u8],
+    ids: &[u64],
+    locations: &[u64],
+    counts: &mut [u64; 4],
+) -> u64
+    ensures { λ r. ⌜ ((c : Claims) → given r (now (counts .exit)) ≡ shown 4 (countsCall (world settings (stateIn (now (state .entry))) c (now (heap .entry)) (now (ids .entry)) (now (locations .entry))) .answer)) ⌝ }
+{
+    let was = state_in(state);
+    let done = counts_shown(claims::counts(settings, was, heap, ids, locations));
+    let sums = done.counts;
+    put_counts(counts, sums);
+    done.number
+}
+
+// ---- the table
+// "Load (nothing for an unmapped id)": a held location is never 0.
+#[no_mangle]
+pub extern "C" fn marble_load(ids: &[u64], locations: &[u64], id: u64, location: &mut u64) -> u64
+    ensures { λ r. ⌜ given r (now (location .exit) ∷ []) ≡ shown 1 (loadCall (table (now (ids .entry)) (now (locations .entry))) id .answer) ⌝ }
+{
+    let held = load_shown(location_table::load(ids, locations, id));
+    *location = held.value;
+    held.number
+}
+
+// "store"
+#[no_mangle]
+pub extern "C" fn marble_store(
+    ids: &mut [u64],
+    locations: &mut [u64],
+    id: u64,
+    location: u64,
+) -> u64
+    ensures { λ r. ⌜ tableLeaving (numbered r) (now (ids .exit)) (now (locations .exit)) ≡ storeCall (table (now (ids .entry)) (now (locations .entry))) id location ⌝ }
+{
+    number(location_table::store(ids, locations, id, location))
+}
+
+// "A compare that differs stores nothing and gives the current location"
+#[no_mangle]
+pub extern "C" fn marble_compare_and_store(
+    ids: &mut [u64],
+    locations: &mut [u64],
+    id: u64,
+    old: u64,
+    location: u64,
+    current: &mut u64,
+) -> u64
+    ensures { λ r. ⌜ tableLeaving (given r (now (current .exit) ∷ [])) (now (ids .exit)) (now (locations .exit)) ≡ shownTable 1 (compareCall (table (now (ids .entry)) (now (locations .entry))) id old location) ⌝ }
+{
+    let held = compare_shown(location_table::compare_and_store(ids, locations, id, old, location));
+    *current = held.value;
+    held.number
+}
+
+// "Store-if-greater gives the location held before or nothing"
+#[no_mangle]
+pub extern "C" fn marble_store_if_greater(
+    ids: &mut [u64],
+    locations: &mut [u64],
+    id: u64,
+    location: u64,
+    held: &mut u64,
+) -> u64
+    ensures { λ r. ⌜ tableLeaving (given r (now (held .exit) ∷ [])) (now (ids .exit)) (now (locations .exit)) ≡ shownTable 1 (greaterCall (table (now (ids .entry)) (now (locations .entry))) id location) ⌝ }
+{
+    let was = load_shown(location_table::store_if_greater(ids, locations, id, location));
+    *held = was.value;
+    was.number
+}

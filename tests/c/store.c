@@ -1,0 +1,380 @@
+#include "harness.h"
+
+/* ---- checks */
+static uint64_t done, wrong;
+
+void expect(const char *what, uint64_t got, uint64_t want) {
+    done++;
+    if (got == want) return;
+    wrong++;
+    printf("tests/c: %s: got %llu, not %llu\n", what, (unsigned long long)got, (unsigned long long)want);
+}
+
+int failed(void) { return wrong != 0; }
+uint64_t checks(void) { return done; }
+
+/* ---- guarded places */
+#define GUARD 64
+#define PAINT 0xA5
+#define GUARDED(name, most) static _Alignas(16) uint8_t name[GUARD + (most) + GUARD]
+GUARDED(heap_area, HEAP_MOST);
+GUARDED(ids_area, 8 * TABLE_MOST);
+GUARDED(locations_area, 8 * TABLE_MOST);
+GUARDED(batch_area, BATCH_MOST);
+GUARDED(state_area, sizeof(marble_state));
+GUARDED(claims_area, sizeof(marble_claims));
+GUARDED(out_area, 3 * GUARD);
+GUARDED(totals_area, sizeof(marble_totals));
+/* what stood there before a call */
+static uint8_t heap_was[HEAP_MOST], ids_was[8 * TABLE_MOST], locations_was[8 * TABLE_MOST], state_was[sizeof(marble_state)], claims_was[sizeof(marble_claims)];
+
+store w;
+/* how much of the areas is the store's, whatever lengths a test then gives */
+static size_t heap_room, table_room;
+uint64_t out[2];
+marble_totals totals;
+#define BATCH (batch_area + GUARD)
+/* the two out-parameters, with guards between them too */
+#define OUT(k) ((uint64_t *)(out_area + GUARD + (k) * (8 + GUARD)))
+#define TOTALS ((marble_totals *)(totals_area + GUARD))
+
+static void paint(uint8_t *area, size_t len, size_t whole) {
+    memset(area, PAINT, GUARD);
+    memset(area + GUARD + len, PAINT, whole - GUARD - len);
+}
+
+static void guard(const char *call, const char *name, const uint8_t *area, size_t len, size_t whole) {
+    size_t touched = 0;
+    for (size_t i = 0; i < GUARD; i++) touched += area[i] != PAINT;
+    for (size_t i = GUARD + len; i < whole; i++) touched += area[i] != PAINT;
+    if (touched) printf("tests/c: %s wrote outside %s\n", call, name);
+    expect("bytes touched outside", touched, 0);
+}
+
+void fresh(marble_settings s, size_t slots, size_t table) {
+    w.s = s;
+    w.state = (marble_state *)(state_area + GUARD);
+    w.claims = (marble_claims *)(claims_area + GUARD);
+    w.heap = heap_area + GUARD;
+    w.heap_len = heap_room = slots * s.slot_bytes;
+    w.ids = (uint64_t *)(ids_area + GUARD);
+    w.locations = (uint64_t *)(locations_area + GUARD);
+    w.ids_len = w.locations_len = table;
+    table_room = 8 * table;
+    memset(w.state, 0, sizeof *w.state);
+    memset(w.claims, 0, sizeof *w.claims);
+    memset(w.heap, 0, w.heap_len);
+    memset(w.ids, 0, 8 * table);
+    memset(w.locations, 0, 8 * table);
+    paint(heap_area, w.heap_len, sizeof heap_area);
+    paint(ids_area, 8 * table, sizeof ids_area);
+    paint(locations_area, 8 * table, sizeof locations_area);
+    paint(state_area, sizeof *w.state, sizeof state_area);
+    paint(claims_area, sizeof *w.claims, sizeof claims_area);
+    paint(totals_area, sizeof totals, sizeof totals_area);
+    memset(out_area, PAINT, sizeof out_area);
+}
+
+marble_settings defaults(void) {
+    const marble_settings s = MARBLE_DEFAULTS;
+    return s;
+}
+
+marble_settings small(uint64_t slot_bytes) {
+    marble_settings s = defaults();
+    s.slot_bytes = slot_bytes;
+    return s;
+}
+
+/* ---- stack: painted before each call, looked at behind it */
+#define DEPTH (4096 * 1024)
+enum { REOPEN, WRITE, READ, CLAIM, RELEASE, PRUNE, MAINTAIN, COUNTS, LOAD, STORE, COMPARE, GREATER, CALLS };
+static const char *const names[CALLS] = {"reopen", "write", "read", "claim", "release", "prune", "maintain", "counts", "load", "store", "compare_and_store", "store_if_greater"};
+/* README has these figures; a call that needs more fails here */
+static const size_t allowed[CALLS] = {51200, 119808, 64512, 50176, 50176, 99328, 700416, 50176, 128, 128, 128, 128};
+static size_t used[CALLS];
+
+/* Both from the same frame, so that the bytes are the same ones: painted, and how deep the paint is gone. Maintenance goes deepest. */
+__attribute__((noinline)) static void stack_below(int call, int painting) {
+    volatile uint8_t below[DEPTH];
+    const size_t low = call == MAINTAIN ? 0 : DEPTH - DEPTH / 16;
+    size_t i = low;
+    if (painting) {
+        for (; i < DEPTH; i++) below[i] = PAINT;
+        return;
+    }
+    while (i < DEPTH && below[i] == PAINT) i++;
+    size_t deep = (size_t)((uint8_t *)__builtin_frame_address(0) + 16 - (uint8_t *)&below[i]);
+    if (used[call] < deep) used[call] = deep;
+    expect("deep enough", i > low, 1);
+}
+
+void stack_told(void) {
+    for (int k = 0; k < CALLS; k++) {
+        printf("stack marble_%s %llu\n", names[k], (unsigned long long)used[k]);
+        if (used[k] > allowed[k]) printf("tests/c: marble_%s needs more stack than README says\n", names[k]);
+        expect("stack within the figure", used[k] <= allowed[k], 1);
+    }
+}
+
+/* ---- before and behind a call */
+static void before(void) {
+    memcpy(heap_was, heap_area + GUARD, heap_room);
+    memcpy(ids_was, ids_area + GUARD, table_room);
+    memcpy(locations_was, locations_area + GUARD, table_room);
+    memcpy(state_was, w.state, sizeof *w.state);
+    memcpy(claims_was, w.claims, sizeof *w.claims);
+    *OUT(0) = *OUT(1) = 77;
+}
+
+static void same(const char *call, const char *name, const void *now, const void *was, size_t len) {
+    int differs = len && memcmp(now, was, len) != 0;
+    if (differs) printf("tests/c: %s changed %s\n", call, name);
+    expect("changed", differs, 0);
+}
+
+enum { HEAP = 1, TABLE = 2, STATE = 4, CLAIMS = 8, ALL = 15 };
+
+static void behind(int call, unsigned kept) {
+    const char *name = names[call];
+    guard(name, "heap", heap_area, heap_room, sizeof heap_area);
+    guard(name, "ids", ids_area, table_room, sizeof ids_area);
+    guard(name, "locations", locations_area, table_room, sizeof locations_area);
+    guard(name, "state", state_area, sizeof *w.state, sizeof state_area);
+    guard(name, "claims", claims_area, sizeof *w.claims, sizeof claims_area);
+    guard(name, "totals", totals_area, sizeof totals, sizeof totals_area);
+    guard(name, "first out-parameter", out_area, 8, 8 + 2 * GUARD);
+    guard(name, "second out-parameter", out_area + 8 + GUARD, 8, 8 + 2 * GUARD);
+    if (kept & HEAP) same(name, "heap", heap_area + GUARD, heap_was, heap_room);
+    if (kept & TABLE) same(name, "ids", ids_area + GUARD, ids_was, table_room);
+    if (kept & TABLE) same(name, "locations", locations_area + GUARD, locations_was, table_room);
+    if (kept & STATE) same(name, "state", w.state, state_was, sizeof *w.state);
+    if (kept & CLAIMS) same(name, "claims", w.claims, claims_was, sizeof *w.claims);
+    out[0] = *OUT(0);
+    out[1] = *OUT(1);
+}
+
+/* ---- the calls */
+uint64_t reopen(void) {
+    before();
+    stack_below(REOPEN, 1);
+    uint64_t n = marble_reopen(w.s, w.state, w.claims, w.heap, w.heap_len, w.ids, w.ids_len, w.locations, w.locations_len);
+    stack_below(REOPEN, 0);
+    behind(REOPEN, n == MARBLE_LIMITS ? ALL : HEAP);
+    if (n != MARBLE_LIMITS) {
+        const marble_claims none = {{0, 0, 0, 0}};
+        same("reopen", "no claims", w.claims, &none, sizeof none);
+    }
+    if (n != MARBLE_LIMITS && n != MARBLE_OK) {
+        uint64_t left = 0;
+        for (size_t i = 0; i < w.ids_len; i++) left |= w.ids[i] | w.locations[i];
+        for (size_t i = 0; i < MARBLE_SLOTS_MAX; i++) {
+            const marble_record *r = &w.state->records[i];
+            left |= r->lsn | r->trailer_offset | r->file_size | r->present_objects | r->generation | r->live;
+        }
+        expect("refused reopening: zeroed", left, 0);
+        expect("refused reopening: next position", w.state->next_position, 1);
+    }
+    return n;
+}
+
+uint64_t write_batch(const uint8_t *batch, size_t len) {
+    paint(batch_area, len, sizeof batch_area);
+    if (len) memcpy(BATCH, batch, len);
+    before();
+    stack_below(WRITE, 1);
+    uint64_t n = marble_write(w.s, w.state, w.heap, w.heap_len, w.ids, w.ids_len, w.locations, w.locations_len, len ? BATCH : NULL, len);
+    stack_below(WRITE, 0);
+    behind(WRITE, n == MARBLE_OK && len ? CLAIMS : ALL);
+    guard("write", "batch", batch_area, len, sizeof batch_area);
+    same("write", "batch", BATCH, batch, len);
+    return n;
+}
+
+uint64_t read_id(uint64_t id) {
+    before();
+    stack_below(READ, 1);
+    uint64_t n = marble_read(w.s, w.state, w.heap, w.heap_len, w.ids, w.ids_len, w.locations, w.locations_len, id, OUT(0), OUT(1));
+    stack_below(READ, 0);
+    behind(READ, ALL);
+    if (n != MARBLE_OK) expect("refused read: no part", out[0] | out[1], 0);
+    return n;
+}
+
+uint64_t claim(uint64_t slot) {
+    before();
+    stack_below(CLAIM, 1);
+    uint64_t n = marble_claim(w.s, w.state, w.claims, w.heap, w.heap_len, w.ids, w.ids_len, w.locations, w.locations_len, slot);
+    stack_below(CLAIM, 0);
+    behind(CLAIM, n == MARBLE_OK ? HEAP | TABLE | STATE : ALL);
+    return n;
+}
+
+uint64_t release(uint64_t slot) {
+    before();
+    stack_below(RELEASE, 1);
+    uint64_t n = marble_release(w.s, w.state, w.claims, w.heap, w.heap_len, w.ids, w.ids_len, w.locations, w.locations_len, slot);
+    stack_below(RELEASE, 0);
+    behind(RELEASE, n == MARBLE_OK ? HEAP | TABLE | STATE : ALL);
+    return n;
+}
+
+uint64_t prune(void) {
+    before();
+    stack_below(PRUNE, 1);
+    uint64_t n = marble_prune(w.s, w.state, w.claims, w.heap, w.heap_len, w.ids, w.ids_len, w.locations, w.locations_len);
+    stack_below(PRUNE, 0);
+    behind(PRUNE, n == MARBLE_OK ? TABLE | CLAIMS : ALL);
+    return n;
+}
+
+uint64_t maintain(void) {
+    before();
+    stack_below(MAINTAIN, 1);
+    uint64_t n = marble_maintain(w.s, w.state, w.claims, w.heap, w.heap_len, w.ids, w.ids_len, w.locations, w.locations_len, OUT(0), OUT(1));
+    stack_below(MAINTAIN, 0);
+    behind(MAINTAIN, n == MARBLE_LIMITS ? ALL : CLAIMS);
+    return n;
+}
+
+uint64_t counts(void) {
+    before();
+    stack_below(COUNTS, 1);
+    uint64_t n = marble_counts(w.s, w.state, w.heap, w.heap_len, w.ids, w.ids_len, w.locations, w.locations_len, TOTALS);
+    stack_below(COUNTS, 0);
+    behind(COUNTS, ALL);
+    totals = *TOTALS;
+    if (n != MARBLE_OK) expect("refused counts: zeros", totals.files | totals.bytes | totals.present | totals.live, 0);
+    return n;
+}
+
+uint64_t load(uint64_t id) {
+    before();
+    stack_below(LOAD, 1);
+    uint64_t n = marble_load(w.ids, w.ids_len, w.locations, w.locations_len, id, OUT(0));
+    stack_below(LOAD, 0);
+    behind(LOAD, ALL);
+    if (n != MARBLE_OK) expect("refused load: 0", out[0], 0);
+    return n;
+}
+
+uint64_t store_at(uint64_t id, uint64_t location) {
+    before();
+    stack_below(STORE, 1);
+    uint64_t n = marble_store(w.ids, w.ids_len, w.locations, w.locations_len, id, location);
+    stack_below(STORE, 0);
+    behind(STORE, n == MARBLE_OK ? HEAP | STATE | CLAIMS : ALL);
+    return n;
+}
+
+uint64_t compare_and_store(uint64_t id, uint64_t old, uint64_t location) {
+    before();
+    stack_below(COMPARE, 1);
+    uint64_t n = marble_compare_and_store(w.ids, w.ids_len, w.locations, w.locations_len, id, old, location, OUT(0));
+    stack_below(COMPARE, 0);
+    behind(COMPARE, n == MARBLE_OK && *OUT(0) == 0 ? HEAP | STATE | CLAIMS : ALL);
+    return n;
+}
+
+uint64_t store_if_greater(uint64_t id, uint64_t location) {
+    before();
+    stack_below(GREATER, 1);
+    uint64_t n = marble_store_if_greater(w.ids, w.ids_len, w.locations, w.locations_len, id, location, OUT(0));
+    stack_below(GREATER, 0);
+    behind(GREATER, n == MARBLE_OK && *OUT(0) < location ? HEAP | STATE | CLAIMS : ALL);
+    return n;
+}
+
+/* ---- batches of one operation */
+uint64_t put(uint64_t id, size_t len, uint8_t b) {
+    static uint8_t batch[BATCH_MOST];
+    size_t n = groups(batch, id);
+    batch[n++] = 1;
+    n += groups(batch + n, len);
+    memset(batch + n, b, len);
+    return write_batch(batch, n + len);
+}
+
+uint64_t drop(uint64_t id) {
+    uint8_t batch[16];
+    size_t n = groups(batch, id);
+    batch[n++] = 0;
+    return write_batch(batch, n);
+}
+
+void holds(uint64_t id, size_t len, uint8_t b) {
+    expect("read", read_id(id), MARBLE_OK);
+    expect("found", out[0] != 0, 1);
+    expect("length read", out[1], len);
+    expect("within the heap", out[0] + out[1] <= w.heap_len, 1);
+    uint64_t other = 0;
+    for (size_t i = 0; i < len && out[0] + i < w.heap_len; i++) other += w.heap[out[0] + i] != b;
+    expect("other bytes read", other, 0);
+}
+
+void holds_nothing(uint64_t id) {
+    expect("read", read_id(id), MARBLE_OK);
+    expect("nothing found", out[0] | out[1], 0);
+}
+
+/* ---- bytes */
+uint32_t crc(const uint8_t *bytes, size_t len) {
+    uint32_t c = 0xFFFFFFFF;
+    for (size_t i = 0; i < len; i++) {
+        c ^= bytes[i];
+        for (int k = 0; k < 8; k++) c = c & 1 ? c >> 1 ^ 0xEDB88320 : c >> 1;
+    }
+    return ~c;
+}
+
+size_t groups(uint8_t *to, uint64_t n) {
+    size_t i = 0;
+    for (; n >= 128; n >>= 7) to[i++] = (uint8_t)(n | 128);
+    to[i++] = (uint8_t)n;
+    return i;
+}
+
+void le(uint8_t *to, size_t width, uint64_t n) {
+    for (size_t i = 0; i < width; i++, n >>= 8) to[i] = (uint8_t)n;
+}
+
+uint64_t from_le(const uint8_t *from, size_t width) {
+    uint64_t n = 0;
+    while (width--) n = n << 8 | from[width];
+    return n;
+}
+
+size_t object(uint8_t *to, uint64_t id, const uint8_t *body, size_t len) {
+    static uint8_t summed[16 + BATCH_MOST];
+    le(summed, 8, len);
+    le(summed + 8, 8, id);
+    if (len) memcpy(summed + 16, body, len);
+    le(to, 4, crc(summed, 16 + len));
+    le(to + 4, 8, id);
+    le(to + 12, 8, len);
+    if (len) memcpy(to + 20, body, len);
+    return 20 + len;
+}
+
+file sound(uint64_t lsn, uint64_t generation, const uint8_t *objects, uint64_t len, const entry *entries, uint64_t count) {
+    file f = {lsn, len, len + 12 + 16 * count, count, generation, count, entries, count, objects};
+    return f;
+}
+
+void file_in(size_t slot, file f) {
+    uint8_t *label = w.heap + slot * w.s.slot_bytes, *bytes = label + MARBLE_LABEL_BYTES;
+    memset(label, 0, MARBLE_LABEL_BYTES);
+    size_t n = groups(label, f.lsn);
+    n += groups(label + n, f.trailer_offset);
+    n += groups(label + n, f.file_size);
+    n += groups(label + n, f.present);
+    groups(label + n, f.generation);
+    if (f.objects) memcpy(bytes, f.objects, f.trailer_offset);
+    uint8_t *trailer = bytes + f.trailer_offset;
+    le(trailer + 4, 8, f.count);
+    for (uint64_t i = 0; i < f.stored; i++) {
+        le(trailer + 12 + 16 * i, 8, f.entries[i].id);
+        le(trailer + 20 + 16 * i, 8, f.entries[i].raw);
+    }
+    if (f.file_size >= f.trailer_offset + 4) le(trailer, 4, crc(trailer + 4, f.file_size - f.trailer_offset - 4));
+}
