@@ -12,7 +12,7 @@ HERE = os.path.dirname(os.path.abspath(__file__))
 sys.path.insert(0, os.path.join(HERE, 'oracle'))
 from port import console_command  # noqa: E402
 
-CONSOLE = os.path.join(os.path.dirname(HERE), 'target', 'bin', 'console')
+CONSOLE = os.path.join(os.path.dirname(HERE), 'target', 'tests', 'console')
 IN_A_FILE, SLOT, MOST_SECONDS = 4000, 65536, 60
 
 
@@ -55,9 +55,7 @@ def main():
     words.add_argument('ids', nargs='*', type=int, default=[40000])
     words.add_argument('--table', type=int, default=65536)
     given = words.parse_args()
-    if not os.access(CONSOLE, os.X_OK):
-        print('reopening: no target/bin/console, nothing was run')
-        return
+    subprocess.run([os.path.join(HERE, 'unproved'), 'console', CONSOLE], check=True)
     for ids in given.ids:
         seconds = (run(ids, given.table, 2) - run(ids, given.table, 0)) / 2
         print(f'reopening: {ids} ids, a table of {given.table}: {seconds:.1f} s of processor time')

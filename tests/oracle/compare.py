@@ -4,9 +4,9 @@
     compare.py [--model | --console PATH] [--rust PATH | --stored FILE] [--seed S] [--from K] [--count N] [--seconds T] [--small] [--store FILE]
 
 After every call: each id's read, the answer, the growth of the next position, counts, each file's numbers, live count and claim;
-after reopenings and rewrites also each file as a set of entries. A heap that the port wrote is renamed to the original's files,
-opened and read by it, and every number must be the same; files that the original wrote are labelled, put into slots, reopened and
-read by the port. A difference that is not in known.py fails. The port's bytes are the model's bytes: the console shows the heap's
+after reopenings and rewrites also each file as a set of entries. At a scenario's end the heap that the port wrote is renamed to the
+original's files, opened and read by it, and every number must be the same; the files that the original wrote until then are labelled,
+put into slots, reopened and read by the port. A difference that is not in known.py fails. The port's bytes are the model's bytes: the console shows the heap's
 checksum, and every answer of it, that checksum among them, must be the model's."""
 import argparse
 import collections
@@ -76,7 +76,8 @@ def can_be_cut(store):
 
 
 def plan(lines):
-    """the scenario's steps. Where the two sides cannot stay alike, a reopening is put in and the original takes over the port's heap"""
+    """the scenario's steps. Where the two sides cannot stay alike, and at the end, a reopening is put in for which the original takes over
+    the port's heap"""
     console, steps, by_hand = Console(), [], False
     for line in lines:
         word, store = line.split()[0], console.store
@@ -89,9 +90,15 @@ def plan(lines):
             if answer != 'ok':
                 raise Difference(f'reopening outside the domain: {answer}')
         if word == 'maintain' and (cut or answer.startswith('refused')):
-            console.line('reopen')
-            steps.append(Step('reopen', store, True, False))
-    return steps
+            steps.append(taken_over(console))
+    return steps + [taken_over(console)]
+
+
+def taken_over(console):
+    answer = console.line('reopen')
+    if answer != ['ok']:
+        raise Difference(f"the port's own heap is not reopened: {answer}")
+    return Step('reopen', console.store, True, False)
 
 
 CALLS = ('reopen', 'write', 'claim', 'release', 'prune', 'maintain')
@@ -153,6 +160,7 @@ def must(same, what, port, rust):
 class Comparison:
     def __init__(self, rust):
         self.rust = rust
+        self.left = []
         self.known = collections.Counter()
         self.calls = collections.Counter()
 
@@ -166,7 +174,7 @@ class Comparison:
         return self.rust.ask(command)
 
     def one(self, command):
-        return self.rust.ask(command)[0]
+        return self.ask(command)[0]
 
     def rust_files(self):
         return [File(*map(int, line.split()[1:])) for line in self.ask('records')[:-1]]
@@ -181,20 +189,27 @@ class Comparison:
         return data
 
     def run(self, steps, port_views, ids):
+        """leaves in self.left the files (name, bytes) that the original had before it took over the port's heap at the end"""
         self.ids = ids
         self.port_next = self.rust_next = 0
         self.one('wipe')
         for k, (step, view) in enumerate(zip(steps, port_views)):
-            word, *words = step.line.split()
+            if k == len(steps) - 1:
+                self.left = [(line.split()[1], bytes.fromhex(line.split()[2])) for line in self.ask('files')[:-1]]
             try:
-                if word in TABLE_CALLS:
-                    self.table_call(step.line, view)
-                elif view is not None:
-                    must(view.heap_sum == zlib.crc32(step.heap), "the heap's bytes are not the model's", view.heap_sum, zlib.crc32(step.heap))
-                    self.calls[word] += 1
-                    getattr(self, word)(step, view, *words)
+                self.take(step, view)
             except Difference as d:
                 raise Difference(f'step {k}: {step.line[:200]}\n  {d}')
+
+    def take(self, step, view):
+        """one step, on the original's side"""
+        word, *words = step.line.split()
+        if word in TABLE_CALLS:
+            self.table_call(step.line, view)
+        elif view is not None:
+            must(view.heap_sum == zlib.crc32(step.heap), "the heap's bytes are not the model's", view.heap_sum, zlib.crc32(step.heap))
+            self.calls[word] += 1
+            getattr(self, word)(step, view, *words)
 
     # one method for each call
 
@@ -376,16 +391,15 @@ def compare_jobs(comparison, jobs):
             comparison.run(job.steps, job_views, job.ids)
         except Difference as d:
             raise Difference(f'scenario {job.name}, {d}\n\n' + '\n'.join(job.lines))
-        files = [(line.split()[1], bytes.fromhex(line.split()[2])) for line in comparison.ask('files')[:-1]]
-        left[job.name] = files, [v for v in job_views if isinstance(v, PortView)][-1].reads
+        left[job.name] = comparison.left, [v for v in job_views if isinstance(v, PortView)][-1].reads
     return left
 
 
 class Generated:
     """scenarios from a seed, and from the files that the original left of one"""
 
-    def __init__(self, seed, small, without):
-        self.seed, self.small, self.without, self.scenarios = seed, small, without, {}
+    def __init__(self, seed, small):
+        self.seed, self.small, self.scenarios = seed, small, {}
 
     def first(self, number):
         return self.kept(f'{number:03}', scenario(self.seed, number, self.small))
@@ -395,7 +409,6 @@ class Generated:
         return self.kept(f'{number:03}r', from_files(self.seed, number, files, settings, table)) if 0 < len(files) <= 170 else None
 
     def kept(self, name, lines):
-        lines = [line for line in lines if line.split()[0] != self.without]
         self.scenarios[name] = lines
         return Job(name, lines)
 
@@ -437,9 +450,9 @@ def compare(port, comparison, source, numbers):
     return len(jobs), len(carried)
 
 
-def compare_directed(port, rust, without):
+def compare_directed(port, rust):
     """the smallest inputs of known.py: each side says what the list has"""
-    cases = [case for case in directed() if without not in [line.split()[0] for line in case[1]]]
+    cases = directed()
     for k, (name, lines, port_says, commands, rust_says) in enumerate(cases):
         rust.begin(f'smallest input {k}')
         got = port.run(lines)[-1][0], [rust.ask(command)[0] for command in commands][-1]
@@ -461,16 +474,15 @@ def main():
     parser.add_argument('--count', type=int, default=100)
     parser.add_argument('--seconds', type=float, default=1e9, help='begin no round after so long')
     parser.add_argument('--small', action='store_true')
-    parser.add_argument('--without', help='leave out this command, which the console does not have yet')
     options = parser.parse_args()
     port = Model() if options.model else Port(options.console)
     rust = Stored(options.stored) if options.stored else Rust(options.rust)
     if options.stored:
         options.seed, options.count = 'of the stored answers', sum(name.isdigit() for name in rust.scenarios)
-    source = Kept(rust) if options.stored else Generated(options.seed, options.small, options.without)
+    source = Kept(rust) if options.stored else Generated(options.seed, options.small)
     began, comparison, done, carried = time.time(), Comparison(rust), 0, 0
     try:
-        cases = compare_directed(port, rust, options.without)
+        cases = compare_directed(port, rust)
         for at in range(options.start, options.start + options.count, 25):
             if time.time() - began > options.seconds:
                 break
@@ -486,8 +498,8 @@ def main():
     against = 'stored answers of the original' if options.stored else 'original'
     not_made = sum(comparison.known[name] for name in NOT_MADE)
     calls = sum(comparison.calls.values()) - not_made
-    print(f'{port.name} and {against}: {cases} smallest inputs, {done} scenarios and {carried} of carried files, {calls} calls alike and {not_made} made by the port alone, seed {options.seed}, '
-          f'{time.time() - began:.0f} s')
+    print(f"{port.name} and {against}: {cases} smallest inputs, {done} scenarios and {carried} on the original's files, {done + carried} heaps of the port "
+          f'opened by the original, {calls} calls alike and {not_made} made by the port alone, seed {options.seed}, {time.time() - began:.0f} s')
     print('  calls: ' + ', '.join(f'{n} {w}' for w, n in sorted(comparison.calls.items())))
     print('  known: ' + ', '.join(f'{w} {n}' for w, n in sorted(comparison.known.items())))
 

@@ -39,6 +39,10 @@ RESET = ['settings 128 0 1 1 0 1', 'heap 128', 'table 1 1', 'reopen', f'state{" 
 STATE_CALLS = ('reopen', 'write', 'claim', 'release', 'prune', 'maintain', 'read', 'counts', 'list', 'load', 'store', 'cas', 'max')
 
 
+def first_word(line):
+    return (line.split() or [''])[0]
+
+
 class Maker:
     """one script: a store by hand, then calls, each followed by a dump"""
 
@@ -154,13 +158,14 @@ class Maker:
         r = self.r
         ident = r.choice(self.ids + [r.randrange(60)])
         slot, raw = self.rarely(r.randrange(self.slots + 1), self.edge(), 0.1), r.choice([1, 2, 3, self.edge()])
-        return r.choice(['maintain'] * 5 + [f'write {self.batch()}'] * 5 + [f'read {i}' for i in self.ids] + ['prune', 'counts', 'list', 'reopen',
-                        f'claim {slot}', f'claim {slot}', f'release {slot}', f'load {ident}', f'store {ident} {raw}',
-                        f'cas {ident} {raw} {self.edge()}', f'max {ident} {raw}', self.bad_line()])
+        calls = ['maintain'] * 5 + [f'write {self.batch()}'] * 5 + [f'read {i}' for i in self.ids]
+        calls += ['prune', 'counts', 'list', 'reopen', f'claim {slot}', f'claim {slot}', f'release {slot}', f'load {ident}', f'store {ident} {raw}',
+                  f'cas {ident} {raw} {self.edge()}', f'max {ident} {raw}', self.bad_line()]
+        return r.choice(calls)
 
     def bad_line(self):
         big = 2 ** 64 + self.r.randrange(5)
-        return self.r.choice(['nonsense', 'read', 'read x', f'read {big}', 'write 0', 'write xy', 'heap 1048577', 'table 65537 1', f'poke {self.heap_bytes} 00',
+        return self.r.choice(['nonsense', '', ' \t', 'read', 'read x', f'read {big}', 'write 0', 'write xy', 'heap 1048577', 'table 65537 1', f'poke {self.heap_bytes} 00',
                               f'entry {self.room} 1 1', 'record 256 1 1 1 1 1 1', 'claims 1 2 3', 'reopen now', 'settings 1 2 3 4 5', 'read -1'])
 
 
@@ -183,7 +188,7 @@ def check(maker, answers):
     """forms, and what a call may change. Gives, of the first call that wrote: the number of lines up to its dump and the slots written"""
     before, wrote = None, None
     for k, (line, answer) in enumerate(zip(maker.lines, answers)):
-        word = line.split()[0]
+        word = first_word(line)
         if word == 'dump':
             if not all(DUMP.match(a) for a in answer) or not heap_sum(answer).startswith('heap '):
                 raise wrong(maker, line, answer, 'not the form of a dump')
@@ -200,7 +205,7 @@ def check(maker, answers):
 
 def check_call(maker, line, answer, before, after):
     """one call between two dumps; gives the slots whose heap bytes it may have changed"""
-    word = line.split()[0]
+    word = first_word(line)
     refused, number = answer.startswith('refused'), answer.split()[1] if answer.startswith('refused') else ''
     if answer == 'bad line' or word in ('read', 'counts', 'load', 'list') or refused and (number == '1' or word not in ('reopen', 'maintain')):
         if before != after:
@@ -250,7 +255,7 @@ def run(port, seed, numbers):
     calls, undo = 0, []
     for k, maker in zip(numbers, makers):
         said = [next(answers) for _ in maker.lines]
-        calls += sum(line.split()[0] in STATE_CALLS for line in maker.lines)
+        calls += sum(first_word(line) in STATE_CALLS for line in maker.lines)
         try:
             wrote = check(maker, said)
             if port.name != 'model':

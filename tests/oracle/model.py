@@ -3,6 +3,7 @@
 
 Reads the console's script on standard input and prints its answers. Nothing here is taken from crates/;
 where the paper leaves a choice, the reading D1..D15 of docs/DECISIONS.md is named at the line."""
+import re
 import sys
 import zlib
 
@@ -485,10 +486,9 @@ def number(word, limit=U64):
 
 
 def hex_bytes(word):
-    try:
-        return b'' if word == '-' else bytes.fromhex(word)
-    except ValueError:
+    if word != '-' and not re.fullmatch('([0-9a-fA-F]{2})+', word):
         raise BadLine
+    return bytes.fromhex(word.replace('-', ''))
 
 
 class Console:
@@ -498,10 +498,10 @@ class Console:
         self.store = Store()
 
     def line(self, text):
-        """the answer's lines; none for a comment"""
+        """the answer's lines; none for a comment and for help, whose lines are for people"""
         if len(text) > self.MAX_LINE:
             return ['bad line']
-        words = text.split('#')[0].split()
+        words = re.findall('[^ \t\r]+', text.split('#')[0])
         if not words:
             return [] if '#' in text else ['bad line']
         try:
@@ -550,11 +550,11 @@ class Console:
         s = self.store
         s.settings, s.heap_len, s.table_len, s.next = Settings(numbers[:6]), *numbers[6:]
 
-    def do_record(self, slot, *words):
-        slot, numbers = number(slot, MAX_RECORDS), tuple(number(w) for w in words)
-        if len(numbers) != 6:
+    def do_record(self, *words):
+        numbers = tuple(number(w) for w in words)
+        if len(numbers) != 7 or numbers[0] >= MAX_RECORDS:
             raise BadLine
-        self.store.records[slot] = numbers
+        self.store.records[numbers[0]] = numbers[1:]
 
     def do_claims(self, a, b, c, d):
         self.store.claims = sum(number(w) << 64 * k for k, w in enumerate((a, b, c, d)))
@@ -602,6 +602,9 @@ class Console:
         return 'ok nothing' if held is None else f'ok {held}'
 
     # looking
+
+    def do_help(self):
+        return []
 
     def do_list(self):
         rows = [f'{k} {r[0]} {r[4]} {r[3]} {r[5]} {r[2]}' for k, r in self.store.files()]

@@ -41,8 +41,8 @@ class Port:
 
 
 def answer_to(line, said):
-    """the lines of said that answer line"""
-    if line.startswith('#'):
+    """the lines of said that answer line: none for a comment"""
+    if '#' in line and not line.split('#')[0].strip():
         return []
     answer = [next(said, 'no answer')]
     end = BLOCK_END.get(line.split()[0] if line.split() else '')

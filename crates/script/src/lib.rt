@@ -16,7 +16,7 @@ pub enum Decoded {
     NotBytes,
 }
 
-// A line's first word. Blank: no word; Bad: a line that is no command.
+// A line's first word. Blank: a comment alone; Bad: a line that is no command, an empty one too.
 pub enum Keyword {
     Blank,
     Bad,
@@ -220,11 +220,18 @@ fn numbers_from(text: &[u8], from: usize, n: usize) -> Numbers
     }
 }
 
+fn is_dash(word: &[u8]) -> bool {
+    if word.len() != 1 {
+        return false;
+    }
+    word[0] == b'-'
+}
+
 // The bytes of a word of hex pairs, `-` for none, at the front of `bytes`.
 pub fn decode(word: &[u8], bytes: &mut [u8]) -> Decoded
     ensures { λ r. ⌜ Within r (length (now (bytes .exit))) ⌝ }
 {
-    if check::same(word, b"-") {
+    if is_dash(word) {
         return Decoded::Bytes(0);
     }
     if word.len() == 0 {
@@ -276,15 +283,25 @@ fn with_bytes(
     ended(keyword, numbers, n, text, end)
 }
 
-// A line without its comment.
-fn order_in(text: &[u8], bytes: &mut [u8]) -> Order
+// A line without a word.
+fn wordless(comment: bool) -> Order
+    ensures { λ r. ⌜ r .length ≡ 0 ⌝ }
+{
+    if comment {
+        return no_order(Keyword::Blank);
+    }
+    no_order(Keyword::Bad)
+}
+
+// A line without its comment, if it has one.
+fn order_in(text: &[u8], comment: bool, bytes: &mut [u8]) -> Order
     ensures { λ r. ⌜ r .length ≤ length (now (bytes .exit)) ⌝ }
 {
     let first = words::next_word(text, 0);
     let start = first.start;
     let end = first.end;
     if start == end {
-        return no_order(Keyword::Blank);
+        return wordless(comment);
     }
     let keyword = keyword_of(&text[start..end]);
     let shape = shape_of(keyword);
@@ -306,5 +323,5 @@ pub fn order_of(line: &[u8], bytes: &mut [u8]) -> Order
     ensures { λ r. ⌜ r .length ≤ length (now (bytes .exit)) ⌝ }
 {
     let end = bytes::scan::find(line, 0, line.len(), b'#');
-    order_in(&line[0..end], bytes)
+    order_in(&line[0..end], end < line.len(), bytes)
 }

@@ -1,0 +1,151 @@
+// What the console writes: answers, and lines for people, which begin with `#`.
+use libc::STDOUT_FILENO;
+use rules::Answer;
+use rules::MaintainAnswer;
+use rules::Refusal;
+ghost use mathlib.Core.Path.{_≡_};
+ghost use Prim.Native.Nat.{_≤_};
+ghost use lib.ListN.{length};
+ghost use Rattle.rules.specs.Refusal.{numberOf};
+
+pub fn text(t: &[u8]) {
+    io::write_all(STDOUT_FILENO, t);
+}
+
+// A space and a number.
+pub fn number(n: u64) {
+    text(b" ");
+    io::print_decimal(STDOUT_FILENO, n);
+}
+
+pub fn end() {
+    text(b"\n");
+}
+
+pub fn ok() {
+    text(b"ok\n");
+}
+
+pub fn bad_line() {
+    text(b"bad line\n");
+}
+
+// A word, a number, the end of the line.
+pub fn named(word: &[u8], n: u64) {
+    text(word);
+    number(n);
+    end();
+}
+
+pub fn number_of(r: Refusal) -> u64
+    ensures { λ n. ⌜ n ≡ numberOf r ⌝ }
+{
+    match r {
+        Refusal::Limits => 1,
+        Refusal::BatchBytes => 2,
+        Refusal::ObjectSize => 3,
+        Refusal::SlotRoom => 4,
+        Refusal::NoEmptySlot => 5,
+        Refusal::TableRoom => 6,
+        Refusal::PositionsSpent => 7,
+        Refusal::LabelBytes => 8,
+        Refusal::TrailerShort => 9,
+        Refusal::Checksum => 10,
+        Refusal::EntryCount => 11,
+        Refusal::EntryPosition => 12,
+        Refusal::PresentCount => 13,
+        Refusal::Overlap => 14,
+        Refusal::NotRising => 15,
+        Refusal::CutShort => 16,
+        Refusal::OtherId => 17,
+        Refusal::NotThere => 18,
+        Refusal::EqualLocation => 19,
+        Refusal::Location => 20,
+        Refusal::Claim => 21,
+    }
+}
+
+pub fn refused(r: Refusal) {
+    named(b"refused", number_of(r));
+}
+
+pub fn answer(a: Answer) {
+    match a {
+        Answer::Done => ok(),
+        Answer::Refused(r) => refused(r),
+    }
+}
+
+// The count moved, or number, generation and ids moved so far.
+pub fn maintained(a: MaintainAnswer) {
+    match a {
+        MaintainAnswer::Moved(n) => named(b"ok", n),
+        MaintainAnswer::Stopped(r, generation, moved) => {
+            text(b"refused");
+            number(number_of(r));
+            number(generation);
+            number(moved);
+            end();
+        }
+    }
+}
+
+fn hex_piece(piece: &[u8])
+    requires { ⌜ length (now piece) ≤ 2048 ⌝ }
+{
+    let mut pairs = io::buffer();
+    script::hex::put_text(piece, &mut pairs);
+    let n = piece.len() * 2;
+    text(&pairs[0..n]);
+}
+
+// Hex pairs, `-` for none.
+pub fn hex(part: &[u8]) {
+    if part.len() == 0 {
+        text(b"-");
+        return;
+    }
+    let mut at: usize = 0;
+    while 2048 < part.len() - at {
+        let end = at + 2048;
+        hex_piece(&part[at..end]);
+        at = end;
+    }
+    let end = part.len();
+    hex_piece(&part[at..end]);
+}
+
+pub fn first_screen() {
+    text(b"# Tumrezask bench: one command to a line, one answer to a command; help lists them.\n");
+    text(
+        b"# Settings 4096 75 2 2048 64 1024, a heap of 65536 zeros (16 slots), a table of 1024, not reopened.\n",
+    );
+    text(b"# At most: heap 1048576 bytes, table 65536 entries, line 131200 bytes.\n");
+}
+
+pub fn help() {
+    text(b"# Numbers in decimal, bytes as hex pairs (- for none); # starts a comment.\n");
+    text(
+        b"# settings S PERCENT MINFILES TARGET THRESHOLD MAXOBJECT   what later calls are given\n",
+    );
+    text(b"# heap BYTES            table IDS LOCATIONS                lends buffers of zeros\n");
+    text(
+        b"# poke OFFSET HEX       entry K ID RAW                     changes heap bytes, a table place\n",
+    );
+    text(b"# state S PERCENT MINFILES TARGET THRESHOLD MAXOBJECT HEAPBYTES TABLE NEXT\n");
+    text(b"# record SLOT LSN T SIZE PRESENT GEN LIVE                  changes the state by hand\n");
+    text(
+        b"# claims A B C D                                           changes the claims by hand\n",
+    );
+    text(
+        b"# reopen   write HEX   read ID   claim SLOT   release SLOT   prune   maintain   counts\n",
+    );
+    text(b"# load ID   store ID RAW   cas ID OLD NEW   max ID RAW     the table alone\n");
+    text(b"# list   dump   help\n");
+    text(
+        b"# Answers: ok .., nothing, differs RAW, refused NUMBER ..; bad line for anything else, and nothing changes.\n",
+    );
+    text(
+        b"# A write after a refused reopening takes slot 0 whatever its label says: reopen first, and look at the answer.\n",
+    );
+}

@@ -1,0 +1,123 @@
+// Looking: the listing, and everything.
+use crate::commands::Bench;
+use crate::say;
+use rules::Claims;
+use rules::FileMap;
+use rules::Record;
+ghost use mathlib.Core.Path.{_≡_};
+ghost use lib.ListN.{length};
+ghost use Rattle.rules.specs.Layout.{usedIn};
+
+// "slot lsn gen present live size"
+fn file_line(slot: u64, r: Record) {
+    if file_map::is_empty(r) {
+        return;
+    }
+    io::print_decimal(libc::STDOUT_FILENO, slot);
+    say::number(r.lsn);
+    say::number(r.generation);
+    say::number(r.present_objects);
+    say::number(r.live);
+    say::number(r.file_size);
+    say::end();
+}
+
+fn file_lines(files: FileMap) {
+    let mut i: usize = 0;
+    while i < 256 {
+        let r = files.records[i];
+        file_line(i as u64, r);
+        i += 1;
+    }
+}
+
+// Entries up to the first location 0.
+fn used(ids: &[u64], locations: &[u64]) -> usize
+    ensures { λ r. ⌜ r ≡ length (usedIn (now (ids .entry)) (now (locations .entry))) ⌝ }
+{
+    let mut k: usize = 0;
+    while k < ids.len() {
+        if locations.len() <= k {
+            return k;
+        }
+        if locations[k] == 0 {
+            return k;
+        }
+        k += 1;
+    }
+    k
+}
+
+pub fn list(b: Bench, ids: &[u64], locations: &[u64]) {
+    say::text(b"slot lsn gen present live size\n");
+    let state = b.state;
+    let files = state.files;
+    file_lines(files);
+    say::named(b"ids", used(ids, locations) as u64);
+}
+
+fn record_line(slot: u64, r: Record) {
+    if file_map::is_empty(r) {
+        return;
+    }
+    say::text(b"record");
+    say::number(slot);
+    say::number(r.lsn);
+    say::number(r.trailer_offset);
+    say::number(r.file_size);
+    say::number(r.present_objects);
+    say::number(r.generation);
+    say::number(r.live);
+    say::end();
+}
+
+fn record_lines(files: FileMap) {
+    let mut i: usize = 0;
+    while i < 256 {
+        let r = files.records[i];
+        record_line(i as u64, r);
+        i += 1;
+    }
+}
+
+fn claimed_lines(c: Claims) {
+    let mut slot: u64 = 0;
+    while slot < 256 {
+        if claims::is_claimed(c, slot) {
+            say::named(b"claimed", slot);
+        }
+        slot += 1;
+    }
+}
+
+fn entry_line(k: u64, id: u64, location: u64) {
+    if id == 0 && location == 0 {
+        return;
+    }
+    say::text(b"entry");
+    say::number(k);
+    say::number(id);
+    say::number(location);
+    say::end();
+}
+
+fn entry_lines(ids: &[u64], locations: &[u64]) {
+    let n = crate::lines::least(ids.len(), locations.len());
+    let mut k: usize = 0;
+    while k < n {
+        entry_line(k as u64, ids[k], locations[k]);
+        k += 1;
+    }
+}
+
+pub fn dump(b: Bench, heap: &[u8], ids: &[u64], locations: &[u64]) {
+    let state = b.state;
+    let files = state.files;
+    let held = b.claims;
+    say::named(b"next", state.next_position);
+    record_lines(files);
+    claimed_lines(held);
+    entry_lines(ids, locations);
+    say::named(b"heap", checksum::sum(heap) as u64);
+    say::text(b"end\n");
+}
