@@ -1,12 +1,11 @@
 // What the console writes: answers, and lines for people, which begin with `#`.
+use as_numbers::answers::refusal_number;
 use libc::STDOUT_FILENO;
 use rules::Answer;
 use rules::MaintainAnswer;
 use rules::Refusal;
-ghost use mathlib.Core.Path.{_≡_};
 ghost use Prim.Native.Nat.{_≤_};
 ghost use lib.ListN.{length};
-ghost use Rattle.rules.specs.Refusal.{numberOf};
 
 pub fn text(t: &[u8]) {
     io::write_all(STDOUT_FILENO, t);
@@ -37,36 +36,8 @@ pub fn named(word: &[u8], n: u64) {
     end();
 }
 
-pub fn number_of(r: Refusal) -> u64
-    ensures { λ n. ⌜ n ≡ numberOf r ⌝ }
-{
-    match r {
-        Refusal::Limits => 1,
-        Refusal::BatchBytes => 2,
-        Refusal::ObjectSize => 3,
-        Refusal::SlotRoom => 4,
-        Refusal::NoEmptySlot => 5,
-        Refusal::TableRoom => 6,
-        Refusal::PositionsSpent => 7,
-        Refusal::LabelBytes => 8,
-        Refusal::TrailerShort => 9,
-        Refusal::Checksum => 10,
-        Refusal::EntryCount => 11,
-        Refusal::EntryPosition => 12,
-        Refusal::PresentCount => 13,
-        Refusal::Overlap => 14,
-        Refusal::NotRising => 15,
-        Refusal::CutShort => 16,
-        Refusal::OtherId => 17,
-        Refusal::NotThere => 18,
-        Refusal::EqualLocation => 19,
-        Refusal::Location => 20,
-        Refusal::Claim => 21,
-    }
-}
-
 pub fn refused(r: Refusal) {
-    named(b"refused", number_of(r));
+    named(b"refused", refusal_number(r));
 }
 
 pub fn answer(a: Answer) {
@@ -82,7 +53,7 @@ pub fn maintained(a: MaintainAnswer) {
         MaintainAnswer::Moved(n) => named(b"ok", n),
         MaintainAnswer::Stopped(r, generation, moved) => {
             text(b"refused");
-            number(number_of(r));
+            number(refusal_number(r));
             number(generation);
             number(moved);
             end();

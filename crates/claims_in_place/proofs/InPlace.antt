@@ -42,7 +42,7 @@ use Rattle.rules.specs.declared.Claims.{Claims}
 use Rattle.rules.specs.declared.Settings.{Settings}
 use Rattle.rules.specs.declared.State.{State}
 use Rattle.rules.specs.World.{World, After, world, leaving}
-use Rattle.claims_in_place.specs.Numbered.{numbered}
+use Rattle.as_numbers.specs.Numbered.{numbered}
 use Rattle.claims_in_place.specs.declared.Outcome.{Outcome}
 use Rattle.rules.proofs.Claims as T
 use Rattle.rules.proofs.Claims.Laws as T′

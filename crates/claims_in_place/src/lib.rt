@@ -1,56 +1,15 @@
 // "a claim is set and cleared in place, slot by slot": claim and release on the host's own claim record, lent.
 // The answer is the paper's number, 0 for success, so that a host in C can have it.
-use rules::Answer;
+use as_numbers::answers::number;
 use rules::Claims;
-use rules::Refusal;
 use rules::Settings;
 use rules::State;
 ghost use mathlib.Core.Path.{_≡_};
-ghost use Rattle.rules.specs.Refusal.{numberOf};
 ghost use Rattle.rules.specs.Claims.{claimCall, releaseCall};
-ghost use Rattle.rules.specs.World.{world, leaving, answerGiven};
-ghost use Rattle.claims_in_place.specs.Numbered.{numbered};
+ghost use Rattle.rules.specs.World.{world, leaving};
+ghost use Rattle.as_numbers.specs.Numbered.{numbered};
 
 // ---- by value
-// The table "No. | Condition".
-fn refusal_number(r: Refusal) -> u64
-    ensures { λ n. ⌜ n ≡ numberOf r ⌝ }
-{
-    match r {
-        Refusal::Limits => 1,
-        Refusal::BatchBytes => 2,
-        Refusal::ObjectSize => 3,
-        Refusal::SlotRoom => 4,
-        Refusal::NoEmptySlot => 5,
-        Refusal::TableRoom => 6,
-        Refusal::PositionsSpent => 7,
-        Refusal::LabelBytes => 8,
-        Refusal::TrailerShort => 9,
-        Refusal::Checksum => 10,
-        Refusal::EntryCount => 11,
-        Refusal::EntryPosition => 12,
-        Refusal::PresentCount => 13,
-        Refusal::Overlap => 14,
-        Refusal::NotRising => 15,
-        Refusal::CutShort => 16,
-        Refusal::OtherId => 17,
-        Refusal::NotThere => 18,
-        Refusal::EqualLocation => 19,
-        Refusal::Location => 20,
-        Refusal::Claim => 21,
-    }
-}
-
-// The number of an answer: 0 for success.
-fn number(a: Answer) -> u64
-    ensures { λ n. ⌜ numbered n ≡ answerGiven a ⌝ }
-{
-    match a {
-        Answer::Done => 0,
-        Answer::Refused(r) => refusal_number(r),
-    }
-}
-
 // A call's number, and the claim record after it.
 struct Outcome {
     number: u64,

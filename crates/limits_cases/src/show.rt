@@ -1,7 +1,7 @@
+use as_numbers::answers::refusal_number;
 use libc::STDOUT_FILENO;
 use rules::Answer;
 use rules::CountsAnswer;
-use rules::Refusal;
 
 pub fn text(s: &[u8]) {
     io::write_all(STDOUT_FILENO, s);
@@ -21,19 +21,10 @@ pub fn refused(b: bool) {
     text(b" ok");
 }
 
-// The two numbers that these calls know.
-fn number_of(r: Refusal) -> u64 {
-    match r {
-        Refusal::Limits => 1,
-        Refusal::Claim => 21,
-        _ => 0,
-    }
-}
-
 pub fn answer(a: Answer) {
     match a {
         Answer::Done => text(b" ok"),
-        Answer::Refused(r) => number(number_of(r)),
+        Answer::Refused(r) => number(refusal_number(r)),
     }
 }
 
@@ -47,7 +38,7 @@ pub fn counted(a: CountsAnswer) {
         }
         CountsAnswer::CountsRefused(r) => {
             text(b" refused");
-            number(number_of(r));
+            number(refusal_number(r));
         }
     }
     text(b"\n");

@@ -1,11 +1,11 @@
 // What a call answered and what it left, on one line.
+use as_numbers::answers::refusal_number;
 use libc::STDOUT_FILENO;
 use rules::Counts;
 use rules::CountsAnswer;
 use rules::FileMap;
 use rules::MaintainAnswer;
 use rules::Record;
-use rules::Refusal;
 use rules::State;
 
 pub fn text(s: &[u8]) {
@@ -17,24 +17,6 @@ pub fn number(n: u64) {
     io::print_decimal(STDOUT_FILENO, n);
 }
 
-// The refusals of maintenance; 0 for any other.
-fn number_of(r: Refusal) -> u64 {
-    match r {
-        Refusal::Limits => 1,
-        Refusal::ObjectSize => 3,
-        Refusal::SlotRoom => 4,
-        Refusal::NoEmptySlot => 5,
-        Refusal::PositionsSpent => 7,
-        Refusal::TrailerShort => 9,
-        Refusal::Checksum => 10,
-        Refusal::EntryCount => 11,
-        Refusal::CutShort => 16,
-        Refusal::NotThere => 18,
-        Refusal::Location => 20,
-        _ => 0,
-    }
-}
-
 // Ids moved; or number, generation and ids moved before.
 pub fn maintained(a: MaintainAnswer) {
     match a {
@@ -44,7 +26,7 @@ pub fn maintained(a: MaintainAnswer) {
         }
         MaintainAnswer::Stopped(refusal, generation, moved) => {
             text(b"maintain refused");
-            number(number_of(refusal));
+            number(refusal_number(refusal));
             number(generation);
             number(moved);
         }
@@ -64,7 +46,7 @@ pub fn counted(a: CountsAnswer) {
         CountsAnswer::Counted(c) => four(c),
         CountsAnswer::CountsRefused(r) => {
             text(b"counts refused");
-            number(number_of(r));
+            number(refusal_number(r));
         }
     }
     text(b"\n");

@@ -1,4 +1,5 @@
 // The four table calls and the file lookup on a few cases, an answer to a line.
+use as_numbers::answers::refusal_number;
 use libc::STDOUT_FILENO;
 use rules::Answer;
 use rules::CompareAnswer;
@@ -6,37 +7,6 @@ use rules::FileMap;
 use rules::LoadAnswer;
 use rules::Refusal;
 use rules::Slot;
-ghost use mathlib.Core.Path.{_≡_};
-ghost use Rattle.rules.specs.Refusal.{numberOf};
-
-// The table "No. | Condition".
-fn number(r: Refusal) -> u64
-    ensures { λ n. ⌜ n ≡ numberOf r ⌝ }
-{
-    match r {
-        Refusal::Limits => 1,
-        Refusal::BatchBytes => 2,
-        Refusal::ObjectSize => 3,
-        Refusal::SlotRoom => 4,
-        Refusal::NoEmptySlot => 5,
-        Refusal::TableRoom => 6,
-        Refusal::PositionsSpent => 7,
-        Refusal::LabelBytes => 8,
-        Refusal::TrailerShort => 9,
-        Refusal::Checksum => 10,
-        Refusal::EntryCount => 11,
-        Refusal::EntryPosition => 12,
-        Refusal::PresentCount => 13,
-        Refusal::Overlap => 14,
-        Refusal::NotRising => 15,
-        Refusal::CutShort => 16,
-        Refusal::OtherId => 17,
-        Refusal::NotThere => 18,
-        Refusal::EqualLocation => 19,
-        Refusal::Location => 20,
-        Refusal::Claim => 21,
-    }
-}
 
 fn say(word: &[u8], n: u64) {
     io::write_all(STDOUT_FILENO, word);
@@ -49,7 +19,7 @@ fn say_word(word: &[u8]) {
 }
 
 fn say_refused(r: Refusal) {
-    say(b"refused ", number(r));
+    say(b"refused ", refusal_number(r));
 }
 
 fn say_answer(a: Answer) {

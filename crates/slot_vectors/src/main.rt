@@ -1,8 +1,8 @@
 // One file, that of line P10, written with right and with wrong numbers and cut off after every store: what its slot then shows.
 
+use as_numbers::answers::refusal_number;
 use rules::Entry;
 use rules::Record;
-use rules::Refusal;
 use slot_file::BodyAnswer;
 use slot_file::SlotAnswer;
 use slot_file::Step;
@@ -22,21 +22,6 @@ fn end_line() {
     io::write_all(1, b"\n");
 }
 
-// Document 01's number, of the refusals that these calls can give.
-fn number_of(r: Refusal) -> u64 {
-    match r {
-        Refusal::LabelBytes => 8,
-        Refusal::TrailerShort => 9,
-        Refusal::Checksum => 10,
-        Refusal::EntryCount => 11,
-        Refusal::EntryPosition => 12,
-        Refusal::PresentCount => 13,
-        Refusal::CutShort => 16,
-        Refusal::OtherId => 17,
-        _ => 0,
-    }
-}
-
 fn show_record(r: Record) {
     word(b"holds");
     number(r.lsn);
@@ -51,7 +36,7 @@ fn show_slot(slot: &[u8]) {
         SlotAnswer::Empty => word(b"empty"),
         SlotAnswer::Damaged(refusal) => {
             word(b"damaged");
-            number(number_of(refusal));
+            number(refusal_number(refusal));
         }
         SlotAnswer::Holds(r) => show_record(r),
     }
@@ -67,7 +52,7 @@ fn show_body(file: &[u8], position: u64, id: u64) {
         }
         BodyAnswer::Unread(refusal) => {
             word(b"refused");
-            number(number_of(refusal));
+            number(refusal_number(refusal));
         }
     }
     end_line();

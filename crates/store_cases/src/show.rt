@@ -1,4 +1,5 @@
 // What a call answered and what it left, on one line.
+use as_numbers::answers::refusal_number;
 use libc::STDOUT_FILENO;
 use rules::Answer;
 use rules::FileMap;
@@ -36,36 +37,9 @@ pub fn bytes(s: &[u8]) {
     hex(s);
 }
 
-// The table "No. | Condition".
-fn number_of(r: Refusal) -> u64 {
-    match r {
-        Refusal::Limits => 1,
-        Refusal::BatchBytes => 2,
-        Refusal::ObjectSize => 3,
-        Refusal::SlotRoom => 4,
-        Refusal::NoEmptySlot => 5,
-        Refusal::TableRoom => 6,
-        Refusal::PositionsSpent => 7,
-        Refusal::LabelBytes => 8,
-        Refusal::TrailerShort => 9,
-        Refusal::Checksum => 10,
-        Refusal::EntryCount => 11,
-        Refusal::EntryPosition => 12,
-        Refusal::PresentCount => 13,
-        Refusal::Overlap => 14,
-        Refusal::NotRising => 15,
-        Refusal::CutShort => 16,
-        Refusal::OtherId => 17,
-        Refusal::NotThere => 18,
-        Refusal::EqualLocation => 19,
-        Refusal::Location => 20,
-        Refusal::Claim => 21,
-    }
-}
-
 fn refused(r: Refusal) {
     text(b" refused");
-    number(number_of(r));
+    number(refusal_number(r));
 }
 
 pub fn answer(a: Answer) {

@@ -1,15 +1,12 @@
--- An answer with no values, by its number alone: 0, or a refusal's.
+-- One result.
 use mathlib.Core.Path.{_≡_, sym, ap, _∙_}
 use Prim.Native.Nat.{ℕ}
-use mathlib.Core.List.{List, []}
+use mathlib.Core.List.{List}
 use Rattle.rules.specs.declared.Claims.{Claims}
 use Rattle.rules.specs.declared.Settings.{Settings}
 use Rattle.rules.specs.declared.State.{State}
-use Rattle.rules.specs.World.{Given, After, world, leaving}
-
--- what a call that gives nothing but its success answers
-abbrev pub numbered : ℕ → Given
-numbered n = record { number = n; values = [] }
+use Rattle.rules.specs.World.{After, world, leaving}
+use Rattle.as_numbers.specs.Numbered.{numbered}
 
 -- any two results that a contract of a call in place admits are equal: the number, and the claim record
 pub one-result : (a : After) (s : Settings) (state : State) (heap ids locations : List ℕ) (n m : ℕ) (c d : Claims)
