@@ -18,7 +18,8 @@ use Rattle.theory.specs.SoundWorld.{SoundWorld, sound-fine}
 use Rattle.theory.specs.Writing.{engine, fits-write, sound-write}
 use Rattle.theory.specs.History.{Call, write, maintain, prune, claim, release, reopen, hears}
 use Rattle.power_cuts.specs.Runs.{filesRun, unlessRefused, writeRun, pruneRun, runOf, run-made}
-use Rattle.power_cuts.specs.Cuts.{Alike, alike-self, StandsOn, endured-none}
+use Rattle.power_cuts.specs.Cuts.{Alike}
+use Rattle.power_cuts.specs.Enduring.{alike-self, StandsOn, endured-none}
 use Rattle.power_cuts.specs.Hidden.{file-hidden}
 use Rattle.power_cuts.specs.Emptying.{prune-endured}
 use Rattle.power_cuts.specs.Rewriting.{alike-installed, maintain-endured}

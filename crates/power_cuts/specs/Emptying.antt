@@ -27,7 +27,7 @@ use Rattle.theory.specs.Picture.{viewsOf, pictureOf, Said}
 use Rattle.theory.specs.Emptied.{KeptOrEmptied, Emptied, sound-emptied}
 use Rattle.theory.specs.SoundWorld.{boundsOf, SoundWorld}
 use Rattle.theory.specs.Pruning.{file-slot, sound-pruned}
-use Rattle.power_cuts.specs.Cuts.{StandsOn, stands-self, stands-alike, Endured}
+use Rattle.power_cuts.specs.Enduring.{StandsOn, stands-self, stands-alike, Endured}
 
 -- slot k emptied: its first label byte 0, its record empty
 unfoldable pub emptiedOne : World → ℕ → World

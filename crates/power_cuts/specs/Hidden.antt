@@ -25,7 +25,7 @@ use Rattle.theory.specs.SoundWorld.{boundsOf, SoundWorld}
 use Rattle.theory.specs.Adding.{Fitting, free-slot}
 use Rattle.theory.specs.Fresh.{blank-view}
 use Rattle.power_cuts.specs.FirstByte.{empty-first}
-use Rattle.power_cuts.specs.Cuts.{StandsOn}
+use Rattle.power_cuts.specs.Enduring.{StandsOn}
 
 -- ---- stores between two places
 -- a store from low on, below high

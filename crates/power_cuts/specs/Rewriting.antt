@@ -27,7 +27,8 @@ use Rattle.theory.specs.Writing.{engine, sound-told}
 use Rattle.theory.specs.Rewriting.{Rewritable, one-fewer, still-said, fits-file, installed-numbers}
 use Rattle.theory.specs.Maintaining.{files-rewritable}
 use Rattle.power_cuts.specs.Runs.{filesRun, unlessRefused, groupRun, onwardRun, groupsRun, endRun, maintainRun}
-use Rattle.power_cuts.specs.Cuts.{Alike, StandsOn, Endured, endured-none, endured-on}
+use Rattle.power_cuts.specs.Cuts.{Alike}
+use Rattle.power_cuts.specs.Enduring.{StandsOn, Endured, endured-none, endured-on}
 use Rattle.power_cuts.specs.Hidden.{file-hidden}
 use Rattle.power_cuts.specs.Emptying.{prune-endured}
 
