@@ -38,7 +38,8 @@ Blank w = (k : ℕ) → k < slotsOf w → getD (w .heap) (k * w .settings .«slo
 abbrev pub fresh : World → World
 fresh w = record { settings = w .settings; state = stateOf w noFiles 1; claims = noClaims; heap = w .heap; table = laidOut (capacityOf (w .table)) [] }
 
-blank-view : (slot : List ℕ) → getD slot 0 0 ≡ 0 → viewIn slot ≡ empty
+-- "First byte 0 means the slot is empty, whatever follows."
+pub blank-view : (slot : List ℕ) → getD slot 0 0 ≡ 0 → viewIn slot ≡ empty
 unfolding viewIn labelIn
 blank-view slot h = let z : getD (take 64 slot) 0 0 ≡ 0 = getD-take 64 slot 0 0 (omega arith) ∙ h in rw (eq-eqb (getD (take 64 slot) 0 0) 0 z) refl
 

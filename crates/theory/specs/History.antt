@@ -84,7 +84,7 @@ above-record w history s k h =
     subst (λ (r : Record). maskedOf (r .lsn) + r .«trailer_offset» < w .state .«next_position»)
     (sym (record-holds (viewsOf w) (recordsOf w) (s .sound .filed) k (f .0) (f .1))) (s .sound .above k (f .0) (f .1))
 
-sound-kept : (w : World) (history : List Op) → SoundWorld w (engine history) → Kept w history
+pub sound-kept : (w : World) (history : List Op) → SoundWorld w (engine history) → Kept w history
 sound-kept w history s =
     let e = reopen-accepted w (engine history) s in
     record {
@@ -99,7 +99,7 @@ sound-kept w history s =
     }
 
 -- each call keeps the invariant
-sound-called : (w : World) (history : List Op) (c : Call) → SoundWorld w (engine history) → SoundWorld (called w c .world) (engine (hears w history c))
+pub sound-called : (w : World) (history : List Op) (c : Call) → SoundWorld w (engine history) → SoundWorld (called w c .world) (engine (hears w history c))
 sound-called w history (write bytes) s = sound-write w history s bytes
 sound-called w history maintain s = sound-maintain history w s
 sound-called w history prune s = sound-prune w (engine history) s

@@ -61,7 +61,7 @@ pub record Wrote (w : World) (batch : List ℕ) : Type 0 where
   pub same-records : recordsOf (reopenCall (writeCall w batch .world) .world) ≡ recordsOf (writeCall w batch .world)
 
 -- a read by the engine's last word
-got-last : (w : World) (history : List Op) → SoundWorld w (engine history) → (id : ℕ) → got w id ≡ leftBy (lastOn history id) nothing
+pub got-last : (w : World) (history : List Op) → SoundWorld w (engine history) → (id : ℕ) → got w id ≡ leftBy (lastOn history id) nothing
 got-last w history s id = go (lastOn history id) (readOf w id) (sound-read w history s id)
   where
     go : (l : Last) (a : ReadAnswer) → Reads w a l → gotBy a (partOf a (w .heap)) ≡ leftBy l nothing

@@ -1,0 +1,16 @@
+-- a call's run of stores, and what a power cut leaves
+pub mod Runs
+pub mod Cuts
+-- what stands on a heap, and that a reopening finds it
+pub mod Enduring
+pub mod Reopening
+-- the first stores of a file's run, of prune's, of maintenance's; call by call
+pub mod FirstByte
+pub mod Hidden
+pub mod Emptying
+pub mod Rewriting
+pub mod Calls
+-- P8
+pub mod PowerCut
+-- cuts worked out
+pub mod Witness

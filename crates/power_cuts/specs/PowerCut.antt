@@ -1,0 +1,120 @@
+-- P8, "Power pulled in the middle": the theorems.
+use mathlib.Core.Path.{_≡_, refl, sym, _∙_, subst}
+use mathlib.Core.Logic.{_⊎_, inl, inr}
+use Prim.Native.Nat.{_<_, _≤_}
+use borrow.Author.Tests.{leb-true, leb-false}
+use Rattle.rules.specs.Base.{Bool, true, false, List, [], _∷_, ℕ, _-_, length, take, leb, pick}
+use Rattle.numbers.specs.GroupLaws.{either-way}
+use Rattle.rules.specs.Refusal.{after}
+use Rattle.rules.specs.Condition1.{outOfRange}
+use Rattle.rules.specs.Ops.{Op}
+use Rattle.rules.specs.Stores.{made}
+use Rattle.rules.specs.Write.{writeCall}
+use Rattle.rules.specs.Reopen.{reopenCall}
+use Rattle.rules.specs.World.{World, accepted}
+use Rattle.theory.specs.SoundWorld.{SoundWorld}
+use Rattle.theory.specs.Writing.{engine}
+use Rattle.theory.specs.Fresh.{Blank}
+use Rattle.theory.specs.History.{Call, write, maintain, prune, claim, release, reopen, called, hears, Life, lived, Kept, sound-kept, sound-called, born, sound-history}
+use Rattle.theory.specs.Writes.{got-last}
+use Rattle.power_cuts.specs.Runs.{runOf}
+use Rattle.power_cuts.specs.Cuts.{CutAt, SameReads, ReadsAfterCut, Survived, hearsCut, Event, done, cut, Happens, happened, livedOn, AllHappen}
+use Rattle.power_cuts.specs.Reopening.{reopen-finds}
+use Rattle.power_cuts.specs.Hidden.{withHeap}
+use Rattle.power_cuts.specs.Calls.{cut-early, cut-whole}
+
+-- a cut happens at any store of any call: lost memory may, for one, be as it was
+pub can-happen : (k : ℕ) (w : World) (c : Call) → CutAt k w c (withHeap w (made (take k (runOf w c)) (w .heap)))
+can-happen k w c = record { alike = record { settings = refl; ids = refl; locations = refl }; heap = refl }
+
+-- ---- one cut
+same-reads : (w v : World) (history : List Op) → SoundWorld w (engine history) → SoundWorld v (engine history) → SameReads v w
+same-reads w v history s t id = got-last v history t id ∙ sym (got-last w history s id)
+
+module _ (w : World) (history : List Op) (s : SoundWorld w (engine history)) (k : ℕ) (c : Call) (v : World) (a : CutAt k w c v) where
+  found-early : k < length (runOf w c) → (reopenCall v .answer ≡ accepted []) × SoundWorld (reopenCall v .world) (engine history)
+  found-early h = reopen-finds w (made (take k (runOf w c)) (w .heap)) (engine history) (cut-early w history s c k h) v (a .alike) (a .heap)
+
+  found-whole : length (runOf w c) ≤ k → (reopenCall v .answer ≡ accepted []) × SoundWorld (reopenCall v .world) (engine (hears w history c))
+  found-whole h = reopen-finds w (made (take k (runOf w c)) (w .heap)) (engine (hears w history c)) (cut-whole w history s c k h) v (a .alike) (a .heap)
+
+  -- LAW: what is found is a store of the invariant, of which the engine says what it heard
+  pub sound-cut : SoundWorld (reopenCall v .world) (engine (hearsCut k w history c))
+  sound-cut = go (leb (length (runOf w c)) k) refl
+    where
+      go : (b : Bool) → leb (length (runOf w c)) k ≡ b → SoundWorld (reopenCall v .world) (engine (pick b (hears w history c) history))
+      go true e = found-whole (leb-true (length (runOf w c)) k e) .1
+      go false e = found-early (leb-false (length (runOf w c)) k e) .1
+
+  reads-early : k < length (runOf w c) → SameReads (reopenCall v .world) w
+  reads-early h = same-reads w (reopenCall v .world) history s (found-early h .1)
+
+  reads-whole : length (runOf w c) ≤ k → SameReads (reopenCall v .world) (called w c .world)
+  reads-whole h = same-reads (called w c .world) (reopenCall v .world) (hears w history c) (sound-called w history c s) (found-whole h .1)
+
+module _ (w : World) (history : List Op) (s : SoundWorld w (engine history)) (k : ℕ) (v : World) where
+  -- a call of which the engine hears nothing
+  reads-unheard : (c : Call) → hears w history c ≡ history → CutAt k w c v → SameReads (reopenCall v .world) w
+  reads-unheard c e a = go (either-way k (length (runOf w c)))
+    where
+      go : (k < length (runOf w c)) ⊎ (length (runOf w c) ≤ k) → SameReads (reopenCall v .world) w
+      go (inl h) = reads-early w history s k c v a h
+      go (inr h) =
+          same-reads w (reopenCall v .world) history s
+          (subst (λ (l : List Op). SoundWorld (reopenCall v .world) (engine l)) e (found-whole w history s k c v a h .1))
+
+  reads-cut : (c : Call) → CutAt k w c v → ReadsAfterCut w c (reopenCall v .world)
+  reads-cut (write bytes) a = go (either-way k (length (runOf w (write bytes))))
+    where
+      go : (k < length (runOf w (write bytes))) ⊎ (length (runOf w (write bytes)) ≤ k)
+          → SameReads (reopenCall v .world) w ⊎ SameReads (reopenCall v .world) (writeCall w bytes .world)
+      go (inl h) = inl (reads-early w history s k (write bytes) v a h)
+      go (inr h) = inr (reads-whole w history s k (write bytes) v a h)
+  reads-cut maintain a = reads-unheard maintain refl a
+  reads-cut prune a = reads-unheard prune refl a
+  reads-cut (claim slot) a = reads-unheard (claim slot) refl a
+  reads-cut (release slot) a = reads-unheard (release slot) refl a
+  reads-cut reopen a = reads-unheard reopen refl a
+
+  -- LAW: a call of a store of the invariant, cut anywhere
+  pub cut-survived : (c : Call) → CutAt k w c v → Survived k w c v
+  cut-survived c a = record {
+    reopens = answer (either-way k (length (runOf w c)));
+    reads = reads-cut c a;
+    before = reads-early w history s k c v a;
+    after = reads-whole w history s k c v a;
+  }
+    where
+      answer : (k < length (runOf w c)) ⊎ (length (runOf w c) ≤ k) → reopenCall v .answer ≡ accepted []
+      answer (inl h) = found-early w history s k c v a h .0
+      answer (inr h) = found-whole w history s k c v a h .0
+
+-- P8: on every store of demand 3 any call, accepted or refused, is cut behind any of its stores
+pub power-cut : (w : World) → outOfRange (w .settings) (length (w .heap)) (w .table) ≡ false → Blank w
+    → (calls : List Call) (c : Call) (k : ℕ) (v : World) → CutAt k (lived (born w) calls .world) c v → Survived k (lived (born w) calls .world) c v
+power-cut w range blank calls c k v a =
+    cut-survived (lived (born w) calls .world) (lived (born w) calls .history) (sound-history w range blank calls) k v c a
+
+-- ---- cuts among the calls
+sound-happened : (l : Life) (e : Event) → SoundWorld (l .world) (engine (l .history)) → Happens (l .world) e → SoundWorld (happened l e .world) (engine (happened l e .history))
+sound-happened l (done c) s h = sound-called (l .world) (l .history) c s
+sound-happened l (cut k c v) s h = sound-cut (l .world) (l .history) s k c v h
+
+sound-lived-on : (l : Life) (es : List Event) → SoundWorld (l .world) (engine (l .history)) → AllHappen l es → SoundWorld (livedOn l es .world) (engine (livedOn l es .history))
+unfolding livedOn AllHappen
+sound-lived-on l [] s h = s
+sound-lived-on l (e ∷ es) s h = sound-lived-on (happened l e) es (sound-happened l e s (h .0)) (h .1)
+
+module _ (w : World) (range : outOfRange (w .settings) (length (w .heap)) (w .table) ≡ false) (blank : Blank w) (events : List Event) (happen : AllHappen (born w) events) where
+  -- LAW: the invariant holds whatever calls were made and wherever power was cut
+  pub sound-history-cut : SoundWorld (livedOn (born w) events .world) (engine (livedOn (born w) events .history))
+  unfolding lived
+  sound-history-cut = sound-lived-on (born w) events (sound-history w range blank []) happen
+
+  -- P8 and DEMAND 3: reads give the last put of the writes that were accepted and not cut short, and a reopening finds the store as it was
+  pub any-history-cut : Kept (livedOn (born w) events .world) (livedOn (born w) events .history)
+  any-history-cut = sound-kept (livedOn (born w) events .world) (livedOn (born w) events .history) sound-history-cut
+
+  -- and the next cut is survived too
+  pub power-cut-again : (c : Call) (k : ℕ) (v : World) → CutAt k (livedOn (born w) events .world) c v → Survived k (livedOn (born w) events .world) c v
+  power-cut-again c k v a = cut-survived (livedOn (born w) events .world) (livedOn (born w) events .history) sound-history-cut k v c a

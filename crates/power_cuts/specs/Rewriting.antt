@@ -1,0 +1,150 @@
+-- P8: maintenance's run, cut anywhere: files of current contents one behind the other, group by group, then prune's stores.
+use mathlib.Core.Path.{_≡_, refl, sym, ap, _∙_, subst}
+use mathlib.Core.Logic.{_⊎_, inl, inr}
+use Prim.Native.Nat.{_<_, _≤_}
+use native.Mathlib.Omega.{arith}
+use lib.Seq.{take-all}
+use Rattle.rules.specs.Base.{Bool, true, false, List, [], _∷_, _++_, ℕ, _+_, _^_, length, take, ltb, pick, sum, each}
+use Rattle.theory.specs.Types.{Settings, Refusal, Answer, Done, Refused}
+use Rattle.numbers.specs.GroupLaws.{either-way}
+use Rattle.rules.specs.BaseLaws.{All}
+use Rattle.rules.specs.Refusal.{decide, after, NoneHolds, clear-when, none-first, none-rest}
+use Rattle.rules.specs.Ops.{Op, objectsOf, fileBytes}
+use Rattle.rules.specs.Layout.{capacityOf}
+use Rattle.rules.specs.LayoutLaws.{laid-out-ids, laid-out-locations}
+use Rattle.rules.specs.WrittenLaws.{fileOfOps}
+use Rattle.rules.specs.FileMap.{recordAt}
+use Rattle.rules.specs.Stores.{Store, made}
+use Rattle.rules.specs.Install.{newRecord, newLsn, storesFor, tableWith, installed, installedAll, roomTests, emptyOf, positionTests}
+use Rattle.rules.specs.InstallLaws.{room-clear, positions-clear}
+use Rattle.rules.specs.Maintenance.{found, filesOf, fileTests, slotOf, Stop, going, stopped, Course, group, groupTests, rewriteGroup, onward, groupsFrom, courseOf, ended, maintainCall}
+use Rattle.rules.specs.World.{World, recordsOf, mappings}
+use Rattle.theory.specs.Picture.{Said, fileSays}
+use Rattle.theory.specs.Installed.{over}
+use Rattle.theory.specs.SoundWorld.{SoundWorld, sound-fine}
+use Rattle.theory.specs.Adding.{Fitting, sound-installed}
+use Rattle.theory.specs.Writing.{engine, sound-told}
+use Rattle.theory.specs.Rewriting.{Rewritable, one-fewer, still-said, fits-file, installed-numbers}
+use Rattle.theory.specs.Maintaining.{files-rewritable}
+use Rattle.power_cuts.specs.Runs.{filesRun, unlessRefused, groupRun, onwardRun, groupsRun, endRun, maintainRun}
+use Rattle.power_cuts.specs.Cuts.{Alike}
+use Rattle.power_cuts.specs.Enduring.{StandsOn, Endured, endured-none, endured-on}
+use Rattle.power_cuts.specs.Hidden.{file-hidden}
+use Rattle.power_cuts.specs.Emptying.{prune-endured}
+
+-- ---- one file
+module _ (w : World) (told : ℕ → Said) (s : SoundWorld w told) (bit g : ℕ) (os : List Op) (f : Fitting bit g w os) where
+  -- a file added changes neither settings nor table size
+  pub alike-installed : Alike w (installed bit g w os)
+  unfolding installed tableWith
+  alike-installed = record {
+    settings = refl;
+    ids = laid-out-ids (capacityOf (w .table)) _ (f .room);
+    locations = laid-out-locations (capacityOf (w .table)) _ (f .room) ∙ s .tidy .limits .table .equal;
+  }
+
+  -- LAW: a file's run made whole leaves the store with the file
+  pub file-whole : (said : ℕ → Said) → SoundWorld (installed bit g w os) said → (k : ℕ) → length (storesFor (newRecord (newLsn bit w) g os) w os) ≤ k
+      → StandsOn w (made (take k (storesFor (newRecord (newLsn bit w) g os) w os)) (w .heap)) said
+  unfolding installed
+  file-whole said whole k h = record {
+    store = installed bit g w os;
+    alike = alike-installed;
+    bytes = ap (λ (ss : List Store). made ss (w .heap)) (sym (take-all k (storesFor (newRecord (newLsn bit w) g os) w os) h));
+    sound = whole;
+  }
+
+  -- LAW: a file of which the engine says nothing new, cut anywhere
+  pub file-endured : SoundWorld (installed bit g w os) told → Endured w (installed bit g w os) (storesFor (newRecord (newLsn bit w) g os) w os) told
+  unfolding installed
+  file-endured whole = record { alike = alike-installed; bytes = refl; sound = whole; cut = λ k. go k (either-way k (length (storesFor (newRecord (newLsn bit w) g os) w os))) }
+    where
+      go : (k : ℕ) → (k < length (storesFor (newRecord (newLsn bit w) g os) w os)) ⊎ (length (storesFor (newRecord (newLsn bit w) g os) w os) ≤ k)
+          → StandsOn w (made (take k (storesFor (newRecord (newLsn bit w) g os) w os)) (w .heap)) told
+      go k (inl h) = file-hidden w told s bit g os f k h
+      go k (inr h) = file-whole told whole k h
+
+module _ (history : List Op) where
+  -- ---- a group: files of current contents, in as many empty slots
+  files-endured : (limit g : ℕ) (files : List (List Op)) (w : World) → SoundWorld w (engine history) → g ≤ 255 → limit ≡ w .settings .«max_object_size» → All (Rewritable limit (engine history)) files
+      → All (λ (f : List Op). 64 + length (fileBytes f) ≤ w .settings .«slot_bytes») files → length files ≤ emptyOf w
+      → w .state .«next_position» + sum (λ (f : List Op). length (objectsOf f) + 1) files ≤ 2 ^ 62 → Endured w (installedAll 0 g w files) (filesRun 0 g w files) (engine history)
+  unfolding installedAll filesRun sum
+  files-endured limit g [] w s aged same r slot free positions = endured-none w (engine history) s
+  files-endured limit g (f ∷ fs) w s aged same r slot free positions =
+      let fit = fits-file limit history w s g f (r .0) aged same (slot .0) (omega arith) (omega arith) in
+      let n : length (objectsOf f) < 2 ^ 64 = omega arith in
+      let e = installed-numbers limit history g w f in
+      let e1 = e .1 in
+      let d = one-fewer 0 g w f in
+      let one : SoundWorld (installed 0 g w f) (engine history)
+      = sound-told (installed 0 g w f) (λ x. over (fileSays (fileOfOps (newLsn 0 w) g f) x) (engine history x)) (engine history)
+      (λ x. still-said limit history f (r .0) n (newLsn 0 w) g x) (sound-installed w (engine history) s 0 g f fit) in
+      endured-on w (installed 0 g w f) (installedAll 0 g (installed 0 g w f) fs) (storesFor (newRecord (newLsn 0 w) g f) w f) (filesRun 0 g (installed 0 g w f) fs) (engine history)
+      (file-endured w (engine history) s 0 g f fit one)
+      (files-endured limit g fs (installed 0 g w f) one
+      aged (same ∙ ap (λ (c : Settings). c .«max_object_size») (sym (e .0))) (r .1)
+      (subst (λ (c : Settings). All (λ (f : List Op). 64 + length (fileBytes f) ≤ c .«slot_bytes») fs) (sym (e .0)) (slot .1))
+      (omega arith) (omega arith))
+
+  -- 4, 5 and 7 do not hold
+  room-endured : (w : World) → SoundWorld w (engine history) → (g : ℕ) → g ≤ 255 → (files : List (List Op)) → All (Rewritable (w .settings .«max_object_size») (engine history)) files
+      → NoneHolds (roomTests (w .settings .«slot_bytes») (emptyOf w) files ++ positionTests (w .state .«next_position») files)
+      → Endured w (installedAll 0 g w files) (filesRun 0 g w files) (engine history)
+  unfolding installedAll filesRun
+  room-endured w s g aged [] r n = endured-none w (engine history) s
+  room-endured w s g aged (f ∷ fs) r n =
+      let tests = roomTests (w .settings .«slot_bytes») (emptyOf w) (f ∷ fs) in
+      let a = room-clear (w .settings .«slot_bytes») (emptyOf w) (f ∷ fs) (none-first tests _ n) in
+      let b = positions-clear (w .state .«next_position») (f ∷ fs) (none-rest tests _ n) (omega arith) in
+      files-endured (w .settings .«max_object_size») g (f ∷ fs) w s aged refl r (a .fits) (a .slots) b
+
+  -- LAW: a group, rewritten or refused, cut anywhere
+  group-endured : (g : ℕ) → g ≤ 255 → (slots : List ℕ) (moved : ℕ) (w : World) → SoundWorld w (engine history)
+      → Endured w (rewriteGroup g slots moved w .world) (groupRun g slots w) (engine history)
+  unfolding rewriteGroup groupRun groupTests
+  group-endured g aged slots moved w s = go (decide (groupTests w slots (filesOf (w .settings .«target_file_size») (found w slots)))) refl
+    where
+      go : (a : Answer) → decide (groupTests w slots (filesOf (w .settings .«target_file_size») (found w slots))) ≡ a
+          → Endured w (after {A = Course} a (λ (r : Refusal). record { stop = stopped r g; moved = moved; world = w })
+          (record { stop = going; moved = moved + length (found w slots); world = installedAll 0 g w (filesOf (w .settings .«target_file_size») (found w slots)) }) .world)
+          (unlessRefused a (filesRun 0 g w (filesOf (w .settings .«target_file_size») (found w slots)))) (engine history)
+      go (Refused r) e = endured-none w (engine history) s
+      go Done e =
+          room-endured w s g aged (filesOf (w .settings .«target_file_size») (found w slots)) (files-rewritable history w s slots (w .settings .«target_file_size»))
+          (none-rest (each (λ (k : ℕ). fileTests (w .settings .«max_object_size») (mappings w) (recordAt (recordsOf w) k) (slotOf w k)) slots) _
+          (clear-when (groupTests w slots (filesOf (w .settings .«target_file_size») (found w slots))) e))
+
+  -- ---- group by group
+  onward-endured : (stop : Stop) (g : ℕ) → g ≤ 255 → (slots : List ℕ) (c : Course) → SoundWorld (c .world) (engine history)
+      → Endured (c .world) (onward stop g slots c .world) (onwardRun stop g slots c) (engine history)
+  onward-endured (stopped r n) g aged slots c s = endured-none (c .world) (engine history) s
+  onward-endured going g aged slots c s = go (ltb (length slots) (c .world .settings .«min_compaction_files»))
+    where
+      go : (b : Bool) → Endured (c .world) (pick b c (rewriteGroup g slots (c .moved) (c .world)) .world) (pick b [] (groupRun g slots (c .world))) (engine history)
+      go true = endured-none (c .world) (engine history) s
+      go false = group-endured g aged slots (c .moved) (c .world) s
+
+  groups-endured : (gs : List ℕ) → All (λ (g : ℕ). g ≤ 255) gs → (start : World) (c : Course) → SoundWorld (c .world) (engine history)
+      → Endured (c .world) (groupsFrom gs start c .world) (groupsRun gs start c) (engine history)
+  unfolding groupsFrom groupsRun
+  groups-endured [] y start c s = endured-none (c .world) (engine history) s
+  groups-endured (g ∷ gs) y start c s =
+      let a = onward-endured (c .stop) g (y .0) (group start g) c s in
+      endured-on (c .world) (onward (c .stop) g (group start g) c .world) (groupsFrom gs start (onward (c .stop) g (group start g) c) .world)
+      (onwardRun (c .stop) g (group start g) c) (groupsRun gs start (onward (c .stop) g (group start g) c)) (engine history)
+      a (groups-endured gs (y .1) start (onward (c .stop) g (group start g) c) (a .sound))
+
+  ended-endured : (stop : Stop) (c : Course) → SoundWorld (c .world) (engine history) → Endured (c .world) (ended stop c .world) (endRun stop (c .world)) (engine history)
+  ended-endured (stopped r g) c s = endured-none (c .world) (engine history) s
+  ended-endured going c s = prune-endured (c .world) (engine history) s
+
+  -- LAW: maintenance's run, cut anywhere
+  pub maintain-endured : (w : World) → SoundWorld w (engine history) → Endured w (maintainCall w .world) (maintainRun w) (engine history)
+  unfolding maintainCall maintainRun decide courseOf
+  maintain-endured w s =
+      let start : Course = record { stop = going; moved = 0; world = w } in
+      let a = groups-endured (1 ∷ 2 ∷ 3 ∷ []) (omega arith, (omega arith, (omega arith, tt))) w start s in
+      rw (sound-fine w (engine history) s)
+      (endured-on w (courseOf w .world) (ended (courseOf w .stop) (courseOf w) .world) (groupsRun (1 ∷ 2 ∷ 3 ∷ []) w start) (endRun (courseOf w .stop) (courseOf w .world)) (engine history)
+      a (ended-endured (courseOf w .stop) (courseOf w) (a .sound)))

@@ -1,0 +1,177 @@
+-- P8: "a numbered run of single-byte stores" for each call of demand 3, accepted or refused; a call changes the heap by its run alone.
+use mathlib.Core.Path.{_≡_, refl, sym, ap, _∙_}
+use Rattle.rules.specs.Base.{Bool, true, false, not, _||_, List, [], _∷_, _++_, ℕ, _+_, _^_, length, ltb, pick}
+use Rattle.theory.specs.Types.{Claims, Refusal, Limits, Claim, Answer, Done, Refused, Stopped}
+use Rattle.rules.specs.Refusal.{_gives_, decide, after}
+use Rattle.rules.specs.Ops.{Op, settled}
+use Rattle.rules.specs.Batch.{batchIn, opsOf}
+use Rattle.rules.specs.Claims.{isClaimed, notAFile, claimSet, claimCleared, withClaims, claimCall, releaseCall}
+use Rattle.rules.specs.Condition1.{outOfRange, refused1}
+use Rattle.rules.specs.Stores.{Store, made}
+use Rattle.rules.specs.StoreLaws.{made-append}
+use Rattle.rules.specs.Install.{newRecord, newLsn, storesFor, installed, installedAll}
+use Rattle.rules.specs.Write.{newFiles, writeTests, written, writeCall}
+use Rattle.rules.specs.Prune.{pruneStores, pruned, pruneCall}
+use Rattle.rules.specs.Maintenance.{found, filesOf, Stop, going, stopped, Course, group, groupTests, rewriteGroup, onward, groupsFrom, courseOf, ended, finished, maintainCall}
+use Rattle.rules.specs.SlotFile.{View, viewsIn}
+use Rattle.rules.specs.Reopen.{reopenTests, givenUp, opened, reopenCall}
+use Rattle.rules.specs.World.{World, slotsOf, accepted, maintainGiven, After, unchanged}
+use Rattle.theory.specs.History.{Call, write, maintain, prune, claim, release, reopen, called}
+
+-- file by file: "file, then label bytes 2 to 64, then label byte 1" of each (`Stores.fileStores`)
+unfoldable pub filesRun : ℕ → ℕ → World → List (List Op) → List Store
+filesRun bit generation w [] = []
+filesRun bit generation w (f ∷ fs) = storesFor (newRecord (newLsn bit w) generation f) w f ++ filesRun bit generation (installed bit generation w f) fs
+
+-- a call that 1 or another number refuses stores nothing
+abbrev pub unlessRefused : Answer → List Store → List Store
+unlessRefused a run = after a (λ (r : Refusal). []) run
+
+-- a write's: its file's, if it makes one
+unfoldable pub writeRun : World → List ℕ → List Store
+writeRun w bytes = unlessRefused (decide (writeTests w bytes)) (filesRun (2 ^ 62) 0 w (newFiles (settled (opsOf (batchIn bytes)))))
+
+-- "pruning is one store per file"
+unfoldable pub pruneRun : World → List Store
+pruneRun w = unlessRefused (decide (refused1 w gives Limits ∷ [])) (pruneStores w)
+
+-- a rewritten group's: its files', in order
+unfoldable pub groupRun : ℕ → List ℕ → World → List Store
+groupRun generation slots w =
+    let files = filesOf (w .settings .«target_file_size») (found w slots) in
+    unlessRefused (decide (groupTests w slots files)) (filesRun 0 generation w files)
+
+-- a group that is skipped, or comes after a refused one, stores nothing
+abbrev pub onwardRun : Stop → ℕ → List ℕ → Course → List Store
+onwardRun (stopped r g) generation slots c = []
+onwardRun going generation slots c = pick (ltb (length slots) (c .world .settings .«min_compaction_files»)) [] (groupRun generation slots (c .world))
+
+-- group by group
+unfoldable pub groupsRun : List ℕ → World → Course → List Store
+groupsRun [] start c = []
+groupsRun (g ∷ gs) start c = onwardRun (c .stop) g (group start g) c ++ groupsRun gs start (onward (c .stop) g (group start g) c)
+
+-- "Success prunes"
+abbrev pub endRun : Stop → World → List Store
+endRun (stopped r g) w = []
+endRun going w = pruneStores w
+
+-- maintenance's: the groups', as far as it came, then prune's
+unfoldable pub maintainRun : World → List Store
+maintainRun w =
+    unlessRefused (decide (refused1 w gives Limits ∷ []))
+    (groupsRun (1 ∷ 2 ∷ 3 ∷ []) w (record { stop = going; moved = 0; world = w }) ++ endRun (courseOf w .stop) (courseOf w .world))
+
+-- the numbered run of a call
+abbrev pub runOf : World → Call → List Store
+runOf w (write bytes) = writeRun w bytes
+runOf w maintain = maintainRun w
+runOf w prune = pruneRun w
+runOf w (claim slot) = []
+runOf w (release slot) = []
+runOf w reopen = []
+
+-- ---- a call changes the heap by its run alone
+-- files added
+pub files-made : (bit g : ℕ) (w : World) (files : List (List Op)) → installedAll bit g w files .heap ≡ made (filesRun bit g w files) (w .heap)
+unfolding installedAll filesRun installed made
+files-made bit g w [] = refl
+files-made bit g w (f ∷ fs) =
+    files-made bit g (installed bit g w f) fs
+    ∙ sym (made-append (storesFor (newRecord (newLsn bit w) g f) w f) (filesRun bit g (installed bit g w f) fs) (w .heap))
+
+write-made : (w : World) (bytes : List ℕ) → writeCall w bytes .world .heap ≡ made (writeRun w bytes) (w .heap)
+unfolding writeCall writeRun written made
+write-made w bytes = go (decide (writeTests w bytes))
+  where
+    go : (a : Answer) → after a (unchanged w) (record { answer = accepted []; world = installedAll (2 ^ 62) 0 w (newFiles (settled (opsOf (batchIn bytes)))) }) .world .heap
+        ≡ made (unlessRefused a (filesRun (2 ^ 62) 0 w (newFiles (settled (opsOf (batchIn bytes)))))) (w .heap)
+    go (Refused r) = refl
+    go Done = files-made (2 ^ 62) 0 w (newFiles (settled (opsOf (batchIn bytes))))
+
+prune-made : (w : World) → pruneCall w .world .heap ≡ made (pruneRun w) (w .heap)
+unfolding pruneCall pruneRun pruned made
+prune-made w = go (decide (refused1 w gives Limits ∷ []))
+  where
+    go : (a : Answer) → after a (unchanged w) (record { answer = accepted []; world = pruned w }) .world .heap ≡ made (unlessRefused a (pruneStores w)) (w .heap)
+    go (Refused r) = refl
+    go Done = refl
+
+group-made : (g : ℕ) (slots : List ℕ) (moved : ℕ) (w : World) → rewriteGroup g slots moved w .world .heap ≡ made (groupRun g slots w) (w .heap)
+unfolding rewriteGroup groupRun made
+group-made g slots moved w = go (decide (groupTests w slots (filesOf (w .settings .«target_file_size») (found w slots))))
+  where
+    go : (a : Answer)
+        → after {A = Course} a (λ (r : Refusal). record { stop = stopped r g; moved = moved; world = w })
+        (record { stop = going; moved = moved + length (found w slots); world = installedAll 0 g w (filesOf (w .settings .«target_file_size») (found w slots)) }) .world .heap
+        ≡ made (unlessRefused a (filesRun 0 g w (filesOf (w .settings .«target_file_size») (found w slots)))) (w .heap)
+    go (Refused r) = refl
+    go Done = files-made 0 g w (filesOf (w .settings .«target_file_size») (found w slots))
+
+-- one generation
+pub onward-made : (stop : Stop) (g : ℕ) (slots : List ℕ) (c : Course) → onward stop g slots c .world .heap ≡ made (onwardRun stop g slots c) (c .world .heap)
+unfolding made
+onward-made (stopped r n) g slots c = refl
+onward-made going g slots c = go (ltb (length slots) (c .world .settings .«min_compaction_files»))
+  where
+    go : (b : Bool) → pick b c (rewriteGroup g slots (c .moved) (c .world)) .world .heap ≡ made (pick b [] (groupRun g slots (c .world))) (c .world .heap)
+    go true = refl
+    go false = group-made g slots (c .moved) (c .world)
+
+-- all generations
+pub groups-made : (gs : List ℕ) (start : World) (c : Course) → groupsFrom gs start c .world .heap ≡ made (groupsRun gs start c) (c .world .heap)
+unfolding groupsFrom groupsRun made
+groups-made [] start c = refl
+groups-made (g ∷ gs) start c =
+    groups-made gs start (onward (c .stop) g (group start g) c)
+    ∙ ap (made (groupsRun gs start (onward (c .stop) g (group start g) c))) (onward-made (c .stop) g (group start g) c)
+    ∙ sym (made-append (onwardRun (c .stop) g (group start g) c) (groupsRun gs start (onward (c .stop) g (group start g) c)) (c .world .heap))
+
+ended-made : (stop : Stop) (c : Course) → ended stop c .world .heap ≡ made (endRun stop (c .world)) (c .world .heap)
+unfolding pruned made
+ended-made (stopped r g) c = refl
+ended-made going c = refl
+
+maintain-made : (w : World) → maintainCall w .world .heap ≡ made (maintainRun w) (w .heap)
+unfolding maintainCall maintainRun courseOf made
+maintain-made w = go (decide (refused1 w gives Limits ∷ []))
+  where
+    all : finished (courseOf w) .world .heap
+        ≡ made (groupsRun (1 ∷ 2 ∷ 3 ∷ []) w (record { stop = going; moved = 0; world = w }) ++ endRun (courseOf w .stop) (courseOf w .world)) (w .heap)
+    all =
+        ended-made (courseOf w .stop) (courseOf w)
+        ∙ ap (made (endRun (courseOf w .stop) (courseOf w .world))) (groups-made (1 ∷ 2 ∷ 3 ∷ []) w (record { stop = going; moved = 0; world = w }))
+        ∙ sym (made-append (groupsRun (1 ∷ 2 ∷ 3 ∷ []) w (record { stop = going; moved = 0; world = w })) (endRun (courseOf w .stop) (courseOf w .world)) (w .heap))
+
+    go : (a : Answer)
+        → after {A = After} a (λ (r : Refusal). record { answer = maintainGiven (Stopped r 0 0); world = w }) (finished (courseOf w)) .world .heap
+        ≡ made (unlessRefused a (groupsRun (1 ∷ 2 ∷ 3 ∷ []) w (record { stop = going; moved = 0; world = w }) ++ endRun (courseOf w .stop) (courseOf w .world))) (w .heap)
+    go (Refused r) = refl
+    go Done = all
+
+-- "The heap is only read."
+by-claims : (w : World) (c : Claims) (a : Answer) → after a (unchanged w) (record { answer = accepted []; world = withClaims w c }) .world .heap ≡ w .heap
+by-claims w c Done = refl
+by-claims w c (Refused r) = refl
+
+reopen-reads : (w : World) → reopenCall w .world .heap ≡ w .heap
+unfolding reopenCall givenUp opened
+reopen-reads w = go (decide (outOfRange (w .settings) (length (w .heap)) (w .table) gives Limits ∷ [])) (decide (reopenTests w views))
+  where
+    views : List View
+    views = viewsIn (slotsOf w) (w .settings .«slot_bytes») (w .heap)
+
+    go : (a b : Answer) → after a (unchanged w) (after b (givenUp w) (opened w (viewsIn (slotsOf w) (w .settings .«slot_bytes») (w .heap)))) .world .heap ≡ w .heap
+    go (Refused r) b = refl
+    go Done (Refused r) = refl
+    go Done Done = refl
+
+-- LAW: "Write, rewrite and prune change the heap only through" their runs; of any world, any call, refused or not
+pub run-made : (w : World) (c : Call) → called w c .world .heap ≡ made (runOf w c) (w .heap)
+unfolding made claimCall releaseCall
+run-made w (write bytes) = write-made w bytes
+run-made w maintain = maintain-made w
+run-made w prune = prune-made w
+run-made w (claim slot) = by-claims w (claimSet (w .claims) slot) (decide (refused1 w gives Limits ∷ (notAFile w slot || isClaimed (w .claims) slot) gives Claim ∷ []))
+run-made w (release slot) = by-claims w (claimCleared (w .claims) slot) (decide (refused1 w gives Limits ∷ (notAFile w slot || not (isClaimed (w .claims) slot)) gives Claim ∷ []))
+run-made w reopen = reopen-reads w
