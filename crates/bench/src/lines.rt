@@ -7,7 +7,7 @@ ghost use lib.ListN.{length};
 
 // The bench; how much of the input is taken; of the line that is being read, how much is held, that it is too long, and that
 // its end was met.
-struct Session {
+struct Reading {
     bench: Bench,
     taken: usize,
     held: usize,
@@ -22,7 +22,7 @@ pub fn least(a: usize, b: usize) -> usize
 }
 
 // More of the line, unless it is too long.
-fn held(s: Session, line: &mut [u8], part: &[u8]) -> Session {
+fn held(s: Reading, line: &mut [u8], part: &[u8]) -> Reading {
     let mut t = s;
     let n = least(s.held, line.len());
     if line.len() - n < part.len() {
@@ -34,7 +34,7 @@ fn held(s: Session, line: &mut [u8], part: &[u8]) -> Session {
     t
 }
 
-fn taken_to(s: Session, at: usize, whole: bool) -> Session
+fn taken_to(s: Reading, at: usize, whole: bool) -> Reading
     ensures { λ r. ⌜ r .taken ≡ at ⌝ }
 {
     let mut t = s;
@@ -44,7 +44,7 @@ fn taken_to(s: Session, at: usize, whole: bool) -> Session
 }
 
 // The input up to the end of the line, or all that is left of it.
-fn read_on(s: Session, input: &[u8], line: &mut [u8]) -> Session
+fn read_on(s: Reading, input: &[u8], line: &mut [u8]) -> Reading
     requires { ⌜ s .taken < length (now input) ⌝ }
     ensures { λ r. ⌜ s .taken < r .taken ⌝ }
 {
@@ -57,8 +57,8 @@ fn read_on(s: Session, input: &[u8], line: &mut [u8]) -> Session
     taken_to(t, end + 1, true)
 }
 
-// The session before a line of which nothing is read.
-fn next_line(s: Session) -> Session
+// The reading before a line of which nothing is read.
+fn next_line(s: Reading) -> Reading
     ensures { λ r. ⌜ r .taken ≡ s .taken ⌝ }
 {
     let mut t = s;
@@ -70,13 +70,13 @@ fn next_line(s: Session) -> Session
 
 // A whole line is answered.
 fn answered(
-    s: Session,
+    s: Reading,
     line: &[u8],
     decoded: &mut [u8],
     heap: &mut [u8],
     ids: &mut [u64],
     locations: &mut [u64],
-) -> Session
+) -> Reading
     ensures { λ r. ⌜ r .taken ≡ s .taken ⌝ }
 {
     if !s.whole {
@@ -95,14 +95,14 @@ fn answered(
 }
 
 fn lines_in(
-    s: Session,
+    s: Reading,
     input: &[u8],
     line: &mut [u8],
     decoded: &mut [u8],
     heap: &mut [u8],
     ids: &mut [u64],
     locations: &mut [u64],
-) -> Session {
+) -> Reading {
     let mut t = taken_to(s, 0, false);
     while t.taken < input.len() {
         t = read_on(t, input, line);
@@ -121,7 +121,7 @@ fn read_some(input: &mut [u8]) -> usize
 
 // A last line without its end counts.
 fn finished(
-    s: Session,
+    s: Reading,
     line: &[u8],
     decoded: &mut [u8],
     heap: &mut [u8],
@@ -144,7 +144,7 @@ pub fn run_all(
     ids: &mut [u64],
     locations: &mut [u64],
 ) {
-    let mut s = Session {
+    let mut s = Reading {
         bench: crate::commands::start(),
         taken: 0,
         held: 0,
