@@ -45,10 +45,19 @@ class Case:
             print(f' id {ident} {len(body)} {zlib.crc32(body)}', end='')
         print()
 
-    def by_hand(self, generations, damaged, next_position, claimed):
+    def by_hand(self, generations, damaged, sealed, sizes, next_position, claimed):
+        """sealed: a slot whose trailer's checksum is made good after the damage; sizes: file_size of a slot's record"""
         s = self.console.store
         if damaged is not None:
             self.ask(f'poke {damaged} {255 - s.heap[damaged]:02x}')
+        if sealed is not None:
+            _, total, size, *_ = s.records[sealed]
+            start = sealed * 1024 + 64
+            listed = bytes(s.heap[start + total + 4:start + size])
+            self.ask(f'poke {start + total} {zlib.crc32(listed).to_bytes(4, "little").hex()}')
+        for slot, size in sizes:
+            lsn, total, _, present, generation, live = s.records[slot]
+            self.ask(f'record {slot} {lsn} {total} {size} {present} {generation} {live}')
         for slot, generation in enumerate(generations):
             if generation:
                 lsn, total, size, present, _, live = s.records[slot]
@@ -57,10 +66,10 @@ class Case:
             self.ask(f'state {self.settings} {HEAP} 8 {next_position}')
         self.ask(f'claims {claimed} 0 0 0')
 
-    def run(self, *batches, generations=(), damaged=None, next_position=0, claimed=0):
+    def run(self, *batches, generations=(), damaged=None, sealed=None, sizes=(), next_position=0, claimed=0):
         for batch in batches:
             self.ask('write ' + (b''.join(operation(*pair) for pair in batch).hex() or '-'))
-        self.by_hand(generations, damaged, next_position, claimed)
+        self.by_hand(generations, damaged, sealed, sizes, next_position, claimed)
         self.show('before')
         self.reads()
         self.show('maintain ' + self.ask('maintain'))
@@ -114,6 +123,15 @@ def damaged():
         three_files(Case(75, 1, 1024, 256), generations=(0, 1, 2), damaged=at)
 
 
+def trailers():
+    for name, size in (('9 in the second group', 70), ('trailer of 20 bytes', 71)):
+        print(name)
+        three_files(Case(75, 1, 1024, 256), generations=(0, 1, 2), sizes=[(1, size)])
+    for name, at in (('11 in the second group', 1143), ('20 in the second group', 1182)):
+        print(name)
+        three_files(Case(75, 1, 1024, 256), generations=(0, 1, 2), damaged=at, sealed=1)
+
+
 def refused():
     print('4')
     Case(75, 2, 1048576, 1).run([(1, 256), (2, 256)], [(3, 256), (4, 256)])
@@ -133,4 +151,5 @@ if __name__ == '__main__':
     groups()
     small_files()
     damaged()
+    trailers()
     refused()

@@ -3,7 +3,7 @@ ghost use Prim.Native.Nat.{_≤_};
 
 pub const DELETE: u64 = 512;
 
-fn byte(batch: &mut [u8], at: usize, b: u8) {
+pub fn byte(batch: &mut [u8], at: usize, b: u8) {
     if at < batch.len() {
         batch[at] = b;
     }

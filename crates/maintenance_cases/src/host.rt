@@ -5,13 +5,15 @@ use rules::Claims;
 use rules::Settings;
 use rules::State;
 
-// What is changed by hand before the maintenance: generations of the first three files and the next position, where not 0; a heap byte; the
-// first word of the claims.
+// What is changed by hand before the maintenance: generations of the first three files and the next position, where not 0; a heap byte;
+// of the second file the record's file_size and the trailer's checksum, where not 0; the first word of the claims.
 pub struct ByHand {
     pub first: u64,
     pub second: u64,
     pub third: u64,
     pub damaged: usize,
+    pub size: u64,
+    pub sum: u64,
     pub next: u64,
     pub claimed: u64,
 }
@@ -23,6 +25,8 @@ pub fn nothing() -> ByHand {
         second: 0,
         third: 0,
         damaged: 8192,
+        size: 0,
+        sum: 0,
         next: 0,
         claimed: 0,
     }
@@ -107,6 +111,17 @@ fn dated(state: State, slot: usize, generation: u64) -> State {
     aged(state, slot, generation)
 }
 
+fn resized(state: State, size: u64) -> State {
+    if size == 0 {
+        return state;
+    }
+    let mut n = state;
+    let mut m = state.files;
+    m.records[1].file_size = size;
+    n.files = m;
+    n
+}
+
 fn turned(b: u8) -> u8 {
     255 - b
 }
@@ -117,12 +132,28 @@ fn damage(heap: &mut [u8], at: usize) {
     }
 }
 
-pub fn by_hand(state: State, heap: &mut [u8], hand: ByHand) -> State {
+// The second file of these cases has its trailer at byte 51, 1,024 + 64 + 51 of the heap.
+fn seal(heap: &mut [u8], sum: u64) {
+    if sum == 0 {
+        return;
+    }
+    batches::byte(heap, 1139, (sum % 256) as u8);
+    batches::byte(heap, 1140, (sum / 256 % 256) as u8);
+    batches::byte(heap, 1141, (sum / 65536 % 256) as u8);
+    batches::byte(heap, 1142, (sum / 16777216 % 256) as u8);
+}
+
+pub fn heap_by_hand(heap: &mut [u8], hand: ByHand) {
     damage(heap, hand.damaged);
+    seal(heap, hand.sum);
+}
+
+pub fn state_by_hand(state: State, hand: ByHand) -> State {
     let a = dated(state, 0, hand.first);
     let b = dated(a, 1, hand.second);
     let c = dated(b, 2, hand.third);
-    moved_on(c, hand.next)
+    let d = resized(c, hand.size);
+    moved_on(d, hand.next)
 }
 
 pub fn maintain(

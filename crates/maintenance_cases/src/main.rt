@@ -32,7 +32,8 @@ fn case(s: Settings, hand: ByHand, a: &[u64], b: &[u64], c: &[u64], d: &[u64]) {
     state = host::write(s, state, &mut heap, &mut ids, &mut locations, b);
     state = host::write(s, state, &mut heap, &mut ids, &mut locations, c);
     state = host::write(s, state, &mut heap, &mut ids, &mut locations, d);
-    state = host::by_hand(state, &mut heap, hand);
+    host::heap_by_hand(&mut heap, hand);
+    state = host::state_by_hand(state, hand);
     show::text(b"before");
     show::store(state, &heap, &ids, &locations);
     reads(s, state, &heap, &ids, &locations);
@@ -184,6 +185,27 @@ fn damaged() {
     three_files(settings(75, 1, 1024, 256), hand, 5);
 }
 
+// The second file's trailer, in the second group: 19 bytes of it, as the record says (9); 20, so its checksum is wrong (10); then with a
+// checksum made good a count of 252 (11), and a delete entry whose position and lsn together reach 2^63 (20).
+fn trailers() {
+    show::text(b"9 in the second group\n");
+    let mut hand = generations();
+    hand.size = 70;
+    three_files(settings(75, 1, 1024, 256), hand, 5);
+    show::text(b"trailer of 20 bytes\n");
+    hand.size = 71;
+    three_files(settings(75, 1, 1024, 256), hand, 5);
+    show::text(b"11 in the second group\n");
+    hand.size = 0;
+    hand.damaged = 1143;
+    hand.sum = 2185209830;
+    three_files(settings(75, 1, 1024, 256), hand, 5);
+    show::text(b"20 in the second group\n");
+    hand.damaged = 1182;
+    hand.sum = 958860330;
+    three_files(settings(75, 1, 1024, 256), hand, 5);
+}
+
 // Four objects of one shard in a slot of 1,024 bytes; five files for four empty slots; the last positions.
 fn refused() {
     show::text(b"4\n");
@@ -233,6 +255,7 @@ fn main() {
     groups();
     small_files();
     damaged();
+    trailers();
     refused();
     limits();
 }
