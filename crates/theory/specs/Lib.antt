@@ -40,5 +40,7 @@ pub mod Tally
 pub mod Moved
 pub mod Unmoved
 pub mod Finished
+pub mod Relocated
+pub mod Exactly
 -- a life worked out
 pub mod Witness
