@@ -83,8 +83,10 @@ typedef struct file {
 file sound(uint64_t lsn, uint64_t generation, const uint8_t *objects, uint64_t len, const entry *entries, uint64_t count);
 void file_in(size_t slot, file f);
 
-/* ---- stack: bytes touched below each call, the most seen */
-void stack_told(void);
+/* ---- stack: bytes touched below each call, and copies of the file map in it: the most seen, held to what is allowed */
+void costs_told(void);
+/* copies in the last call */
+uint64_t copies_made(void);
 
 /* ---- the tests */
 void lines(void);

@@ -10,7 +10,7 @@ int main(void) {
     maintenance();
     refusals();
     printf("state %llu\n", (unsigned long long)sizeof(marble_state));
-    stack_told();
+    costs_told();
     printf("tests/c: %llu checks, %s\n", (unsigned long long)checks(), failed() ? "some failed" : "all passed");
     return failed();
 }

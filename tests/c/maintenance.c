@@ -170,6 +170,57 @@ static void stops(void) {
     expect("0 and 0", out[0] | out[1], 0);
 }
 
+/* Copies of the file map go by groups and by files that come out, not by slots, entries or objects. */
+#define COPIES_A_CALL 15
+#define COPIES_A_GROUP 2
+#define COPIES_A_FILE 2
+
+static void copied(uint64_t groups, uint64_t files) {
+    uint64_t most = COPIES_A_CALL + groups * COPIES_A_GROUP + files * COPIES_A_FILE;
+    expect("maintain", maintain(), MARBLE_OK);
+    printf("marble_maintain, %llu groups, %llu files: copies of the file map %llu of %llu\n", (unsigned long long)groups, (unsigned long long)files, (unsigned long long)copies_made(), (unsigned long long)most);
+    expect("copies within the figure", copies_made() <= most, 1);
+}
+
+/* two objects in a file, of which the second is replaced by a later one, in generations 0, 1 and 2 */
+static void three_groups(void) {
+    const uint8_t a = 'a', b = 'b';
+    uint8_t two[42], one[3 * 21];
+    entry later[3];
+    fresh(alone(), 8, 16);
+    for (uint64_t g = 0; g < 3; g++) {
+        const entry both[] = {{2 * g + 1, 0}, {2 * g + 2, 2 * 21}};
+        object(two, 2 * g + 1, &a, 1);
+        object(two + 21, 2 * g + 2, &a, 1);
+        file_in(g, sound(1000 * (g + 1), g, two, 42, both, 2));
+        object(one + 21 * g, 2 * g + 2, &b, 1);
+        later[g].id = 2 * g + 2;
+        later[g].raw = 2 * 21 * g;
+    }
+    file_in(3, sound(BATCH_BIT + 9000, 0, one, 3 * 21, later, 3));
+    expect("reopen", reopen(), MARBLE_OK);
+    copied(3, 3);
+    expect("moved", out[1], 3);
+    for (uint64_t g = 0; g < 3; g++) {
+        holds(2 * g + 1, 1, 'a');
+        holds(2 * g + 2, 1, 'b');
+    }
+}
+
+static void costs(void) {
+    const size_t lengths[] = {256, 255, 60, 1, 0};
+    opened(alone(), 8, 16);
+    of_which_replaced(4, 1);
+    copied(0, 0);
+    opened(alone(), 8, 16);
+    of_which_replaced(3, 1);
+    copied(1, 1);
+    opened(alone(), 8, 16);
+    of_lengths(lengths, 5, 2);
+    copied(1, 5);
+    three_groups();
+}
+
 void maintenance(void) {
     p6();
     p7(0, 1);
@@ -179,4 +230,5 @@ void maintenance(void) {
     p9();
     gathered();
     stops();
+    costs();
 }

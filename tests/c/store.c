@@ -91,12 +91,14 @@ marble_settings small(uint64_t slot_bytes) {
 enum { REOPEN, WRITE, READ, CLAIM, RELEASE, PRUNE, MAINTAIN, COUNTS, LOAD, STORE, COMPARE, GREATER, CALLS };
 static const char *const names[CALLS] = {"reopen", "write", "read", "claim", "release", "prune", "maintain", "counts", "load", "store", "compare_and_store", "store_if_greater"};
 /* README has these figures; a call that needs more fails here */
-static const size_t allowed[CALLS] = {51200, 119808, 64512, 50176, 50176, 99328, 700416, 50176, 128, 128, 128, 128};
+static const size_t allowed[CALLS] = {51200, 66560, 39936, 25600, 25600, 37888, 612352, 37888, 128, 128, 128, 128};
 static size_t used[CALLS];
 
-/* ---- copies of the file map: the archive's memcpy is this one, so each is counted in a run */
+/* ---- copies of the file map: the archive's memcpy is this one, so each is counted in a run. Handing it in and out is a loop over words
+   that is no copy of this kind. README says what each is for; maintenance.c has maintenance's by groups and files. */
 #define MAP_BYTES (256 * sizeof(marble_record))
-static size_t copies, copied[CALLS];
+static const size_t copies_allowed[CALLS] = {7, 6, 2, 1, 1, 3, 27, 2, 0, 0, 0, 0};
+static size_t copies, copied[CALLS], last_copied;
 
 void *memcpy(void *to, const void *from, size_t len) {
     void *at = to;
@@ -118,15 +120,20 @@ __attribute__((noinline)) static void stack_below(int call, int painting) {
     while (i < DEPTH && below[i] == PAINT) i++;
     size_t deep = (size_t)((uint8_t *)__builtin_frame_address(0) + 16 - (uint8_t *)&below[i]);
     if (used[call] < deep) used[call] = deep;
+    last_copied = copies;
     if (copied[call] < copies) copied[call] = copies;
     expect("deep enough", i > low, 1);
 }
 
-void stack_told(void) {
+uint64_t copies_made(void) { return last_copied; }
+
+void costs_told(void) {
     for (int k = 0; k < CALLS; k++) {
-        printf("marble_%s: stack %llu, copies of the file map %llu\n", names[k], (unsigned long long)used[k], (unsigned long long)copied[k]);
+        printf("marble_%s: stack %llu of %llu, copies of the file map %llu of %llu\n", names[k], (unsigned long long)used[k], (unsigned long long)allowed[k], (unsigned long long)copied[k], (unsigned long long)copies_allowed[k]);
         if (used[k] > allowed[k]) printf("tests/c: marble_%s needs more stack than README says\n", names[k]);
+        if (copied[k] > copies_allowed[k]) printf("tests/c: marble_%s copies the file map more often than README says\n", names[k]);
         expect("stack within the figure", used[k] <= allowed[k], 1);
+        expect("copies within the figure", copied[k] <= copies_allowed[k], 1);
     }
 }
 

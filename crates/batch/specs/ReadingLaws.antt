@@ -5,13 +5,14 @@ use mathlib.Core.List.{List, [], _∷_}
 use mathlib.Core.Logic.{⊎-elim}
 use Prim.Native.Nat.{ℕ, zero, suc, _+_, _-_, _^_, _<_, _≤_}
 use native.Mathlib.Omega.{arith}
-use borrow.Author.Tests.{le-leb, lt-leb}
+use borrow.Author.Tests.{lt-leb}
 use lib.ListN.{length, take, drop, length-take, length-drop}
 use Rattle.numbers.specs.GroupLaws.{either-way}
 use Rattle.rules.specs.Ops.{Op, settled}
 use Rattle.rules.specs.OpsLaws.{IdsFit}
 use Rattle.rules.specs.SettledLaws.{settled-all}
 use Rattle.rules.specs.Batch.{Parsed, parsed, malformed, operationAt, Batch, operations, notAsAbove, before, batchFrom, batchIn, isMalformed, opsOf}
+use Rattle.rules.specs.BatchLaws.{batch-end, batch-bad, batch-next}
 use Rattle.batch.specs.declared.Operation.{Operation}
 use Rattle.batch.specs.declared.Parse.{Parse}
 use Rattle.batch.specs.declared.Parse.the-variants.{Holds, NotAsAbove}
@@ -50,24 +51,9 @@ none-behind s at h = go (operationAt s at) refl
     go (parsed o next) q = absurd (let behind = operation-behind s at o next q in omega arith)
 
 -- ---- `batchFrom`, by facts in the place of tests
-pub batch-end : (k : ℕ) (s : List ℕ) (at : ℕ) → length s ≤ at → batchFrom k s at ≡ operations []
-unfolding batchFrom
-batch-end zero s at h = rw (le-leb (length s) at h)
-batch-end (suc k) s at h = rw (le-leb (length s) at h)
-
-pub batch-malformed : (k : ℕ) (s : List ℕ) (at : ℕ) → at < length s → operationAt s at ≡ malformed → batchFrom k s at ≡ notAsAbove
-unfolding batchFrom
-batch-malformed zero s at h e = rw (lt-leb (length s) at h)
-batch-malformed (suc k) s at h e = rw (lt-leb (length s) at h, e)
-
 batch-short : (s : List ℕ) (at : ℕ) → at < length s → batchFrom 0 s at ≡ notAsAbove
 unfolding batchFrom
 batch-short s at h = rw (lt-leb (length s) at h)
-
-pub batch-next : (k : ℕ) (s : List ℕ) (at : ℕ) (o : Op) (next : ℕ) → at < length s → operationAt s at ≡ parsed o next
-    → batchFrom (suc k) s at ≡ before o (batchFrom k s next)
-unfolding batchFrom
-batch-next k s at o next h e = rw (lt-leb (length s) at h, e)
 
 -- "2 batch bytes not as above": else its operations are these
 walked-batch : (k : ℕ) (s : List ℕ) (at : ℕ) → isMalformed (batchFrom k s at) ≡ false → opsOf (batchFrom k s at) ≡ walked (suc k) s at
@@ -93,7 +79,7 @@ walked-batch (suc k) s at m = ⊎-elim
         → ((n : ℕ) → isMalformed (batchFrom k s n) ≡ false → opsOf (batchFrom k s n) ≡ walked (suc k) s n)
         → opsOf (batchFrom (suc k) s at) ≡ followed p (walked (suc k) s)
     go malformed q l again =
-        absurd (let none = batch-malformed (suc k) s at l q in let z : _≡_ {A = ℕ} 0 1 = cc in omega arith)
+        absurd (let none = batch-bad (suc k) s at l q in let z : _≡_ {A = ℕ} 0 1 = cc in omega arith)
     go (parsed o next) q l again =
         let e = batch-next k s at o next l q in
         let rest = behind o (batchFrom k s next) (sym (ap isMalformed e) ∙ m) in

@@ -1,21 +1,15 @@
 -- What a writer that was lent the heap's part from a place on made of the whole heap.
-use mathlib.Core.Path.{_≡_, refl, ap, _∙_}
-use mathlib.Core.List.{List, [], _∷_}
-use Prim.Native.Nat.{ℕ, zero, suc, _+_, _-_, _≤_}
+use mathlib.Core.Path.{_≡_, ap, _∙_}
+use mathlib.Core.List.{List}
+use Prim.Native.Nat.{ℕ, _+_, _-_, _≤_}
 use native.Mathlib.Omega.{arith}
 use lib.ListN.{length, take, drop, length-take, length-drop}
 use borrow.Rule.Slice.PartMut.{putMid}
 use Rattle.numbers.specs.Parts.{front, put-front}
 use Rattle.numbers.proofs.Lent.{lent}
 use Rattle.rules.specs.Stores.{Store, made, storesOf}
-use Rattle.rules.specs.StoreLaws.{made-run}
-use Rattle.stores.specs.Runs.{Made, made-put, stores-length}
-
-stores-take : (k at : ℕ) (bs : List ℕ) → take k (storesOf at bs) ≡ storesOf at (take k bs)
-unfolding storesOf
-stores-take zero at bs = refl
-stores-take (suc k) at [] = refl
-stores-take (suc k) at (b ∷ bs) = ap (λ (ss : List Store). record { at = at; byte = b } ∷ ss) (stores-take k (suc at) bs)
+use Rattle.rules.specs.StoreLaws.{made-run, stores-length, stores-take}
+use Rattle.stores.specs.Runs.{Made, made-put}
 
 pub lent-made : (h ys bs : List ℕ) (at k left : ℕ) → at + length bs ≤ length h → Made k (storesOf 0 bs) (take (length h - at) (drop at h)) ys left
     → Made k (storesOf at bs) h (putMid at (length h - at) h ys) left

@@ -8,8 +8,9 @@ use lib.Seq.{length-take-le}
 use Rattle.rules.specs.declared.Record.{Record}
 use Rattle.rules.specs.Label.{labelBytes}
 use Rattle.rules.specs.Stores.{made, storesOf, fileStores}
-use Rattle.stores.specs.Runs.{Made, made-whole, stores-length}
-use Rattle.slot_writer.specs.Labels.{label-length}
+use Rattle.rules.specs.StoreLaws.{stores-length}
+use Rattle.rules.specs.LabelLaws.{label-length}
+use Rattle.stores.specs.Runs.{Made, made-whole}
 
 -- its file's bytes, and the label's 64
 pub run-length : (start : ℕ) (new : Record) (file : List ℕ) → length (fileStores start (labelBytes new) file) ≡ length file + 64

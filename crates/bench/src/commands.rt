@@ -1,202 +1,79 @@
-// The bench: what the calls are given, and which command a line runs.
-use crate::by_hand;
-use crate::calls;
-use crate::lines::least;
+// A line: its order, the command's turn, and what is written for it.
 use crate::say;
 use crate::show;
-use rules::Claims;
-use rules::Settings;
-use rules::State;
-use script::Keyword;
-ghost use mathlib.Core.Path.{_≡_};
-ghost use Rattle.rules.specs.Settings.{defaults};
-ghost use Rattle.rules.specs.World.{noState};
+use desk::Bench;
+use desk::Look;
+use desk::Reply;
+use desk::Turn;
+use rules::CompareAnswer;
+use rules::CountsAnswer;
+use rules::LoadAnswer;
+use rules::ReadAnswer;
+ghost use Rattle.desk.specs.Desk.{desk};
+ghost use Rattle.bench.specs.Lines.{Ran};
 
-// What lies beside the buffers, and how much of each buffer is lent.
-pub struct Bench {
-    pub settings: Settings,
-    pub state: State,
-    pub claims: Claims,
-    pub heap_len: usize,
-    pub ids_len: usize,
-    pub locations_len: usize,
+// ---- what is written for a reply: of that nothing is stated, since the kit's output states nothing
+fn body(b: Bench, heap: &[u8], ids: &[u64], locations: &[u64], id: u64) {
+    let settings = b.settings;
+    let state = b.state;
+    let part = readpath::read(settings, state, heap, ids, locations, id);
+    say::text(b"ok ");
+    say::hex(part);
+    say::end();
 }
 
-fn no_settings() -> Settings
-    ensures { λ s. ⌜ s ≡ noState .settings ⌝ }
-{
-    Settings {
-        slot_bytes: 0,
-        file_compaction_percent: 0,
-        min_compaction_files: 0,
-        target_file_size: 0,
-        small_file_cleanup_threshold: 0,
-        max_object_size: 0,
+// The body is read again from the lent parts, which a read leaves alone.
+fn found(b: Bench, heap: &[u8], ids: &[u64], locations: &[u64], id: u64) {
+    let h = desk::least(b.heap_len, heap.len());
+    let i = desk::least(b.ids_len, ids.len());
+    let l = desk::least(b.locations_len, locations.len());
+    body(b, &heap[0..h], &ids[0..i], &locations[0..l], id);
+}
+
+fn read(answer: ReadAnswer, b: Bench, heap: &[u8], ids: &[u64], locations: &[u64], id: u64) {
+    match answer {
+        ReadAnswer::Found(_, _) => found(b, heap, ids, locations, id),
+        ReadAnswer::Nothing => say::text(b"nothing\n"),
+        ReadAnswer::ReadRefused(r) => say::refused(r),
     }
 }
 
-// "Port's default"
-fn defaults() -> Settings
-    ensures { λ s. ⌜ s ≡ defaults ⌝ }
-{
-    Settings {
-        slot_bytes: 4096,
-        file_compaction_percent: 75,
-        min_compaction_files: 2,
-        target_file_size: 2048,
-        small_file_cleanup_threshold: 64,
-        max_object_size: 1024,
+fn counted(answer: CountsAnswer) {
+    match answer {
+        CountsAnswer::Counted(c) => {
+            say::text(b"ok");
+            say::number(c.files);
+            say::number(c.bytes);
+            say::number(c.present);
+            say::number(c.live);
+            say::end();
+        }
+        CountsAnswer::CountsRefused(r) => say::refused(r),
     }
 }
 
-// The state before the first reopening.
-fn no_state() -> State
-    ensures { λ s. ⌜ s ≡ noState ⌝ }
-{
-    State {
-        settings: no_settings(),
-        heap_len: 0,
-        table_len: 0,
-        files: file_map::no_files(),
-        next_position: 0,
+fn loaded(answer: LoadAnswer) {
+    match answer {
+        LoadAnswer::At(raw) => say::named(b"ok", raw),
+        LoadAnswer::NoLocation => say::text(b"nothing\n"),
+        LoadAnswer::LoadRefused(r) => say::refused(r),
     }
 }
 
-pub fn start() -> Bench {
-    Bench {
-        settings: defaults(),
-        state: no_state(),
-        claims: claims::no_claims(),
-        heap_len: 65536,
-        ids_len: 1024,
-        locations_len: 1024,
+fn compared(answer: CompareAnswer) {
+    match answer {
+        CompareAnswer::Swapped => say::ok(),
+        CompareAnswer::Differs(current) => say::named(b"differs", current),
+        CompareAnswer::CompareRefused(r) => say::refused(r),
     }
 }
 
-// The calls: each has its arm here and its function in calls.rt.
-fn after_call(
-    b: Bench,
-    keyword: Keyword,
-    n: [u64; 9],
-    bytes: &[u8],
-    heap: &mut [u8],
-    ids: &mut [u64],
-    locations: &mut [u64],
-) -> Bench {
-    match keyword {
-        Keyword::Reopen => calls::reopen(b, heap, ids, locations),
-        Keyword::Write => calls::write(b, heap, ids, locations, bytes),
-        Keyword::Read => {
-            calls::read(b, heap, ids, locations, n[0]);
-            b
-        }
-        Keyword::Prune => calls::prune(b, heap, ids, locations),
-        Keyword::Maintain => calls::maintain(b, heap, ids, locations),
-        Keyword::Claim => calls::claim(b, heap, ids, locations, n[0]),
-        Keyword::Release => calls::release(b, heap, ids, locations, n[0]),
-        Keyword::Counts => {
-            calls::counts(b, heap, ids, locations);
-            b
-        }
-        Keyword::Load => {
-            calls::load(ids, locations, n[0]);
-            b
-        }
-        Keyword::Store => {
-            calls::store(ids, locations, n[0], n[1]);
-            b
-        }
-        Keyword::Cas => {
-            calls::cas(ids, locations, n[0], n[1], n[2]);
-            b
-        }
-        Keyword::Max => {
-            calls::max(ids, locations, n[0], n[1]);
-            b
-        }
-        _ => {
-            say::bad_line();
-            b
-        }
-    }
-}
-
-// Commands by hand and looks, on the lent parts of the buffers.
-fn after_lent(
-    b: Bench,
-    keyword: Keyword,
-    n: [u64; 9],
-    bytes: &[u8],
-    heap: &mut [u8],
-    ids: &mut [u64],
-    locations: &mut [u64],
-) -> Bench {
-    match keyword {
-        Keyword::Settings => by_hand::settings(b, n),
-        Keyword::State => by_hand::state(b, n),
-        Keyword::Record => by_hand::record(b, n),
-        Keyword::Claims => by_hand::claims(b, n),
-        Keyword::Poke => {
-            by_hand::poke(n[0], bytes, heap);
-            b
-        }
-        Keyword::Entry => {
-            by_hand::entry(n[0], n[1], n[2], ids, locations);
-            b
-        }
-        Keyword::List => {
-            show::list(b, ids, locations);
-            b
-        }
-        Keyword::Dump => {
-            show::dump(b, heap, ids, locations);
-            b
-        }
-        _ => after_call(b, keyword, n, bytes, heap, ids, locations),
-    }
-}
-
-fn lent(
-    b: Bench,
-    keyword: Keyword,
-    n: [u64; 9],
-    bytes: &[u8],
-    heap: &mut [u8],
-    ids: &mut [u64],
-    locations: &mut [u64],
-) -> Bench {
-    let h = least(b.heap_len, heap.len());
-    let i = least(b.ids_len, ids.len());
-    let l = least(b.locations_len, locations.len());
-    after_lent(
-        b,
-        keyword,
-        n,
-        bytes,
-        &mut heap[0..h],
-        &mut ids[0..i],
-        &mut locations[0..l],
-    )
-}
-
-// The two commands that lend anew go by the whole buffers.
-fn after_order(
-    b: Bench,
-    keyword: Keyword,
-    n: [u64; 9],
-    bytes: &[u8],
-    heap: &mut [u8],
-    ids: &mut [u64],
-    locations: &mut [u64],
-) -> Bench {
-    match keyword {
-        Keyword::Help => {
-            say::help();
-            b
-        }
-        Keyword::Heap => by_hand::heap(b, n[0], heap),
-        Keyword::Table => by_hand::table(b, n[0], n[1], ids, locations),
-        _ => lent(b, keyword, n, bytes, heap, ids, locations),
+// What was held before.
+fn raised(answer: LoadAnswer) {
+    match answer {
+        LoadAnswer::At(held) => say::named(b"ok", held),
+        LoadAnswer::NoLocation => say::text(b"ok nothing\n"),
+        LoadAnswer::LoadRefused(r) => say::refused(r),
     }
 }
 
@@ -207,6 +84,46 @@ fn comment(line: &[u8]) {
     say::end();
 }
 
+fn listed(b: Bench, ids: &[u64], locations: &[u64]) {
+    let i = desk::least(b.ids_len, ids.len());
+    let l = desk::least(b.locations_len, locations.len());
+    show::list(b, &ids[0..i], &locations[0..l]);
+}
+
+fn dumped(b: Bench, heap: &[u8], ids: &[u64], locations: &[u64]) {
+    let h = desk::least(b.heap_len, heap.len());
+    let i = desk::least(b.ids_len, ids.len());
+    let l = desk::least(b.locations_len, locations.len());
+    show::dump(b, &heap[0..h], &ids[0..i], &locations[0..l]);
+}
+
+fn shown(look: Look, b: Bench, line: &[u8], heap: &[u8], ids: &[u64], locations: &[u64]) {
+    match look {
+        Look::Comment => comment(line),
+        Look::Help => say::help(),
+        Look::List => listed(b, ids, locations),
+        Look::Dump => dumped(b, heap, ids, locations),
+    }
+}
+
+// `id`: the first number of the order, the id that was read.
+fn written(turn: Turn, id: u64, line: &[u8], heap: &[u8], ids: &[u64], locations: &[u64]) {
+    let b = turn.bench;
+    let reply = turn.reply;
+    match reply {
+        Reply::BadLine => say::bad_line(),
+        Reply::Answered(answer) => say::answer(answer),
+        Reply::Read(answer) => read(answer, b, heap, ids, locations, id),
+        Reply::Maintained(answer) => say::maintained(answer),
+        Reply::Counted(answer) => counted(answer),
+        Reply::Loaded(answer) => loaded(answer),
+        Reply::Compared(answer) => compared(answer),
+        Reply::Raised(answer) => raised(answer),
+        Reply::Shown(look) => shown(look, b, line, heap, ids, locations),
+    }
+}
+
+// A line's command is done, and its reply written.
 pub fn after_line(
     b: Bench,
     line: &[u8],
@@ -214,24 +131,22 @@ pub fn after_line(
     heap: &mut [u8],
     ids: &mut [u64],
     locations: &mut [u64],
-) -> Bench {
+) -> Bench
+    ensures { λ r. ⌜ Ran (now (line .entry)) (desk b (now (heap .entry)) (now (ids .entry)) (now (locations .entry))) (desk r (now (heap .exit)) (now (ids .exit)) (now (locations .exit))) ⌝ }
+{
     let order = script::order_of(line, decoded);
     let count = order.length;
     let keyword = order.keyword;
     let numbers = order.numbers;
-    match keyword {
-        Keyword::Blank => {
-            comment(line);
-            b
-        }
-        _ => after_order(
-            b,
-            keyword,
-            numbers,
-            &decoded[0..count],
-            heap,
-            ids,
-            locations,
-        ),
-    }
+    let turn = desk::after_order(
+        b,
+        keyword,
+        numbers,
+        &decoded[0..count],
+        heap,
+        ids,
+        locations,
+    );
+    written(turn, numbers[0], line, heap, ids, locations);
+    turn.bench
 }

@@ -1,6 +1,4 @@
 // The bench: a script on standard input, one command to a line, run over the calls on lent buffers.
-mod by_hand;
-mod calls;
 mod commands;
 mod lines;
 pub mod say;

@@ -1,9 +1,12 @@
 // Standard input, cut into lines, each answered in its turn.
-use crate::commands::Bench;
+use desk::Bench;
+use desk::least;
 use libc::STDIN_FILENO;
 ghost use mathlib.Core.Path.{_≡_};
 ghost use Prim.Native.Nat.{_≤_, _<_};
-ghost use lib.ListN.{length};
+ghost use lib.ListN.{length, take};
+ghost use Rattle.desk.specs.Desk.{desk};
+ghost use Rattle.bench.specs.Lines.{nextLine, Answered};
 
 // The bench; how much of the input is taken; of the line that is being read, how much is held, that it is too long, and that
 // its end was met.
@@ -13,12 +16,6 @@ struct Reading {
     held: usize,
     long: bool,
     whole: bool,
-}
-
-pub fn least(a: usize, b: usize) -> usize
-    ensures { λ r. ⌜ (r ≤ a) × (r ≤ b) ⌝ }
-{
-    if a < b { a } else { b }
 }
 
 // More of the line, unless it is too long.
@@ -59,7 +56,7 @@ fn read_on(s: Reading, input: &[u8], line: &mut [u8]) -> Reading
 
 // The reading before a line of which nothing is read.
 fn next_line(s: Reading) -> Reading
-    ensures { λ r. ⌜ r .taken ≡ s .taken ⌝ }
+    ensures { λ r. ⌜ r ≡ nextLine s (s .bench) ⌝ }
 {
     let mut t = s;
     t.held = 0;
@@ -77,7 +74,7 @@ fn answered(
     ids: &mut [u64],
     locations: &mut [u64],
 ) -> Reading
-    ensures { λ r. ⌜ r .taken ≡ s .taken ⌝ }
+    ensures { λ r. ⌜ (r .taken ≡ s .taken) × Answered (s .whole) (s .long) s (take (s .held) (now (line .entry))) (desk (s .bench) (now (heap .entry)) (now (ids .entry)) (now (locations .entry))) r (desk (r .bench) (now (heap .exit)) (now (ids .exit)) (now (locations .exit))) ⌝ }
 {
     if !s.whole {
         return s;
@@ -145,7 +142,7 @@ pub fn run_all(
     locations: &mut [u64],
 ) {
     let mut s = Reading {
-        bench: crate::commands::start(),
+        bench: desk::start(),
         taken: 0,
         held: 0,
         long: false,

@@ -1,6 +1,6 @@
 // Looking: the listing, and everything.
-use crate::commands::Bench;
 use crate::say;
+use desk::Bench;
 use rules::Claims;
 use rules::FileMap;
 use rules::Record;
@@ -102,7 +102,7 @@ fn entry_line(k: u64, id: u64, location: u64) {
 }
 
 fn entry_lines(ids: &[u64], locations: &[u64]) {
-    let n = crate::lines::least(ids.len(), locations.len());
+    let n = desk::least(ids.len(), locations.len());
     let mut k: usize = 0;
     while k < n {
         entry_line(k as u64, ids[k], locations[k]);

@@ -1,25 +1,25 @@
 // The host's claim record, 256 bits in four words by value, and the calls that go by records alone: claim, release, counts.
 use file_map::is_empty;
-use limits::refused;
+use limits::refused_apart;
+use limits::rest_of;
 use rules::Answer;
 use rules::Claims;
 use rules::CountsAnswer;
-use rules::FileMap;
 use rules::Refusal;
 use rules::Settings;
 use rules::State;
 ghost use mathlib.Core.Path.{_≡_};
 ghost use mathlib.Core.Bool.{_||_};
+ghost use mathlib.Core.List.{[], _∷_};
 ghost use Prim.Native.Nat.{_-_, _^_, _<_};
-ghost use lib.Dec.{leb};
 ghost use lib.Bits.{bitOr, bitAnd};
-ghost use Rattle.rules.specs.Settings.{slotsIn};
-ghost use Rattle.rules.specs.SettingsLaws.{InRanges, HeapInRange};
-ghost use Rattle.rules.specs.FileMap.{isEmpty, recordAt};
-ghost use Rattle.rules.specs.Claims.{noClaims, wordOf, withWord, isClaimed, claimSet, claimCleared, claimCall, releaseCall};
+ghost use Rattle.rules.specs.Refusal.{_gives_, decide};
+ghost use Rattle.rules.specs.Condition1.{refused1};
+ghost use Rattle.rules.specs.Claims.{noClaims, wordOf, withWord, isClaimed, claimSet, claimCleared, notAFile, claimCall, releaseCall};
 ghost use Rattle.rules.specs.Counts.{countsCall};
 ghost use Rattle.rules.specs.World.{world, leaving, answerGiven, countsGiven};
 ghost use Rattle.rules.specs.declared.Claims.{Claims};
+ghost use Rattle.rules.specs.declared.Refusal.the-variants.{Limits, Claim};
 
 // ---- the bits
 // "starts one without claims"
@@ -34,9 +34,8 @@ pub fn no_claims() -> Claims
     }
 }
 
-// Word k of the four.
+// Word k of the four; 0 past them.
 fn word_of(c: Claims, k: u64) -> u64
-    requires { ⌜ k < 4 ⌝ }
     ensures { λ w. ⌜ w ≡ wordOf c k ⌝ }
 {
     if k == 0 {
@@ -48,12 +47,14 @@ fn word_of(c: Claims, k: u64) -> u64
     if k == 2 {
         return c.c;
     }
-    c.d
+    if k == 3 {
+        return c.d;
+    }
+    0
 }
 
 // Word k replaced.
 fn with_word(c: Claims, k: u64, w: u64) -> Claims
-    requires { ⌜ k < 4 ⌝ }
     ensures { λ n. ⌜ n ≡ withWord c k w ⌝ }
 {
     let mut n = c;
@@ -69,7 +70,10 @@ fn with_word(c: Claims, k: u64, w: u64) -> Claims
         n.c = w;
         return n;
     }
-    n.d = w;
+    if k == 3 {
+        n.d = w;
+        return n;
+    }
     n
 }
 
@@ -88,14 +92,12 @@ fn bit_cleared(word: u64, bit: u64) -> u64
 }
 
 pub fn is_claimed(c: Claims, slot: u64) -> bool
-    requires { ⌜ slot < 256 ⌝ }
     ensures { λ r. ⌜ r ≡ isClaimed c slot ⌝ }
 {
     (word_of(c, slot / 64) >> (slot % 64)) % 2 == 1
 }
 
 pub fn with_claim(c: Claims, slot: u64) -> Claims
-    requires { ⌜ slot < 256 ⌝ }
     ensures { λ n. ⌜ n ≡ claimSet c slot ⌝ }
 {
     let k = slot / 64;
@@ -103,7 +105,6 @@ pub fn with_claim(c: Claims, slot: u64) -> Claims
 }
 
 pub fn without_claim(c: Claims, slot: u64) -> Claims
-    requires { ⌜ slot < 256 ⌝ }
     ensures { λ n. ⌜ n ≡ claimCleared c slot ⌝ }
 {
     let k = slot / 64;
@@ -111,17 +112,33 @@ pub fn without_claim(c: Claims, slot: u64) -> Claims
 }
 
 // ---- the calls
-// "a slot out of range, an empty slot"; `heap` is the heap's length.
-fn not_a_file(s: Settings, heap: u64, files: FileMap, slot: u64) -> bool
-    requires { ⌜ InRanges s ⌝ }
-    requires { ⌜ HeapInRange s heap ⌝ }
-    ensures { λ r. ⌜ r ≡ (leb (slotsIn s heap) slot || isEmpty (recordAt (files .records) slot)) ⌝ }
+// 1; then 21 for "a slot out of range, an empty slot", or for one whose claim bars the call.
+fn decided(
+    s: Settings,
+    state: State,
+    heap: &[u8],
+    ids: &[u64],
+    locations: &[u64],
+    slot: u64,
+    barred: bool,
+) -> Answer
+    ensures { λ r. ⌜ ((c : Claims) → let w = world s state c (now (heap .entry)) (now (ids .entry)) (now (locations .entry)) in r ≡ decide (refused1 w gives Limits ∷ (notAFile w slot || barred) gives Claim ∷ [])) ⌝ }
 {
-    if heap / s.slot_bytes <= slot {
-        return true;
+    let files = state.files;
+    if refused_apart(s, heap.len() as u64, ids, locations, rest_of(state), files) {
+        return Answer::Refused(Refusal::Limits);
+    }
+    if heap.len() as u64 / s.slot_bytes <= slot {
+        return Answer::Refused(Refusal::Claim);
     }
     let i = slot as usize;
-    is_empty(files.records[i])
+    if is_empty(files.records[i]) {
+        return Answer::Refused(Refusal::Claim);
+    }
+    if barred {
+        return Answer::Refused(Refusal::Claim);
+    }
+    Answer::Done
 }
 
 // What a claim or a release answers, and the claim record after it.
@@ -142,29 +159,26 @@ pub fn claim(
 ) -> ClaimAnswer
     ensures { λ r. ⌜ leaving (answerGiven (r .answer)) (world s state (r .claims) (now (heap .entry)) (now (ids .entry)) (now (locations .entry))) ≡ claimCall (world s state claims (now (heap .entry)) (now (ids .entry)) (now (locations .entry))) slot ⌝ }
 {
-    if refused(s, heap.len() as u64, ids, locations, state) {
-        return ClaimAnswer {
-            answer: Answer::Refused(Refusal::Limits),
+    match decided(
+        s,
+        state,
+        heap,
+        ids,
+        locations,
+        slot,
+        is_claimed(claims, slot),
+    ) {
+        Answer::Refused(refusal) => ClaimAnswer {
+            answer: Answer::Refused(refusal),
             claims: claims,
-        };
-    }
-    let files = state.files;
-    if not_a_file(s, heap.len() as u64, files, slot) {
-        return ClaimAnswer {
-            answer: Answer::Refused(Refusal::Claim),
-            claims: claims,
-        };
-    }
-    if is_claimed(claims, slot) {
-        return ClaimAnswer {
-            answer: Answer::Refused(Refusal::Claim),
-            claims: claims,
-        };
-    }
-    let after = with_claim(claims, slot);
-    ClaimAnswer {
-        answer: Answer::Done,
-        claims: after,
+        },
+        Answer::Done => {
+            let after = with_claim(claims, slot);
+            ClaimAnswer {
+                answer: Answer::Done,
+                claims: after,
+            }
+        }
     }
 }
 
@@ -180,29 +194,26 @@ pub fn release(
 ) -> ClaimAnswer
     ensures { λ r. ⌜ leaving (answerGiven (r .answer)) (world s state (r .claims) (now (heap .entry)) (now (ids .entry)) (now (locations .entry))) ≡ releaseCall (world s state claims (now (heap .entry)) (now (ids .entry)) (now (locations .entry))) slot ⌝ }
 {
-    if refused(s, heap.len() as u64, ids, locations, state) {
-        return ClaimAnswer {
-            answer: Answer::Refused(Refusal::Limits),
+    match decided(
+        s,
+        state,
+        heap,
+        ids,
+        locations,
+        slot,
+        !is_claimed(claims, slot),
+    ) {
+        Answer::Refused(refusal) => ClaimAnswer {
+            answer: Answer::Refused(refusal),
             claims: claims,
-        };
-    }
-    let files = state.files;
-    if not_a_file(s, heap.len() as u64, files, slot) {
-        return ClaimAnswer {
-            answer: Answer::Refused(Refusal::Claim),
-            claims: claims,
-        };
-    }
-    if !is_claimed(claims, slot) {
-        return ClaimAnswer {
-            answer: Answer::Refused(Refusal::Claim),
-            claims: claims,
-        };
-    }
-    let after = without_claim(claims, slot);
-    ClaimAnswer {
-        answer: Answer::Done,
-        claims: after,
+        },
+        Answer::Done => {
+            let after = without_claim(claims, slot);
+            ClaimAnswer {
+                answer: Answer::Done,
+                claims: after,
+            }
+        }
     }
 }
 
@@ -216,9 +227,9 @@ pub fn counts(
 ) -> CountsAnswer
     ensures { λ r. ⌜ ((claims : Claims) → leaving (countsGiven r) (world s state claims (now (heap .entry)) (now (ids .entry)) (now (locations .entry))) ≡ countsCall (world s state claims (now (heap .entry)) (now (ids .entry)) (now (locations .entry)))) ⌝ }
 {
-    if refused(s, heap.len() as u64, ids, locations, state) {
+    let files = state.files;
+    if refused_apart(s, heap.len() as u64, ids, locations, rest_of(state), files) {
         return CountsAnswer::CountsRefused(Refusal::Limits);
     }
-    let files = state.files;
     CountsAnswer::Counted(file_map::counts(files))
 }

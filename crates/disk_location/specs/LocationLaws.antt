@@ -61,6 +61,11 @@ pub masked-batch : (x : ℕ) → x < 2 ^ 62 → maskedOf (x + 2 ^ 62) ≡ x
 unfolding maskedOf
 masked-batch x h = omega arith
 
+-- a masked position above 0 is one of an lsn above 0
+pub masked-pos : (n : ℕ) → 0 < maskedOf n → 0 < n
+unfolding maskedOf
+masked-pos n h = omega arith
+
 -- with the bit a position below 2^62 is that much greater
 pub batch-plain : (x : ℕ) → x < 2 ^ 62 → batchOf x ≡ x + 2 ^ 62
 unfolding batchOf

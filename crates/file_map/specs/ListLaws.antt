@@ -36,12 +36,6 @@ lsns-with-lives (r ∷ rs) (l ∷ ls) = ap (λ (ns : List ℕ). r .lsn ∷ ns) (
 pub file-for-with-lives : (rs : List Record) (ls : List ℕ) (location : ℕ) → fileFor (withLives rs ls) location ≡ lsnAt (lsnsOf rs) location
 file-for-with-lives rs ls location = file-for-lsns (withLives rs ls) location ∙ ap (λ (ns : List ℕ). lsnAt ns location) (lsns-with-lives rs ls)
 
-pub length-with-lives : (rs : List Record) (ls : List ℕ) → length (withLives rs ls) ≡ length rs
-unfolding withLives
-length-with-lives [] ls = refl
-length-with-lives (r ∷ rs) [] = refl
-length-with-lives (r ∷ rs) (l ∷ ls) = ap suc (length-with-lives rs ls)
-
 -- one count changed in the list is one record changed
 set-lives : (rs : List Record) (ls : List ℕ) (k v : ℕ) → length ls ≡ length rs
     → set (withLives rs ls) k (withLive (recordAt (withLives rs ls) k) v) ≡ withLives rs (set ls k v)

@@ -6,7 +6,7 @@ use rules::Slot;
 ghost use mathlib.Core.Path.{_≡_};
 ghost use Prim.Native.Nat.{ℕ, _<_, _≤_};
 ghost use lib.ListN.{set, length};
-ghost use Rattle.rules.specs.FileMap.{emptyRecord, isEmpty, withLive, noFiles, emptySlots, lowestEmpty, fileFor, lessLive};
+ghost use Rattle.rules.specs.FileMap.{emptyRecord, isEmpty, withLive, noFiles, lowestEmpty, fileFor, lessLive};
 ghost use Rattle.rules.specs.Label.{outOfBounds};
 ghost use Rattle.rules.specs.Counts.{countsOf};
 ghost use Rattle.rules.specs.declared.Slot.the-variants.{Is};
@@ -128,22 +128,6 @@ pub fn lowest_empty(m: FileMap, n: usize) -> usize
         i += 1;
     }
     n
-}
-
-// How many of the heap's n slots are empty.
-pub fn empty_count(m: FileMap, n: usize) -> usize
-    requires { ⌜ n ≤ 256 ⌝ }
-    ensures { λ k. ⌜ k ≡ length (emptySlots n (m .records)) ⌝ }
-{
-    let mut count: usize = 0;
-    let mut i: usize = 0;
-    while i < n {
-        if is_empty(m.records[i]) {
-            count += 1;
-        }
-        i += 1;
-    }
-    count
 }
 
 // "Files, bytes, present, live, summed over files."

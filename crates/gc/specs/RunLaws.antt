@@ -1,15 +1,11 @@
 -- The steps of the call: its groups, its end, and what is known from group to group.
 use mathlib.Core.Path.{_≡_, refl, sym, _∙_}
 use mathlib.Core.Bool.{true≢false}
-use mathlib.Core.Logic.{_⊎_, inl, inr}
 use Prim.Native.Nat.{_≤_, _<_}
 use native.Mathlib.Omega.{arith}
-use lib.ListN.{List·getD-eq-default}
 use borrow.Author.Tests.{lt-ltb, le-ltb}
-use Rattle.numbers.specs.GroupLaws.{either-way}
-use Rattle.rules.specs.Base.{Bool, true, false, List, ℕ, length, getD, pick}
+use Rattle.rules.specs.Base.{true, false, List, ℕ, length}
 use Rattle.rules.specs.declared.Settings.{Settings}
-use Rattle.rules.specs.declared.Record.{Record}
 use Rattle.rules.specs.declared.State.{State}
 use Rattle.rules.specs.declared.Claims.{Claims}
 use Rattle.rules.specs.declared.Answer.{Answer}
@@ -18,16 +14,15 @@ use Rattle.rules.specs.declared.Refusal.the-variants.{Limits}
 use Rattle.rules.specs.declared.MaintainAnswer.the-variants.{Stopped}
 use Rattle.rules.specs.Refusal.{decide}
 use Rattle.rules.specs.Layout.{Buffers}
-use Rattle.rules.specs.FileMap.{isEmpty, recordAt, fileCount}
+use Rattle.rules.specs.FileMap.{isEmpty, recordAt}
 use Rattle.rules.specs.SettingsLaws.{slot-within}
 use Rattle.rules.specs.Condition1.{refused1}
 use Rattle.rules.specs.Condition1Laws.{Passed}
-use Rattle.rules.specs.Maintenance.{newGeneration, isCandidate, Stop, going, Course, rewriteGroup, onward, groupsFrom, courseOf, finished, maintainCall}
-use Rattle.rules.specs.MaintenanceLaws.{candidate}
+use Rattle.rules.specs.Maintenance.{Stop, going, Course, rewriteGroup, onward, groupsFrom, courseOf, finished, maintainCall}
 use Rattle.rules.specs.Prune.{pruned}
 use Rattle.rules.specs.World.{World, recordsOf, maintainGiven, leaving}
-use Rattle.gc_group.specs.Plan.{planFor, planOf, group-planned, plan-length, plan-at}
-use Rattle.gc_group.specs.Source.{Ready, passed-lie}
+use Rattle.gc_group.specs.Plan.{planOf, group-planned, plan-length}
+use Rattle.gc_group.specs.Source.{Ready, passed-lie, plan-files}
 use Rattle.gc_rewrite.specs.Courses.{courseGiven}
 use Rattle.gc.specs.declared.Halt.{Halt}
 use Rattle.gc.specs.declared.Halt.the-variants.{Going, Halted}
@@ -35,24 +30,6 @@ use Rattle.gc.specs.declared.Run.{Run}
 use Rattle.gc.specs.Runs.{isGoing, stopOf, stopGiven, standing, answerOf, byPlan, Underway}
 
 -- ---- what is known from group to group
-plan-file : (s : Settings) (claims : Claims) (files slot : ℕ) (r : Record) → 0 < planFor s claims files slot r → isEmpty r ≡ false
-unfolding planFor
-plan-file s claims files slot r h = go (isCandidate s claims files slot r) refl h
-  where
-    go : (t : Bool) → isCandidate s claims files slot r ≡ t → 0 < pick t (newGeneration (r .generation)) 0 → isEmpty r ≡ false
-    go true e h = candidate s claims files slot r e .file
-    go false e h = absurd (omega arith)
-
--- a slot of the plan has a file
-pub plan-files : (s : Settings) (claims : Claims) (rs : List Record) (k : ℕ) → 0 < getD (planOf s claims rs) k 0 → isEmpty (recordAt rs k) ≡ false
-plan-files s claims rs k h = go (either-way k (length rs))
-  where
-    go : (k < length rs) ⊎ (length rs ≤ k) → isEmpty (recordAt rs k) ≡ false
-    go (inl i) = let n = plan-at s claims rs k i in plan-file s claims (fileCount rs) k (recordAt rs k) (omega arith)
-    go (inr i) =
-        let z : getD (planOf s claims rs) k 0 ≡ 0 = List·getD-eq-default (planOf s claims rs) 0 {n = k} (omega (arith, plan-length s claims rs)) in
-        absurd (omega arith)
-
 -- as the call starts
 pub under-start : (s : Settings) (claims : Claims) (n : ℕ) (b : Buffers) (t : State) → Passed s n b t → length (t .files .records) ≡ 256
     → Underway s n b t (planOf s claims (t .files .records))

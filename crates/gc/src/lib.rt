@@ -118,14 +118,15 @@ fn generations(
     ensures { λ r. ⌜ ((c : Claims) → standing r (world settings (r .state) c (now (heap .exit)) (now (ids .exit)) (now (locations .exit))) ≡ byPlan (now (plan .entry)) (world settings state c (now (heap .entry)) (now (ids .entry)) (now (locations .entry)))) ⌝ }
     ensures { λ r. ⌜ Underway settings (length (now (heap .exit))) (table (now (ids .exit)) (now (locations .exit))) (r .state) (now (plan .entry)) ⌝ }
 {
-    let start = Run {
+    let mut run = Run {
         halt: Halt::Going,
         moved: 0,
         state: state,
     };
-    let first = generation_step(settings, start, heap, ids, locations, plan, 1);
-    let second = generation_step(settings, first, heap, ids, locations, plan, 2);
-    generation_step(settings, second, heap, ids, locations, plan, 3)
+    run = generation_step(settings, run, heap, ids, locations, plan, 1);
+    run = generation_step(settings, run, heap, ids, locations, plan, 2);
+    run = generation_step(settings, run, heap, ids, locations, plan, 3);
+    run
 }
 
 // "Candidates, fixed as the call starts": their plan is made once.

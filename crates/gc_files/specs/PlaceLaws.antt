@@ -7,7 +7,7 @@ use native.Mathlib.Numerals.{add-one}
 use native.Mathlib.Omega.{arith}
 use borrow.Author.Tests.{eq-eqb, ne-eqb}
 use lib.Seq.{take-suc-set, drop-set-lt}
-use Rattle.rules.specs.Base.{Bool, true, false, List, [], _∷_, _++_, ℕ, _+_, _^_, length, getD, set, take, drop, eqb, pick}
+use Rattle.rules.specs.Base.{Bool, true, false, List, [], _∷_, _++_, ℕ, _+_, _^_, length, getD, set, take, drop, eqb, pick, suc}
 use Rattle.rules.specs.TurnLaws.{left-next, left-none}
 use Rattle.rules.specs.Ops.{put, delete, Op, sizeOf, shardFor}
 use Rattle.gc_split.specs.Tally.{Tally, taking, tallyFrom, pieceIn, piecesFrom, inPiece}
@@ -59,6 +59,14 @@ module _ (target slotSize : ℕ) (heap xs ps : List ℕ) (i : ℕ) where
   pub along-pieces-end : length xs ≤ i → (gs : List ℕ) (t : Tally) → piecesAlong target slotSize heap (drop i xs) (drop i ps) (drop i gs) t ≡ drop i gs
   unfolding piecesAlong
   along-pieces-end h gs t = rw (left-none xs i h) refl
+
+-- each entry has its piece
+pub along-length : (target slotSize : ℕ) (heap xs ps gs : List ℕ) (t : Tally) → length (piecesAlong target slotSize heap xs ps gs t) ≡ length gs
+unfolding piecesAlong
+along-length target slotSize heap [] ps gs t = refl
+along-length target slotSize heap (x ∷ xs) [] gs t = refl
+along-length target slotSize heap (x ∷ xs) (p ∷ ps) [] t = refl
+along-length target slotSize heap (x ∷ xs) (p ∷ ps) (g ∷ gs) t = ap suc (along-length target slotSize heap xs ps gs (entryTaken target slotSize heap x p t))
 
 -- ---- the operations with one number are those of one piece
 pub filed-piece : (target slotSize piece : ℕ) (heap xs ps gs : List ℕ) (t : Tally) → length xs ≤ length gs

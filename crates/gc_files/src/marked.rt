@@ -1,12 +1,11 @@
 use disk_location::DiskLocation;
 ghost use mathlib.Core.Path.{_≡_};
 ghost use Prim.Native.Nat.{_+_, _*_, _-_, _^_, _<_, _≤_};
-ghost use lib.ListN.{length, getD};
 ghost use Rattle.numbers.specs.Parts.{front};
 ghost use Rattle.gc_files.specs.Places.{placeFor, placesFor, Placeable, Placeables};
 
 // Where the operation of an entry stands: 0 where it is not marked, 1 for a delete, else its object in the slot of its mark.
-fn place_of(location: u64, mark: u16, lsns: &[u64], slot_bytes: u64) -> u32
+fn place_of(location: u64, mark: u32, lsns: &[u64], slot_bytes: u64) -> u32
     requires { ⌜ «slot_bytes» ≤ 2 ^ 20 ⌝ }
     requires { ⌜ Placeable (now lsns) location mark ⌝ }
     ensures { λ r. ⌜ r ≡ placeFor «slot_bytes» (now (lsns .entry)) location mark ⌝ }
@@ -26,7 +25,7 @@ fn place_of(location: u64, mark: u16, lsns: &[u64], slot_bytes: u64) -> u32
 // Of every entry of the table.
 pub fn place_all(
     locations: &[u64],
-    marks: &[u16],
+    marks: &[u32],
     lsns: &[u64],
     slot_bytes: u64,
     places: &mut [u32],

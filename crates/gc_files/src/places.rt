@@ -1,7 +1,7 @@
 use batch::Operation;
 use numbers::little_endian;
 ghost use mathlib.Core.Path.{_≡_};
-ghost use Prim.Native.Nat.{_+_, _^_, _<_, _≤_};
+ghost use Prim.Native.Nat.{_+_, _^_, _<_};
 ghost use lib.ListN.{length};
 ghost use Rattle.numbers.specs.Choice.{pick};
 ghost use Rattle.disk_location.specs.Locations.{shardOf};

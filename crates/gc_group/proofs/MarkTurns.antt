@@ -1,28 +1,22 @@
 -- One turn of each loop over marks, objects and entries.
 use mathlib.Core.Path.{_≡_, sym, ap, _∙_, subst}
 use Prim.Native.Nat.{_≤_, _<_}
-use native.Mathlib.Nat.{le-of-suc-le-suc, not-suc-le-zero, zero-add}
+use native.Mathlib.Nat.{zero-add}
 use native.Mathlib.Omega.{arith}
 use lib.ListN.{length-drop}
 use borrow.Author.Tests.{eq-eqb, ne-eqb}
-use Rattle.rules.specs.Base.{Bool, false, List, [], _∷_, ℕ, zero, suc, _+_, length, getD, drop, eqb, pick, each}
+use Rattle.rules.specs.Base.{Bool, false, List, ℕ, _+_, length, getD, drop, eqb, pick, each}
 use Rattle.rules.specs.BaseLaws.{All}
 use Rattle.rules.specs.TurnLaws.{sum-next, sum-end, each-next, each-end}
 use Rattle.rules.specs.declared.Entry.{Entry}
 use Rattle.disk_location.specs.Locations.{rawOf}
 use Rattle.rules.specs.Object.{Stored, storedAt}
+use Rattle.rules.specs.Table.{noEntry}
 use Rattle.slot_file.specs.declared.Header.{Header}
 use Rattle.slot_file.specs.Objects.{objectsAt, objects-next, objects-end, Walked, CutOff}
-use Rattle.trailer.specs.Entries.{noEntry}
 use Rattle.gc_group.specs.Clear.{Inside}
 use Rattle.gc_group.specs.Marks.{current, objectId, deleteId, marked, marksSet}
 use Rattle.gc_group.specs.MarkLaws.{mark-append, mark-none}
-
--- what every element has, the one at i has
-pub all-at : {A : Type 0} (P : A → Type 0) (xs : List A) (i : ℕ) (d : A) → All P xs → i < length xs → P (getD xs i d)
-all-at P [] i d a h = absurd (not-suc-le-zero h)
-all-at P (x ∷ xs) zero d a h = a .0
-all-at P (x ∷ xs) (suc i) d a h = all-at P xs i d (a .1) (le-of-suc-le-suc h)
 
 -- ---- the marks that are set, from place i on
 module _ (ms : List ℕ) (i : ℕ) (h : i < length ms) where

@@ -18,8 +18,7 @@ use Rattle.rules.specs.Trailer.{countIn, trailerTests, entriesIn}
 use Rattle.rules.specs.SlotFile.{objectPart, trailerPart}
 use Rattle.rules.specs.Maintenance.{movedTests, deleteTests, fileTests}
 use Rattle.trailer.specs.Entries.{clear-fits}
-use Rattle.gc_group.specs.Source.{Source, fileAt, bytesAt}
-use Rattle.gc_group.specs.Checks.{entryTests, groupChecks, Whole, moved-whole, file-tests}
+use Rattle.gc_group.specs.Checks.{entryTests, Whole, moved-whole, file-tests}
 
 -- both parts of a list of tests are clear
 pub clear-both : (xs ys : List Test) → decide (xs ++ ys) ≡ Done → (decide xs ≡ Done) × (decide ys ≡ Done)
@@ -72,13 +71,3 @@ module _ (limit : ℕ) (table : List Entry) (r : Record) (slot : List ℕ) (e : 
     deletes = all-map _ (SumFits (r .lsn)) (entriesIn (trailerPart r slot)) (λ d h. entry-clear (r .lsn) table d h)
         (clear-each (entryTests (r .lsn) table) (entriesIn (trailerPart r slot)) (clear-both (each (movedTests limit table) (objectsIn (objectPart r slot))) _ (parts .1) .1));
   }
-
--- every file of a group
-abbrev pub GroupClear : Source → List ℕ → Type 0
-GroupClear s slots = All (λ (k : ℕ). Clear (fileAt s k) (bytesAt s k)) slots
-
-pub group-clear : (limit : ℕ) (s : Source) (slots : List ℕ) → decide (groupChecks limit s slots) ≡ Done → GroupClear s slots
-unfolding groupChecks
-group-clear limit s slots e =
-    all-map _ (λ (k : ℕ). Clear (fileAt s k) (bytesAt s k)) slots (λ k d. file-clear limit (s .table) (fileAt s k) (bytesAt s k) d)
-    (clear-each (λ (k : ℕ). fileTests limit (s .table) (fileAt s k) (bytesAt s k)) slots e)

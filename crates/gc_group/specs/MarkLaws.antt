@@ -5,9 +5,9 @@ use Prim.Native.Nat.{_≤_, _<_}
 use native.Mathlib.Nat.{le-of-suc-le-suc, not-suc-le-zero, zero-add}
 use native.Mathlib.Omega.{arith}
 use lib.ListN.{length-replicate}
-use borrow.Author.Tests.{eq-eqb, ne-eqb, eqb-true}
+use borrow.Author.Tests.{eq-eqb, ne-eqb}
 use Rattle.rules.specs.Base.{Bool, true, false, _||_, List, [], _∷_, _++_, map, ℕ, zero, suc, _+_, _-_, _^_, length, getD, drop, set, replicate, eqb, pick, any, keep, each, sum}
-use Rattle.rules.specs.BaseLaws.{All, all-map, same?}
+use Rattle.rules.specs.BaseLaws.{All, all-map, same?, all-append, any-append}
 use Rattle.rules.specs.declared.Entry.{Entry}
 use Rattle.rules.specs.declared.Record.{Record}
 use Rattle.rules.specs.declared.Held.{Held}
@@ -20,14 +20,14 @@ use Rattle.slot_file.specs.Objects.{objectsAt, objects-start, objects-next, obj
 use Rattle.numbers.specs.GroupLaws.{either-way}
 use Rattle.rules.specs.Trailer.{absolute}
 use Rattle.rules.specs.SlotFile.{objectPart, trailerEntries}
-use Rattle.rules.specs.Table.{lookup, mappedTo}
+use Rattle.rules.specs.Table.{lookup, mappedTo, noEntry}
 use Rattle.rules.specs.Ops.{Content, put, delete, Op, settled}
-use Rattle.rules.specs.OpsLaws.{RisingOps, ops-end, ops-rise}
-use Rattle.rules.specs.SettledLaws.{Last, silent, last, orEarlier, saidBy, lastOn, settled-rising, settled-last, last-below, ops-ext}
+use Rattle.rules.specs.OpsLaws.{RisingOps, ops-end, ops-rise, ops-lower}
+use Rattle.rules.specs.SettledLaws.{Last, silent, last, orEarlier, saidBy, lastOn, settled-rising, settled-last, last-below, ops-ext, or-silent, last-append, said-other, or-assoc}
 use Rattle.rules.specs.Maintenance.{objectsFound, deletesOf, deletesFound, found}
-use Rattle.rules.specs.TableLaws.{Rising, rise, lookup-here, lookup-next}
+use Rattle.rules.specs.TableLaws.{Rising, rise, lookup-here, lookup-next, mapped-to}
 use Rattle.rules.specs.World.{World, mappings}
-use Rattle.location_table.specs.EntryLaws.{noEntry, rising-lt}
+use Rattle.location_table.specs.EntryLaws.{rising-lt}
 use Rattle.gc_group.specs.Source.{Source, sourceOf, fileAt, bytesAt}
 use Rattle.gc_group.specs.Checks.{each-keep}
 use Rattle.gc_group.specs.Marks.{foundFile, foundAt, idsOf, among, current, objectId, deleteId, marked, marksFrom, marksOf, contentAt, markedOps, marksSet}
@@ -46,10 +46,6 @@ module _ {A : Type 0} where
   all-made : {B : Type 0} (P : B → Type 0) (g : A → B) (xs : List A) → All (λ (x : A). P (g x)) xs → All P (map g xs)
   all-made P g [] a = tt
   all-made P g (x ∷ xs) a = (a .0, all-made P g xs (a .1))
-
-all-append : {A : Type 0} (P : A → Type 0) (xs ys : List A) → All P xs → All P ys → All P (xs ++ ys)
-all-append P [] ys a b = b
-all-append P (x ∷ xs) ys a b = (a .0, all-append P xs ys (a .1) b)
 
 all-true : {A : Type 0} (xs : List A) → All (λ (x : A). Unit {0}) xs
 all-true [] = tt
@@ -100,10 +96,6 @@ pub record Stands (s : Source) (k : ℕ) (o : Op) : Type 0 where
   pub location : ℕ
   pub mapped : lookup (s .table) (o .id) ≡ Mapped location
   pub content : o .content ≡ contentAt s location k
-
-pub mapped-to : (h : Held) (l : ℕ) → mappedTo h l ≡ true → h ≡ Mapped l
-mapped-to (Mapped m) l e = ap Mapped (eqb-true m l e)
-mapped-to Unmapped l e = absurd (let z : _≡_ {A = ℕ} 0 1 = cc in omega arith)
 
 -- an object of the walk is what stands at its position
 abbrev pub AtPosition : List ℕ → Stored → Type 0
@@ -167,24 +159,8 @@ word-zero s Unmapped = refl
 word-some : (s : Source) (l k : ℕ) → wordOf s (Mapped l) (suc k) ≡ last (contentAt s l k)
 word-some s l k = let e : suc k - 1 ≡ k = omega arith in rw (ne-eqb (suc k) 0 (λ z. omega arith), e) refl
 
-or-silent : (l : Last) → orEarlier l silent ≡ l
-or-silent silent = refl
-or-silent (last c) = refl
-
-or-assoc : (a b c : Last) → orEarlier a (orEarlier b c) ≡ orEarlier (orEarlier a b) c
-or-assoc (last x) b c = refl
-or-assoc silent b c = refl
-
-last-append : (xs ys : List Op) (x : ℕ) → lastOn (xs ++ ys) x ≡ orEarlier (lastOn ys x) (lastOn xs x)
-unfolding lastOn
-last-append [] ys x = sym (or-silent (lastOn ys x))
-last-append (o ∷ xs) ys x = ap (λ (l : Last). orEarlier l (saidBy o x)) (last-append xs ys x) ∙ sym (or-assoc (lastOn ys x) (lastOn xs x) (saidBy o x))
-
 said-here : (o : Op) (x : ℕ) → o .id ≡ x → saidBy o x ≡ last (o .content)
 said-here o x e = rw (eq-eqb (o .id) x e) refl
-
-said-other : (o : Op) (x : ℕ) → (o .id ≡ x → ⊥) → saidBy o x ≡ silent
-said-other o x e = rw (ne-eqb (o .id) x e) refl
 
 among-here : (x n : ℕ) (ns : List ℕ) → n ≡ x → among x (n ∷ ns) ≡ true
 unfolding any
@@ -297,10 +273,6 @@ word-from s (k ∷ ks) ms x n =
     ∙ ap (λ (w : Last). orEarlier w now) (sym (last-append (foundAt s k) (each (foundAt s) ks) x))
 
 -- ---- the marked entries
-weaken : (f g : ℕ) (ops : List Op) → g ≤ f → RisingOps f ops → RisingOps g ops
-weaken f g [] h r = ops-end
-weaken f g (o ∷ os) h (ops-rise a r) = let low : g ≤ o .id = omega arith in ops-rise low r
-
 -- their ids rise
 pub marked-rising : (s : Source) (f : ℕ) (es : List Entry) (ms : List ℕ) → Rising f es → RisingOps f (markedOps s es ms)
 unfolding markedOps
@@ -310,7 +282,7 @@ marked-rising s f (e ∷ es) (m ∷ ms) (rise a r) = go (eqb m 0) (marked-rising
   where
     go : (t : Bool) → RisingOps (suc (e .id)) (markedOps s es ms)
         → RisingOps f (pick t (markedOps s es ms) (record { id = e .id; content = contentAt s (e .location) (m - 1) } ∷ markedOps s es ms))
-    go true ih = weaken (suc (e .id)) f (markedOps s es ms) (omega arith) ih
+    go true ih = ops-lower (suc (e .id)) f (markedOps s es ms) (omega arith) ih
     go false ih = ops-rise a ih
 
 -- and each says what its mark says
@@ -356,12 +328,6 @@ unfolding found
 marked-found w slots n r h = marked-settled (sourceOf w) slots n r h
 
 -- ---- how many
--- no mark is set at first
-pub blank-at : (n i : ℕ) → getD (replicate {A = ℕ} n 0) i 0 ≡ 0
-blank-at zero i = refl
-blank-at (suc n) zero = refl
-blank-at (suc n) (suc i) = blank-at n i
-
 -- marks behind the table are not counted, and none is set there
 marks-past : (m : ℕ) (ids : List ℕ) (es : List Entry) (ms : List ℕ) → drop (length es) (marked m ids es ms) ≡ drop (length es) ms
 unfolding marked
@@ -437,15 +403,6 @@ mark-none m [] ms = refl
 mark-none m (e ∷ es) [] = refl
 mark-none m (e ∷ es) (n ∷ ns) = ap (λ (l : List ℕ). n ∷ l) (mark-none m es ns)
 
-among-append : (x : ℕ) (ms ns : List ℕ) → among x (ms ++ ns) ≡ (among x ms || among x ns)
-unfolding any
-among-append x [] ns = refl
-among-append x (m ∷ ms) ns = ap (λ (t : Bool). eqb m x || t) (among-append x ms ns) ∙ go (eqb m x)
-  where
-    go : (t : Bool) → (t || (among x ms || among x ns)) ≡ ((t || among x ms) || among x ns)
-    go true = refl
-    go false = refl
-
 -- these ids, then those
 pub mark-append : (m : ℕ) (xs ys : List ℕ) (es : List Entry) (ms : List ℕ) → marked m (xs ++ ys) es ms ≡ marked m ys es (marked m xs es ms)
 unfolding marked
@@ -459,7 +416,7 @@ mark-append m xs ys (e ∷ es) (n ∷ ns) = ap₂ (λ (v : ℕ) (l : List ℕ). 
     over false u = refl
 
     both : (xs : List ℕ) → pick (among (e .id) (xs ++ ys)) m n ≡ pick (among (e .id) ys) m (pick (among (e .id) xs) m n)
-    both xs = ap (λ (t : Bool). pick t m n) (among-append (e .id) xs ys) ∙ over (among (e .id) xs) (among (e .id) ys)
+    both xs = ap (λ (t : Bool). pick t m n) (any-append (λ (i : ℕ). eqb i (e .id)) xs ys) ∙ over (among (e .id) xs) (among (e .id) ys)
 
 -- ---- the ids of what is found, object by object and entry by entry
 ids-kept : {A : Type 0} (f : A → Bool) (g : A → Op) (xs : List A) → idsOf (map g (keep f xs)) ≡ each (λ (x : A). pick (f x) (g x .id ∷ []) []) xs

@@ -6,11 +6,11 @@ use Prim.Native.Nat.{_≤_, _<_}
 use native.Mathlib.Nat.{le-of-suc-le-suc, not-suc-le-zero}
 use native.Mathlib.Numerals.{add-one}
 use native.Mathlib.Omega.{arith}
-use lib.ListN.{length-drop, length-replicate, drop-of-length-le}
-use lib.Seq.{drop-cons, length-take-le}
+use lib.ListN.{length-replicate, drop-of-length-le}
+use lib.Seq.{drop-cons}
 use borrow.Author.Tests.{eq-eqb, ne-eqb}
 use Rattle.rules.specs.Base.{Bool, true, false, List, [], _∷_, ℕ, zero, suc, _+_, _-_, length, getD, drop, replicate, eqb, pick, any}
-use Rattle.rules.specs.BaseLaws.{All, same?}
+use Rattle.rules.specs.BaseLaws.{All, same?, all-both, replicate-at}
 use Rattle.rules.specs.declared.Entry.{Entry}
 use Rattle.rules.specs.declared.Held.the-variants.{Mapped}
 use Rattle.rules.specs.declared.Answer.the-variants.{Done}
@@ -20,16 +20,16 @@ use Rattle.rules.specs.Refusal.{decide}
 use Rattle.rules.specs.Object.{Stored, storedAt, objectsIn}
 use Rattle.rules.specs.Trailer.{absolute}
 use Rattle.rules.specs.SlotFile.{objectPart}
-use Rattle.rules.specs.Table.{lookup, mappedTo}
-use Rattle.rules.specs.TableLaws.{Rising, mapped-one}
+use Rattle.rules.specs.Table.{lookup, mappedTo, noEntry}
+use Rattle.rules.specs.TableLaws.{Rising, mapped-one, mapped-to}
 use Rattle.rules.specs.Ops.{put, delete, Op}
 use Rattle.rules.specs.Maintenance.{fileTests}
-use Rattle.location_table.specs.EntryLaws.{noEntry, rising-lt, place-found, found-tells}
+use Rattle.location_table.specs.EntryLaws.{rising-lt, place-found, found-tells}
 use Rattle.gc_group.specs.Source.{Source, fileAt, bytesAt}
 use Rattle.gc_group.specs.Checks.{groupChecks, Whole}
 use Rattle.gc_group.specs.Clear.{clear-each, file-whole}
 use Rattle.gc_group.specs.Marks.{foundAt, idsOf, among, marked, marksFrom, marksOf, objectOf, contentAt, markedOps}
-use Rattle.gc_group.specs.MarkLaws.{AtPosition, objects-stand, mapped-to, found-each, among-next, marked-length, blank-at}
+use Rattle.gc_group.specs.MarkLaws.{AtPosition, objects-stand, found-each, among-next, marked-length}
 
 -- ---- a turn over the marked entries
 module _ (s : Source) (es : List Entry) (ms : List ℕ) (i : ℕ) (h : i < length es) (l : i < length ms) where
@@ -64,11 +64,6 @@ pub record Moves (limit : ℕ) (s : Source) (e : Entry) (k : ℕ) : Type 0 where
 abbrev pub Backed : ℕ → Source → Entry → ℕ → Type 0
 Backed limit s e k = deleteOf (e .location) ≡ false → Moves limit s e k
 
--- the body of an object that lies within has the length that its header says
-pub body-length : (position : ℕ) (bytes : List ℕ) → let o = storedAt position bytes in 20 + o .size ≤ o .room → length (o .body) ≡ o .size
-unfolding storedAt
-body-length position bytes h = length-take-le _ (drop 20 bytes) (omega (arith, h, length-drop 20 bytes))
-
 -- what is found, with where it stands
 record Found (limit : ℕ) (s : Source) (k : ℕ) (o : Op) : Type 0 where
   location : ℕ
@@ -99,15 +94,11 @@ found-delete limit s k e d h =
       backed = λ n. absurd (true≢false (sym (delete-raw (positionOf (e .location) + fileAt s k .lsn) (deleteOf (e .location)) ∙ d) ∙ n));
     }
 
-all-and : {A : Type 0} (P Q : A → Type 0) (xs : List A) → All P xs → All Q xs → All (λ (x : A). P x × Q x) xs
-all-and P Q [] a b = tt
-all-and P Q (x ∷ xs) a b = ((a .0, b .0), all-and P Q xs (a .1) (b .1))
-
 found-all : (limit : ℕ) (s : Source) (k : ℕ) → decide (fileTests limit (s .table) (fileAt s k) (bytesAt s k)) ≡ Done → All (Found limit s k) (foundAt s k)
 found-all limit s k clear =
     let part = objectPart (fileAt s k) (bytesAt s k) in
     found-each s k (Found limit s k) (λ (o : Stored). AtPosition part o × Whole limit (s .table) o)
-    (all-and (AtPosition part) (Whole limit (s .table)) (objectsIn part) (objects-stand part) (file-whole limit (s .table) (fileAt s k) (bytesAt s k) clear))
+    (all-both (AtPosition part) (Whole limit (s .table)) (objectsIn part) (objects-stand part) (file-whole limit (s .table) (fileAt s k) (bytesAt s k) clear))
     (λ o w e. found-object limit s k o (w .0) (w .1) e) (found-delete limit s k)
 
 -- an id that is among those of operations is one operation's
@@ -171,4 +162,4 @@ unfolding marksOf groupChecks
 marks-backed limit s P slots n r h clear all =
     good-from limit s P r slots (replicate n 0) (omega (arith, length-replicate {A = ℕ} n 0))
     (clear-each (λ (k : ℕ). fileTests limit (s .table) (fileAt s k) (bytesAt s k)) slots clear) all
-    (λ i k l e. absurd (let z : _≡_ {A = ℕ} 0 (suc k) = sym (blank-at n i) ∙ e in omega arith))
+    (λ i k l e. absurd (let z : _≡_ {A = ℕ} 0 (suc k) = sym (replicate-at {A = ℕ} n i 0) ∙ e in omega arith))

@@ -84,22 +84,21 @@ plan-some s claims files slot r h = go (isCandidate s claims files slot r) refl 
     go true e h = candidate s claims files slot r e .file
     go false e h = absurd (omega arith)
 
--- a planned slot is one of the heap's
-pub planned-within : (s : Settings) (claims : Claims) (heapLen : ℕ) (b : Buffers) (t : State) → Passed s heapLen b t
-    → (k : ℕ) → 0 < getD (planOf s claims (t .files .records)) k 0 → k * s .«slot_bytes» + s .«slot_bytes» ≤ heapLen
-planned-within s claims heapLen b t w k h = go (either-way k (length rs))
+-- a slot of the plan has a file
+pub plan-files : (s : Settings) (claims : Claims) (rs : List Record) (k : ℕ) → 0 < getD (planOf s claims rs) k 0 → isEmpty (recordAt rs k) ≡ false
+plan-files s claims rs k h = go (either-way k (length rs))
   where
-    rs : List Record
-    rs = t .files .records
-
-    go : (k < length rs) ⊎ (length rs ≤ k) → k * s .«slot_bytes» + s .«slot_bytes» ≤ heapLen
-    go (inl i) =
-        let n = plan-at s claims rs k i in
-        let some : isEmpty (recordAt rs k) ≡ false = plan-some s claims (fileCount rs) k (recordAt rs k) (omega arith) in
-        slot-within s heapLen k (w .limits .heap) (w .records k some .place)
+    go : (k < length rs) ⊎ (length rs ≤ k) → isEmpty (recordAt rs k) ≡ false
+    go (inl i) = let n = plan-at s claims rs k i in plan-some s claims (fileCount rs) k (recordAt rs k) (omega arith)
     go (inr i) =
         let z : getD (planOf s claims rs) k 0 ≡ 0 = List·getD-eq-default (planOf s claims rs) 0 {n = k} (omega (arith, plan-length s claims rs)) in
         absurd (omega arith)
+
+-- a planned slot is one of the heap's
+pub planned-within : (s : Settings) (claims : Claims) (heapLen : ℕ) (b : Buffers) (t : State) → Passed s heapLen b t
+    → (k : ℕ) → 0 < getD (planOf s claims (t .files .records)) k 0 → k * s .«slot_bytes» + s .«slot_bytes» ≤ heapLen
+planned-within s claims heapLen b t w k h =
+    slot-within s heapLen k (w .limits .heap) (w .records k (plan-files s claims (t .files .records) k h) .place)
 
 -- records and plan of a call that 1 does not refuse are ready for each of its groups
 pub ready : (s : Settings) (claims : Claims) (heapLen : ℕ) (b : Buffers) (t : State) (generation : ℕ) → Passed s heapLen b t → length (t .files .records) ≡ 256 → 0 < generation

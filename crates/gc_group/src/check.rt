@@ -2,11 +2,9 @@ use disk_location::RelativeDiskLocation;
 use location_table::load_in;
 use rules::Answer;
 use rules::Entry;
-use rules::FileMap;
 use rules::Held;
 use rules::Record;
 use rules::Refusal;
-use rules::Settings;
 use slot_file::Header;
 use slot_file::Step;
 use slot_file::object;
@@ -25,9 +23,8 @@ ghost use Rattle.rules.specs.Maintenance.{movedTests, fileTests};
 ghost use Rattle.slot_file.specs.Objects.{Walked};
 ghost use Rattle.location_table.specs.Tables.{table, Formed};
 ghost use Rattle.location_table.specs.LayoutLaws.{used};
-ghost use Rattle.gc_group.specs.Plan.{planned};
-ghost use Rattle.gc_group.specs.Source.{Lies, source, Ready};
-ghost use Rattle.gc_group.specs.Checks.{entryTests, groupChecks};
+ghost use Rattle.gc_group.specs.Source.{Lies};
+ghost use Rattle.gc_group.specs.Checks.{entryTests};
 
 // "id unmapped"
 fn unmapped(ids: &[u64], locations: &[u64], id: u64) -> bool
@@ -152,37 +149,4 @@ pub fn slot_at(heap: &[u8], slot_bytes: u64, k: usize) -> &[u8]
     let start = k * size;
     let end = start + size;
     &heap[start..end]
-}
-
-// "All files of a group are checked before it writes, ascending by slot"
-pub fn check_group(
-    s: Settings,
-    heap: &[u8],
-    m: FileMap,
-    plan: &[u64],
-    generation: u64,
-    ids: &[u64],
-    locations: &[u64],
-) -> Answer
-    requires { ⌜ Ready (s .«slot_bytes») (length (now heap)) (m .records) (now plan) generation ⌝ }
-    requires { ⌜ Formed (table (now ids) (now locations)) ⌝ }
-    ensures { λ r. ⌜ r ≡ decide (groupChecks (s .«max_object_size») (source (s .«slot_bytes») (now (heap .entry)) (m .records) (used (now (ids .entry)) (now (locations .entry)))) (planned (now (plan .entry)) generation)) ⌝ }
-{
-    let mut i: usize = 0;
-    while i < 256 {
-        if plan[i] == generation {
-            match check_file(
-                slot_at(heap, s.slot_bytes, i),
-                m.records[i],
-                ids,
-                locations,
-                s.max_object_size,
-            ) {
-                Answer::Refused(refusal) => return Answer::Refused(refusal),
-                Answer::Done => {}
-            }
-        }
-        i += 1;
-    }
-    Answer::Done
 }

@@ -1,12 +1,15 @@
+use crate::check::check_file;
 use crate::check::slot_at;
 use disk_location::DiskLocation;
 use disk_location::RelativeDiskLocation;
 use location_table::Place;
 use location_table::find;
 use location_table::location_at;
+use rules::Answer;
 use rules::Entry;
 use rules::FileMap;
 use rules::Record;
+use rules::Settings;
 use slot_file::Step;
 use slot_file::object;
 use slot_file::slot::object_part;
@@ -16,17 +19,21 @@ ghost use Prim.Native.Nat.{_+_, _*_, _^_, _<_, _≤_};
 ghost use lib.ListN.{length, replicate};
 ghost use Rattle.rules.specs.Base.{each};
 ghost use Rattle.rules.specs.BaseLaws.{All};
+ghost use Rattle.rules.specs.declared.Answer.the-variants.{Done};
+ghost use Rattle.rules.specs.Refusal.{decide};
 ghost use Rattle.rules.specs.Object.{objectsIn};
 ghost use Rattle.rules.specs.Trailer.{countIn, entriesIn};
 ghost use Rattle.location_table.specs.Tables.{table, Formed};
 ghost use Rattle.location_table.specs.LayoutLaws.{used};
+ghost use Rattle.file_map.specs.Lists.{lsnsOf};
 ghost use Rattle.gc_group.specs.Plan.{planned};
 ghost use Rattle.gc_group.specs.Source.{Lies, source, Ready};
-ghost use Rattle.gc_group.specs.Clear.{Inside, SumFits, Clear, GroupClear};
+ghost use Rattle.gc_group.specs.Checks.{groupChecks};
+ghost use Rattle.gc_group.specs.Clear.{Inside, SumFits, Clear};
 ghost use Rattle.gc_group.specs.Marks.{foundFile, idsOf, current, objectId, deleteId, marked, marksOf, marksSet};
 
 // The id's entry takes the mark where this is its current location.
-fn mark_id(ids: &[u64], locations: &[u64], marks: &mut [u16], id: u64, location: u64, mark: u16)
+fn mark_id(ids: &[u64], locations: &[u64], marks: &mut [u32], id: u64, location: u64, mark: u32)
     requires { ⌜ Formed (table (now ids) (now locations)) ⌝ }
     requires { ⌜ length (now ids) ≤ length (now marks) ⌝ }
     ensures { λ _. ⌜ now (marks .exit) ≡ marked mark (current (used (now (ids .entry)) (now (locations .entry))) id location) (used (now (ids .entry)) (now (locations .entry))) (now (marks .entry)) ⌝ }
@@ -47,8 +54,8 @@ fn mark_objects(
     lsn: u64,
     ids: &[u64],
     locations: &[u64],
-    marks: &mut [u16],
-    mark: u16,
+    marks: &mut [u32],
+    mark: u32,
 )
     requires { ⌜ All Inside (objectsIn (now objects)) ⌝ }
     requires { ⌜ lsn + length (now objects) < 2 ^ 63 ⌝ }
@@ -71,7 +78,7 @@ fn mark_objects(
 }
 
 // A delete entry; an object's entry is not looked at.
-fn mark_delete(e: Entry, lsn: u64, ids: &[u64], locations: &[u64], marks: &mut [u16], mark: u16)
+fn mark_delete(e: Entry, lsn: u64, ids: &[u64], locations: &[u64], marks: &mut [u32], mark: u32)
     requires { ⌜ SumFits lsn e ⌝ }
     requires { ⌜ Formed (table (now ids) (now locations)) ⌝ }
     requires { ⌜ length (now ids) ≤ length (now marks) ⌝ }
@@ -96,8 +103,8 @@ fn mark_deletes(
     lsn: u64,
     ids: &[u64],
     locations: &[u64],
-    marks: &mut [u16],
-    mark: u16,
+    marks: &mut [u32],
+    mark: u32,
 )
     requires { ⌜ 12 + 16 * countIn (now trailer) ≤ length (now trailer) ⌝ }
     requires { ⌜ All (SumFits lsn) (entriesIn (now trailer)) ⌝ }
@@ -119,8 +126,8 @@ pub fn mark_file(
     r: Record,
     ids: &[u64],
     locations: &[u64],
-    marks: &mut [u16],
-    mark: u16,
+    marks: &mut [u32],
+    mark: u32,
 )
     requires { ⌜ Lies (length (now slot)) r ⌝ }
     requires { ⌜ Clear r (now slot) ⌝ }
@@ -132,7 +139,7 @@ pub fn mark_file(
     mark_deletes(trailer_part(slot, r), r.lsn, ids, locations, marks, mark);
 }
 
-fn unmark(marks: &mut [u16])
+fn unmark(marks: &mut [u32])
     ensures { λ _. ⌜ now (marks .exit) ≡ replicate (length (now (marks .entry))) 0 ⌝ }
 {
     let mut i: usize = 0;
@@ -142,42 +149,47 @@ fn unmark(marks: &mut [u16])
     }
 }
 
-// "one found twice only once, as last found": a later slot's mark takes the place of an earlier one's.
+// "All files of a group are checked before it writes, ascending by slot": each is marked once it is checked, and the marks of a refused
+// group are looked at by no one. "one found twice only once, as last found": a later slot's mark takes the place of an earlier one's.
+// One walk over the records, which also gives their lsns.
 pub fn mark_group(
-    slot_bytes: u64,
+    s: Settings,
     heap: &[u8],
     m: FileMap,
     plan: &[u64],
     generation: u64,
     ids: &[u64],
     locations: &[u64],
-    marks: &mut [u16],
-)
-    requires { ⌜ Ready «slot_bytes» (length (now heap)) (m .records) (now plan) generation ⌝ }
-    requires { ⌜ GroupClear (source «slot_bytes» (now heap) (m .records) (used (now ids) (now locations))) (planned (now plan) generation) ⌝ }
+    marks: &mut [u32],
+    lsns: &mut [u64],
+) -> Answer
+    requires { ⌜ Ready (s .«slot_bytes») (length (now heap)) (m .records) (now plan) generation ⌝ }
     requires { ⌜ Formed (table (now ids) (now locations)) ⌝ }
-    requires { ⌜ length (now ids) ≤ length (now marks) ⌝ }
-    ensures { λ _. ⌜ now (marks .exit) ≡ marksOf (source «slot_bytes» (now (heap .entry)) (m .records) (used (now (ids .entry)) (now (locations .entry)))) (length (now (marks .entry))) (planned (now (plan .entry)) generation) ⌝ }
+    requires { ⌜ (length (now ids) ≤ length (now marks)) × (length (now lsns) ≡ 256) ⌝ }
+    ensures { λ r. ⌜ r ≡ decide (groupChecks (s .«max_object_size») (source (s .«slot_bytes») (now (heap .entry)) (m .records) (used (now (ids .entry)) (now (locations .entry)))) (planned (now (plan .entry)) generation)) ⌝ }
+    ensures { λ r. ⌜ (r ≡ Done → now (marks .exit) ≡ marksOf (source (s .«slot_bytes») (now (heap .entry)) (m .records) (used (now (ids .entry)) (now (locations .entry)))) (length (now (marks .entry))) (planned (now (plan .entry)) generation)) ⌝ }
+    ensures { λ r. ⌜ (r ≡ Done → now (lsns .exit) ≡ lsnsOf (m .records)) ⌝ }
 {
     unmark(marks);
     let mut i: usize = 0;
     while i < 256 {
+        let r = m.records[i];
+        lsns[i] = r.lsn;
         if plan[i] == generation {
-            mark_file(
-                slot_at(heap, slot_bytes, i),
-                m.records[i],
-                ids,
-                locations,
-                marks,
-                i as u16 + 1,
-            );
+            let slot = slot_at(heap, s.slot_bytes, i);
+            match check_file(slot, r, ids, locations, s.max_object_size) {
+                Answer::Refused(refusal) => return Answer::Refused(refusal),
+                Answer::Done => {}
+            }
+            mark_file(slot, r, ids, locations, marks, i as u32 + 1);
         }
         i += 1;
     }
+    Answer::Done
 }
 
 // "the count of ids moved", of this group.
-pub fn marks_set(marks: &[u16]) -> u64
+pub fn marks_set(marks: &[u32]) -> u64
     ensures { λ n. ⌜ n ≡ marksSet (now (marks .entry)) ⌝ }
 {
     let mut n: u64 = 0;

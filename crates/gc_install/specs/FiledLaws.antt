@@ -1,11 +1,11 @@
 -- The operations of a file of a group: each is on an id that the table has, and they are no more than its entries.
-use mathlib.Core.Path.{_≡_, refl, ap, _∙_}
-use mathlib.Core.Logic.{_⊎_, inl, inr}
+use mathlib.Core.Path.{_≡_, refl}
+use mathlib.Core.Logic.{inl, inr}
 use Prim.Native.Nat.{_≤_, _<_}
 use native.Mathlib.Omega.{arith}
 use borrow.Author.Tests.{eqb-false}
 use Rattle.rules.specs.Base.{Bool, true, false, List, [], _∷_, ℕ, zero, suc, _+_, _^_, length, getD, eqb, pick}
-use Rattle.rules.specs.BaseLaws.{All, all-map}
+use Rattle.rules.specs.BaseLaws.{All}
 use Rattle.rules.specs.declared.Entry.{Entry}
 use Rattle.rules.specs.Ops.{Op}
 use Rattle.rules.specs.OpsLaws.{IdsFit}

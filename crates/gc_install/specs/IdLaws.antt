@@ -9,7 +9,7 @@ use Rattle.rules.specs.BaseLaws.{All, all-map, order}
 use Rattle.rules.specs.declared.Entry.{Entry}
 use Rattle.rules.specs.Ops.{Op, sizeOf, entriesOf}
 use Rattle.rules.specs.Table.{insert, insertAll}
-use Rattle.rules.specs.TableLaws.{Rising, rise, rising-insert, rising-insert-all, insert-next, insert-here, insert-before}
+use Rattle.rules.specs.TableLaws.{Rising, rise, rising-insert, rising-insert-all, insert-next, insert-here}
 use Rattle.rules.specs.Layout.{Buffers, inForm, capacityOf, usedEntries, laidOut}
 use Rattle.rules.specs.LayoutLaws.{Used, used-located, used-length, form-rising, laid-out-used, laid-out-locations, used-laid-out, form-laid-out}
 use Rattle.rules.specs.FileMapLaws.{Among}

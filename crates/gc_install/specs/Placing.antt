@@ -4,7 +4,7 @@ use mathlib.Core.Bool.{true≢false}
 use Prim.Native.Nat.{_≤_, _<_}
 use native.Mathlib.Omega.{arith}
 use lib.Seq.{take-all}
-use Rattle.rules.specs.Base.{false, List, ℕ, _+_, _-_, _*_, _^_, length, getD}
+use Rattle.rules.specs.Base.{false, List, _∷_, ℕ, _+_, _-_, _*_, _^_, length, getD}
 use Rattle.rules.specs.declared.Settings.{Settings}
 use Rattle.rules.specs.declared.State.{State}
 use Rattle.rules.specs.Claims.{noClaims}
@@ -29,7 +29,7 @@ use Rattle.gc_writer.specs.Walk.{Walking}
 use Rattle.gc_writer.specs.Writing.{Writing}
 use Rattle.gc_install.specs.IdLaws.{idsIn, There, stored-fits}
 use Rattle.gc_install.specs.FiledLaws.{filed-few, filed-there, filed-fit}
-use Rattle.gc_install.specs.Rewriting.{Rewritable, Rewritten, passed-installed}
+use Rattle.gc_install.specs.Rewriting.{Rewritten, passed-installed}
 
 -- refusal 1 does not hold; places are of used entries, and each object that is to be moved stands in a slot that has a file
 pub record Placing (s : Settings) (t : State) (heap ids locations places pieces : List ℕ) : Type 0 where
@@ -56,7 +56,7 @@ pub record Left (s : Settings) (t : State) (heap ids places pieces : List ℕ) (
   pub placing : Placing s r heap′ ids′ locations′ places pieces
   pub same : ids′ ≡ ids
   pub filed : (q : ℕ) → filedOps q heap′ ids′ places pieces ≡ filedOps q heap ids places pieces
-  pub fewer : length (emptySlots (slotsIn s (length heap′)) (r .files .records)) + 1 ≡ length (emptySlots (slotsIn s (length heap)) (t .files .records))
+  pub frees : emptySlots (slotsIn s (length heap)) (t .files .records) ≡ lowestEmpty (slotsIn s (length heap)) (t .files .records) ∷ emptySlots (slotsIn s (length heap′)) (r .files .records)
   pub next : r .«next_position» ≡ t .«next_position» + (length (objectsOf ops) + 1)
 
 module _ (s : Settings) (t : State) (heap ids locations places pieces : List ℕ) (p : Placing s t heap ids locations places pieces) (piece generation : ℕ)
@@ -155,6 +155,6 @@ module _ (s : Settings) (t : State) (heap ids locations places pieces : List ℕ
           };
           same = same;
           filed = λ q. ap (λ (xs : List ℕ). filedOps q heap′ xs places pieces) same ∙ filed-elsewhere elsewhere q ids places pieces apart;
-          fewer = after .empty;
+          frees = after .empty;
           next = after .next;
         }

@@ -1,26 +1,27 @@
--- A file of a group added to a store: refusal 1 does not hold again, the table keeps its ids, and one slot fewer is empty.
-use mathlib.Core.Path.{_≡_, refl, sym, ap, _∙_, subst}
+-- A file of a group added to a store: refusal 1 does not hold again, the table keeps its ids, and the other empty slots stay empty.
+use mathlib.Core.Path.{_≡_, refl, sym, ap, _∙_}
 use mathlib.Core.Logic.{_⊎_, inl, inr}
 use Prim.Native.Nat.{_≤_, _<_}
 use native.Mathlib.Omega.{arith}
 use lib.Seq.{getD-set-same, getD-set-other}
-use Rattle.rules.specs.Base.{true, false, List, ℕ, _+_, _^_, length, set}
+use Rattle.rules.specs.Base.{false, List, _∷_, ℕ, _+_, _^_, length, set}
 use Rattle.rules.specs.BaseLaws.{same?}
 use Rattle.rules.specs.declared.Record.{Record}
 use Rattle.rules.specs.Ops.{Op, objectsOf, fileBytes}
 use Rattle.rules.specs.OpsLaws.{file-length}
 use Rattle.rules.specs.Settings.{slotsIn}
-use Rattle.rules.specs.Layout.{Buffers, capacityOf}
+use Rattle.rules.specs.Layout.{capacityOf}
 use Rattle.rules.specs.FileMap.{emptyRecord, isEmpty, recordAt, emptySlots}
 use Rattle.rules.specs.FileMapLaws.{not-empty, Lowest, lowest-empty}
 use Rattle.rules.specs.Condition1Laws.{GoodRecord, Passed}
 use Rattle.rules.specs.StoreLaws.{made-length}
 use Rattle.rules.specs.Install.{newRecord, newLsn, newSlot, losing, recordsWith, storesFor, tableWith, nextWith, installed, emptyOf}
-use Rattle.rules.specs.InstallLaws.{losing-length, losing-five, plain-lsn}
+use Rattle.rules.specs.InstallLaws.{losing-length, losing-five, plain-lsn, losing-record, installed-lsn}
 use Rattle.rules.specs.World.{World, recordsOf, slotsOf, mappings, stateWith}
+use Rattle.rules.specs.LabelLaws.{lsn-some}
 use Rattle.limits.specs.Settled.{passed-formed}
 use Rattle.gc_install.specs.IdLaws.{idsIn, There, SameIds, ids-stay}
-use Rattle.gc_install.specs.RecordLaws.{losing-less, still, still-good, empty-fewer, files-stay}
+use Rattle.gc_install.specs.RecordLaws.{still, still-good, empty-rest}
 
 -- 4, 5 and 7 do not refuse a file of these operations, which are on ids of the table
 pub record Rewritable (generation : ℕ) (w : World) (ops : List Op) : Type 0 where
@@ -39,7 +40,7 @@ pub record Rewritten (w : World) (ops : List Op) (after : World) : Type 0 where
   pub ids : after .table .ids ≡ w .table .ids
   pub used : length (mappings after) ≡ length (mappings w)
   pub files : (k : ℕ) → isEmpty (recordAt (recordsOf w) k) ≡ false → isEmpty (recordAt (recordsOf after) k) ≡ false
-  pub empty : emptyOf after + 1 ≡ emptyOf w
+  pub empty : emptySlots (slotsOf w) (recordsOf w) ≡ newSlot w ∷ emptySlots (slotsOf after) (recordsOf after)
   pub next : after .state .«next_position» ≡ w .state .«next_position» + (length (objectsOf ops) + 1)
 
 module _ (generation : ℕ) (w : World) (ops : List Op) (f : Rewritable generation w ops) where
@@ -83,7 +84,7 @@ module _ (generation : ℕ) (w : World) (ops : List Op) (f : Rewritable generati
   others : (j : ℕ) → isEmpty (recordAt (losing (mappings w) ops (recordsOf w)) j) ≡ isEmpty (recordAt (recordsOf w) j)
   others j =
       still (w .settings) (length (w .heap)) (w .table) (w .table) refl j (recordAt (recordsOf w) j) (recordAt (losing (mappings w) ops (recordsOf w)) j)
-      (losing-five (mappings w) ops (recordsOf w) j) (losing-less (mappings w) ops (recordsOf w) j) (f .passed .records j)
+      (losing-five (mappings w) ops (recordsOf w) j) (losing-record (mappings w) ops (recordsOf w) j .less) (f .passed .records j)
 
   -- and passes refusal 1, as the new one does
   records-good : (k : ℕ) → isEmpty (recordAt (recordsWith (newRecord (newLsn 0 w) generation ops) w ops) k) ≡ false
@@ -105,7 +106,7 @@ module _ (generation : ℕ) (w : World) (ops : List Op) (f : Rewritable generati
       go (inr d) =
           let same = getD-set-other old (newSlot w) k new emptyRecord d in
           rw same (still-good (w .settings) (length (w .heap)) (w .table) (tableWith (newLsn 0 w) w ops) (ap length (same-ids .ids)) k (recordAt (recordsOf w) k) (recordAt old k)
-          (losing-five (mappings w) ops (recordsOf w) k) (losing-less (mappings w) ops (recordsOf w) k) (f .passed .records k) (ap isEmpty (sym same) ∙ e))
+          (losing-five (mappings w) ops (recordsOf w) k) (losing-record (mappings w) ops (recordsOf w) k .less) (f .passed .records k) (ap isEmpty (sym same) ∙ e))
 
   -- refusal 1 does not hold
   passed-with : Passed (w .settings) (length (w .heap)) (tableWith (newLsn 0 w) w ops)
@@ -145,9 +146,10 @@ module _ (generation : ℕ) (w : World) (ops : List Op) (f : Rewritable generati
         heap = heap-after;
         ids = same-ids .ids;
         used = same-ids .used;
-        files = files-stay (slotsOf w) (recordsOf w) old new (losing-length (mappings w) ops (recordsOf w)) new-some others (f .free);
+        files = λ k e. not-empty (recordAt (recordsOf (installed 0 generation w ops)) k)
+            (installed-lsn 0 generation w ops (f .passed .next) k (lsn-some (w .settings .«slot_bytes») (recordAt (recordsOf w) k) (f .passed .records k e .bounds)));
         empty =
-            ap (λ (n : ℕ). length (emptySlots (slotsIn (w .settings) n) (set old (newSlot w) new)) + 1) heap-after
-            ∙ empty-fewer (slotsOf w) (recordsOf w) old new (losing-length (mappings w) ops (recordsOf w)) new-some others (f .free);
+            empty-rest (slotsOf w) (recordsOf w) old new (losing-length (mappings w) ops (recordsOf w)) new-some others (f .free)
+            ∙ ap (λ (n : ℕ). newSlot w ∷ emptySlots (slotsIn (w .settings) n) (set old (newSlot w) new)) (sym heap-after);
         next = refl;
       }

@@ -4,13 +4,14 @@ use rules::Record;
 use rules::Settings;
 use rules::State;
 ghost use mathlib.Core.Path.{_≡_};
+ghost use mathlib.Core.List.{_∷_};
 ghost use Prim.Native.Nat.{ℕ, _+_, _*_, _≤_, _<_, _^_};
 ghost use lib.ListN.{length};
 ghost use Rattle.rules.specs.declared.Claims.{Claims};
 ghost use Rattle.rules.specs.Settings.{slotsIn};
 ghost use Rattle.rules.specs.Ops.{objectsOf, fileBytes};
 ghost use Rattle.rules.specs.Label.{labelBytes};
-ghost use Rattle.rules.specs.FileMap.{emptySlots};
+ghost use Rattle.rules.specs.FileMap.{emptySlots, lowestEmpty};
 ghost use Rattle.rules.specs.Stores.{made, fileStores};
 ghost use Rattle.rules.specs.Install.{installed};
 ghost use Rattle.rules.specs.World.{world};
@@ -97,10 +98,15 @@ fn add_at(
     );
     let from = start + 64 + total as usize;
     let end = from + (12 + 16 * count as usize);
-    install::install(state, ids, locations, &heap[from..end], slot, new)
+    let files = state.files;
+    let lsns = file_map::lsns(files);
+    let mut lives = file_map::lives(files);
+    install::install(&lsns, &mut lives, ids, locations, &heap[from..end], new.lsn);
+    install::with_file(state, &lives, slot, new)
 }
 
-// One file of a group, whose operations stand at their places: written into the lowest empty slot and added. The other files' operations stay as they are.
+// One file of a group, whose operations stand at their places: written into the lowest empty slot and added. The other files' operations stay as they are,
+// and so do the other empty slots: the caller has listed them, so that no file goes through the records for its slot.
 pub fn add_piece(
     settings: Settings,
     state: State,
@@ -111,23 +117,21 @@ pub fn add_piece(
     pieces: &[u32],
     piece: u32,
     generation: u64,
+    slot: usize,
 ) -> State
     requires { ⌜ Placing settings state (now heap) (now ids) (now locations) (now places) (now pieces) ⌝ }
     requires { ⌜ generation ≤ 255 ⌝ }
     requires { ⌜ 64 + length (fileBytes (filedOps piece (now heap) (now ids) (now places) (now pieces))) ≤ settings .«slot_bytes» ⌝ }
-    requires { ⌜ 0 < length (emptySlots (slotsIn settings (length (now heap))) (state .files .records)) ⌝ }
+    requires { ⌜ (0 < length (emptySlots (slotsIn settings (length (now heap))) (state .files .records))) × (slot ≡ lowestEmpty (slotsIn settings (length (now heap))) (state .files .records)) ⌝ }
     requires { ⌜ state .«next_position» + (length (objectsOf (filedOps piece (now heap) (now ids) (now places) (now pieces))) + 1) ≤ 2 ^ 62 ⌝ }
     ensures { λ r. ⌜ ((c : Claims) → world settings r c (now (heap .exit)) (now (ids .exit)) (now (locations .exit)) ≡ installed 0 generation (world settings state c (now (heap .entry)) (now (ids .entry)) (now (locations .entry))) (filedOps piece (now (heap .entry)) (now (ids .entry)) (now (places .entry)) (now (pieces .entry)))) ⌝ }
     ensures { λ r. ⌜ Placing settings r (now (heap .exit)) (now (ids .exit)) (now (locations .exit)) (now (places .entry)) (now (pieces .entry)) ⌝ }
     ensures { λ _. ⌜ now (ids .exit) ≡ now (ids .entry) ⌝ }
     ensures { λ _. ⌜ ((q : ℕ) → filedOps q (now (heap .exit)) (now (ids .exit)) (now (places .entry)) (now (pieces .entry)) ≡ filedOps q (now (heap .entry)) (now (ids .entry)) (now (places .entry)) (now (pieces .entry))) ⌝ }
-    ensures { λ r. ⌜ length (emptySlots (slotsIn settings (length (now (heap .exit)))) (r .files .records)) + 1 ≡ length (emptySlots (slotsIn settings (length (now (heap .entry)))) (state .files .records)) ⌝ }
+    ensures { λ r. ⌜ emptySlots (slotsIn settings (length (now (heap .entry)))) (state .files .records) ≡ slot ∷ emptySlots (slotsIn settings (length (now (heap .exit)))) (r .files .records) ⌝ }
     ensures { λ r. ⌜ r .«next_position» ≡ state .«next_position» + (length (objectsOf (filedOps piece (now (heap .entry)) (now (ids .entry)) (now (places .entry)) (now (pieces .entry)))) + 1) ⌝ }
 {
     let sizes = gc_writer::sized(heap, ids, places, pieces, piece);
-    let n = heap.len() / settings.slot_bytes as usize;
-    let files = state.files;
-    let slot = file_map::lowest_empty(files, n);
     add_at(
         settings,
         state,

@@ -21,27 +21,21 @@ use Rattle.rules.specs.SettingsLaws.{InRanges}
 use Rattle.rules.specs.Object.{storedAt}
 use Rattle.rules.specs.SlotFile.{slotBytes, objectPart}
 use Rattle.rules.specs.FileMap.{emptyRecord, recordAt}
-use Rattle.rules.specs.Ops.{put, delete, Op, settled}
-use Rattle.rules.specs.Maintenance.{found}
-use Rattle.rules.specs.World.{World}
+use Rattle.rules.specs.Ops.{Op, settled}
+use Rattle.rules.specs.BaseLaws.{replicate-at}
+use Rattle.rules.specs.Table.{noEntry}
 use Rattle.location_table.specs.Tables.{table, Formed}
 use Rattle.location_table.specs.LayoutLaws.{used, used-id, used-location, used-rising, used-fits}
-use Rattle.location_table.specs.EntryLaws.{noEntry}
 use Rattle.file_map.specs.Lists.{lsnsOf}
 use Rattle.gc_group.specs.Plan.{planned, planned-all}
-use Rattle.gc_group.specs.Source.{Source, source, sourceOf, Ready, part-length}
+use Rattle.gc_group.specs.Source.{Source, source, Ready, part-length}
 use Rattle.gc_group.specs.Checks.{groupChecks}
 use Rattle.gc_group.specs.Marks.{foundAt, idsOf, marked, marksFrom, marksOf, contentAt, markedOps}
-use Rattle.gc_group.specs.MarkLaws.{marked-length, marked-settled, blank-at, from-past}
+use Rattle.gc_group.specs.MarkLaws.{marked-length, marked-settled, from-past}
 use Rattle.gc_group.specs.MovedLaws.{Moves, marks-backed, marked-here, marked-next, marked-end}
 use Rattle.gc_files.specs.Places.{opAt, placedOps, InSlot, Standing, placeFor, placesFor, Placeable, Placeables}
 use Rattle.gc_files.specs.MarkedLaws.{object-there, object-part-stands, place-delete, place-object}
 use Rattle.gc_places.specs.Group.{Checked, OfUsed, Kept, InGroup}
-
--- what stands in the slots of a group is what a call finds in them
-pub settled-found : (w : World) (slots : List ℕ) → settled (each (foundAt (sourceOf w)) slots) ≡ found w slots
-unfolding found
-settled-found w slots = refl
 
 -- settings in their ranges have slots of a fitting size
 pub group-checked : (s : Settings) (heap : List ℕ) (records : List Record) (plan : List ℕ) (generation : ℕ) (is ls : List ℕ) (n : ℕ) → InRanges s
@@ -69,7 +63,7 @@ places-at size lsns (l ∷ ls) (m ∷ ms) (suc i) h g = places-at size lsns ls m
 
 -- behind what is put into zeros stand zeros
 behind-zero : (ps : List ℕ) (k n i : ℕ) → getD (ps ++ drop k (replicate n 0)) i 0 ≡ getD ps i 0
-behind-zero [] k n i = getD-drop k (replicate n 0) i 0 ∙ blank-at n (k + i)
+behind-zero [] k n i = getD-drop k (replicate n 0) i 0 ∙ replicate-at {A = ℕ} n (k + i) 0
 behind-zero (p ∷ ps) k n zero = refl
 behind-zero (p ∷ ps) k n (suc i) = behind-zero ps k n i
 
@@ -114,7 +108,7 @@ marks-behind s n slots i h =
     let at : t + j ≡ i = omega arith in
     let ms = marksFrom s slots (replicate n 0) in
     ap (λ (k : ℕ). getD ms k 0) (sym at) ∙ sym (getD-drop t ms j 0) ∙ ap (λ (l : List ℕ). getD l j 0) (from-past s slots (replicate n 0))
-    ∙ getD-drop t (replicate n 0) j 0 ∙ blank-at n (t + j)
+    ∙ getD-drop t (replicate n 0) j 0 ∙ replicate-at {A = ℕ} n (t + j) 0
 
 -- ---- a turn over the entries that are placed
 -- nothing stands at no place

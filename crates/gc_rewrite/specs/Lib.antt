@@ -1,6 +1,5 @@
 pub mod Courses
 pub mod Fitting
-pub mod Kept
 pub mod Putting
 pub mod Orders
 pub mod Rewriting

@@ -9,14 +9,13 @@ use lib.Seq.{length-take-le, take-append-seam, take-append-add, getD-set-same, g
 use Rattle.numbers.specs.Parts.{front}
 use Rattle.numbers.specs.GroupLaws.{either-way}
 use Rattle.rules.specs.Base.{Bool, true, false, List, [], _∷_, _++_, ℕ, zero, suc, _+_, _^_, length, getD, set, take, drop, ltb, eqb, pick}
-use Rattle.rules.specs.BaseLaws.{All, same?, zero-or-more}
+use Rattle.rules.specs.BaseLaws.{All, same?, zero-or-more, replicate-at}
 use Rattle.rules.specs.Ops.{Op, sizeOf, shardFor}
 use Rattle.batch.specs.SizeLaws.{size-bound}
 use Rattle.gc_split.specs.Tally.{Tally, pieceOf, closing, cutting, entering, taking, tallyFrom, tallyOf, emptyTally, closedOf, restOf, restsFrom, orderOf, Within}
 use Rattle.gc_split.specs.BoundLaws.{cut-within, take-within, empty-within}
 use Rattle.gc_split.specs.PieceLaws.{shard-most, take-cuts}
 use Rattle.gc_split.specs.OrderLaws.{fragments-among, order-counted}
-use Rattle.gc_group.specs.MarkLaws.{blank-at}
 use Rattle.gc_files.specs.Places.{Standing, movingAt, opAt, placedOps}
 use Rattle.gc_files.specs.PlaceLaws.{moving-told}
 use Rattle.gc_rewrite.specs.Putting.{Words, orderIn}
@@ -107,7 +106,7 @@ from-tallied target slotSize (o ∷ os) t all room w =
 
 -- before the first
 none-tallied : Tallied emptyTally
-none-tallied = record { within = empty-within; cuts = λ k. omega (arith, blank-at 256 k); room = length-replicate {A = ℕ} 256 0 }
+none-tallied = record { within = empty-within; cuts = λ k. omega (arith, replicate-at {A = ℕ} 256 k 0); room = length-replicate {A = ℕ} 256 0 }
 
 -- behind the last
 pub tallied : (target slotSize : ℕ) (ops : List Op) → All Short ops → length ops ≤ 65536 → Tallied (tallyOf target slotSize ops)

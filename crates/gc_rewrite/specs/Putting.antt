@@ -2,9 +2,11 @@
 use mathlib.Core.Path.{_≡_, refl, sym, ap, _∙_, subst}
 use Prim.Native.Nat.{_≤_, _<_}
 use native.Mathlib.Omega.{arith}
-use lib.ListN.{length-append}
-use lib.Seq.{length-take-le, getD-take}
-use Rattle.rules.specs.Base.{false, List, _∷_, _++_, map, ℕ, _+_, _^_, length, getD, take, drop}
+use lib.ListN.{length-append, length-drop}
+use lib.Seq.{length-take-le, getD-take, take-suc-set, append-snoc}
+use mathlib.Core.List.{append-nil}
+use native.Mathlib.Numerals.{add-one}
+use Rattle.rules.specs.Base.{false, List, [], _∷_, _++_, map, ℕ, _+_, _^_, length, getD, set, take, drop}
 use Rattle.rules.specs.TurnLaws.{left-next, left-none}
 use Rattle.rules.specs.declared.Settings.{Settings}
 use Rattle.rules.specs.declared.State.{State}
@@ -12,23 +14,51 @@ use Rattle.rules.specs.declared.Claims.{Claims}
 use Rattle.rules.specs.Claims.{noClaims}
 use Rattle.rules.specs.Settings.{slotsIn}
 use Rattle.rules.specs.Ops.{Op, fileBytes}
-use Rattle.rules.specs.FileMap.{isEmpty, recordAt, emptySlots}
+use Rattle.rules.specs.FileMap.{isEmpty, recordAt, emptySlots, lowestEmpty}
 use Rattle.rules.specs.Condition1Laws.{Passed}
 use Rattle.rules.specs.Install.{installed, installedAll}
 use Rattle.rules.specs.World.{World, world, recordsOf}
+use Rattle.rules.specs.InstallLaws.{installed-lsn}
+use Rattle.rules.specs.LabelLaws.{lsn-some}
+use Rattle.rules.specs.FileMapLaws.{not-empty}
 use Rattle.location_table.specs.Tables.{table}
 use Rattle.gc_files.specs.Places.{filedOps}
 use Rattle.gc_install.specs.Placing.{Placing}
-use Rattle.gc_rewrite.specs.Kept.{passed-lsn, installed-kept}
 use Rattle.gc_rewrite.specs.Fitting.{Fitting, span, first-fits, first-room, first-positions, fitting-rest}
 
 -- the files with these numbers, in order
 abbrev pub filesIn : List ℕ → List ℕ → List ℕ → List ℕ → List ℕ → List (List Op)
 filesIn heap ids places pieces order = map (λ (q : ℕ). filedOps q heap ids places pieces) order
 
--- how many slots of a heap are empty
+-- the slots of a heap that are empty, ascending
+abbrev pub emptiesIn : Settings → State → List ℕ → List ℕ
+emptiesIn s t heap = emptySlots (slotsIn s (length heap)) (t .files .records)
+
+-- how many
 abbrev pub emptyIn : Settings → State → List ℕ → ℕ
-emptyIn s t heap = length (emptySlots (slotsIn s (length heap)) (t .files .records))
+emptyIn s t heap = length (emptiesIn s t heap)
+
+-- they stand first in a list with room for them
+pub record Listed (empties frees : List ℕ) : Type 0 where
+  pub room : length empties ≤ length frees
+  pub same : take (length empties) frees ≡ empties
+
+-- one more is listed, others are left
+pub listed-next : (frees : List ℕ) (k slot : ℕ) (rest : List ℕ) → k < length frees → take k frees ++ (slot ∷ rest) ≡ take (k + 1) (set frees k slot) ++ rest
+listed-next frees k slot rest h =
+    let more : take (k + 1) (set frees k slot) ≡ take k frees ++ (slot ∷ []) = rw (add-one k) (take-suc-set frees k slot h) in
+    sym (ap (λ (ns : List ℕ). ns ++ rest) more ∙ append-snoc (take k frees) slot rest)
+
+-- none is left
+pub listed-end : (empties frees : List ℕ) (k : ℕ) → k ≤ length frees → empties ≡ take k frees ++ [] → (k ≡ length empties) × Listed empties frees
+listed-end empties frees k h e =
+    let all : empties ≡ take k frees = e ∙ append-nil (take k frees) in
+    let many : length empties ≡ k = ap length all ∙ length-take-le k frees h in
+    (sym many, record { room = omega (arith, many, h); same = ap (λ (n : ℕ). take n frees) many ∙ sym all })
+
+-- each at its place
+pub listed-at : (empties frees : List ℕ) → Listed empties frees → (k : ℕ) → k < length empties → getD frees k 0 ≡ getD empties k 0
+listed-at empties frees w k h = sym (getD-take (length empties) frees k 0 h) ∙ ap (λ (ns : List ℕ). getD ns k 0) (w .same)
 
 -- numbers of 32 bits
 abbrev pub Words : List ℕ → Type 0
@@ -55,7 +85,8 @@ pub record Added (s : Settings) (generation : ℕ) (places pieces : List ℕ) (t
   pub worlds : (c : Claims) → world s r c heap′ ids′ locations′ ≡ installed 0 generation (world s t c heap ids locations) (filedOps q heap ids places pieces)
   pub placing : Placing s r heap′ ids′ locations′ places pieces
   pub filed : (p : ℕ) → filedOps p heap′ ids′ places pieces ≡ filedOps p heap ids places pieces
-  pub fewer : emptyIn s r heap′ + 1 ≡ emptyIn s t heap
+  pub slot : ℕ
+  pub frees : emptiesIn s t heap ≡ slot ∷ emptiesIn s r heap′
   pub next : r .«next_position» ≡ t .«next_position» + span (filedOps q heap ids places pieces)
   pub sameHeap : length heap′ ≡ length heap
   pub sameIds : ids′ ≡ ids
@@ -70,13 +101,14 @@ module _ (s : Settings) (generation : ℕ) (places pieces order : List ℕ) (t :
     pub fitting : Fitting (s .«slot_bytes») (emptyIn s r heap′) (r .«next_position») (filesIn heap ids places pieces (drop f order))
     pub left : (c : Claims) → installedAll 0 generation (world s r c heap′ ids′ locations′) (filesIn heap ids places pieces (drop f order))
         ≡ installedAll 0 generation (world s t c heap ids locations) (filesIn heap ids places pieces order)
+    pub frees : emptiesIn s r heap′ ≡ drop f (emptiesIn s t heap)
     pub kept : Kept t r
     pub sameHeap : length heap′ ≡ length heap
     pub sameIds : ids′ ≡ ids
 
   -- before the first
   pub put-start : Puttable s t heap ids locations places pieces order → Put 0 t heap ids locations
-  put-start w = record { low = omega arith; placing = w .placing; filed = λ q. refl; fitting = w .fitting; left = λ c. refl; kept = λ k some. some; sameHeap = refl; sameIds = refl }
+  put-start w = record { low = omega arith; placing = w .placing; filed = λ q. refl; fitting = w .fitting; left = λ c. refl; frees = refl; kept = λ k some. some; sameHeap = refl; sameIds = refl }
 
   module _ (f : ℕ) (r : State) (heap′ ids′ locations′ : List ℕ) (w : Put f r heap′ ids′ locations′) (h : f < length order) (p : ℕ) (is : p ≡ getD order f 0) where
     -- the files behind it
@@ -97,6 +129,20 @@ module _ (s : Settings) (generation : ℕ) (places pieces order : List ℕ) (t :
         (64 + length (fileBytes ops) ≤ s .«slot_bytes») × (0 < emptyIn s r heap′) × (r .«next_position» + span ops ≤ 2 ^ 62)
     put-asks = rw (w .filed p) (first-fits _ _ _ _ _ fits, first-room _ _ _ _ _ fits, first-positions _ _ _ _ _ fits)
 
+    -- an empty slot is left for it: the one at its own number
+    next-free : (f < length (emptiesIn s t heap)) × (emptiesIn s r heap′ ≡ getD (emptiesIn s t heap) f 0 ∷ drop (f + 1) (emptiesIn s t heap))
+    next-free =
+        let some = first-room _ _ _ _ _ fits in
+        let here : f < length (emptiesIn s t heap) = omega (arith, some, ap length (w .frees), length-drop f (emptiesIn s t heap)) in
+        (here, w .frees ∙ left-next (emptiesIn s t heap) f 0 here)
+
+    -- which is the lowest
+    pub put-slot : (frees : List ℕ) → Listed (emptiesIn s t heap) frees → (f < length frees) × (getD frees f 0 ≡ lowestEmpty (slotsIn s (length heap′)) (r .files .records))
+    unfolding lowestEmpty
+    put-slot frees l =
+        let n = next-free in
+        (omega (arith, n .0, l .room), listed-at (emptiesIn s t heap) frees l f (n .0) ∙ sym (ap (λ (ks : List ℕ). getD ks 0 (slotsIn s (length heap′))) (n .1)))
+
     -- and what is left after it
     pub put-turn : (q : State) (heap″ ids″ locations″ : List ℕ) → Added s generation places pieces r heap′ ids′ locations′ p q heap″ ids″ locations″
         → Put (f + 1) q heap″ ids″ locations″
@@ -105,15 +151,17 @@ module _ (s : Settings) (generation : ℕ) (places pieces order : List ℕ) (t :
       low = omega arith;
       placing = a .placing;
       filed = λ n. a .filed n ∙ w .filed n;
-      fitting = fitting-rest _ _ _ _ _ fits (emptyIn s q heap″) (q .«next_position») (a .fewer) (a .next ∙ ap (λ (ops : List Op). r .«next_position» + span ops) same);
+      fitting = fitting-rest _ _ _ _ _ fits (emptyIn s q heap″) (q .«next_position») (omega (arith, ap length (a .frees))) (a .next ∙ ap (λ (ops : List Op). r .«next_position» + span ops) same);
       left = λ c.
           ap (λ (v : World). installedAll 0 generation v rest) (a .worlds c ∙ ap (installed 0 generation (world s r c heap′ ids′ locations′)) same)
           ∙ ap (installedAll 0 generation (world s r c heap′ ids′ locations′)) (sym step)
           ∙ w .left c;
+      frees = ap (drop 1) (sym (a .frees) ∙ next-free .1);
       kept = λ k some.
           ap (λ (v : World). isEmpty (recordAt (recordsOf v) k)) (a .worlds noClaims)
-          ∙ installed-kept 0 generation (world s r noClaims heap′ ids′ locations′) _ k (w .placing .limits .next)
-          (passed-lsn s (length heap′) (table ids′ locations′) r (w .placing .limits) k (w .kept k some));
+          ∙ not-empty (recordAt (recordsOf (installed 0 generation (world s r noClaims heap′ ids′ locations′) (filedOps p heap′ ids′ places pieces))) k)
+          (installed-lsn 0 generation (world s r noClaims heap′ ids′ locations′) (filedOps p heap′ ids′ places pieces) (w .placing .limits .next) k
+          (lsn-some (s .«slot_bytes») (recordAt (r .files .records) k) (w .placing .limits .records k (w .kept k some) .bounds)));
       sameHeap = a .sameHeap ∙ w .sameHeap;
       sameIds = a .sameIds ∙ w .sameIds;
     }

@@ -1,12 +1,9 @@
 -- A group's operations at their places, split and rewritten: what each step asks for and leaves.
-use mathlib.Core.Path.{_≡_, refl, sym, ap, _∙_, subst}
+use mathlib.Core.Path.{_≡_, sym, ap, _∙_, subst}
 use Prim.Native.Nat.{_≤_, _<_}
 use native.Mathlib.Omega.{arith}
-use lib.ListN.{length-take}
-use native.Mathlib.Nat.{min-le-left}
 use Rattle.numbers.specs.Parts.{front}
-use Rattle.rules.specs.Base.{Bool, true, false, List, [], _∷_, ℕ, suc, _+_, length, getD, take, pick}
-use Rattle.rules.specs.declared.Record.{Record}
+use Rattle.rules.specs.Base.{false, List, ℕ, _+_, length, getD}
 use Rattle.rules.specs.declared.Settings.{Settings}
 use Rattle.rules.specs.declared.State.{State}
 use Rattle.rules.specs.declared.Claims.{Claims}
@@ -17,19 +14,21 @@ use Rattle.rules.specs.Refusal.{decide}
 use Rattle.rules.specs.Settings.{slotsIn}
 use Rattle.rules.specs.Ops.{Op}
 use Rattle.rules.specs.Layout.{usedEntries}
-use Rattle.rules.specs.FileMap.{isEmpty, recordAt, slotsWhere, emptySlots}
+use Rattle.rules.specs.FileMap.{isEmpty, recordAt}
 use Rattle.rules.specs.Condition1Laws.{Passed}
 use Rattle.rules.specs.Install.{installedAll}
 use Rattle.rules.specs.Maintenance.{filesOf}
 use Rattle.rules.specs.World.{world}
+use Rattle.rules.specs.FileMapLaws.{empty-most}
 use Rattle.location_table.specs.Tables.{table}
 use Rattle.gc_split.specs.declared.Totals.{Totals}
 use Rattle.gc_split.specs.Tally.{Tally, tally, tallyFrom, tallyOf, emptyTally, closingRests, closedOf, restsFrom, orderOf, totalsFor, Within, Closable, Numbered}
 use Rattle.gc_split.specs.BoundLaws.{closable, numbered}
 use Rattle.gc_split.specs.TotalLaws.{totalsTests, split-totals}
 use Rattle.gc_split.specs.OrderLaws.{fragments-among, files-counted}
-use Rattle.gc_files.specs.Places.{Whole, InSlot, Standing, placedOps, entryTaken, piecesAlong, Splitting}
+use Rattle.gc_files.specs.Places.{Whole, InSlot, Standing, placedOps, piecesAlong, Splitting}
 use Rattle.gc_files.specs.FileLaws.{files-filed}
+use Rattle.gc_files.specs.PlaceLaws.{along-length}
 use Rattle.gc_install.specs.Placing.{Placing}
 use Rattle.gc_rewrite.specs.Courses.{courseGiven, filesTests, rewritten, files-refused, files-added}
 use Rattle.gc_rewrite.specs.Fitting.{Fitting, fitting-clear}
@@ -51,30 +50,7 @@ pub record Rewritten (s : Settings) (generation : ℕ) (ops : List Op) (moved : 
   pub count : moved′ ≤ moved + 65536
   pub kept : Kept t r
 
--- no more empty slots than slots
-where-most : (f : ℕ → Record → Bool) (i : ℕ) (rs : List Record) → length (slotsWhere f i rs) ≤ length rs
-unfolding slotsWhere
-where-most f i [] = omega arith
-where-most f i (r ∷ rs) = go (f i r) (where-most f (suc i) rs)
-  where
-    go : (b : Bool) → length (slotsWhere f (suc i) rs) ≤ length rs → length (pick b (i ∷ slotsWhere f (suc i) rs) (slotsWhere f (suc i) rs)) ≤ suc (length rs)
-    go true h = omega arith
-    go false h = omega arith
-
--- of the heap's n
-empty-most : (n : ℕ) (rs : List Record) → length (emptySlots n rs) ≤ n
-unfolding emptySlots
-empty-most n rs = omega (arith, where-most (λ (i : ℕ) (r : Record). isEmpty r) 0 (take n rs), length-take n rs, min-le-left n (length rs))
-
 -- ---- the split
--- each entry has its piece
-along-length : (target slotSize : ℕ) (heap xs ps gs : List ℕ) (t : Tally) → length (piecesAlong target slotSize heap xs ps gs t) ≡ length gs
-unfolding piecesAlong
-along-length target slotSize heap [] ps gs t = refl
-along-length target slotSize heap (x ∷ xs) [] gs t = refl
-along-length target slotSize heap (x ∷ xs) (p ∷ ps) [] t = refl
-along-length target slotSize heap (x ∷ xs) (p ∷ ps) (g ∷ gs) t = ap suc (along-length target slotSize heap xs ps gs (entryTaken target slotSize heap x p t))
-
 module _ (s : Settings) (t : State) (heap ids locations places : List ℕ) where
   -- the operations, and their tally
   abbrev ops : List Op

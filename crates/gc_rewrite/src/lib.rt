@@ -2,15 +2,14 @@
 
 pub mod files;
 
-use files::rewrite_placed;
-use gc_group::check::check_group;
+use files::split_files;
 use gc_places::place_group;
 use rules::Answer;
 use rules::Settings;
 use rules::State;
 ghost use mathlib.Core.Path.{_≡_};
 ghost use Prim.Native.Nat.{_+_, _^_, _≤_, _<_};
-ghost use lib.ListN.{length, replicate};
+ghost use lib.ListN.{length};
 ghost use Rattle.rules.specs.declared.Claims.{Claims};
 ghost use Rattle.rules.specs.Condition1Laws.{Passed};
 ghost use Rattle.rules.specs.Maintenance.{rewriteGroup};
@@ -20,7 +19,7 @@ ghost use Rattle.gc_group.specs.Plan.{planned};
 ghost use Rattle.gc_group.specs.Source.{Ready};
 ghost use Rattle.gc_rewrite.specs.Courses.{courseGiven};
 ghost use Rattle.gc_rewrite.specs.Putting.{Kept};
-ghost use Rattle.gc_rewrite.specs.Groups.{Filled, Checked, Regrouped};
+ghost use Rattle.gc_rewrite.specs.Groups.{Filled};
 
 // A group's answer, the ids moved so far, and the state after it.
 pub struct Course {
@@ -29,47 +28,8 @@ pub struct Course {
     pub state: State,
 }
 
-// What is found in a group whose checks are clear, rewritten; `places` has where each of it stands.
-fn rewrite_found(
-    settings: Settings,
-    state: State,
-    heap: &mut [u8],
-    ids: &mut [u64],
-    locations: &mut [u64],
-    plan: &[u64],
-    generation: u64,
-    moved: u64,
-    places: &mut [u32],
-) -> Course
-    requires { ⌜ Checked settings state (now heap) (now ids) (now locations) (now plan) generation ⌝ }
-    requires { ⌜ (generation ≤ 255) × (moved ≤ 2 ^ 40) ⌝ }
-    requires { ⌜ (length (now ids) ≤ length (now places)) × (now places ≡ replicate (length (now places)) 0) ⌝ }
-    ensures { λ r. ⌜ Regrouped settings state (now (heap .entry)) (now (ids .entry)) (now (locations .entry)) (now (plan .entry)) generation moved (r .answer) (r .moved) (r .state) (now (heap .exit)) (now (ids .exit)) (now (locations .exit)) ⌝ }
-{
-    let files = state.files;
-    place_group(
-        settings,
-        heap,
-        files,
-        plan,
-        generation,
-        ids,
-        locations,
-        places,
-    );
-    rewrite_placed(
-        settings,
-        state,
-        heap,
-        ids,
-        locations,
-        places,
-        generation,
-        moved,
-    )
-}
-
-// "All files of a group are checked before it writes"; a refusal changes nothing.
+// "All files of a group are checked before it writes"; a refusal changes nothing. `places` has where each operation
+// that it found stands; `pieces` has first the marks of what is found, then the number of the file that each goes to.
 pub fn rewrite_group(
     settings: Settings,
     state: State,
@@ -90,7 +50,19 @@ pub fn rewrite_group(
     ensures { λ r. ⌜ Kept state (r .state) ⌝ }
 {
     let files = state.files;
-    match check_group(settings, heap, files, plan, generation, ids, locations) {
+    let mut places = [0u32; 65536];
+    let mut pieces = [0u32; 65536];
+    match place_group(
+        settings,
+        heap,
+        files,
+        plan,
+        generation,
+        ids,
+        locations,
+        &mut pieces,
+        &mut places,
+    ) {
         Answer::Refused(refusal) => {
             return Course {
                 answer: Answer::Refused(refusal),
@@ -100,16 +72,15 @@ pub fn rewrite_group(
         }
         Answer::Done => {}
     }
-    let mut places = [0u32; 65536];
-    rewrite_found(
+    split_files(
         settings,
         state,
         heap,
         ids,
         locations,
-        plan,
+        &places,
+        &mut pieces,
         generation,
         moved,
-        &mut places,
     )
 }

@@ -10,7 +10,7 @@ use borrow.Author.Tests.{eq-eqb, ne-eqb}
 use lib.ListN.{length-set, length-replicate, getD-replicate}
 use lib.Seq.{set-out, getD-set-same, getD-set-other, take-suc-set}
 use Rattle.rules.specs.Base.{Bool, true, false, List, [], _∷_, _++_, map, ℕ, zero, suc, _+_, _/_, _%_, length, getD, set, replicate, take, ltb, eqb, pick, keep}
-use Rattle.rules.specs.BaseLaws.{All, all-map, same?}
+use Rattle.rules.specs.BaseLaws.{All, all-map, same?, all-append}
 use Rattle.rules.specs.Ops.{Content, put, delete, Op, sizeOf, shardFor}
 use Rattle.rules.specs.Maintenance.{Shard, noEntries, Split, cutOff, joining, splitFrom, hasEntries, filesOf}
 use Rattle.numbers.specs.GroupLaws.{either-way}
@@ -52,10 +52,6 @@ rounds-rise rs n m = go (same? m n) (either-way n (length rs))
     go (inr d) h = rw (getD-set-other rs n m (getD rs n 0 + 1) 0 d) (omega arith)
     go (inl e) (inl h) = rw (e, getD-set-same rs n (getD rs n 0 + 1) 0 h) (omega arith)
     go (inl e) (inr h) = rw (set-out rs n (getD rs n 0 + 1) h) (omega arith)
-
-all-append : {A : Type 0} (P : A → Type 0) (xs ys : List A) → All P xs → All P ys → All P (xs ++ ys)
-all-append P [] ys a b = b
-all-append P (x ∷ xs) ys a b = (a .0, all-append P xs ys (a .1) b)
 
 -- a piece's number tells shard and round
 piece-shard : (n r : ℕ) → n < 65 → pieceOf n r % 65 ≡ n

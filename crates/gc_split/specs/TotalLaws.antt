@@ -12,6 +12,7 @@ use Rattle.rules.specs.Ops.{Op, sizeOf, shardFor, objectsOf, fileBytes}
 use Rattle.rules.specs.OpsLaws.{objects-nil, objects-length, file-length}
 use Rattle.rules.specs.Install.{roomTests, positionTests}
 use Rattle.rules.specs.Maintenance.{Shard, noEntries, Split, cutOff, joining, splitFrom, hasEntries, filesOf}
+use Rattle.rules.specs.BaseLaws.{any-append}
 use Rattle.gc_split.specs.declared.Totals.{Totals}
 use Rattle.gc_split.specs.Tally.{Tally, closing, cutting, entering, taking, tallyFrom, tallyOf, emptyTally, closingRests, closedOf, totalsFor}
 
@@ -31,20 +32,11 @@ unfolding sum
 sum-append f [] ys = omega arith
 sum-append f (x ∷ xs) ys = omega (arith, sum-append f xs ys)
 
-or-assoc : (a b c : Bool) → (a || (b || c)) ≡ ((a || b) || c)
-or-assoc true b c = refl
-or-assoc false b c = refl
-
 or-swap : (a b : Bool) → (a || b) ≡ (b || a)
 or-swap true true = refl
 or-swap true false = refl
 or-swap false true = refl
 or-swap false false = refl
-
-any-append : {A : Type 0} (f : A → Bool) (xs ys : List A) → any f (xs ++ ys) ≡ (any f xs || any f ys)
-unfolding any
-any-append f [] ys = refl
-any-append f (x ∷ xs) ys = ap (λ (b : Bool). f x || b) (any-append f xs ys) ∙ or-assoc (f x) (any f xs) (any f ys)
 
 -- an operation more, and T
 pub objects-last : (ops : List Op) (o : Op) → length (objectsOf (ops ++ (o ∷ []))) ≡ length (objectsOf ops) + sizeOf (o .content)

@@ -8,15 +8,15 @@ use borrow.Author.Tests.{eq-eqb, ne-eqb}
 use lib.ListN.{length-set, length-drop}
 use lib.Seq.{take-set-le, drop-set-lt, take-take, drop-drop, length-take-le}
 use Rattle.numbers.specs.LittleEndian.{leValue}
-use Rattle.rules.specs.Base.{Bool, true, false, List, [], _∷_, _++_, ℕ, zero, suc, _+_, _-_, _*_, length, getD, take, drop, set, eqb, pick}
-use Rattle.rules.specs.BaseLaws.{All, order, same?}
+use Rattle.rules.specs.Base.{Bool, true, false, List, [], _∷_, _++_, ℕ, suc, _+_, _-_, _*_, length, getD, take, drop, set, eqb, pick}
+use Rattle.rules.specs.BaseLaws.{All, order, same?, all-append, all-take}
 use Rattle.rules.specs.PartLaws.{drop-take}
 use Rattle.rules.specs.Label.{labelBytes}
 use Rattle.rules.specs.Ops.{Op, put}
 use Rattle.rules.specs.Stores.{Store, made, storesOf, fileStores}
 use Rattle.rules.specs.declared.Record.{Record}
+use Rattle.rules.specs.LabelLaws.{label-length}
 use Rattle.stores.specs.Runs.{Made}
-use Rattle.slot_writer.specs.Labels.{label-length}
 use Rattle.batch.specs.declared.Operation.{Operation}
 use Rattle.gc_files.specs.Places.{lengthAt, movingAt, opAt, filedOps, Whole, InSlot}
 
@@ -41,18 +41,13 @@ elsewhere-same start size heap = record { long = refl; before = refl; behind = r
 pub elsewhere-then : {start size : ℕ} {heap next last : List ℕ} → Elsewhere start size heap next → Elsewhere start size next last → Elsewhere start size heap last
 elsewhere-then a b = record { long = b .long ∙ a .long; before = b .before ∙ a .before; behind = b .behind ∙ a .behind }
 
--- every store of a run falls among these bytes
+-- a store falls among these bytes
+abbrev pub Falls : ℕ → ℕ → Store → Type 0
+Falls start size s = (start ≤ s .at) × (s .at < start + size)
+
+-- every store of a run does
 abbrev pub Among : ℕ → ℕ → List Store → Type 0
-Among start size run = All (λ (s : Store). (start ≤ s .at) × (s .at < start + size)) run
-
-among-take : (start size k : ℕ) (run : List Store) → Among start size run → Among start size (take k run)
-among-take start size zero run a = tt
-among-take start size (suc k) [] a = tt
-among-take start size (suc k) (s ∷ ss) a = (a .0, among-take start size k ss (a .1))
-
-among-append : (start size : ℕ) (xs ys : List Store) → Among start size xs → Among start size ys → Among start size (xs ++ ys)
-among-append start size [] ys a b = b
-among-append start size (x ∷ xs) ys a b = (a .0, among-append start size xs ys (a .1) b)
+Among start size run = All (Falls start size) run
 
 run-elsewhere : (start size : ℕ) (run : List Store) (heap : List ℕ) → Among start size run → Elsewhere start size heap (made run heap)
 unfolding made
@@ -68,7 +63,7 @@ run-elsewhere start size (s ∷ ss) heap a =
 
 pub made-elsewhere : (start size : ℕ) {k left : ℕ} {run : List Store} {heap after : List ℕ} → Among start size run → Made k run heap after left
     → Elsewhere start size heap after
-made-elsewhere start size {k} {left} {run} {heap} a m = rw (m .heap) (run-elsewhere start size (take k run) heap (among-take start size k run a))
+made-elsewhere start size {k} {left} {run} {heap} a m = rw (m .heap) (run-elsewhere start size (take k run) heap (all-take (Falls start size) k run a))
 
 -- bytes one behind the other
 pub among-stores : (start size at : ℕ) (bs : List ℕ) → start ≤ at → at + length bs ≤ start + size → Among start size (storesOf at bs)
@@ -83,9 +78,9 @@ among-file start size new file room =
     let label = labelBytes new in
     let first : start + length (take 1 label) ≤ start + size = omega (arith, length-take-le 1 label (omega (arith, label-length new))) in
     let others : suc start + length (drop 1 label) ≤ start + size = omega (arith, label-length new, length-drop 1 label) in
-    among-append start size (storesOf (start + 64) file) (storesOf (suc start) (drop 1 label) ++ storesOf start (take 1 label))
+    all-append (Falls start size) (storesOf (start + 64) file) (storesOf (suc start) (drop 1 label) ++ storesOf start (take 1 label))
     (among-stores start size (start + 64) file (omega arith) (omega arith))
-    (among-append start size (storesOf (suc start) (drop 1 label)) (storesOf start (take 1 label))
+    (all-append (Falls start size) (storesOf (suc start) (drop 1 label)) (storesOf start (take 1 label))
     (among-stores start size (suc start) (drop 1 label) (omega arith) others)
     (among-stores start size start (take 1 label) (omega arith) first))
 

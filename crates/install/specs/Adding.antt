@@ -1,5 +1,5 @@
 -- "Each id takes its new location": a trailer's entries stored into the table.
-use mathlib.Core.Path.{_≡_, refl, sym, ap, _∙_}
+use mathlib.Core.Path.{_≡_, refl, ap}
 use Rattle.rules.specs.Base.{false, List, map, ℕ, _+_, _^_, length, getD, drop}
 use Prim.Native.Nat.{_<_, _≤_}
 use native.Mathlib.Omega.{arith}

@@ -60,14 +60,6 @@ pub losing-lives : (table es : List Entry) (rs : List Record) → withLives rs (
 losing-lives table es rs =
     sym (losing-with-lives table es rs (livesOf rs) (length-map rs (λ (r : Record). r .live))) ∙ ap (losingBy table es) (lives-back rs)
 
--- no count comes or goes
-pub losing-lives-length : (lsns : List ℕ) (table es : List Entry) (lives : List ℕ) → length (losingLives lsns table es lives) ≡ length lives
-unfolding losingLives
-losing-lives-length lsns table [] lives = refl
-losing-lives-length lsns table (e ∷ es) lives =
-    let slot = slotHolding lsns (lookup table (e .id)) in
-    losing-lives-length lsns table es (lessAt slot lives) ∙ length-less slot lives
-
 -- a turn of the loop over the entries, and its end
 module _ (lsns : List ℕ) (table es : List Entry) (lives : List ℕ) (k : ℕ) where
   pub losing-next : (d : Entry) → k < length es
@@ -104,8 +96,3 @@ found-within ns location k h = go (leadLsn ns 0 location start) (lead-slot ns 0 
         either : (t : Bool) → pick t NoSlot (Is (l .slot)) ≡ Is k → k < length ns
         either true w = absurd (let z : _≡_ {A = ℕ} 0 1 = cc in omega arith)
         either false w = let e : l .slot ≡ k = cc in omega arith
-
--- the same of a location that the table has
-pub holding-within : (ns : List ℕ) (h : Held) (k : ℕ) → slotHolding ns h ≡ Is k → k < length ns
-holding-within ns (Mapped l) k e = found-within ns l k e
-holding-within ns Unmapped k e = absurd (let z : _≡_ {A = ℕ} 0 1 = cc in omega arith)

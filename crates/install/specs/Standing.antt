@@ -29,7 +29,8 @@ use Rattle.rules.specs.StoreLaws.{file-made}
 use Rattle.rules.specs.Install.{newRecord, installed, recordsWith, storesFor, tableWith, nextWith, newSlot}
 use Rattle.rules.specs.World.{World, stateWith}
 use Rattle.file_map.specs.Records.{fresh, new-record}
-use Rattle.install.specs.Losing.{losingBy, losing-entries}
+use Rattle.file_map.specs.Lists.{lsnsOf, livesOf, withLives}
+use Rattle.install.specs.Losing.{losingBy, losingLives, losing-entries, losing-lives}
 use Rattle.install.specs.Adding.{taken, Placed}
 
 -- `world` of a table in one piece
@@ -107,19 +108,25 @@ module _ (bit : ℕ) (ops : List Op) (s : Settings) (t : State) (heap : List ℕ
   entries-placed k = omega (arith, position-within 0 ops k, f .objects, f .last, f .plain)
 
   -- ---- what adding it leaves
-  pub added : (generation : ℕ) (c : Claims) (new : Record) (r : State) (after : List ℕ) (b′ : Buffers)
+  pub added : (generation : ℕ) (c : Claims) (new : Record) (r : State) (after : List ℕ) (b′ : Buffers) (lsns lives left : List ℕ)
       → new ≡ newRecord (t .«next_position» + bit) generation ops
       → after ≡ made (fileStores (slot * s .«slot_bytes») (labelBytes new) (fileBytes ops)) heap
-      → r ≡ stateWith t (set (losingBy (usedEntries b) (entriesOf 0 ops) (t .files .records)) slot new) (t .«next_position» + (new .«trailer_offset» + 1))
+      → lsns ≡ lsnsOf (t .files .records)
+      → lives ≡ livesOf (t .files .records)
+      → left ≡ losingLives lsns (usedEntries b) (entriesOf 0 ops) lives
+      → r ≡ stateWith t (set (withLives (t .files .records) left) slot new) (t .«next_position» + (new .«trailer_offset» + 1))
       → b′ ≡ laidOut (capacityOf b) (insertAll (usedEntries b) (taken (new .lsn) (entriesOf 0 ops)))
       → worldOf s r c after b′ ≡ installed bit generation (worldOf s t c heap b) ops
   unfolding installed recordsWith storesFor tableWith nextWith newRecord
-  added generation c new r after b′ e h q g =
+  added generation c new r after b′ lsns lives left e h x y z q g =
       let es = entriesOf 0 ops in
+      let lost : withLives (t .files .records) left ≡ losingBy (usedEntries b) es (t .files .records) =
+      ap (withLives (t .files .records)) (z ∙ ap₂ (λ (ns ls : List ℕ). losingLives ns (usedEntries b) es ls) x y) ∙ losing-lives (usedEntries b) es (t .files .records) in
       let w = worldOf s t c heap b in
       let n = newRecord (t .«next_position» + bit) generation ops in
       let state : r ≡ stateWith t (recordsWith n w ops) (nextWith w ops) =
       q
+      ∙ ap (λ (rs : List Record). stateWith t (set rs slot new) (t .«next_position» + (new .«trailer_offset» + 1))) lost
       ∙ ap₂ (λ (k : ℕ) (m : Record). stateWith t (set (losingBy (usedEntries b) es (t .files .records)) k m) (t .«next_position» + (m .«trailer_offset» + 1))) (f .lowest) e
       ∙ ap (λ (rs : List Record). stateWith t (set rs (newSlot w) n) (nextWith w ops)) (sym (losing-entries (usedEntries b) 0 ops (t .files .records))) in
       let stores : after ≡ made (storesFor n w ops) heap =

@@ -16,8 +16,8 @@ ghost use Rattle.rules.specs.TableCalls.{withStored};
 ghost use Rattle.rules.specs.Layout.{usedEntries, laidOut};
 ghost use Rattle.rules.specs.World.{stateWith};
 ghost use Rattle.location_table.specs.Tables.{table, Formed};
-ghost use Rattle.file_map.specs.Lists.{lessAt};
-ghost use Rattle.install.specs.Losing.{losingBy, slotHolding, losingLives};
+ghost use Rattle.file_map.specs.Lists.{lessAt, withLives};
+ghost use Rattle.install.specs.Losing.{slotHolding, losingLives};
 ghost use Rattle.install.specs.Adding.{taken, Placed};
 
 // "loses one live": the file of the location that the table has for the id.
@@ -49,13 +49,16 @@ fn lose(lsns: &[u64], lives: &mut [u64], ids: &[u64], locations: &[u64], trailer
 }
 
 // "A relative location plus a file's lsn is an absolute one."
-fn absolute(e: Entry, lsn: u64) -> u64
-    requires { ⌜ (positionOf (e .location) + lsn < 2 ^ 63) × (0 < lsn) ⌝ }
-    ensures { λ r. ⌜ r ≡ absolute lsn e .location ⌝ }
+pub fn absolute(e: Entry, lsn: u64) -> Entry
+    requires { ⌜ (0 < lsn) × (positionOf (e .location) + lsn < 2 ^ 63) ⌝ }
+    ensures { λ r. ⌜ r ≡ absolute lsn e ⌝ }
 {
     let relative = RelativeDiskLocation(e.location);
     let located = relative.to_absolute(lsn);
-    located.raw()
+    Entry {
+        id: e.id,
+        location: located.raw(),
+    }
 }
 
 // "Each id takes its new location", for one entry.
@@ -63,8 +66,8 @@ fn store_one(ids: &mut [u64], locations: &mut [u64], e: Entry, lsn: u64)
     requires { ⌜ Formed (table (now ids) (now locations)) × (positionOf (e .location) + lsn < 2 ^ 63) × (0 < lsn) × (full (usedEntries (table (now ids) (now locations))) (length (now ids)) (e .id) ≡ false) ⌝ }
     ensures { λ _. ⌜ table (now (ids .exit)) (now (locations .exit)) ≡ withStored (table (now (ids .entry)) (now (locations .entry))) (e .id) (absolute lsn e .location) ⌝ }
 {
-    let location = absolute(e, lsn);
-    location_table::store_in(ids, locations, e.id, location);
+    let placed = absolute(e, lsn);
+    location_table::store_in(ids, locations, e.id, placed.location);
 }
 
 // "Each id takes its new location"
@@ -85,10 +88,14 @@ fn store_all(ids: &mut [u64], locations: &mut [u64], trailer: &[u8], lsn: u64)
 fn state_with(state: State, files: FileMap, next_position: u64) -> State
     ensures { λ r. ⌜ r ≡ stateWith state (files .records) «next_position» ⌝ }
 {
-    let mut r = state;
-    r.files = files;
-    r.next_position = next_position;
-    r
+    let settings = state.settings;
+    State {
+        settings: settings,
+        heap_len: state.heap_len,
+        table_len: state.table_len,
+        files: files,
+        next_position: next_position,
+    }
 }
 
 // "next grows by T + 1"
@@ -99,24 +106,29 @@ fn next_after(next_position: u64, total: u64) -> u64
     next_position + (total + 1)
 }
 
-// The file in `slot`, whose trailer this is, added: its record is `new`.
+// The entries of a file that stands in the heap, by its trailer: live counts, then table.
 pub fn install(
-    state: State,
+    lsns: &[u64],
+    lives: &mut [u64],
     ids: &mut [u64],
     locations: &mut [u64],
     trailer: &[u8],
-    slot: usize,
-    new: Record,
-) -> State
-    requires { ⌜ Formed (table (now ids) (now locations)) × (12 + 16 * countIn (now trailer) ≤ length (now trailer)) × Placed (new .lsn) (entriesIn (now trailer)) × (0 < new .lsn) × (length (insertAll (usedEntries (table (now ids) (now locations))) (taken (new .lsn) (entriesIn (now trailer)))) ≤ length (now ids)) × (slot < 256) × (state .«next_position» + (new .«trailer_offset» + 1) < 2 ^ 64) ⌝ }
-    ensures { λ r. ⌜ (r ≡ stateWith state (set (losingBy (usedEntries (table (now (ids .entry)) (now (locations .entry)))) (entriesIn (now (trailer .entry))) (state .files .records)) slot new) (state .«next_position» + (new .«trailer_offset» + 1))) × (table (now (ids .exit)) (now (locations .exit)) ≡ laidOut (length (now (ids .entry))) (insertAll (usedEntries (table (now (ids .entry)) (now (locations .entry)))) (taken (new .lsn) (entriesIn (now (trailer .entry)))))) ⌝ }
+    lsn: u64,
+)
+    requires { ⌜ Formed (table (now ids) (now locations)) × (length (now lsns) ≤ length (now lives)) × (12 + 16 * countIn (now trailer) ≤ length (now trailer)) × Placed lsn (entriesIn (now trailer)) × (0 < lsn) × (length (insertAll (usedEntries (table (now ids) (now locations))) (taken lsn (entriesIn (now trailer)))) ≤ length (now ids)) ⌝ }
+    ensures { λ _. ⌜ (now (lives .exit) ≡ losingLives (now (lsns .entry)) (usedEntries (table (now (ids .entry)) (now (locations .entry)))) (entriesIn (now (trailer .entry))) (now (lives .entry))) × (table (now (ids .exit)) (now (locations .exit)) ≡ laidOut (length (now (ids .entry))) (insertAll (usedEntries (table (now (ids .entry)) (now (locations .entry)))) (taken lsn (entriesIn (now (trailer .entry)))))) ⌝ }
+{
+    lose(lsns, lives, ids, locations, trailer);
+    store_all(ids, locations, trailer, lsn);
+}
+
+// The state with the live counts that are left and the file's record in its slot.
+pub fn with_file(state: State, lives: &[u64], slot: usize, new: Record) -> State
+    requires { ⌜ (length (now lives) ≡ 256) × (slot < 256) × (state .«next_position» + (new .«trailer_offset» + 1) < 2 ^ 64) ⌝ }
+    ensures { λ r. ⌜ r ≡ stateWith state (set (withLives (state .files .records) (now (lives .entry))) slot new) (state .«next_position» + (new .«trailer_offset» + 1)) ⌝ }
 {
     let before = state.files;
-    let lsns = file_map::lsns(before);
-    let mut lives = file_map::lives(before);
-    lose(&lsns, &mut lives, ids, locations, trailer);
-    store_all(ids, locations, trailer, new.lsn);
-    let fewer = file_map::with_lives(before, &lives);
+    let fewer = file_map::with_lives(before, lives);
     let files = file_map::with_record(fewer, slot, new);
     let total = new.trailer_offset;
     let next = next_after(state.next_position, total);

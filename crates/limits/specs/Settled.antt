@@ -6,6 +6,7 @@ use native.Mathlib.Omega.{arith}
 use Rattle.rules.specs.Base.{Bool, true, false, not, _&&_, ℕ, eqb}
 use Rattle.rules.specs.declared.Settings.{Settings}
 use Rattle.rules.specs.declared.State.{State}
+use Rattle.rules.specs.declared.FileMap.{FileMap}
 use Rattle.rules.specs.Settings.{sameSettings}
 use Rattle.rules.specs.Layout.{Buffers, capacityOf}
 use Rattle.rules.specs.FileMap.{isEmpty, recordAt}
@@ -14,14 +15,20 @@ use Rattle.rules.specs.Condition1.{notTheStates}
 use Rattle.rules.specs.Condition1Laws.{Passed}
 use Rattle.location_table.specs.Tables.{Formed}
 use Rattle.file_map.specs.Records.{Small, Bounded}
+use Rattle.limits.specs.declared.Rest.{Rest}
+
+-- a state, its records apart
+abbrev pub stateOf : Rest → FileMap → State
+stateOf t files = record { settings = t .settings; «heap_len» = t .«heap_len»; «table_len» = t .«table_len»; files = files; «next_position» = t .«next_position» }
 
 -- lengths and settings are those of the state
-unfoldable pub theStates : Settings → ℕ → ℕ → State → Bool
+unfoldable pub theStates : Settings → ℕ → ℕ → Rest → Bool
 theStates s heapLen entries t = sameSettings s (t .settings) && eqb heapLen (t .«heap_len») && eqb entries (t .«table_len»)
 
-pub the-states : (s : Settings) (heapLen : ℕ) (b : Buffers) (t : State) → notTheStates s heapLen b t ≡ not (theStates s heapLen (capacityOf b) t)
+pub the-states : (s : Settings) (heapLen : ℕ) (b : Buffers) (t : Rest) (files : FileMap)
+    → notTheStates s heapLen b (stateOf t files) ≡ not (theStates s heapLen (capacityOf b) t)
 unfolding notTheStates theStates
-the-states s heapLen b t = refl
+the-states s heapLen b t files = refl
 
 -- the table is in form
 pub passed-formed : (s : Settings) (heapLen : ℕ) (b : Buffers) (t : State) → Passed s heapLen b t → Formed b

@@ -15,7 +15,7 @@ ghost use Rattle.rules.specs.Settings.{inRanges, heapInRange, sameSettings};
 ghost use Rattle.rules.specs.SettingsLaws.{InRanges};
 ghost use Rattle.rules.specs.Condition1.{outOfRange, badRecord, badFrom, conditionOne};
 ghost use Rattle.location_table.specs.Tables.{table};
-ghost use Rattle.limits.specs.Settled.{theStates};
+ghost use Rattle.limits.specs.Settled.{stateOf, theStates};
 
 // The column "Range", for the six settings.
 fn in_ranges(s: Settings) -> bool
@@ -84,18 +84,38 @@ fn same_settings(s: Settings, t: Settings) -> bool
     s.max_object_size == t.max_object_size
 }
 
-// "lengths or settings not those of the state"
-fn the_states(s: Settings, heap: u64, entries: u64, state: State) -> bool
-    ensures { λ r. ⌜ r ≡ theStates s heap entries state ⌝ }
+// What a state holds beside its records.
+pub struct Rest {
+    pub settings: Settings,
+    pub heap_len: u64,
+    pub table_len: u64,
+    pub next_position: u64,
+}
+
+pub fn rest_of(state: State) -> Rest
+    ensures { λ r. ⌜ stateOf r (state .files) ≡ state ⌝ }
 {
-    let t = state.settings;
+    let settings = state.settings;
+    Rest {
+        settings: settings,
+        heap_len: state.heap_len,
+        table_len: state.table_len,
+        next_position: state.next_position,
+    }
+}
+
+// "lengths or settings not those of the state"
+fn the_states(s: Settings, heap: u64, entries: u64, rest: Rest) -> bool
+    ensures { λ r. ⌜ r ≡ theStates s heap entries rest ⌝ }
+{
+    let t = rest.settings;
     if !same_settings(s, t) {
         return false;
     }
-    if heap != state.heap_len {
+    if heap != rest.heap_len {
         return false;
     }
-    entries == state.table_len
+    entries == rest.table_len
 }
 
 // "a non-empty record at slot N or above, outside 8's bounds, or with present over file_size or live over the table's length"
@@ -132,22 +152,37 @@ fn bad_files(s: Settings, heap: u64, ids: &[u64], locations: &[u64], files: File
     false
 }
 
-// All of 1 for every other call.
-pub fn refused(s: Settings, heap: u64, ids: &[u64], locations: &[u64], state: State) -> bool
-    ensures { λ r. ⌜ r ≡ conditionOne s heap (table (now (ids .entry)) (now (locations .entry))) state ⌝ }
+// All of 1 for every other call. A caller takes the records out of its state and hands on these alone: a state that is handed on whole is
+// copied once more.
+pub fn refused_apart(
+    s: Settings,
+    heap: u64,
+    ids: &[u64],
+    locations: &[u64],
+    rest: Rest,
+    files: FileMap,
+) -> bool
+    ensures { λ r. ⌜ r ≡ conditionOne s heap (table (now (ids .entry)) (now (locations .entry))) (stateOf rest files) ⌝ }
 {
     if out_of_range(s, heap, ids, locations) {
         return true;
     }
-    if !the_states(s, heap, ids.len() as u64, state) {
+    if !the_states(s, heap, ids.len() as u64, rest) {
         return true;
     }
     if !in_form(ids, locations) {
         return true;
     }
-    if state.next_position == 0 {
+    if rest.next_position == 0 {
         return true;
     }
-    let files = state.files;
     bad_files(s, heap, ids, locations, files)
+}
+
+// The same of a whole state.
+pub fn refused(s: Settings, heap: u64, ids: &[u64], locations: &[u64], state: State) -> bool
+    ensures { λ r. ⌜ r ≡ conditionOne s heap (table (now (ids .entry)) (now (locations .entry))) state ⌝ }
+{
+    let files = state.files;
+    refused_apart(s, heap, ids, locations, rest_of(state), files)
 }

@@ -6,10 +6,11 @@ use native.Mathlib.Nat.{not-suc-le-zero, eq-or-lt-of-le, lt-irrefl}
 use native.Mathlib.Omega.{arith}
 use mathlib.Core.List.{List}
 use lib.ListN.{length, getD}
+use Rattle.rules.specs.Table.{noEntry}
 use Rattle.location_table.specs.declared.Place.the-variants.{Found, Gap}
 use Rattle.location_table.specs.Places.{place}
 use Rattle.location_table.specs.Tables.{table, Formed}
-use Rattle.location_table.specs.EntryLaws.{noEntry, rising-lt, place-found, place-gap}
+use Rattle.location_table.specs.EntryLaws.{rising-lt, place-found, place-gap}
 use Rattle.location_table.specs.LayoutLaws.{used, used-id, used-rising, used-fits, zero-unused, not-zero-used}
 
 -- all before k is below x

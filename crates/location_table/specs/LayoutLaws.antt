@@ -1,55 +1,29 @@
 -- The two buffers and the used entries in them.
-use mathlib.Core.Path.{_≡_, refl, sym, ap, _∙_}
+use mathlib.Core.Path.{_≡_, sym, ap, _∙_}
 use mathlib.Core.Logic.{_⊎_, inl, inr}
-use Rattle.rules.specs.Base.{true, false, _&&_, List, [], _∷_, _++_, map, ℕ, zero, suc, _-_, length, getD, replicate, leb, zeros, any, padded}
+use Rattle.rules.specs.Base.{true, _&&_, List, [], _∷_, _++_, map, ℕ, zero, suc, _-_, length, getD, replicate, padded}
 use Prim.Native.Nat.{_<_, _≤_}
 use native.Mathlib.Nat.{le-of-suc-le-suc, not-suc-le-zero, sub-zero, suc-sub-suc}
 use native.Mathlib.Omega.{arith}
 use lib.ListN.{length-append, length-map, List·getD-eq-default}
-use borrow.Author.Tests.{eq-eqb, ne-eqb}
-use Rattle.rules.specs.BaseLaws.{order, same?, and-true}
+use Rattle.rules.specs.BaseLaws.{order, and-true, zero-or-more, replicate-at}
 use Rattle.rules.specs.declared.Entry.{Entry}
-use Rattle.rules.specs.Layout.{Buffers, lengthsInRange, formFrom, inForm, usedIn, usedEntries, laidOut}
+use Rattle.rules.specs.Layout.{Buffers, lengthsInRange, inForm, usedIn, usedEntries, laidOut}
 use Rattle.rules.specs.TableLaws.{Rising}
-use Rattle.rules.specs.LayoutLaws.{Used, lengths-in-range, used-located, used-length, form-rising, laid-out-used, laid-out-ids, laid-out-locations, form-laid-out}
+use Rattle.rules.specs.LayoutLaws.{Used, lengths-in-range, used-located, used-length, form-rising, laid-out-used, laid-out-ids, laid-out-locations, form-laid-out, used-more, used-stop}
+use Rattle.rules.specs.Table.{noEntry}
 use Rattle.location_table.specs.Tables.{table, Formed}
-use Rattle.location_table.specs.EntryLaws.{noEntry, has-at}
-
-pub zeros-next : (n : ℕ) (ns : List ℕ) → n ≡ 0 → zeros (n ∷ ns) ≡ zeros ns
-unfolding zeros any
-zeros-next n ns h = simp (eq-eqb _ _ h)
-
-pub zeros-not : (n : ℕ) (ns : List ℕ) → (n ≡ 0 → ⊥) → zeros (n ∷ ns) ≡ false
-unfolding zeros any
-zeros-not n ns h = simp (ne-eqb _ _ h)
-
--- ---- each case of the definitions, with a fact in the place of its test
-module _ (i : ℕ) (is : List ℕ) (l : ℕ) (ls : List ℕ) where
-  used-stop : l ≡ 0 → usedIn (i ∷ is) (l ∷ ls) ≡ []
-  unfolding usedIn
-  used-stop h = simp (eq-eqb _ _ h)
-
-  used-more : (l ≡ 0 → ⊥) → usedIn (i ∷ is) (l ∷ ls) ≡ record { id = i; location = l } ∷ usedIn is ls
-  unfolding usedIn
-  used-more h = simp (ne-eqb _ _ h)
-
-  pub form-stop : (f : ℕ) → l ≡ 0 → formFrom f (i ∷ is) (l ∷ ls) ≡ zeros (i ∷ is) && zeros ls
-  unfolding formFrom
-  form-stop f h = simp (eq-eqb _ _ h)
-
-  pub form-more : (f : ℕ) → (l ≡ 0 → ⊥) → formFrom f (i ∷ is) (l ∷ ls) ≡ leb f i && formFrom (suc i) is ls
-  unfolding formFrom
-  form-more f h = simp (ne-eqb _ _ h)
+use Rattle.location_table.specs.EntryLaws.{has-at}
 
 -- ---- the used entries are what stands in the buffers, form or not
 at-id : (is ls : List ℕ) (k : ℕ) → k < length (usedIn is ls) → getD is k 0 ≡ getD (usedIn is ls) k noEntry .id
 unfolding usedIn
 at-id [] ls k h = absurd (not-suc-le-zero h)
 at-id (i ∷ is) [] k h = absurd (not-suc-le-zero h)
-at-id (i ∷ is) (l ∷ ls) k h = go (at-id is ls) k h (same? l 0)
+at-id (i ∷ is) (l ∷ ls) k h = go (at-id is ls) k h (zero-or-more l)
   where
     go : ((k : ℕ) → k < length (usedIn is ls) → getD is k 0 ≡ getD (usedIn is ls) k noEntry .id)
-        → (k : ℕ) → k < length (usedIn (i ∷ is) (l ∷ ls)) → (l ≡ 0) ⊎ (l ≡ 0 → ⊥)
+        → (k : ℕ) → k < length (usedIn (i ∷ is) (l ∷ ls)) → (l ≡ 0) ⊎ (0 < l)
         → getD (i ∷ is) k 0 ≡ getD (usedIn (i ∷ is) (l ∷ ls)) k noEntry .id
     go ih k h (inl q) = absurd (not-suc-le-zero (rw (used-stop i is l ls q) at h))
     go ih zero h (inr q) = rw (used-more i is l ls q)
@@ -59,10 +33,10 @@ at-location : (is ls : List ℕ) (k : ℕ) → k < length (usedIn is ls) → get
 unfolding usedIn
 at-location [] ls k h = absurd (not-suc-le-zero h)
 at-location (i ∷ is) [] k h = absurd (not-suc-le-zero h)
-at-location (i ∷ is) (l ∷ ls) k h = go (at-location is ls) k h (same? l 0)
+at-location (i ∷ is) (l ∷ ls) k h = go (at-location is ls) k h (zero-or-more l)
   where
     go : ((k : ℕ) → k < length (usedIn is ls) → getD ls k 0 ≡ getD (usedIn is ls) k noEntry .location)
-        → (k : ℕ) → k < length (usedIn (i ∷ is) (l ∷ ls)) → (l ≡ 0) ⊎ (l ≡ 0 → ⊥)
+        → (k : ℕ) → k < length (usedIn (i ∷ is) (l ∷ ls)) → (l ≡ 0) ⊎ (0 < l)
         → getD (l ∷ ls) k 0 ≡ getD (usedIn (i ∷ is) (l ∷ ls)) k noEntry .location
     go ih k h (inl q) = absurd (not-suc-le-zero (rw (used-stop i is l ls q) at h))
     go ih zero h (inr q) = rw (used-more i is l ls q)
@@ -80,12 +54,7 @@ padded-nil m = rw sub-zero
 -- past the end of what is padded stand zeros
 padded-past : (ns : List ℕ) (m k : ℕ) → length ns ≤ k → getD (padded m ns) k 0 ≡ 0
 unfolding padded
-padded-past [] m k h = rw (padded-nil m) (rep m k)
-  where
-    rep : (n k : ℕ) → _≡_ {A = ℕ} (getD (replicate {A = ℕ} n 0) k 0) 0
-    rep zero k = refl
-    rep (suc n) zero = refl
-    rep (suc n) (suc k) = rep n k
+padded-past [] m k h = rw (padded-nil m) (replicate-at {A = ℕ} m k 0)
 padded-past (n ∷ ns) zero zero h = absurd (not-suc-le-zero h)
 padded-past (n ∷ ns) (suc m) zero h = absurd (not-suc-le-zero h)
 padded-past (n ∷ ns) (suc m) (suc k) h = rw (padded-cons n ns m) (padded-past ns m k (le-of-suc-le-suc h))

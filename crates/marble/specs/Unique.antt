@@ -9,7 +9,6 @@ use Rattle.rules.specs.declared.CountsAnswer.{CountsAnswer}
 use Rattle.rules.specs.declared.LoadAnswer.{LoadAnswer}
 use Rattle.rules.specs.declared.CompareAnswer.{CompareAnswer}
 use Rattle.rules.specs.Answers.{answer-one, counts-one, load-one, compare-one}
-use Rattle.rules.specs.Layout.{Buffers}
 use Rattle.rules.specs.Counts.{countsCall}
 use Rattle.rules.specs.World.{World, Given, After, world, leaving, answerGiven, countsGiven, loadGiven, compareGiven}
 use Rattle.rules.specs.TableCalls.{TableAfter}

@@ -7,17 +7,12 @@ use lib.ListN.{length, take, drop}
 use lib.Seq.{take-length, take-take}
 use borrow.Rule.Slice.PartMut.{putMid}
 use Rattle.numbers.specs.LittleEndian.{leValue}
-use Rattle.numbers.specs.Parts.{front, putAt, part-back, part-back-to, put-behind, front-length, put-length, put-put}
+use Rattle.numbers.specs.Parts.{front, putAt, part-back, put-behind, front-length}
 
 -- the callee put bs at the front of its part
 pub lent : (h ys bs : List ℕ) (at : ℕ) → at + length bs ≤ length h
     → ys ≡ front bs (take (length h - at) (drop at h)) → putMid at (length h - at) h ys ≡ putAt h at bs
 lent h ys bs at fit e = rw e (part-back h at bs fit)
-
--- the same of a part with an end, `&mut h[at..e]`
-pub lent-to : (h ys bs : List ℕ) (at e : ℕ) → at ≤ e → e ≤ length h → length bs ≤ e - at
-    → ys ≡ front bs (take (e - at) (drop at h)) → putMid at (e - at) h ys ≡ putAt h at bs
-lent-to h ys bs at e lo hi short f = rw f (part-back-to h at (e - at) bs (omega arith) short)
 
 -- one writer after another, each in the part behind what stands there
 pub behind : (s₀ s ys xs bs : List ℕ) (at : ℕ) → length xs ≡ at → at + length bs ≤ length s₀
@@ -34,10 +29,3 @@ copied s b d e = rw take-length at e
 -- a number that was read in `&s[at..]`
 pub read-in : (s : List ℕ) (at k : ℕ) (r : ℕ) → at + k ≤ length s → r ≡ leValue (take k (take (length s - at) (drop at s))) → r ≡ leValue (take k (drop at s))
 read-in s at k r fit e = e ∙ ap leValue (take-take k (length s - at) (drop at s) (omega arith))
-
--- one writer after another, anywhere
-pub lent-then : (s₀ s ys xs bs : List ℕ) (at mid : ℕ) → at + length xs ≡ mid → mid + length bs ≤ length s₀
-    → s ≡ putAt s₀ at xs → ys ≡ front bs (take (length s - mid) (drop mid s)) → putMid mid (length s - mid) s ys ≡ putAt s₀ at (xs ++ bs)
-lent-then s₀ s ys xs bs at mid l fit e f =
-    let same : length s ≡ length s₀ = ap length e ∙ put-length s₀ at xs (omega arith) in
-    lent s ys bs mid (omega arith) f ∙ ap₂ (λ (t : List ℕ) (n : ℕ). putAt t n bs) e (sym l) ∙ put-put s₀ at xs bs (omega arith)

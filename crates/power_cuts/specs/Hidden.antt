@@ -6,8 +6,8 @@ use Prim.Native.Nat.{_<_, _≤_}
 use native.Mathlib.Omega.{arith}
 use lib.ListN.{length-append, length-drop}
 use lib.Seq.{take-append-le, length-take-le, getD-set-other, getD-take, getD-drop, ext-getD}
-use Rattle.rules.specs.Base.{List, [], _∷_, _++_, ℕ, zero, suc, _+_, _*_, length, getD, set, take, drop}
-use Rattle.rules.specs.BaseLaws.{All, order, same?}
+use Rattle.rules.specs.Base.{List, [], _∷_, _++_, ℕ, suc, _+_, _*_, length, getD, set, take, drop}
+use Rattle.rules.specs.BaseLaws.{All, order, same?, all-append, all-take}
 use Rattle.rules.specs.Settings.{slotsIn}
 use Rattle.rules.specs.SettingsLaws.{HeapInRange, heap-whole}
 use Rattle.rules.specs.Label.{labelBytes}
@@ -16,7 +16,7 @@ use Rattle.rules.specs.SlotFile.{slotBytes, View, empty, viewIn, viewsIn}
 use Rattle.rules.specs.SlotLaws.{slot-length, slots-apart, views-length, views-at}
 use Rattle.rules.specs.Ops.{Op, fileBytes}
 use Rattle.rules.specs.Stores.{Store, made, storesOf, fileStores}
-use Rattle.rules.specs.StoreLaws.{made-length}
+use Rattle.rules.specs.StoreLaws.{made-length, stores-length}
 use Rattle.rules.specs.Install.{newRecord, newSlot, newLsn, storesFor}
 use Rattle.rules.specs.World.{World, recordsOf, mappings, slotsOf}
 use Rattle.theory.specs.Picture.{viewsOf, Said}
@@ -37,15 +37,6 @@ run-within : (low high at : ℕ) (bs : List ℕ) → low ≤ at → at + length 
 unfolding storesOf
 run-within low high at [] a b = tt
 run-within low high at (c ∷ bs) a b = ((a, omega arith), run-within low high (suc at) bs (omega arith) (omega arith))
-
-all-append : {A : Type 0} (P : A → Type 0) (xs ys : List A) → All P xs → All P ys → All P (xs ++ ys)
-all-append P [] ys a b = b
-all-append P (x ∷ xs) ys a b = (a .0, all-append P xs ys (a .1) b)
-
-all-take : {A : Type 0} (P : A → Type 0) (n : ℕ) (xs : List A) → All P xs → All P (take n xs)
-all-take P zero xs a = tt
-all-take P (suc n) [] a = tt
-all-take P (suc n) (x ∷ xs) a = (a .0, all-take P n xs (a .1))
 
 -- every other byte is as it was
 untouched : (low high : ℕ) (ss : List Store) (heap : List ℕ) → All (Within low high) ss → (i : ℕ) → (i < low) ⊎ (high ≤ i) → getD (made ss heap) i 0 ≡ getD heap i 0
@@ -127,12 +118,6 @@ beforeLast start label file = storesOf (start + 64) file ++ storesOf (suc start)
 pub last-store : (start : ℕ) (label file : List ℕ) → fileStores start label file ≡ beforeLast start label file ++ storesOf start (take 1 label)
 unfolding fileStores
 last-store start label file = sym (append-assoc (storesOf (start + 64) file) (storesOf (suc start) (drop 1 label)) (storesOf start (take 1 label)))
-
--- it is one store
-stores-length : (at : ℕ) (bs : List ℕ) → length (storesOf at bs) ≡ length bs
-unfolding storesOf
-stores-length at [] = refl
-stores-length at (b ∷ bs) = ap suc (stores-length (suc at) bs)
 
 -- a run that is not whole has none of it
 not-whole : (start k : ℕ) (label file : List ℕ) → length label ≡ 64 → k < length (fileStores start label file)

@@ -6,14 +6,14 @@ use Prim.Native.Nat.{ℕ, suc, _+_, _*_, _≤_, _<_}
 use native.Mathlib.Omega.{arith}
 use native.Mathlib.Numerals.{add-one}
 use lib.ListN.{length, set, take, drop}
-use lib.Seq.{drop-cons, take-suc-set, drop-set-lt, append-snoc, take-all}
+use lib.Seq.{drop-cons, take-suc-set, drop-set-lt, append-snoc, take-all, getD-set-other}
 use Rattle.numbers.specs.Choice.{pick}
 use Rattle.numbers.specs.LittleEndian.{leBytes}
 use Rattle.rules.specs.declared.Record.{Record}
 use Rattle.rules.specs.declared.Claims.{Claims}
 use Rattle.rules.specs.TurnLaws.{left-next, left-none}
-use Rattle.rules.specs.FileMap.{emptyRecord, recordAt, slotsWhere}
-use Rattle.rules.specs.Stores.{Store, storesOf}
+use Rattle.rules.specs.FileMap.{emptyRecord, isEmpty, recordAt, slotsWhere}
+use Rattle.rules.specs.Stores.{Store, made, storesOf}
 use Rattle.rules.specs.Prune.{isDead, emptiedFrom}
 use Rattle.rules.specs.PruneLaws.{emptying}
 
@@ -73,6 +73,9 @@ module _ (size : ℕ) (claims : Claims) where
       go true h = omega arith
       go false h = omega arith
 
+  pub all-made : (rs : List Record) (heap : List ℕ) → length rs ≡ 256 → made (take 256 (storesFrom 0 rs)) heap ≡ made (storesFrom 0 rs) heap
+  all-made rs heap h = ap (λ (run : List Store). made run heap) (take-all 256 (storesFrom 0 rs) (omega (arith, stores-few 0 rs)))
+
   -- one store for a dead file, none for a slot that stays
   pub one-store : (i : ℕ) (r : Record) → isDead claims i r ≡ true → storesFrom i (r ∷ []) ≡ storesOf (i * size) (leBytes 1 0)
   unfolding slotsWhere storesOf leBytes
@@ -81,3 +84,9 @@ module _ (size : ℕ) (claims : Claims) where
   pub no-store : (i : ℕ) (r : Record) → isDead claims i r ≡ false → storesFrom i (r ∷ []) ≡ []
   unfolding slotsWhere
   no-store i r e = rw e refl
+
+-- ---- labels: those of the slots from i on lie within the heap
+pub labels-next : (size m i : ℕ) (rs : List Record) (x : Record) → ((k : ℕ) → i ≤ k → isEmpty (recordAt rs k) ≡ false → k * size + 64 ≤ m)
+    → (k : ℕ) → i + 1 ≤ k → isEmpty (recordAt (set rs i x) k) ≡ false → k * size + 64 ≤ m
+labels-next size m i rs x low k h e =
+    low k (omega arith) (ap isEmpty (sym (getD-set-other rs i k x emptyRecord (λ q. omega arith))) ∙ e)

@@ -1,5 +1,7 @@
 // Prune: dead files' labels in the heap and their records, both emptied.
 use file_map::is_empty;
+use limits::refused_apart;
+use limits::rest_of;
 use rules::Answer;
 use rules::Claims;
 use rules::FileMap;
@@ -11,7 +13,7 @@ ghost use mathlib.Core.Path.{_≡_};
 ghost use mathlib.Core.Bool.{false};
 ghost use mathlib.Core.List.{List, [], _∷_};
 ghost use Prim.Native.Nat.{ℕ, _+_, _*_, _<_, _≤_};
-ghost use lib.ListN.{length};
+ghost use lib.ListN.{length, take};
 ghost use Rattle.numbers.specs.Choice.{pick};
 ghost use Rattle.rules.specs.FileMap.{emptyRecord, isEmpty, slotsWhere};
 ghost use Rattle.rules.specs.Stores.{made};
@@ -53,19 +55,6 @@ fn emptied_record(claims: Claims, slot: u64, r: Record) -> Record
     r
 }
 
-// "record emptied"
-fn emptied(files: FileMap, claims: Claims) -> FileMap
-    ensures { λ n. ⌜ n .records ≡ emptiedFrom claims 0 (files .records) ⌝ }
-{
-    let mut n = files;
-    let mut i: usize = 0;
-    while i < 256 {
-        n.records[i] = emptied_record(claims, i as u64, n.records[i]);
-        i += 1;
-    }
-    n
-}
-
 // ---- the heap: at most `left` stores are made; how many are left of them
 // "first label byte set to 0", where the slot's file is dead.
 fn zero_label(
@@ -86,44 +75,41 @@ fn zero_label(
     left
 }
 
-// One store for each dead file, ascending by slot.
+// ---- both, slot by slot: the records are gone through once
+// One store for each dead file, ascending by slot, as far as `left` reaches; every dead file's record emptied.
 pub fn prune_stores(
     heap: &mut [u8],
     slot_bytes: u64,
     claims: Claims,
     files: FileMap,
     left: u64,
-) -> u64
+) -> FileMap
     requires { ⌜ LabelsIn «slot_bytes» (files .records) (length (now heap)) ⌝ }
-    ensures { λ n. ⌜ Made left (emptying «slot_bytes» (slotsWhere (isDead claims) 0 (files .records))) (now (heap .entry)) (now (heap .exit)) n ⌝ }
+    ensures { λ n. ⌜ n .records ≡ emptiedFrom claims 0 (files .records) ⌝ }
+    ensures { λ _. ⌜ now (heap .exit) ≡ made (take left (emptying «slot_bytes» (slotsWhere (isDead claims) 0 (files .records)))) (now (heap .entry)) ⌝ }
 {
+    let mut n = files;
     let mut rest = left;
     let mut i: usize = 0;
     while i < 256 {
-        rest = zero_label(heap, slot_bytes, claims, i as u64, files.records[i], rest);
+        let r = n.records[i];
+        rest = zero_label(heap, slot_bytes, claims, i as u64, r, rest);
+        n.records[i] = emptied_record(claims, i as u64, r);
         i += 1;
     }
-    rest
+    n
 }
 
-// All of them: there are no more than records.
-fn zero_labels(heap: &mut [u8], slot_bytes: u64, claims: Claims, files: FileMap)
-    requires { ⌜ LabelsIn «slot_bytes» (files .records) (length (now heap)) ⌝ }
-    ensures { λ _. ⌜ now (heap .exit) ≡ made (emptying «slot_bytes» (slotsWhere (isDead claims) 0 (files .records))) (now (heap .entry)) ⌝ }
-{
-    prune_stores(heap, slot_bytes, claims, files, 256);
-}
-
-// ---- the call
+// ---- the call: 256 stores are enough, for there are no more records
 // For a call that has decided refusal 1: the state after it.
 pub fn pruned(settings: Settings, state: State, claims: Claims, heap: &mut [u8]) -> State
     requires { ⌜ LabelsIn (settings .«slot_bytes») (state .files .records) (length (now heap)) ⌝ }
     ensures { λ r. ⌜ ((ids locations : List ℕ) → world settings r claims (now (heap .exit)) ids locations ≡ pruned (world settings state claims (now (heap .entry)) ids locations)) ⌝ }
 {
     let files = state.files;
-    zero_labels(heap, settings.slot_bytes, claims, files);
+    let next = prune_stores(heap, settings.slot_bytes, claims, files, 256);
     let mut after = state;
-    after.files = emptied(files, claims);
+    after.files = next;
     after
 }
 
@@ -138,13 +124,23 @@ pub fn prune(
 ) -> PruneAnswer
     ensures { λ r. ⌜ leaving (answerGiven (r .answer)) (world settings (r .state) claims (now (heap .exit)) (now (ids .entry)) (now (locations .entry))) ≡ pruneCall (world settings state claims (now (heap .entry)) (now (ids .entry)) (now (locations .entry))) ⌝ }
 {
-    if limits::refused(settings, heap.len() as u64, ids, locations, state) {
+    let files = state.files;
+    if refused_apart(
+        settings,
+        heap.len() as u64,
+        ids,
+        locations,
+        rest_of(state),
+        files,
+    ) {
         return PruneAnswer {
             answer: Answer::Refused(Refusal::Limits),
             state: state,
         };
     }
-    let after = pruned(settings, state, claims, heap);
+    let next = prune_stores(heap, settings.slot_bytes, claims, files, 256);
+    let mut after = state;
+    after.files = next;
     PruneAnswer {
         answer: Answer::Done,
         state: after,

@@ -37,7 +37,7 @@ use Rattle.rules.specs.Read.{objectTests, objectIn, readObject, readFile, readH
 use Rattle.slot_file.specs.declared.BodyAnswer.{BodyAnswer}
 use Rattle.slot_file.specs.declared.BodyAnswer.the-variants.{Body, Unread}
 use Rattle.slot_file.specs.Objects.{bodyOf}
-use Rattle.readpath.specs.Reads.{Lies, FilesLie, inHeap, filesIn, Within}
+use Rattle.readpath.specs.Reads.{Lies, FilesLie, inHeap, Within}
 
 -- once 1 is decided
 pub passed-lie : (s : Settings) (n : ℕ) (b : Buffers) (t : State) → Passed s n b t → FilesLie (s .«slot_bytes») (t .files .records) n
@@ -108,12 +108,6 @@ file-within size r k heap =
     let rest = drop (k * size) heap in
     let slot = take size rest in
     omega (arith, length-take (r .«file_size») (drop 64 slot), length-drop 64 slot, length-take size rest, length-drop (k * size) heap)
-
--- behind the table a read looks at settings, state and heap alone
-pub file-alone : (s : Settings) (t : State) (c : Claims) (heap ids locations : List ℕ) (id l : ℕ) (k : Slot)
-    → readFile (filesIn s t heap) id l k ≡ readFile (world s t c heap ids locations) id l k
-file-alone s t c heap ids locations id l NoSlot = refl
-file-alone s t c heap ids locations id l (Is k) = refl
 
 -- ---- the steps of a read
 module _ (w : World) (id : ℕ) where

@@ -1,15 +1,11 @@
 -- What the steps of a read ask for and answer.
 use mathlib.Core.Path.{_≡_}
 use Prim.Native.Nat.{_≤_, _<_}
-use Rattle.rules.specs.Base.{false, List, [], ℕ, _+_, _*_}
-use Rattle.rules.specs.declared.Settings.{Settings}
+use Rattle.rules.specs.Base.{false, List, ℕ, _+_, _*_}
 use Rattle.rules.specs.declared.Record.{Record}
-use Rattle.rules.specs.declared.State.{State}
 use Rattle.rules.specs.declared.ReadAnswer.{ReadAnswer}
 use Rattle.rules.specs.declared.ReadAnswer.the-variants.{Found, Nothing, ReadRefused}
-use Rattle.rules.specs.Claims.{noClaims}
 use Rattle.rules.specs.FileMap.{isEmpty, recordAt}
-use Rattle.rules.specs.World.{World, world}
 use Rattle.slot_file.specs.declared.BodyAnswer.{BodyAnswer}
 use Rattle.slot_file.specs.declared.BodyAnswer.the-variants.{Body, Unread}
 
@@ -27,10 +23,6 @@ FilesLie size rs heapLen = (k : ℕ) → isEmpty (recordAt rs k) ≡ false → L
 abbrev pub inHeap : ℕ → BodyAnswer → ReadAnswer
 inHeap start (Body at size) = Found (start + at) size
 inHeap start (Unread r) = ReadRefused r
-
--- what a read looks at behind the table
-abbrev pub filesIn : Settings → State → List ℕ → World
-filesIn s t heap = world s t noClaims heap [] []
 
 -- a part that is named lies in the heap
 abbrev pub Within : ReadAnswer → ℕ → Type 0

@@ -1,5 +1,7 @@
 // Read (`src/readpath.rs`): where a body lies in the heap, then that part of it.
 use disk_location::DiskLocation;
+use limits::refused_apart;
+use limits::rest_of;
 use rules::Held;
 use rules::ReadAnswer;
 use rules::Record;
@@ -14,11 +16,10 @@ ghost use lib.ListN.{length, drop};
 ghost use Rattle.rules.specs.declared.Claims.{Claims};
 ghost use Rattle.rules.specs.SlotFile.{slotBytes, fileIn};
 ghost use Rattle.rules.specs.Object.{storedAt};
-ghost use Rattle.rules.specs.FileMap.{fileFor};
-ghost use Rattle.rules.specs.Read.{readFile, readOf, partOf};
+ghost use Rattle.rules.specs.Read.{readOf, partOf};
 ghost use Rattle.rules.specs.World.{world};
 ghost use Rattle.slot_file.specs.Objects.{bodyOf};
-ghost use Rattle.readpath.specs.Reads.{Lies, FilesLie, inHeap, filesIn, Within};
+ghost use Rattle.readpath.specs.Reads.{Lies, inHeap, Within};
 
 // "a 64-byte label, then the file": the file of a slot, a part of the lent heap.
 fn file_part(heap: &[u8], slot_bytes: u64, slot: u64, r: Record) -> &[u8]
@@ -48,23 +49,6 @@ fn object_at(
     }
 }
 
-// 18 where no file is at or below the raw location; else the object in that file.
-fn at_location(s: Settings, state: State, heap: &[u8], location: u64, id: u64) -> ReadAnswer
-    requires { ⌜ FilesLie (s .«slot_bytes») (state .files .records) (length (now heap)) ⌝ }
-    ensures { λ x. ⌜ x ≡ readFile (filesIn s state (now (heap .entry))) id location (fileFor (state .files .records) location) ⌝ }
-{
-    let files = state.files;
-    match file_map::file_for(files, location) {
-        Slot::NoSlot => ReadAnswer::ReadRefused(Refusal::NotThere),
-        Slot::Is(slot) => {
-            let i = slot as usize;
-            let r = files.records[i];
-            let position = DiskLocation(location).position() - r.lsn;
-            object_at(heap, s.slot_bytes, slot, r, position, id)
-        }
-    }
-}
-
 // "Checks in order: 18, 16 (header or body past file_size), 10, 17", after 1: where the body is, in numbers.
 pub fn read_answer(
     settings: Settings,
@@ -76,18 +60,30 @@ pub fn read_answer(
 ) -> ReadAnswer
     ensures { λ r. ⌜ ((c : Claims) → r ≡ readOf (world settings state c (now (heap .entry)) (now (ids .entry)) (now (locations .entry))) id) ⌝ }
 {
-    if limits::refused(settings, heap.len() as u64, ids, locations, state) {
+    let files = state.files;
+    if refused_apart(
+        settings,
+        heap.len() as u64,
+        ids,
+        locations,
+        rest_of(state),
+        files,
+    ) {
         return ReadAnswer::ReadRefused(Refusal::Limits);
     }
-    match location_table::load_in(ids, locations, id) {
-        Held::Unmapped => ReadAnswer::Nothing,
-        Held::Mapped(location) => {
-            if DiskLocation(location).is_delete() {
-                return ReadAnswer::Nothing;
-            }
-            at_location(settings, state, heap, location, id)
-        }
+    let Held::Mapped(location) = location_table::load_in(ids, locations, id) else {
+        return ReadAnswer::Nothing;
+    };
+    if DiskLocation(location).is_delete() {
+        return ReadAnswer::Nothing;
     }
+    let Slot::Is(slot) = file_map::file_for(files, location) else {
+        return ReadAnswer::ReadRefused(Refusal::NotThere);
+    };
+    let i = slot as usize;
+    let r = files.records[i];
+    let position = DiskLocation(location).position() - r.lsn;
+    object_at(heap, settings.slot_bytes, slot, r, position, id)
 }
 
 // The part of the heap that an answer names; an empty part where it names none.

@@ -9,14 +9,14 @@ use lib.Dec.{ltb}
 use lib.ListN.{length, getD, take, drop, length-map, take-append-drop}
 use lib.Seq.{take-all}
 use Rattle.rules.specs.Base.{each}
-use Rattle.rules.specs.BaseLaws.{All, all-map, any-false}
+use Rattle.rules.specs.BaseLaws.{All, all-map, any-false, all-append}
 use Rattle.rules.specs.LabelLaws.{lsn-some}
 use Rattle.rules.specs.Layout.{Buffers}
 use Rattle.disk_location.specs.Locations.{maskedOf, positionOf}
 use Rattle.rules.specs.Trailer.{absolute}
 use Rattle.rules.specs.SlotFile.{View, empty, damaged, holds, trailerEntries, viewIn}
 use Rattle.rules.specs.Reopen.{fileOf, filesIn}
-use Rattle.trailer.specs.Entries.{noEntry}
+use Rattle.rules.specs.Table.{noEntry}
 use Rattle.location_table.specs.Tables.{Formed}
 use Rattle.reopen_tests.specs.Shown.{FileAt, Sound, file-of}
 use Rattle.rebuild.specs.Types.{Record, Entry}
@@ -97,10 +97,6 @@ module _ (views : List View) (k : ℕ) (h : k < length views) where
 
 pub slot-end : (views : List View) (k : ℕ) → length views ≤ k → rowsIn (take k views) ≡ rowsIn views
 slot-end views k h = ap rowsIn (take-all k views h)
-
-all-append : {A : Type 0} (P : A → Type 0) (xs ys : List A) → All P xs → All P ys → All P (xs ++ ys)
-all-append P [] ys a b = b
-all-append P (x ∷ xs) ys a b = (a .0, all-append P xs ys (a .1) b)
 
 pub views-in-use : (size : ℕ) (vs : List View) → All (Sound size) vs → All InUse (rowsIn vs)
 unfolding filesIn each

@@ -12,28 +12,15 @@ use lib.ListN.{length, getD, set, take, drop, drop-of-length-le}
 use lib.Seq.{take-suc}
 use Rattle.numbers.specs.GroupLaws.{either-way}
 use Rattle.rules.specs.Base.{keep, larger, greatest}
-use Rattle.rules.specs.BaseLaws.{All}
 use Rattle.rules.specs.FileMap.{emptyRecord, recordAt}
 use Rattle.rules.specs.Reopen.{inRange, maskedPosition, mappedInto}
-use Rattle.trailer.specs.Entries.{noEntry}
-use Rattle.reopen_tests.proofs.Turns.{next}
+use Rattle.rules.specs.Table.{noEntry}
+use Rattle.rules.specs.TurnLaws.{left-next}
 use Rattle.rebuild.specs.Types.{Record, Entry}
 
 module _ {A : Type 0} (default : A) (xs : List A) (i : ℕ) where
   pub taken : i < length xs → take (i + 1) xs ≡ take i xs ++ (getD xs i default ∷ [])
   taken h = rw (add-one i) (take-suc xs i default h)
-
--- what each has, the one at i has
-pub all-at : {A : Type 0} (P : A → Type 0) (default : A) (xs : List A) → All P xs → (i : ℕ) → i < length xs → P (getD xs i default)
-all-at P default [] a i h = absurd (not-suc-le-zero h)
-all-at P default (x ∷ xs) a zero h = a .0
-all-at P default (x ∷ xs) a (suc i) h = all-at P default xs (a .1) i (le-of-suc-le-suc h)
-
-pub all-take : {A : Type 0} (P : A → Type 0) (xs : List A) → All P xs → (i : ℕ) → All P (take i xs)
-all-take P [] a zero = tt
-all-take P [] a (suc i) = tt
-all-take P (x ∷ xs) a zero = tt
-all-take P (x ∷ xs) a (suc i) = (a .0, all-take P xs (a .1) i)
 
 -- the first i, with f of the one at i behind them
 pub taken-map : {A B : Type 0} (f : A → B) (default : A) (xs : List A) (i : ℕ) → i < length xs → take (i + 1) (map f xs) ≡ take i (map f xs) ++ (f (getD xs i default) ∷ [])
@@ -48,11 +35,11 @@ taken-map {A = A} {B = B} f default xs i h = rw (add-one i) (go xs i h)
 module _ (es : List Entry) (r : Record) (i : ℕ) where
   pub count-here : i < length es → inRange r (maskedPosition (getD es i noEntry)) ≡ true → mappedInto (drop i es) r ≡ suc (mappedInto (drop (i + 1) es) r)
   unfolding mappedInto keep
-  count-here h e = rw (next noEntry es i h, e) refl
+  count-here h e = rw (left-next es i noEntry h, e) refl
 
   pub count-later : i < length es → inRange r (maskedPosition (getD es i noEntry)) ≡ false → mappedInto (drop i es) r ≡ mappedInto (drop (i + 1) es) r
   unfolding mappedInto keep
-  count-later h e = rw (next noEntry es i h, e) refl
+  count-later h e = rw (left-next es i noEntry h, e) refl
 
   pub count-end : length es ≤ i → mappedInto (drop i es) r ≡ 0
   unfolding mappedInto keep
@@ -108,7 +95,7 @@ module _ (f : Record → ℕ) (rs : List Record) where
 
   pub greatest-next : (k most : ℕ) → k < length rs → larger (larger most (f (recordAt rs k))) (greatest f (drop (k + 1) rs)) ≡ larger most (greatest f (drop k rs))
   unfolding greatest
-  greatest-next k most h = larger-assoc most (f (recordAt rs k)) (greatest f (drop (k + 1) rs)) ∙ sym (ap (λ (ys : List Record). larger most (greatest f ys)) (next emptyRecord rs k h))
+  greatest-next k most h = larger-assoc most (f (recordAt rs k)) (greatest f (drop (k + 1) rs)) ∙ sym (ap (λ (ys : List Record). larger most (greatest f ys)) (left-next rs k emptyRecord h))
 
   pub greatest-end : (k most : ℕ) → length rs ≤ k → larger most (greatest f (drop k rs)) ≡ most
   unfolding greatest

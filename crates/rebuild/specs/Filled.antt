@@ -15,10 +15,11 @@ use Rattle.rules.specs.SlotFile.{File}
 use Rattle.rules.specs.Reopen.{latest, latestFrom}
 use Rattle.location_table.specs.Tables.{Formed}
 use Rattle.rules.specs.TableLaws.{Rising, insert-new}
+use Rattle.rules.specs.ReopenLaws.{from-rising}
 use Rattle.location_table.specs.EntryLaws.{insert-fits}
 use Rattle.location_table.specs.LayoutLaws.{used-rising, used-fits, laid-out, laid-out-formed}
 pub use Rattle.rebuild.specs.Latest.{replaces}
-use Rattle.rebuild.specs.Latest.{InUse, latest-insert, latest-keep, from-append, from-rising, from-used, from-grows}
+use Rattle.rebuild.specs.Latest.{InUse, latest-insert, latest-keep, from-append, from-used, from-grows}
 use Rattle.rebuild.specs.Types.{Entry, Held, Mapped, Unmapped}
 
 -- a file's entries at their absolute locations

@@ -4,14 +4,14 @@ use mathlib.Core.Bool.{true≢false}
 use mathlib.Core.Logic.{_⊎_, inl, inr}
 use Prim.Native.Nat.{_≤_, _<_, zero-le, suc-le-suc}
 use native.Mathlib.Omega.{arith}
-use borrow.Author.Tests.{lt-ltb, le-ltb, eq-eqb, ne-eqb}
 use Rattle.rules.specs.Base.{Bool, true, false, List, [], _∷_, _++_, ℕ, suc, length, ltb, pick}
 use Rattle.rules.specs.BaseLaws.{All, order}
 use Rattle.rules.specs.Table.{lookup, insert}
 use Rattle.disk_location.specs.Locations.{maskedOf, positionOf}
-use Rattle.rules.specs.Reopen.{maskedPosition, latest, latestFrom}
-use Rattle.rules.specs.TableLaws.{Rising, rise, lookup-here, lookup-next, lookup-below, insert-next, insert-here, insert-before, rising-insert}
+use Rattle.rules.specs.Reopen.{latest, latestFrom}
+use Rattle.rules.specs.TableLaws.{Rising, rise, lookup-here, lookup-next, lookup-below, insert-next, insert-here, insert-before}
 use Rattle.rules.specs.LayoutLaws.{Used}
+use Rattle.rules.specs.ReopenLaws.{latest-next, latest-here, latest-before, latest-rising}
 use Rattle.location_table.specs.EntryLaws.{used-insert}
 use Rattle.rebuild.specs.Types.{Entry, Held, Mapped, Unmapped}
 
@@ -23,20 +23,6 @@ replaces (Mapped m) l = ltb (maskedOf (positionOf m)) (maskedOf (positionOf l))
 -- an entry that is in use
 abbrev pub InUse : Entry → Type 0
 InUse e = 0 < e .location
-
--- ---- the clauses, by facts in the place of tests
-module _ (n e : Entry) (es : List Entry) where
-  latest-next : e .id < n .id → latest n (e ∷ es) ≡ e ∷ latest n es
-  unfolding latest
-  latest-next h = simp (lt-ltb _ _ h)
-
-  latest-here : e .id ≡ n .id → latest n (e ∷ es) ≡ pick (ltb (maskedPosition e) (maskedPosition n)) n e ∷ es
-  unfolding latest
-  latest-here h = simp (le-ltb (e .id) (n .id) (omega arith), eq-eqb _ _ h)
-
-  latest-before : n .id < e .id → latest n (e ∷ es) ≡ n ∷ e ∷ es
-  unfolding latest
-  latest-before h = simp (le-ltb (e .id) (n .id) (omega arith), ne-eqb (e .id) (n .id) (λ q. omega arith))
 
 -- ---- one entry
 -- it replaces what is there: a store
@@ -73,14 +59,6 @@ latest-keep f n (e ∷ es) (rise a r) t = go (latest-keep (suc (e .id)) n es r) 
         let none = lookup-next e es (n .id) (λ q. omega arith) ∙ lookup-below (suc (e .id)) es r (n .id) (omega arith) in
         absurd (true≢false (ap (λ (o : Held). replaces o (n .location)) (sym none) ∙ t))
 
--- ids still rise
-pub latest-rising : (n : Entry) (es : List Entry) → Rising 0 es → Rising 0 (latest n es)
-latest-rising n es r = go (replaces (lookup es (n .id)) (n .location)) refl
-  where
-    go : (t : Bool) → replaces (lookup es (n .id)) (n .location) ≡ t → Rising 0 (latest n es)
-    go true e = rw (latest-insert n es e) (rising-insert 0 es n zero-le r)
-    go false e = rw (latest-keep 0 n es r e) r
-
 -- every entry is in use
 latest-used : (n : Entry) (es : List Entry) → InUse n → Rising 0 es → Used es → Used (latest n es)
 latest-used n es some r u = go (replaces (lookup es (n .id)) (n .location)) refl
@@ -106,15 +84,10 @@ unfolding latestFrom
 from-append met [] ys = refl
 from-append met (x ∷ xs) ys = from-append (latest x met) xs ys
 
-pub from-rising : (met es : List Entry) → Rising 0 met → Rising 0 (latestFrom met es)
-unfolding latestFrom
-from-rising met [] r = r
-from-rising met (e ∷ es) r = from-rising (latest e met) es (latest-rising e met r)
-
 pub from-used : (met es : List Entry) → Rising 0 met → Used met → All InUse es → Used (latestFrom met es)
 unfolding latestFrom
 from-used met [] r u a = u
-from-used met (e ∷ es) r u a = from-used (latest e met) es (latest-rising e met r) (latest-used e met (a .0) r u) (a .1)
+from-used met (e ∷ es) r u a = from-used (latest e met) es (latest-rising 0 e met zero-le r) (latest-used e met (a .0) r u) (a .1)
 
 pub from-grows : (met es : List Entry) → length met ≤ length (latestFrom met es)
 unfolding latestFrom

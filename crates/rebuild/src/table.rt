@@ -1,19 +1,18 @@
 use disk_location::DiskLocation;
-use disk_location::RelativeDiskLocation;
 use disk_location::masked;
 use file_map::is_empty;
+use install::absolute;
 use location_table::clear;
 use location_table::load_in;
 use location_table::store_in;
 use reopen_tests::slots::slot_at;
-use rules::Entry;
 use rules::FileMap;
 use rules::Held;
 use rules::Record;
 use slot_file::slot::trailer_part;
 ghost use mathlib.Core.Path.{_≡_};
 ghost use mathlib.Core.List.{[], _∷_, map};
-ghost use Prim.Native.Nat.{_+_, _*_, _^_, _≤_, _<_};
+ghost use Prim.Native.Nat.{_+_, _*_, _≤_, _<_};
 ghost use lib.ListN.{length};
 ghost use Rattle.disk_location.specs.Locations.{maskedOf, positionOf};
 ghost use Rattle.rules.specs.Base.{each};
@@ -38,18 +37,6 @@ fn replaces(held: Held, location: u64) -> bool
     match held {
         Held::Unmapped => true,
         Held::Mapped(old) => masked_position(old) < masked_position(location),
-    }
-}
-
-// "A relative location plus a file's lsn is an absolute one."
-fn absolute(e: Entry, lsn: u64) -> Entry
-    requires { ⌜ (0 < lsn) × (positionOf (e .location) + lsn < 2 ^ 63) ⌝ }
-    ensures { λ r. ⌜ r ≡ absolute lsn e ⌝ }
-{
-    let relative = RelativeDiskLocation(e.location);
-    Entry {
-        id: e.id,
-        location: relative.to_absolute(lsn).raw(),
     }
 }
 

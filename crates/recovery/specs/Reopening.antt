@@ -38,11 +38,14 @@ pub record Blank (b : Buffers) : Type 0 where
   pub even : length (b .ids) ≡ length (b .locations)
   pub zero : b ≡ cleared b
 
+-- the views of the slots are known
+abbrev pub pastSlots : World → List View → After
+pastSlots w views =
+    after (decide (reopenTests w views)) (givenUp w) (opened w views)
+
 -- 1 is clear
 abbrev pub pastLimits : World → After
-pastLimits w =
-    let views = viewsIn (slotsOf w) (w .settings .«slot_bytes») (w .heap) in
-    after (decide (reopenTests w views)) (givenUp w) (opened w views)
+pastLimits w = pastSlots w (viewsIn (slotsOf w) (w .settings .«slot_bytes») (w .heap))
 
 -- 8 to 15 are clear, too
 abbrev pub pastTests : World → List View → After

@@ -22,7 +22,7 @@ use Rattle.reopen_tests.specs.Tests.{fileTests}
 use Rattle.rebuild.specs.Filled.{rowsOf}
 use Rattle.recovery.specs.declared.Reopened.{Reopened}
 use Rattle.recovery.specs.Types.{Settings, Record, Entry, State, Claims, Refusal, Limits, TableRoom, Overlap, NotRising, Answer, Done, Refused}
-use Rattle.recovery.specs.Reopening.{stateBy, handedBack, leaves, bare, Blank, pastLimits, pastTests}
+use Rattle.recovery.specs.Reopening.{stateBy, handedBack, leaves, bare, Blank, pastSlots, pastLimits, pastTests}
 
 -- ---- 1
 module _ (settings : Settings) (state : State) (claims : Claims) (heap ids locations : List ℕ) where
@@ -51,10 +51,10 @@ module _ (w : World) (views : List View) where
   unfolding reopenTests fileTests
   tests-are = sym (append-assoc (each viewTests views) (overlapping (filesIn views) gives Overlap ∷ any fileFalls (filesIn views) gives NotRising ∷ []) room)
 
-  pub tests-refuse : (r : Refusal) → decide (fileTests views) ≡ Refused r → after (decide (reopenTests w views)) (givenUp w) (opened w views) ≡ givenUp w r
+  pub tests-refuse : (r : Refusal) → decide (fileTests views) ≡ Refused r → pastSlots w views ≡ givenUp w r
   tests-refuse r e = after-refused (decide (reopenTests w views)) r _ _ (ap decide tests-are ∙ decide-early (fileTests views) room r e)
 
-  pub tests-clear : decide (fileTests views) ≡ Done → after (decide (reopenTests w views)) (givenUp w) (opened w views) ≡ pastTests w views
+  pub tests-clear : decide (fileTests views) ≡ Done → pastSlots w views ≡ pastTests w views
   tests-clear e = ap (λ (a : Answer). after a (givenUp w) (opened w views)) (ap decide tests-are ∙ decide-late (fileTests views) room e)
 
 -- ---- a cleared table
@@ -89,12 +89,15 @@ module _ (settings : Settings) (heap ids locations : List ℕ) (views : List Vie
   opened-same = rw (length-replicate {A = ℕ} (length ids) 0) refl
 
   pub blank-same : (c : Buffers) → c ≡ cleared (table ids locations)
-      → pastTests (bare settings heap (c .ids) (c .locations)) views ≡ pastTests (bare settings heap ids locations) views
+      → pastSlots (bare settings heap (c .ids) (c .locations)) views ≡ pastSlots (bare settings heap ids locations) views
   blank-same c q =
-      let sixth : ℕ → Answer = λ (m : ℕ). decide (ltb m (length (tableOf (filesIn views))) gives TableRoom ∷ []) in
-      ap (λ (t : Buffers). pastTests (bare settings heap (t .ids) (t .locations)) views) q
-      ∙ ap (λ (m : ℕ). after (sixth m) (givenUp blanked) (opened blanked views)) (length-replicate {A = ℕ} (length ids) 0)
-      ∙ ap₂ (λ (f : Refusal → After) (o : After). after (sixth (length ids)) f o) (λ i r. given-same r i) opened-same
+      let w = bare settings heap ids locations in
+      let last : ℕ → Answer = λ (m : ℕ). decide (fileTests views ++ (ltb m (length (tableOf (filesIn views))) gives TableRoom ∷ [])) in
+      ap (λ (t : Buffers). pastSlots (bare settings heap (t .ids) (t .locations)) views) q
+      ∙ ap (λ (a : Answer). after a (givenUp blanked) (opened blanked views)) (ap decide (tests-are blanked views))
+      ∙ ap (λ (m : ℕ). after (last m) (givenUp blanked) (opened blanked views)) (length-replicate {A = ℕ} (length ids) 0)
+      ∙ ap₂ (λ (f : Refusal → After) (o : After). after (last (length ids)) f o) (λ i r. given-same r i) opened-same
+      ∙ sym (ap (λ (a : Answer). after a (givenUp w) (opened w views)) (ap decide (tests-are w views)))
 
 -- ---- what is handed back
 module _ (settings : Settings) (heap ids locations is ls : List ℕ) where

@@ -1,4 +1,5 @@
 // Reopening (`src/recovery.rs`): the file map and the table from the heap alone, which is only read.
+use claims::no_claims;
 use file_map::no_files;
 use limits::out_of_range;
 use location_table::clear;
@@ -6,6 +7,7 @@ use rebuild::counts::next_position;
 use rebuild::counts::with_live_counts;
 use rebuild::table::fill;
 use reopen_tests::over_all::check;
+use reopen_tests::slots::survey;
 use rules::Answer;
 use rules::Claims;
 use rules::FileMap;
@@ -15,31 +17,19 @@ use rules::State;
 ghost use mathlib.Core.Path.{_≡_};
 ghost use Prim.Native.Nat.{_≤_};
 ghost use lib.ListN.{length};
-ghost use Rattle.rules.specs.Claims.{noClaims};
 ghost use Rattle.rules.specs.Condition1Laws.{InLimits};
 ghost use Rattle.rules.specs.Reopen.{reopenCall};
 ghost use Rattle.rules.specs.SlotFile.{viewsIn};
 ghost use Rattle.rules.specs.World.{answerGiven, leaving, world};
 ghost use Rattle.location_table.specs.Tables.{table};
 ghost use Rattle.reopen_tests.specs.Shown.{Surveyed};
-ghost use Rattle.recovery.specs.Reopening.{stateBy, handedBack, leaves, bare, Blank, pastTests, pastLimits};
+ghost use Rattle.recovery.specs.Reopening.{stateBy, handedBack, leaves, bare, Blank, pastTests, pastSlots, pastLimits};
 
 // What a reopening hands back.
 pub struct Reopened {
     pub answer: Answer,
     pub state: State,
     pub claims: Claims,
-}
-
-fn no_claims() -> Claims
-    ensures { λ c. ⌜ c ≡ noClaims ⌝ }
-{
-    Claims {
-        a: 0,
-        b: 0,
-        c: 0,
-        d: 0,
-    }
 }
 
 fn state_of(settings: Settings, heap_len: u64, table_len: u64, files: FileMap, next: u64) -> State
@@ -91,6 +81,25 @@ fn rebuilt(
     }
 }
 
+// 14 and 15, then the rest, for slots that passed 8 to 13.
+fn tested(
+    settings: Settings,
+    heap: &[u8],
+    size: usize,
+    n: usize,
+    files: FileMap,
+    ids: &mut [u64],
+    locations: &mut [u64],
+) -> Reopened
+    requires { ⌜ Surveyed n size (now heap) (files .records) × (size ≤ 1048576) × Blank (table (now ids) (now locations)) ⌝ }
+    ensures { λ r. ⌜ leaves settings r (now (heap .entry)) (now (ids .exit)) (now (locations .exit)) ≡ pastSlots (bare settings (now (heap .entry)) (now (ids .entry)) (now (locations .entry))) (viewsIn n size (now (heap .entry))) ⌝ }
+{
+    match check(heap, size, n, files) {
+        Answer::Refused(r) => given_up(settings, heap.len() as u64, ids.len() as u64, r),
+        Answer::Done => rebuilt(settings, heap, size, n, files, ids, locations),
+    }
+}
+
 // All but 1.
 fn recovered(settings: Settings, heap: &[u8], ids: &mut [u64], locations: &mut [u64]) -> Reopened
     requires { ⌜ InLimits settings (length (now heap)) (table (now ids) (now locations)) ⌝ }
@@ -99,13 +108,13 @@ fn recovered(settings: Settings, heap: &[u8], ids: &mut [u64], locations: &mut [
     let size = settings.slot_bytes as usize;
     let n = heap.len() / size;
     clear(ids, locations);
-    let found = check(heap, size, n);
+    let found = survey(heap, size, n);
     let answer = found.answer;
     match answer {
         Answer::Refused(r) => given_up(settings, heap.len() as u64, ids.len() as u64, r),
         Answer::Done => {
             let files = found.files;
-            rebuilt(settings, heap, size, n, files, ids, locations)
+            tested(settings, heap, size, n, files, ids, locations)
         }
     }
 }

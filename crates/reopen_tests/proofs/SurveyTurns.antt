@@ -1,27 +1,23 @@
 -- The survey of the slots: its answer and its labels, slot by slot.
 use mathlib.Core.Path.{_≡_, refl, sym, ap, _∙_}
 use mathlib.Core.List.{List, [], _∷_, _++_, map, map-append}
-use mathlib.Core.Bool.{true, false}
 use Prim.Native.Nat.{ℕ, suc, _+_, _-_, _<_, _≤_}
 use native.Mathlib.Omega.{arith}
 use native.Mathlib.Numerals.{add-one}
 use lib.ListN.{length, getD, set, take, drop, replicate, length-map, drop-of-length-le}
 use lib.Seq.{take-suc, set-at, append-snoc, length-take-le, take-all}
-use Rattle.rules.specs.Base.{any, each}
-use Rattle.rules.specs.Refusal.{_gives_, decide, decide-none, decide-early, decide-late, decide-first, decide-next}
-use Rattle.rules.specs.declared.Refusal.the-variants.{Overlap, NotRising}
+use Rattle.rules.specs.Base.{each}
+use Rattle.rules.specs.Refusal.{decide, decide-none, decide-early, decide-late}
 use Rattle.rules.specs.FileMap.{emptyRecord, noFiles}
 use Rattle.rules.specs.SlotFile.{View, empty, damaged, holds, slotBytes, viewIn, viewsIn}
 use Rattle.rules.specs.SlotLaws.{views-at}
 use Rattle.rules.specs.declared.FileMap.{FileMap}
 use Rattle.slot_file.specs.declared.SlotAnswer.{SlotAnswer}
-use Rattle.rules.specs.Reopen.{viewTests, filesIn, overlapping}
+use Rattle.rules.specs.Reopen.{viewTests}
 use Rattle.slot_file.specs.Slots.{shownBy}
 use Rattle.reopen_tests.specs.Types.{Record, Refusal, Done, Refused}
 use Rattle.reopen_tests.specs.Labels.{refusalShown, labelShown, labelOf, labelsOf, surveyBy, surveyed}
-use Rattle.reopen_tests.specs.Ascending.{fileFalls}
-use Rattle.reopen_tests.specs.Tests.{fileTests, checked}
-use Rattle.reopen_tests.proofs.Turns.{next}
+use Rattle.rules.specs.TurnLaws.{left-next}
 
 -- what a slot answers is what its view says
 pub refusal-shown : (v : View) → refusalShown (shownBy v) ≡ decide (viewTests v)
@@ -64,7 +60,7 @@ labels-end views k e = rw (e, take-all k views (omega arith)) refl
 module _ (views : List View) (k : ℕ) (h : k < length views) where
   rest : each viewTests (drop k views) ≡ viewTests (getD views k empty) ++ each viewTests (drop (k + 1) views)
   unfolding each
-  rest = ap (each viewTests) (next empty views k h)
+  rest = ap (each viewTests) (left-next views k empty h)
 
   pub survey-here : (r : Refusal) → decide (viewTests (getD views k empty)) ≡ Refused r → decide (each viewTests (drop k views)) ≡ Refused r
   survey-here r e = ap decide rest ∙ decide-early (viewTests (getD views k empty)) _ r e
@@ -96,26 +92,3 @@ module _ (views : List View) where
   pub surveyed-clear : (files : FileMap) → decide (each viewTests views) ≡ Done → files .records ≡ labelsOf views → record { answer = Done; files = files } ≡ surveyed views
   unfolding surveyed
   surveyed-clear files e f = rw e (ap (λ (rs : List Record). record { answer = Done; files = record { records = rs } }) f)
-
--- 14 and 15 behind 8 to 13
-module _ (views : List View) where
-  pub checked-slots : (r : Refusal) → decide (each viewTests views) ≡ Refused r → surveyBy (Refused r) [] ≡ checked views
-  unfolding checked fileTests
-  checked-slots r e = rw (decide-early (each viewTests views) (overlapping (filesIn views) gives Overlap ∷ any fileFalls (filesIn views) gives NotRising ∷ []) r e) refl
-
-  module _ (e : decide (each viewTests views) ≡ Done) where
-    behind : decide (fileTests views) ≡ decide (overlapping (filesIn views) gives Overlap ∷ any fileFalls (filesIn views) gives NotRising ∷ [])
-    unfolding fileTests
-    behind = decide-late (each viewTests views) _ e
-
-    pub checked-overlap : overlapping (filesIn views) ≡ true → surveyBy (Refused Overlap) [] ≡ checked views
-    unfolding checked
-    checked-overlap o = rw (behind ∙ decide-first (overlapping (filesIn views)) Overlap _ o) refl
-
-    pub checked-falls : overlapping (filesIn views) ≡ false → any fileFalls (filesIn views) ≡ true → surveyBy (Refused NotRising) [] ≡ checked views
-    unfolding checked
-    checked-falls o f = rw (behind ∙ decide-next (overlapping (filesIn views)) Overlap _ o ∙ decide-first (any fileFalls (filesIn views)) NotRising [] f) refl
-
-    pub checked-clear : overlapping (filesIn views) ≡ false → any fileFalls (filesIn views) ≡ false → surveyed views ≡ checked views
-    unfolding checked surveyed
-    checked-clear o f = rw (e, behind ∙ decide-next (overlapping (filesIn views)) Overlap _ o ∙ decide-next (any fileFalls (filesIn views)) NotRising [] f ∙ decide-none) refl

@@ -12,7 +12,7 @@ ghost use Rattle.rules.specs.Base.{any};
 ghost use Rattle.rules.specs.Trailer.{countIn, entriesIn};
 ghost use Rattle.rules.specs.SlotFile.{viewIn, viewsIn};
 ghost use Rattle.rules.specs.Reopen.{fileOf, filesIn, notRising};
-ghost use Rattle.trailer.specs.Entries.{noEntry};
+ghost use Rattle.rules.specs.Table.{noEntry};
 ghost use Rattle.reopen_tests.specs.Ascending.{ascending, repeats, fileFalls};
 ghost use Rattle.reopen_tests.specs.Shown.{Shown, Surveyed};
 

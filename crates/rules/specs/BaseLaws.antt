@@ -3,11 +3,11 @@ use mathlib.Core.Path.{_≡_, refl, sym, ap₂, _∙_}
 use mathlib.Core.Bool.{true≢false, false≢true}
 use mathlib.Core.Logic.{_⊎_, inl, inr}
 use Prim.Native.Nat.{_≤_, _<_}
-use native.Mathlib.Nat.{eq-or-lt-of-le}
+use native.Mathlib.Nat.{eq-or-lt-of-le, le-of-suc-le-suc, not-suc-le-zero}
 use native.Mathlib.Omega.{arith}
 use lib.ListN.{length-append, length-replicate}
 use borrow.Author.Tests.{ltb-true, ltb-false, leb-true, eqb-true, eqb-false, le-leb, eq-eqb}
-use Rattle.rules.specs.Base.{Bool, true, false, not, _&&_, _||_, List, [], _∷_, ℕ, zero, suc, _-_, length, replicate, leb, ltb, eqb, within, any, zeros, padded}
+use Rattle.rules.specs.Base.{Bool, true, false, not, _&&_, _||_, List, [], _∷_, _++_, ℕ, zero, suc, _-_, length, replicate, leb, ltb, eqb, within, any, zeros, padded, getD, take}
 
 -- ---- tests
 -- no test of a chain of `||` holds
@@ -90,6 +90,34 @@ pub all-map : {A : Type 0} (P Q : A → Type 0) (xs : List A) → ((x : A) → P
 all-map P Q [] f a = tt
 all-map P Q (x ∷ xs) f a = (f x (a .0), all-map P Q xs f (a .1))
 
+-- of two lists, of both
+pub all-append : {A : Type 0} (P : A → Type 0) (xs ys : List A) → All P xs → All P ys → All P (xs ++ ys)
+all-append P [] ys a b = b
+all-append P (x ∷ xs) ys a b = (a .0, all-append P xs ys (a .1) b)
+
+-- two things at once
+pub all-both : {A : Type 0} (P Q : A → Type 0) (xs : List A) → All P xs → All Q xs → All (λ (x : A). P x × Q x) xs
+all-both P Q [] a b = tt
+all-both P Q (x ∷ xs) a b = ((a .0, b .0), all-both P Q xs (a .1) (b .1))
+
+-- of the one at i
+pub all-at : {A : Type 0} (P : A → Type 0) (xs : List A) (i : ℕ) (d : A) → All P xs → i < length xs → P (getD xs i d)
+all-at P [] i d a h = absurd (not-suc-le-zero h)
+all-at P (x ∷ xs) zero d a h = a .0
+all-at P (x ∷ xs) (suc i) d a h = all-at P xs i d (a .1) (le-of-suc-le-suc h)
+
+-- of the first n
+pub all-take : {A : Type 0} (P : A → Type 0) (n : ℕ) (xs : List A) → All P xs → All P (take n xs)
+all-take P zero xs a = tt
+all-take P (suc n) [] a = tt
+all-take P (suc n) (x ∷ xs) a = (a .0, all-take P n xs (a .1))
+
+-- the same element again and again, and past them
+pub replicate-at : {A : Type 0} (n i : ℕ) (a : A) → getD (replicate n a) i a ≡ a
+replicate-at zero i a = refl
+replicate-at (suc n) zero a = refl
+replicate-at (suc n) (suc i) a = replicate-at n i a
+
 -- none passes
 pub any-false : {A : Type 0} (f : A → Bool) (xs : List A) → any f xs ≡ false → All (λ (x : A). f x ≡ false) xs
 unfolding any
@@ -101,6 +129,16 @@ pub any-clear : {A : Type 0} (f : A → Bool) (xs : List A) → All (λ (x : A).
 unfolding any
 any-clear f [] a = refl
 any-clear f (x ∷ xs) a = or-clear (f x) (any f xs) (a .0) (any-clear f xs (a .1))
+
+-- of two lists, one of either
+pub any-append : {A : Type 0} (f : A → Bool) (xs ys : List A) → any f (xs ++ ys) ≡ (any f xs || any f ys)
+unfolding any
+any-append f [] ys = refl
+any-append f (x ∷ xs) ys = go (f x) (any-append f xs ys)
+  where
+    go : (t : Bool) → any f (xs ++ ys) ≡ (any f xs || any f ys) → (t || any f (xs ++ ys)) ≡ ((t || any f xs) || any f ys)
+    go true ih = refl
+    go false ih = ih
 
 -- ---- zeros
 pub zeros-cons : (n : ℕ) (ns : List ℕ) → zeros (n ∷ ns) ≡ (eqb n 0 && zeros ns)

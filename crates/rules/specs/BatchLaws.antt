@@ -97,9 +97,10 @@ batch-end zero s at h = rw (le-leb (length s) at h)
 batch-end (suc k) s at h = rw (le-leb (length s) at h)
 
 -- an operation not as above: so is the batch
-pub batch-bad : (k : ℕ) (s : List ℕ) (at : ℕ) → at < length s → operationAt s at ≡ malformed → batchFrom (suc k) s at ≡ notAsAbove
+pub batch-bad : (k : ℕ) (s : List ℕ) (at : ℕ) → at < length s → operationAt s at ≡ malformed → batchFrom k s at ≡ notAsAbove
 unfolding batchFrom
-batch-bad k s at h e = rw (lt-leb (length s) at h, e)
+batch-bad zero s at h e = rw (lt-leb (length s) at h)
+batch-bad (suc k) s at h e = rw (lt-leb (length s) at h, e)
 
 -- an operation, then the rest from behind it
 pub batch-next : (k : ℕ) (s : List ℕ) (at : ℕ) (o : Op) (next : ℕ) → at < length s → operationAt s at ≡ parsed o next → batchFrom (suc k) s at ≡ before o (batchFrom k s next)
@@ -115,7 +116,7 @@ batch-enough (suc k) (suc j) s at a b = go (either-way at (length s)) (operation
     go : (at < length s) ⊎ (length s ≤ at) → (p : Parsed) → operationAt s at ≡ p
         → ((next : ℕ) → length s - next ≤ k → length s - next ≤ j → batchFrom k s next ≡ batchFrom j s next) → batchFrom (suc k) s at ≡ batchFrom (suc j) s at
     go (inr h) p e ih = batch-end (suc k) s at h ∙ sym (batch-end (suc j) s at h)
-    go (inl h) malformed e ih = batch-bad k s at h e ∙ sym (batch-bad j s at h e)
+    go (inl h) malformed e ih = batch-bad (suc k) s at h e ∙ sym (batch-bad (suc j) s at h e)
     go (inl h) (parsed o next) e ih =
         let w = operation-stepped s at o next e .later in
         batch-next k s at o next h e ∙ ap (before o) (ih next (omega arith) (omega arith)) ∙ sym (batch-next j s at o next h e)
@@ -136,7 +137,7 @@ ids-from (suc k) s at = go (either-way at (length s)) (operationAt s at) refl (i
   where
     go : (at < length s) ⊎ (length s ≤ at) → (p : Parsed) → operationAt s at ≡ p → ((next : ℕ) → IdsFit (opsOf (batchFrom k s next))) → IdsFit (opsOf (batchFrom (suc k) s at))
     go (inr h) p e ih = rw (batch-end (suc k) s at h) tt
-    go (inl h) malformed e ih = rw (batch-bad k s at h e) tt
+    go (inl h) malformed e ih = rw (batch-bad (suc k) s at h e) tt
     go (inl h) (parsed o next) e ih = rw (batch-next k s at o next h e) (ids-before o (batchFrom k s next) (operation-stepped s at o next e .id) (ih next))
 
 -- every id of a batch has 64 bits

@@ -240,6 +240,21 @@ module _ (f : ℕ → Record → Bool) (i : ℕ) (r : Record) (rs : List Record)
   unfolding slotsWhere
   where-next e = rw e
 
+-- no more than the records
+pub where-most : (f : ℕ → Record → Bool) (i : ℕ) (rs : List Record) → length (slotsWhere f i rs) ≤ length rs
+unfolding slotsWhere
+where-most f i [] = omega arith
+where-most f i (r ∷ rs) = go (f i r) (where-most f (suc i) rs)
+  where
+    go : (b : Bool) → length (slotsWhere f (suc i) rs) ≤ length rs → length (pick b (i ∷ slotsWhere f (suc i) rs) (slotsWhere f (suc i) rs)) ≤ suc (length rs)
+    go true h = omega arith
+    go false h = omega arith
+
+-- no more empty slots than the heap's n
+pub empty-most : (n : ℕ) (rs : List Record) → length (emptySlots n rs) ≤ n
+unfolding emptySlots
+empty-most n rs = omega (arith, where-most (λ (i : ℕ) (r : Record). isEmpty r) 0 (take n rs), length-take n rs, min-le-left n (length rs))
+
 -- k is a slot, from i on, whose record passes
 pub record Passing (f : ℕ → Record → Bool) (i : ℕ) (rs : List Record) (k : ℕ) : Type 0 where
   pub off : ℕ

@@ -1,16 +1,17 @@
 -- Adding files: what 4, 5 and 7 leave known, and what stays as it was.
-use mathlib.Core.Path.{_≡_, refl, ap, _∙_}
+use mathlib.Core.Path.{_≡_, refl, ap, _∙_, sym}
 use mathlib.Core.Logic.{_⊎_, inl, inr}
 use Prim.Native.Nat.{_≤_, _<_}
+use native.Mathlib.Nat.{sub-zero}
 use native.Mathlib.Omega.{arith}
-use borrow.Author.Tests.{ltb-false, lt-ltb}
-use lib.ListN.{length-set}
+use borrow.Author.Tests.{ltb-false, lt-ltb, eq-eqb, ne-eqb}
+use lib.ListN.{List·getD-eq-default}
 use lib.Seq.{getD-set-same, getD-set-other, set-out}
-use Rattle.rules.specs.Base.{List, [], _∷_, ℕ, _+_, _-_, _*_, _^_, length, set, ltb, sum}
+use Rattle.rules.specs.Base.{List, [], _∷_, ℕ, _+_, _-_, _*_, _^_, length, set, ltb, sum, Bool, false, eqb}
 use Rattle.rules.specs.Types.{Entry, Record, Slot, Is, NoSlot}
 use Rattle.rules.specs.BaseLaws.{All, all-map, any-false, same?}
 use Rattle.numbers.specs.GroupLaws.{either-way}
-use Rattle.disk_location.specs.Locations.{maskedOf}
+use Rattle.disk_location.specs.Locations.{maskedOf, bitOf}
 use Rattle.disk_location.specs.LocationLaws.{masked-plain, masked-batch}
 use Rattle.rules.specs.Refusal.{NoneHolds}
 use Rattle.rules.specs.Table.{lookup}
@@ -20,7 +21,7 @@ use Rattle.rules.specs.Ops.{Op, objectsOf, fileBytes}
 use Rattle.rules.specs.OpsLaws.{IdsFit, file-length}
 use Rattle.rules.specs.SlotFile.{holds, viewsIn}
 use Rattle.rules.specs.WrittenLaws.{Writable, fileOfOps, views-made}
-use Rattle.rules.specs.World.{World, recordsOf, slotsOf}
+use Rattle.rules.specs.World.{World, recordsOf, slotsOf, mappings}
 use Rattle.rules.specs.Install.{newRecord, fileHolding, losing, newSlot, newLsn, recordsWith, storesFor, installed, roomTests, positionTests}
 
 -- ---- 4, 5, 7 do not hold
@@ -77,39 +78,82 @@ losing-length table [] rs = refl
 losing-length table (o ∷ os) rs =
     losing-length table os (lessLive (fileHolding rs (lookup table (o .id))) rs) ∙ less-live-length (fileHolding rs (lookup table (o .id))) rs
 
--- "a file map of 256 records" keeps them
-pub records-with-length : (new : Record) (w : World) (ops : List Op) → length (recordsWith new w ops) ≡ length (recordsOf w)
-unfolding recordsWith
-records-with-length new w ops = length-set (losing _ ops (recordsOf w)) _ new ∙ losing-length _ ops (recordsOf w)
-
 -- a record but for its live count
 abbrev pub fiveOf : Record → Record
 fiveOf r = withLive r 0
 
--- losing one live changes nothing else
-pub less-live-five : (k : Slot) (rs : List Record) (j : ℕ) → fiveOf (recordAt (lessLive k rs) j) ≡ fiveOf (recordAt rs j)
-less-live-five NoSlot rs j = refl
-less-live-five (Is k) rs j = go (same? j k) (either-way k (length rs))
+-- slot k is the one found
+abbrev pub isAt : ℕ → Slot → Bool
+isAt k (Is j) = eqb j k
+isAt k NoSlot = false
+
+-- only the file that was found loses, and one
+pub less-at : (o : Slot) (rs : List Record) (j : ℕ) → recordAt (lessLive o rs) j ≡ withLive (recordAt rs j) (recordAt rs j .live - bitOf (isAt j o))
+less-at NoSlot rs j = ap (withLive (recordAt rs j)) (sym (sub-zero (recordAt rs j .live)))
+less-at (Is k) rs j = go (same? k j)
   where
     less : Record
     less = withLive (recordAt rs k) (recordAt rs k .live - 1)
 
-    go : (j ≡ k) ⊎ (j ≡ k → ⊥) → (k < length rs) ⊎ (length rs ≤ k) → fiveOf (recordAt (set rs k less) j) ≡ fiveOf (recordAt rs j)
-    go (inr n) h = ap fiveOf (getD-set-other rs k j less emptyRecord n)
-    go (inl e) (inl h) = rw e (ap fiveOf (getD-set-same rs k less emptyRecord h))
-    go (inl e) (inr h) = ap (λ (qs : List Record). fiveOf (recordAt qs j)) (set-out rs k less h)
+    -- past the records nothing is stored, and none of 0 is lost
+    here : (k < length rs) ⊎ (length rs ≤ k) → recordAt (set rs k less) k ≡ less
+    here (inl h) = getD-set-same rs k less emptyRecord h
+    here (inr h) =
+        let none : recordAt rs k ≡ emptyRecord = List·getD-eq-default rs emptyRecord {n = k} h in
+        ap (λ (qs : List Record). recordAt qs k) (set-out rs k less h) ∙ none ∙ sym (ap (λ (r : Record). withLive r (r .live - 1)) none)
 
--- nor does losing many
-pub losing-five : (table : List Entry) (ops : List Op) (rs : List Record) (j : ℕ) → fiveOf (recordAt (losing table ops rs) j) ≡ fiveOf (recordAt rs j)
+    go : (k ≡ j) ⊎ (k ≡ j → ⊥) → recordAt (set rs k less) j ≡ withLive (recordAt rs j) (recordAt rs j .live - bitOf (eqb k j))
+    go (inl e) = rw (← e, eq-eqb k k refl) (here (either-way k (length rs)))
+    go (inr n) = rw (ne-eqb k j n, sub-zero (recordAt rs j .live)) (getD-set-other rs k j less emptyRecord (λ z. n (sym z)))
+
+-- a record but for its live count, which does not grow
+pub record Less (r q : Record) : Type 0 where
+  pub same : q ≡ withLive r (q .live)
+  pub less : q .live ≤ r .live
+
+-- only live counts fall
+pub losing-record : (table : List Entry) (ops : List Op) (rs : List Record) (j : ℕ) → Less (recordAt rs j) (recordAt (losing table ops rs) j)
 unfolding losing
-losing-five table [] rs j = refl
-losing-five table (o ∷ os) rs j =
-    losing-five table os (lessLive (fileHolding rs (lookup table (o .id))) rs) j ∙ less-live-five (fileHolding rs (lookup table (o .id))) rs j
+losing-record table [] rs j = record { same = refl; less = omega arith }
+losing-record table (o ∷ os) rs j =
+    let slot = fileHolding rs (lookup table (o .id)) in
+    step (recordAt rs j) (recordAt (lessLive slot rs) j) (recordAt (losing table os (lessLive slot rs)) j) (bitOf (isAt j slot)) (less-at slot rs j)
+    (losing-record table os (lessLive slot rs) j)
+  where
+    step : (r p q : Record) (n : ℕ) → p ≡ withLive r (r .live - n) → Less p q → Less r q
+    step r p q n u w =
+        let v : p .live ≡ r .live - n = ap (λ (s : Record). s .live) u in
+        let z = w .less in
+        record { same = w .same ∙ ap (λ (s : Record). withLive s (q .live)) u; less = omega arith }
+
+-- the other five numbers stay
+pub losing-five : (table : List Entry) (ops : List Op) (rs : List Record) (j : ℕ) → fiveOf (recordAt (losing table ops rs) j) ≡ fiveOf (recordAt rs j)
+losing-five table ops rs j = ap fiveOf (losing-record table ops rs j .same)
 
 -- so that every location's file is as before
 pub losing-file : (table : List Entry) (ops : List Op) (rs : List Record) (location : ℕ) → fileFor (losing table ops rs) location ≡ fileFor rs location
 losing-file table ops rs location =
     file-same (losing table ops rs) rs (losing-length table ops rs) (λ j. ap (λ (r : Record). r .lsn) (losing-five table ops rs j)) location
+
+-- a slot with a file keeps one
+pub installed-lsn : (bit generation : ℕ) (w : World) (ops : List Op) → 0 < w .state .«next_position» → (k : ℕ) → 0 < recordAt (recordsOf w) k .lsn
+    → 0 < recordAt (recordsOf (installed bit generation w ops)) k .lsn
+unfolding installed recordsWith newRecord
+installed-lsn bit generation w ops next k some = go (same? k (newSlot w)) (either-way (newSlot w) (length rs))
+  where
+    rs : List Record
+    rs = losing (mappings w) ops (recordsOf w)
+
+    new : Record
+    new = newRecord (newLsn bit w) generation ops
+
+    same : recordAt rs k .lsn ≡ recordAt (recordsOf w) k .lsn
+    same = ap (λ (r : Record). r .lsn) (losing-five (mappings w) ops (recordsOf w) k)
+
+    go : (k ≡ newSlot w) ⊎ (k ≡ newSlot w → ⊥) → (newSlot w < length rs) ⊎ (length rs ≤ newSlot w) → 0 < recordAt (set rs (newSlot w) new) k .lsn
+    go (inr d) h = rw (getD-set-other rs (newSlot w) k new emptyRecord d) (omega (arith, same))
+    go (inl e) (inl h) = rw (e, getD-set-same rs (newSlot w) new emptyRecord h) (omega arith)
+    go (inl e) (inr h) = rw (set-out rs (newSlot w) new h) (omega (arith, same))
 
 -- ---- the heap: the new slot's view alone changes, to the file of these operations
 pub installed-views : (bit generation : ℕ) (w : World) (ops : List Op) → Writable (w .settings .«slot_bytes») (newLsn bit w) generation ops

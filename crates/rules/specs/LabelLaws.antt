@@ -1,19 +1,18 @@
 -- The label: its bounds as facts, its length, and that what was written is read back.
 use mathlib.Core.Path.{_≡_, refl, ap, _∙_}
 use mathlib.Core.List.{append-assoc}
-use mathlib.Core.Logic.{_⊎_, ⊎-elim}
 use Prim.Native.Nat.{_≤_, _<_}
 use native.Mathlib.Omega.{arith}
-use borrow.Author.Tests.{ltb-false, leb-false, eqb-false, le-ltb, lt-ltb, lt-leb, ne-eqb}
+use borrow.Author.Tests.{ltb-false, leb-false, eqb-false, le-ltb, lt-leb, ne-eqb}
 use lib.ListN.{length-append}
 use lib.Seq.{drop-at}
-use Rattle.rules.specs.Base.{true, false, List, [], _∷_, _++_, ℕ, zero, suc, _+_, _-_, _/_, _%_, _^_, length, getD, drop, replicate, zeros, padded}
+use Rattle.rules.specs.Base.{true, false, List, [], _++_, ℕ, _+_, _-_, _^_, length, getD, drop, replicate, zeros, padded}
 use Rattle.rules.specs.Types.{Record, Five}
 use Rattle.numbers.specs.LittleEndian.{Bytes}
-use Rattle.numbers.specs.Groups.{groupsOf, numberIn}
+use Rattle.numbers.specs.Groups.{groupsOf}
 use Rattle.numbers.specs.GroupLaws.{groups-length, groups-bytes, groups-first, number-back}
-use Rattle.numbers.specs.declared.Number.the-variants.{Said}
 use Rattle.disk_location.specs.Locations.{maskedOf}
+use Rattle.disk_location.specs.LocationLaws.{masked-pos}
 use Rattle.rules.specs.BaseLaws.{or-false, zeros-replicate, padded-length}
 use Rattle.rules.specs.PartLaws.{bytes-append, bytes-zeros}
 use Rattle.rules.specs.FileMap.{withLive}
@@ -63,8 +62,7 @@ bounds-in slotBytes r w =
 
 -- the lsn of a file is not 0
 pub lsn-some : (slotBytes : ℕ) (r : Record) → InBounds slotBytes r → 0 < r .lsn
-unfolding maskedOf
-lsn-some slotBytes r w = let some = w .masked in omega arith
+lsn-some slotBytes r w = masked-pos (r .lsn) (w .masked)
 
 -- ---- the label
 -- the numbers of a label have 64 bits

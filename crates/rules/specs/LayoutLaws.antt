@@ -6,7 +6,7 @@ use native.Mathlib.Omega.{arith}
 use native.Mathlib.Nat.{suc-sub-suc, sub-zero}
 use borrow.Author.Tests.{eqb-true, eq-eqb, ne-eqb, leb-true, le-leb}
 use lib.ListN.{length-map}
-use Rattle.rules.specs.Base.{true, List, [], _∷_, _++_, map, ℕ, zero, suc, _+_, _-_, length, replicate, leb, eqb, zeros, padded}
+use Rattle.rules.specs.Base.{true, List, [], _∷_, _++_, map, ℕ, zero, suc, _+_, _-_, length, replicate, leb, eqb, zeros, padded, _&&_}
 use Rattle.rules.specs.Types.{Entry}
 use Rattle.rules.specs.BaseLaws.{and-true, and-holds, within-true, within-holds, zero-or-more, zeros-is, zeros-replicate, padded-length}
 use Rattle.rules.specs.TableLaws.{Rising, rise, rise-end, Has}
@@ -48,13 +48,25 @@ Used es = (x l : ℕ) → Has es x l → 0 < l
 
 -- the clauses of usedIn and formFrom, by facts in the place of tests
 module _ (i : ℕ) (is : List ℕ) (l : ℕ) (ls : List ℕ) where
-  used-more : 0 < l → usedIn (i ∷ is) (l ∷ ls) ≡ record { id = i; location = l } ∷ usedIn is ls
+  -- a used place
+  pub used-more : 0 < l → usedIn (i ∷ is) (l ∷ ls) ≡ record { id = i; location = l } ∷ usedIn is ls
   unfolding usedIn
   used-more h = rw (ne-eqb l 0 (λ z. omega arith))
 
-  form-more : (least : ℕ) → 0 < l → least ≤ i → formFrom (suc i) is ls ≡ true → formFrom least (i ∷ is) (l ∷ ls) ≡ true
+  -- its id is not too low, and the rest decides
+  pub form-more : (least : ℕ) → 0 < l → formFrom least (i ∷ is) (l ∷ ls) ≡ (leb least i && formFrom (suc i) is ls)
   unfolding formFrom
-  form-more least h low e = rw (ne-eqb l 0 (λ z. omega arith), le-leb least i low) e
+  form-more least h = rw (ne-eqb l 0 (λ z. omega arith))
+
+  -- "location 0 means unused", and used entries are first
+  pub used-stop : l ≡ 0 → usedIn (i ∷ is) (l ∷ ls) ≡ []
+  unfolding usedIn
+  used-stop z = rw z
+
+  -- "unused entries 0", here and behind
+  pub form-stop : (least : ℕ) → l ≡ 0 → formFrom least (i ∷ is) (l ∷ ls) ≡ (zeros (i ∷ is) && zeros ls)
+  unfolding formFrom
+  form-stop least z = rw z
 
 used-zeros : (k : ℕ) → usedIn (replicate k 0) (replicate k 0) ≡ []
 unfolding usedIn
@@ -72,7 +84,9 @@ used-back (e ∷ es) k u = used-more (e .id) _ (e .location) _ (u (e .id) (e .lo
 
 form-back : (f : ℕ) (es : List Entry) (k : ℕ) → Used es → Rising f es → formFrom f (map (λ (e : Entry). e .id) es ++ replicate k 0) (map (λ (e : Entry). e .location) es ++ replicate k 0) ≡ true
 form-back f [] k u r = form-zeros f k
-form-back f (e ∷ es) k u (rise a r) = form-more (e .id) _ (e .location) _ f (u (e .id) (e .location) (inl (refl, refl))) a (form-back (suc (e .id)) es k (λ x l h. u x l (inr h)) r)
+form-back f (e ∷ es) k u (rise a r) =
+    form-more (e .id) _ (e .location) _ f (u (e .id) (e .location) (inl (refl, refl)))
+    ∙ and-holds (leb f (e .id)) _ (le-leb f (e .id) a) (form-back (suc (e .id)) es k (λ x l h. u x l (inr h)) r)
 
 same-rest : (n : ℕ) (es : List Entry) → n - length (map (λ (e : Entry). e .location) es) ≡ n - length (map (λ (e : Entry). e .id) es)
 same-rest n es = simp length-map
@@ -89,20 +103,10 @@ form-laid-out n es u r = rw (same-rest n es) (form-back 0 es (n - length (map (�
 
 -- ---- and the other way round: buffers in form
 -- what a used place says
-module _ (i : ℕ) (is : List ℕ) (l : ℕ) (ls : List ℕ) where
-  used-stop : l ≡ 0 → usedIn (i ∷ is) (l ∷ ls) ≡ []
-  unfolding usedIn
-  used-stop z = rw z
-
-  form-stop : (least : ℕ) → l ≡ 0 → formFrom least (i ∷ is) (l ∷ ls) ≡ true → (zeros (i ∷ is) ≡ true) × (zeros ls ≡ true)
-  unfolding formFrom
-  form-stop least z e = and-true _ _ (rw z at e)
-
-  form-next : (least : ℕ) → 0 < l → formFrom least (i ∷ is) (l ∷ ls) ≡ true → (least ≤ i) × (formFrom (suc i) is ls ≡ true)
-  unfolding formFrom
-  form-next least h e =
-      let w = and-true (leb least i) (formFrom (suc i) is ls) (rw (ne-eqb l 0 (λ z. omega arith)) at e) in
-      (leb-true least i (w .0), w .1)
+form-next : (i : ℕ) (is : List ℕ) (l : ℕ) (ls : List ℕ) (least : ℕ) → 0 < l → formFrom least (i ∷ is) (l ∷ ls) ≡ true → (least ≤ i) × (formFrom (suc i) is ls ≡ true)
+form-next i is l ls least h e =
+    let w = and-true (leb least i) (formFrom (suc i) is ls) (sym (form-more i is l ls least h) ∙ e) in
+    (leb-true least i (w .0), w .1)
 
 -- their used entries have locations
 used-in : (is ls : List ℕ) → Used (usedIn is ls)
@@ -169,7 +173,7 @@ again f (i ∷ is) (l ∷ ls) e n = go (zero-or-more l) (again (suc i) is ls)
         → (padded (suc (length is)) (map (λ (e : Entry). e .id) (usedIn (i ∷ is) (l ∷ ls))) ≡ i ∷ is)
         × (padded (suc (length is)) (map (λ (e : Entry). e .location) (usedIn (i ∷ is) (l ∷ ls))) ≡ l ∷ ls)
     go (inl z) ih =
-        let w = form-stop i is l ls f z e in
+        let w = and-true (zeros (i ∷ is)) (zeros ls) (sym (form-stop i is l ls f z) ∙ e) in
         let m : length is ≡ length ls = omega arith in
         rw (used-stop i is l ls z, sub-zero) (sym (zeros-is (i ∷ is) (w .0)), ap₂ (λ (x : ℕ) (xs : List ℕ). x ∷ xs) (sym z) (ap (λ (k : ℕ). replicate k 0) m ∙ sym (zeros-is ls (w .1))))
     go (inr p) ih =

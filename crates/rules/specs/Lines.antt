@@ -21,7 +21,7 @@ use Rattle.rules.specs.World.{World, recordsOf, noState, Given}
 use Rattle.rules.specs.Positions.{relativeGiven, absoluteGiven}
 use Rattle.rules.specs.FileMap.{isEmpty, recordAt, noFiles, slotsWhere, emptySlots, lowestEmpty, leads, leadFrom, fileFor, fileCount}
 use Rattle.rules.specs.Condition1.{outOfRange, notTheStates, badRecord, badFrom, conditionOne}
-use Rattle.rules.specs.Batch.{putOperation, operationAt, batchFrom, batchIn, opsOf, anyTooLarge}
+use Rattle.rules.specs.Batch.{putOperation, operationAt, batchFrom, batchIn, anyTooLarge}
 use Rattle.rules.specs.Stores.{made, storesOf, fileStores}
 use Rattle.rules.specs.Install.{newRecord, losing, recordsWith, storesFor, tableWith, nextWith, installed, installedAll, roomTests, positionTests}
 use Rattle.rules.specs.Write.{tooManyIds, writeTests, written, writeCall}

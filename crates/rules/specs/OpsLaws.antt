@@ -22,6 +22,11 @@ pub data RisingOps : ℕ → List Op → Type 0 where
   ops-end : {f : ℕ} → RisingOps f []
   ops-rise : {f : ℕ} {o : Op} {os : List Op} → f ≤ o .id → RisingOps (suc (o .id)) os → RisingOps f (o ∷ os)
 
+-- from a lower one on, too
+pub ops-lower : (f g : ℕ) (ops : List Op) → g ≤ f → RisingOps f ops → RisingOps g ops
+ops-lower f g [] h r = ops-end
+ops-lower f g (o ∷ os) h (ops-rise a r) = let low : g ≤ o .id = omega arith in ops-rise low r
+
 -- ids of 64 bits
 abbrev pub IdsFit : List Op → Type 0
 IdsFit ops = All (λ (o : Op). o .id < 2 ^ 64) ops

@@ -37,11 +37,6 @@ put-before s at xs ys fit =
     let last : at + length (xs ++ ys) ≡ n + length ys = omega (arith, length-append xs ys) in
     rw (before, behind, last) (ap (λ (t : List ℕ). take at s ++ t) (sym (append-assoc xs ys rest)))
 
--- from the place on, what was written stands first
-pub put-drop : (h : List ℕ) (at : ℕ) (bs : List ℕ) → at ≤ length h → drop at (putAt h at bs) ≡ bs ++ drop (at + length bs) h
-unfolding putAt
-put-drop h at bs fit = drop-at (take at h) (bs ++ drop (at + length bs) h) at (length-take-le at h fit)
-
 part-front : (n i : ℕ) (xs ys : List ℕ) → i + n ≤ length xs → take n (drop i (xs ++ ys)) ≡ take n (drop i xs)
 part-front n i xs ys fit =
     ap (take n) (drop-append-le i xs ys (omega arith)) ∙ take-append-le n (drop i xs) ys (omega (arith, length-drop i xs))

@@ -4,7 +4,7 @@ use mathlib.Core.Logic.{_⊎_, inl, inr}
 use Prim.Native.Nat.{_≤_, _<_, zero-le}
 use native.Mathlib.Omega.{arith}
 use borrow.Author.Tests.{lt-ltb, le-ltb, eq-eqb, ne-eqb}
-use Rattle.rules.specs.Base.{List, [], _∷_, ℕ, suc, eqb, pick}
+use Rattle.rules.specs.Base.{List, [], _∷_, _++_, ℕ, suc, eqb, pick}
 use Rattle.rules.specs.BaseLaws.{All, order, same?}
 use Rattle.rules.specs.Ops.{Content, Op, joined, settled}
 use Rattle.rules.specs.OpsLaws.{RisingOps, ops-end, ops-rise}
@@ -68,12 +68,25 @@ settled-rising [] = ops-end
 settled-rising (o ∷ os) = joined-rising 0 o (settled os) zero-le (settled-rising os)
 
 -- ---- the last operation on each id
-said-other : (o : Op) (x : ℕ) → (o .id ≡ x → ⊥) → saidBy o x ≡ silent
+-- of another id an operation says nothing
+pub said-other : (o : Op) (x : ℕ) → (o .id ≡ x → ⊥) → saidBy o x ≡ silent
 said-other o x h = rw (ne-eqb (o .id) x h)
 
-or-silent : (l : Last) → orEarlier l silent ≡ l
+-- nothing said before
+pub or-silent : (l : Last) → orEarlier l silent ≡ l
 or-silent silent = refl
 or-silent (last c) = refl
+
+-- of three, the latest word that there is
+pub or-assoc : (a b c : Last) → orEarlier a (orEarlier b c) ≡ orEarlier (orEarlier a b) c
+or-assoc (last x) b c = refl
+or-assoc silent b c = refl
+
+-- one list of operations behind the other
+pub last-append : (xs ys : List Op) (x : ℕ) → lastOn (xs ++ ys) x ≡ orEarlier (lastOn ys x) (lastOn xs x)
+unfolding lastOn
+last-append [] ys x = sym (or-silent (lastOn ys x))
+last-append (o ∷ xs) ys x = ap (λ (l : Last). orEarlier l (saidBy o x)) (last-append xs ys x) ∙ sym (or-assoc (lastOn ys x) (lastOn xs x) (saidBy o x))
 
 -- of two words on x at most one is not silent: their order does not matter
 or-swap : (l : Last) (o p : Op) (x : ℕ) → (o .id ≡ p .id → ⊥) → orEarlier (orEarlier l (saidBy o x)) (saidBy p x) ≡ orEarlier (orEarlier l (saidBy p x)) (saidBy o x)

@@ -8,8 +8,8 @@ use lib.ListN.{length-drop, length-set}
 use lib.Seq.{drop-drop, take-append-add, length-take-le, getD-set-same, getD-set-other, ext-getD}
 use Rattle.rules.specs.Base.{List, [], _∷_, _++_, ℕ, zero, suc, _+_, _-_, _*_, length, getD, set, take, drop}
 use Rattle.rules.specs.BaseLaws.{order, same?}
-use Rattle.numbers.specs.Parts.{front, putAt}
-use Rattle.rules.specs.PartLaws.{put-drop, put-part-before, put-part-behind, drop-take}
+use Rattle.numbers.specs.Parts.{front, putAt, drop-put}
+use Rattle.rules.specs.PartLaws.{put-part-before, put-part-behind, drop-take}
 use Rattle.rules.specs.Label.{labelIn}
 use Rattle.rules.specs.SlotFile.{slotBytes, View, empty, viewIn, viewsIn}
 
@@ -31,7 +31,7 @@ module _ (size : ℕ) (heap : List ℕ) (k : ℕ) (bs : List ℕ) (within : k * 
       let at = k * size in
       let all : size ≡ n + (size - n) = omega arith in
       let rest : drop (at + n) heap ≡ drop n (drop at heap) = sym (drop-drop n at heap) in
-      ap (take size) (put-drop heap at bs (omega arith))
+      ap (take size) (drop-put heap at bs (omega arith))
       ∙ ap (λ (m : ℕ). take m (bs ++ drop (at + n) heap)) all
       ∙ take-append-add bs (drop (at + n) heap) (size - n)
       ∙ ap (λ (s : List ℕ). bs ++ take (size - n) s) rest

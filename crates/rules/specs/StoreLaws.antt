@@ -1,6 +1,6 @@
 -- A run of single-byte stores against a writer's contract, `putAt` of numbers.
 use mathlib.Core.Path.{_≡_, refl, sym, ap, _∙_}
-use Rattle.rules.specs.Base.{List, [], _∷_, _++_, ℕ, suc, _+_, _-_, length, set, take, drop}
+use Rattle.rules.specs.Base.{List, [], _∷_, _++_, ℕ, suc, _+_, _-_, length, set, take, drop, zero}
 use Prim.Native.Nat.{_≤_}
 use lib.ListN.{length-set, length-drop, take-append-drop}
 use lib.Seq.{length-take-le}
@@ -30,6 +30,19 @@ pub made-length : (ss : List Store) (heap : List ℕ) → length (made ss heap) 
 unfolding made
 made-length [] heap = refl
 made-length (s ∷ ss) heap = made-length ss (set heap (s .at) (s .byte)) ∙ length-set heap (s .at) (s .byte)
+
+-- a store for each byte
+pub stores-length : (at : ℕ) (bs : List ℕ) → length (storesOf at bs) ≡ length bs
+unfolding storesOf
+stores-length at [] = refl
+stores-length at (b ∷ bs) = ap suc (stores-length (suc at) bs)
+
+-- the first k stores are those of the first k bytes
+pub stores-take : (k at : ℕ) (bs : List ℕ) → take k (storesOf at bs) ≡ storesOf at (take k bs)
+unfolding storesOf
+stores-take zero at bs = refl
+stores-take (suc k) at [] = refl
+stores-take (suc k) at (b ∷ bs) = ap (λ (ss : List Store). record { at = at; byte = b } ∷ ss) (stores-take k (suc at) bs)
 
 -- a file's stores, in whatever order, put label and file there
 pub file-made : (start : ℕ) (label file heap : List ℕ) → length label ≡ 64 → start + (64 + length file) ≤ length heap

@@ -2,6 +2,10 @@
 use Rattle.rules.specs.Base.{Bool, true, false, _&&_, List, [], _∷_, ℕ, length, leb, ltb, eqb, pick}
 use Rattle.rules.specs.Types.{Entry, Held, Mapped, Unmapped}
 
+-- what stands past the last entry
+abbrev pub noEntry : Entry
+noEntry = record { id = 0; location = 0 }
+
 -- "Load (nothing for an unmapped id)"
 unfoldable pub lookup : List Entry → ℕ → Held
 lookup [] x = Unmapped

@@ -3,11 +3,11 @@ use mathlib.Core.Path.{_≡_, refl, sym, ap, _∙_}
 use mathlib.Core.Logic.{_⊎_, inl, inr}
 use Prim.Native.Nat.{_≤_, _<_, zero-le}
 use native.Mathlib.Omega.{arith}
-use borrow.Author.Tests.{lt-ltb, le-ltb, le-leb, lt-leb, eq-eqb, ne-eqb}
+use borrow.Author.Tests.{lt-ltb, le-ltb, le-leb, lt-leb, eq-eqb, ne-eqb, eqb-true}
 use Rattle.rules.specs.Base.{Bool, true, false, _&&_, List, [], _∷_, ℕ, suc, _+_, length}
 use Rattle.rules.specs.Types.{Entry, Held, Mapped, Unmapped}
 use Rattle.rules.specs.BaseLaws.{order, same?}
-use Rattle.rules.specs.Table.{lookup, insert, insertAll, unmapped, full}
+use Rattle.rules.specs.Table.{lookup, insert, insertAll, unmapped, full, mappedTo}
 
 -- "ids strictly rising", from a least one on
 pub data Rising : ℕ → List Entry → Type 0 where
@@ -26,6 +26,11 @@ mapped-not h = let z : _≡_ {A = ℕ} 0 1 = cc in omega arith
 -- mapped at one location
 pub mapped-one : {l m : ℕ} → Mapped l ≡ Mapped m → l ≡ m
 mapped-one h = cc
+
+-- the test as a fact
+pub mapped-to : (o : Held) (l : ℕ) → mappedTo o l ≡ true → o ≡ Mapped l
+mapped-to Unmapped l h = absurd (let z : _≡_ {A = ℕ} 0 1 = cc in omega arith)
+mapped-to (Mapped m) l h = ap Mapped (eqb-true m l h)
 
 -- an id and a location make one entry
 pub entry-ext : (e d : Entry) → e .id ≡ d .id → e .location ≡ d .location → e ≡ d

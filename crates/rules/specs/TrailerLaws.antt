@@ -47,7 +47,7 @@ entries-none : (bytes : List ℕ) → entriesFrom 0 bytes ≡ []
 unfolding entriesFrom
 entries-none bytes = refl
 
-entries-next : (k : ℕ) (bytes : List ℕ) → 0 < length bytes
+pub entries-next : (k : ℕ) (bytes : List ℕ) → 0 < length bytes
     → entriesFrom (suc k) bytes ≡ record { id = leValue (take 8 bytes); location = leValue (take 8 (drop 8 bytes)) } ∷ entriesFrom k (drop 16 bytes)
 unfolding entriesFrom
 entries-next k [] h = absurd (let z : _≤_ 1 0 = h in omega arith)

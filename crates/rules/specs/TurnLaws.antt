@@ -1,10 +1,11 @@
 -- A turn of a loop over a list: what is left from place i on, and its end. No word of the paper is here.
-use mathlib.Core.Path.{_≡_, ap}
+use mathlib.Core.Path.{_≡_, ap, refl}
 use Prim.Native.Nat.{_≤_, _<_}
 use native.Mathlib.Numerals.{add-one}
 use lib.ListN.{drop-of-length-le}
 use lib.Seq.{drop-cons}
-use Rattle.rules.specs.Base.{Bool, false, _||_, List, [], _∷_, _++_, ℕ, _+_, length, getD, drop, pick, any, keep, each, sum, larger, greatest}
+use borrow.Author.Tests.{eq-eqb, ne-eqb}
+use Rattle.rules.specs.Base.{Bool, false, List, [], _∷_, _++_, ℕ, _+_, length, getD, drop, any, each, sum, larger, greatest, true, zeros}
 
 -- what is left has the element of place i first
 pub left-next : {A : Type 0} (xs : List A) (i : ℕ) (d : A) → i < length xs → drop i xs ≡ getD xs i d ∷ drop (i + 1) xs
@@ -15,16 +16,6 @@ pub left-none : {A : Type 0} (xs : List A) (i : ℕ) → length xs ≤ i → dro
 left-none xs i h = drop-of-length-le xs h
 
 module _ {A : Type 0} (xs : List A) (i : ℕ) (d : A) (h : i < length xs) where
-  -- some element passes
-  pub any-next : (f : A → Bool) → any f (drop i xs) ≡ (f (getD xs i d) || any f (drop (i + 1) xs))
-  unfolding any
-  any-next f = ap (any f) (left-next xs i d h)
-
-  -- those that pass
-  pub keep-next : (f : A → Bool) → keep f (drop i xs) ≡ pick (f (getD xs i d)) (getD xs i d ∷ keep f (drop (i + 1) xs)) (keep f (drop (i + 1) xs))
-  unfolding keep
-  keep-next f = ap (keep f) (left-next xs i d h)
-
   -- what each gives
   pub each-next : {B : Type 0} (f : A → List B) → each f (drop i xs) ≡ f (getD xs i d) ++ each f (drop (i + 1) xs)
   unfolding each
@@ -46,11 +37,6 @@ module _ {A : Type 0} (xs : List A) (i : ℕ) (h : length xs ≤ i) where
   unfolding any
   any-end f = ap (any f) (left-none xs i h)
 
-  -- none is kept
-  pub keep-end : (f : A → Bool) → keep f (drop i xs) ≡ []
-  unfolding keep
-  keep-end f = ap (keep f) (left-none xs i h)
-
   -- none gives anything
   pub each-end : {B : Type 0} (f : A → List B) → each f (drop i xs) ≡ []
   unfolding each
@@ -65,3 +51,19 @@ module _ {A : Type 0} (xs : List A) (i : ℕ) (h : length xs ≤ i) where
   pub greatest-end : (f : A → ℕ) → greatest f (drop i xs) ≡ 0
   unfolding greatest
   greatest-end f = ap (greatest f) (left-none xs i h)
+
+-- ---- zeros from place i on
+-- place i is 0: the rest decides
+pub zeros-more : (s : List ℕ) (i : ℕ) → i < length s → getD s i 0 ≡ 0 → zeros (drop (i + 1) s) ≡ zeros (drop i s)
+unfolding zeros any
+zeros-more s i h e = rw (add-one, drop-cons s i 0 h, eq-eqb (getD s i 0) 0 e) refl
+
+-- it is not
+pub zeros-not : (s : List ℕ) (i : ℕ) → i < length s → (getD s i 0 ≡ 0 → ⊥) → zeros (drop i s) ≡ false
+unfolding zeros any
+zeros-not s i h n = rw (drop-cons s i 0 h, ne-eqb (getD s i 0) 0 n) refl
+
+-- nothing is left
+pub zeros-end : (s : List ℕ) (i : ℕ) → length s ≤ i → zeros (drop i s) ≡ true
+unfolding zeros any
+zeros-end s i h = rw (left-none s i h) refl

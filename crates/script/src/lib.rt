@@ -1,9 +1,14 @@
 // The console's script: a line as a keyword, numbers and bytes; bytes as text.
 
 ghost use mathlib.Core.Path.{_≡_};
+ghost use mathlib.Core.Bool.{true};
+ghost use mathlib.Core.Logic.{_⊎_};
 ghost use Prim.Native.Nat.{_≤_};
 ghost use lib.ListN.{length};
+ghost use Rattle.numbers.specs.Choice.{pick};
+ghost use Rattle.script.specs.declared.Keyword.the-variants.{Blank, Bad};
 ghost use Rattle.script.specs.Room.{Within};
+ghost use Rattle.script.specs.Words.{runOf, noWord};
 
 pub mod hex;
 pub mod words;
@@ -181,7 +186,7 @@ pub fn shape_of(keyword: Keyword) -> Shape
 }
 
 fn no_order(keyword: Keyword) -> Order
-    ensures { λ r. ⌜ r .length ≡ 0 ⌝ }
+    ensures { λ r. ⌜ (r .length ≡ 0) × (r .keyword ≡ keyword) ⌝ }
 {
     Order {
         keyword: keyword,
@@ -285,7 +290,7 @@ fn with_bytes(
 
 // A line without a word.
 fn wordless(comment: bool) -> Order
-    ensures { λ r. ⌜ r .length ≡ 0 ⌝ }
+    ensures { λ r. ⌜ (r .length ≡ 0) × (r .keyword ≡ pick comment Blank Bad) ⌝ }
 {
     if comment {
         return no_order(Keyword::Blank);
@@ -295,7 +300,7 @@ fn wordless(comment: bool) -> Order
 
 // A line without its comment, if it has one.
 fn order_in(text: &[u8], comment: bool, bytes: &mut [u8]) -> Order
-    ensures { λ r. ⌜ r .length ≤ length (now (bytes .exit)) ⌝ }
+    ensures { λ r. ⌜ (r .length ≤ length (now (bytes .exit))) × (runOf true (now (text .entry)) ≡ length (now (text .entry)) → r .keyword ≡ pick comment Blank Bad) ⌝ }
 {
     let first = words::next_word(text, 0);
     let start = first.start;
@@ -320,7 +325,7 @@ fn order_in(text: &[u8], comment: bool, bytes: &mut [u8]) -> Order
 
 // What a line asks for. Its bytes, if it has any, come to stand at the front of `bytes`.
 pub fn order_of(line: &[u8], bytes: &mut [u8]) -> Order
-    ensures { λ r. ⌜ r .length ≤ length (now (bytes .exit)) ⌝ }
+    ensures { λ r. ⌜ (r .length ≤ length (now (bytes .exit))) × (noWord (now (line .entry)) ≡ true → (r .keyword ≡ Blank) ⊎ (r .keyword ≡ Bad)) ⌝ }
 {
     let end = bytes::scan::find(line, 0, line.len(), b'#');
     order_in(&line[0..end], end < line.len(), bytes)

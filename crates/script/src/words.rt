@@ -1,5 +1,6 @@
 // Words of a line, and the number that a word says.
 ghost use mathlib.Core.Path.{_≡_};
+ghost use mathlib.Core.Bool.{true};
 ghost use Prim.Native.Nat.{_+_, _≤_};
 ghost use lib.ListN.{length, drop};
 ghost use Rattle.script.specs.Words.{isBlank, runOf};
@@ -46,7 +47,7 @@ fn run_end(text: &[u8], from: usize, blank: bool) -> usize
 
 pub fn next_word(text: &[u8], from: usize) -> Word
     requires { ⌜ from ≤ length (now text) ⌝ }
-    ensures { λ r. ⌜ (from ≤ r .start) × (r .start ≤ r .end) × (r .end ≤ length (now (text .entry))) ⌝ }
+    ensures { λ r. ⌜ (from ≤ r .start) × (r .start ≤ r .end) × (r .end ≤ length (now (text .entry))) × (r .start ≡ from + runOf true (drop from (now (text .entry)))) ⌝ }
 {
     let start = run_end(text, from, true);
     let end = run_end(text, start, false);

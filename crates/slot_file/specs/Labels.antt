@@ -1,30 +1,13 @@
--- Zeros behind a label's numbers, and what 8's bounds leave.
+-- What 8's bounds leave.
 use mathlib.Core.Path.{_≡_, refl}
 use mathlib.Core.Bool.{Bool, true, false, _||_}
-use mathlib.Core.List.{List}
 use Prim.Native.Nat.{ℕ, _+_, _-_, _<_, _≤_, _^_}
 use native.Mathlib.Omega.{arith}
-use native.Mathlib.Numerals.{add-one}
-use borrow.Author.Tests.{eq-eqb, ne-eqb, ltb-false}
+use borrow.Author.Tests.{ltb-false}
 use lib.Dec.{ltb, leb, eqb}
-use lib.ListN.{length, drop, getD, drop-of-length-le}
-use lib.Seq.{drop-cons}
 use Rattle.disk_location.specs.Locations.{maskedOf}
 use Rattle.rules.specs.declared.Record.{Record}
-use Rattle.rules.specs.Base.{zeros, any}
 use Rattle.rules.specs.Label.{outOfBounds}
-
-pub zeros-more : (s : List ℕ) (i : ℕ) → i < length s → getD s i 0 ≡ 0 → zeros (drop (i + 1) s) ≡ zeros (drop i s)
-unfolding zeros any
-zeros-more s i h e = rw (add-one, drop-cons s i 0 h, eq-eqb (getD s i 0) 0 e) refl
-
-pub zeros-not : (s : List ℕ) (i : ℕ) → i < length s → (getD s i 0 ≡ 0 → ⊥) → zeros (drop i s) ≡ false
-unfolding zeros any
-zeros-not s i h n = rw (drop-cons s i 0 h, ne-eqb (getD s i 0) 0 n) refl
-
-pub zeros-end : (s : List ℕ) (i : ℕ) → length s ≤ i → zeros (drop i s) ≡ true
-unfolding zeros any
-zeros-end s i h = rw (drop-of-length-le s {i = i} h) refl
 
 -- within 8's bounds the file lies in its slot, and its object bytes in the file
 pub record Inside (slotBytes : ℕ) (r : Record) : Type 0 where

@@ -12,6 +12,7 @@ use Rattle.numbers.specs.Choice.{pick}
 use Rattle.rules.specs.Refusal.{decide, after}
 use Rattle.rules.specs.Object.{Stored, storedAt, objectsFrom, objectsIn}
 use Rattle.rules.specs.Read.{objectTests}
+use Rattle.rules.specs.ObjectLaws.{objects-enough, objects-next as objects-cons}
 use Rattle.slot_file.specs.declared.Header.{Header}
 use Rattle.slot_file.specs.declared.Step.{Step}
 use Rattle.slot_file.specs.declared.Step.the-variants.{End, HeaderCut, Here}
@@ -34,27 +35,6 @@ objectsAt objects position = objectsFrom (length objects) position (drop positio
 abbrev pub stepOf : List Stored → Step
 stepOf [] = End
 stepOf (o ∷ os) = pick (ltb (o .room) 20) HeaderCut (Here (headerOf o))
-
--- how many are looked for does not matter, where it is no less than the bytes
-objects-enough : (k m position : ℕ) (bytes : List ℕ) → length bytes ≤ k → length bytes ≤ m → objectsFrom k position bytes ≡ objectsFrom m position bytes
-unfolding objectsFrom
-objects-enough zero zero position bytes h l = refl
-objects-enough zero (suc m) position [] h l = refl
-objects-enough zero (suc m) position (b ∷ bs) h l = absurd (omega arith)
-objects-enough (suc k) zero position [] h l = refl
-objects-enough (suc k) zero position (b ∷ bs) h l = absurd (omega arith)
-objects-enough (suc k) (suc m) position [] h l = refl
-objects-enough (suc k) (suc m) position (b ∷ bs) h l =
-    let n = 20 + storedAt position (b ∷ bs) .size in
-    let short = length-drop n (b ∷ bs) in
-    ap (λ (os : List Stored). storedAt position (b ∷ bs) ∷ os) (objects-enough k m (position + n) (drop n (b ∷ bs)) (omega arith) (omega arith))
-
-objects-cons : (k position : ℕ) (bytes : List ℕ) → 0 < length bytes
-    → objectsFrom (suc k) position bytes
-    ≡ storedAt position bytes ∷ objectsFrom k (position + (20 + storedAt position bytes .size)) (drop (20 + storedAt position bytes .size) bytes)
-unfolding objectsFrom
-objects-cons k position [] h = absurd (omega arith)
-objects-cons k position (b ∷ bs) h = refl
 
 -- a walk starts at 0
 pub objects-start : (objects : List ℕ) → objectsAt objects 0 ≡ objectsIn objects

@@ -1,6 +1,6 @@
 -- What a slot shows, as the code answers it.
 use mathlib.Core.Path.{_≡_, refl, _∙_}
-use mathlib.Core.Bool.{true, false, not}
+use mathlib.Core.Bool.{not}
 use mathlib.Core.List.{List, [], _∷_, _++_}
 use Prim.Native.Nat.{ℕ, _-_, _≤_}
 use native.Mathlib.Omega.{arith}
@@ -11,7 +11,7 @@ use Rattle.rules.specs.declared.Record.{Record}
 use Rattle.rules.specs.declared.Refusal.the-variants.{EntryPosition, PresentCount}
 use Rattle.rules.specs.declared.Refusal.{Refusal}
 use Rattle.rules.specs.declared.Answer.the-variants.{Done, Refused}
-use Rattle.rules.specs.Refusal.{Test, _gives_, decide, decide-append, clear-when}
+use Rattle.rules.specs.Refusal.{Test, _gives_, decide, decide-append, clear-when, decide-early}
 use Rattle.numbers.specs.Choice.{pick}
 use Rattle.rules.specs.Trailer.{trailerTests, entriesIn, countIn}
 use Rattle.rules.specs.SlotFile.{View, empty, damaged, holds, fileIn}
@@ -33,17 +33,10 @@ entryTests r trailer =
     ∷ not (eqb (r .«present_objects») (length (entriesIn trailer))) gives PresentCount
     ∷ [])
 
--- where the first tests refuse, the rest is not asked
-refused-first : (xs ys : List Test) (r : Refusal) → decide xs ≡ Refused r → decide (xs ++ ys) ≡ Refused r
-unfolding decide
-refused-first [] ys r e = absurd (let z : _≡_ {A = ℕ} 0 1 = cc in omega arith)
-refused-first (true gives q ∷ xs) ys r e = e
-refused-first (false gives q ∷ xs) ys r e = refused-first xs ys r e
-
 module _ (r : Record) (trailer : List ℕ) where
   pub entry-refused : (n : Refusal) → decide (trailerTests trailer) ≡ Refused n → decide (entryTests r trailer) ≡ Refused n
   unfolding entryTests
-  entry-refused n e = refused-first (trailerTests trailer) _ n e
+  entry-refused n e = decide-early (trailerTests trailer) _ n e
 
   -- 9, 10 and 11 are clear: 12 and 13 decide
   pub entry-clear : decide (trailerTests trailer) ≡ Done

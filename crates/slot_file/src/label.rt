@@ -4,7 +4,7 @@ use rules::Label;
 use rules::Record;
 ghost use mathlib.Core.Path.{_≡_};
 ghost use Prim.Native.Nat.{_-_};
-ghost use lib.ListN.{length, take, drop};
+ghost use lib.ListN.{take, drop};
 ghost use Rattle.rules.specs.Base.{zeros};
 ghost use Rattle.rules.specs.Label.{labelIn, fiveIn, outOfBounds};
 

@@ -1,21 +1,15 @@
 -- The run of a file: its objects, its trailer, its label.
-use mathlib.Core.Path.{_≡_, refl}
+use mathlib.Core.Path.{refl}
 use mathlib.Core.List.{List}
 use Prim.Native.Nat.{ℕ, _+_}
-use lib.ListN.{length, length-append}
-use Rattle.numbers.specs.LittleEndian.{le-length}
+use lib.ListN.{length}
 use Rattle.rules.specs.Label.{labelBytes}
-use Rattle.rules.specs.Object.{objectBytes}
 use Rattle.rules.specs.Trailer.{trailerBytes}
 use Rattle.rules.specs.Ops.{Op, objectsOf, entriesOf, fileBytes}
 use Rattle.rules.specs.declared.Record.{Record}
 use Rattle.rules.specs.Stores.{storesOf, fileStores}
 use Rattle.stores.specs.Runs.{Made, made-then, made-behind}
 use Rattle.slot_writer.specs.Labels.{labelStores}
-
-pub object-length : (id : ℕ) (body : List ℕ) → length (objectBytes id body) ≡ 20 + length body
-unfolding objectBytes
-object-length id body = simp (length-append, le-length)
 
 -- a file's bytes, then its label
 pub file-then-label : (start : ℕ) (label file : List ℕ) {k l n : ℕ} {heap written labelled : List ℕ} → Made k (storesOf (start + 64) file) heap written l

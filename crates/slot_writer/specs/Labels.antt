@@ -1,13 +1,12 @@
 -- A label's bytes and its stores.
 use mathlib.Core.Path.{_≡_, refl, sym, ap, _∙_}
 use mathlib.Core.List.{List, _++_, append-assoc}
-use Prim.Native.Nat.{ℕ, zero, suc, _-_, _≤_}
+use Prim.Native.Nat.{ℕ, zero, suc, _-_}
 use native.Mathlib.Omega.{arith}
 use native.Mathlib.Nat.{sub-zero, suc-sub-suc}
-use lib.ListN.{length, take, drop, replicate, length-append}
+use lib.ListN.{length, take, drop, replicate}
 use Rattle.numbers.specs.Groups.{groupsOf}
-use Rattle.numbers.specs.GroupLaws.{groups-length}
-use Rattle.numbers.specs.Parts.{front, front-length}
+use Rattle.numbers.specs.Parts.{front}
 use Rattle.rules.specs.declared.Record.{Record}
 use Rattle.rules.specs.Base.{padded}
 use Rattle.rules.specs.Label.{labelBytes}
@@ -25,12 +24,6 @@ fiveGroups r =
 -- "label bytes 2 to 64, then label byte 1"
 unfoldable pub labelStores : ℕ → List ℕ → List Store
 labelStores start label = storesOf (suc start) (drop 1 label) ++ storesOf start (take 1 label)
-
-five-short : (r : Record) → length (fiveGroups r) ≤ 50
-unfolding fiveGroups
-five-short r =
-    simp length-append
-    (omega (arith, groups-length 10 (r .lsn), groups-length 10 (r .«trailer_offset»), groups-length 10 (r .«file_size»), groups-length 10 (r .«present_objects»), groups-length 10 (r .generation)))
 
 drop-same : (n m a : ℕ) → drop n (replicate m a) ≡ replicate (m - n) a
 drop-same zero m a = rw (sub-zero m) refl
@@ -52,6 +45,3 @@ five-nested r = ap (padded 64) (nested (groupsOf 10 (r .lsn)) (groupsOf 10 (r .�
 -- five numbers put in front of 64 zeros are a label
 pub label-made : (r : Record) → front (fiveGroups r) (replicate 64 0) ≡ labelBytes r
 label-made r = front-zeros 64 (fiveGroups r) ∙ sym (five-nested r)
-
-pub label-length : (r : Record) → length (labelBytes r) ≡ 64
-label-length r = ap length (sym (label-made r)) ∙ front-length (replicate 64 0) (fiveGroups r) (omega (arith, five-short r))

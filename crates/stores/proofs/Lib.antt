@@ -1,3 +1,2 @@
 pub mod FirstBytes
 pub mod MoveTurn
-pub mod LentRuns

@@ -5,11 +5,11 @@ use mathlib.Core.Logic.{_⊎_, inl, inr, ⊎-elim}
 use Prim.Native.Nat.{ℕ, zero, suc, _+_, _-_, _≤_, _<_}
 use native.Mathlib.Omega.{arith}
 use native.Mathlib.Nat.{add-zero, sub-zero, suc-sub-suc}
-use lib.ListN.{length, take, set, length-append, length-set, length-take, drop}
+use lib.ListN.{length, take, set, length-append, length-take, drop}
 use lib.Seq.{take-all, take-nil, drop-set-lt, drop-set-add, take-set-le}
 use Rattle.numbers.specs.Parts.{putAt}
 use Rattle.rules.specs.Stores.{Store, made, storesOf}
-use Rattle.rules.specs.StoreLaws.{made-append, made-run}
+use Rattle.rules.specs.StoreLaws.{made-append, made-run, stores-length, stores-take, made-length as run-length}
 
 -- k stores may be made: those of a run are made, in its order, as far as k reaches; left is what of k is left
 pub record Made (k : ℕ) (run : List Store) (before after : List ℕ) (left : ℕ) : Type 0 where
@@ -42,33 +42,16 @@ made-none k heap = record { heap = rw (take-nil k) refl; rest = omega arith }
 pub made-whole : {k : ℕ} {run : List Store} {heap after : List ℕ} {left : ℕ} → length run ≤ k → Made k run heap after left → after ≡ made run heap
 made-whole {k} {run} {heap} h m = m .heap ∙ ap (λ (r : List Store). made r heap) (take-all k run h)
 
--- a store leaves the heap's length
-run-length : (run : List Store) (heap : List ℕ) → length (made run heap) ≡ length heap
-unfolding made
-run-length [] heap = refl
-run-length (s ∷ ss) heap = run-length ss (set heap (s .at) (s .byte)) ∙ length-set heap (s .at) (s .byte)
-
 pub made-length : {k : ℕ} {run : List Store} {heap after : List ℕ} {left : ℕ} → Made k run heap after left → length after ≡ length heap
 made-length {k} {run} {heap} m = ap length (m .heap) ∙ run-length (take k run) heap
 
 -- ---- bytes one behind the other
-pub stores-length : (at : ℕ) (bs : List ℕ) → length (storesOf at bs) ≡ length bs
-unfolding storesOf
-stores-length at [] = refl
-stores-length at (b ∷ bs) = ap suc (stores-length (suc at) bs)
-
 pub stores-append : (at : ℕ) (xs ys : List ℕ) → storesOf at (xs ++ ys) ≡ storesOf at xs ++ storesOf (at + length xs) ys
 unfolding storesOf
 stores-append at [] ys = rw (add-zero at) refl
 stores-append at (x ∷ xs) ys =
     let past : suc at + length xs ≡ at + suc (length xs) = omega arith in
     ap (λ (ss : List Store). record { at = at; byte = x } ∷ ss) (rw (← past) (stores-append (suc at) xs ys))
-
-pub stores-take : (k at : ℕ) (bs : List ℕ) → take k (storesOf at bs) ≡ storesOf at (take k bs)
-unfolding storesOf
-stores-take zero at bs = refl
-stores-take (suc k) at [] = refl
-stores-take (suc k) at (b ∷ bs) = ap (λ (ss : List Store). record { at = at; byte = b } ∷ ss) (stores-take k (suc at) bs)
 
 -- the first k bytes put at their place are the first k stores
 pub made-put : (k at : ℕ) (bs heap after : List ℕ) (left : ℕ) → at + length bs ≤ length heap

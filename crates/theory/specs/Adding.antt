@@ -7,7 +7,7 @@ use native.Mathlib.Omega.{arith}
 use Rattle.rules.specs.Base.{false, true, List, ℕ, _+_, _-_, _^_, length, set}
 use Rattle.theory.specs.Types.{Record}
 use Rattle.disk_location.specs.Locations.{maskedOf}
-use Rattle.disk_location.specs.LocationLaws.{masked-plain, masked-batch}
+use Rattle.disk_location.specs.LocationLaws.{masked-plain, masked-batch, masked-pos}
 use Rattle.rules.specs.Settings.{slotsIn}
 use Rattle.rules.specs.SettingsLaws.{HeapInRange, heap-whole}
 use Rattle.rules.specs.Ops.{Op, objectsOf, entriesOf, fileBytes}
@@ -26,7 +26,7 @@ use Rattle.rules.specs.FileMapLaws.{not-empty, lowest-empty}
 use Rattle.rules.specs.Install.{newRecord, newSlot, newLsn, recordsWith, storesFor, tableWith, nextWith, installed, emptyOf}
 use Rattle.rules.specs.World.{World, recordsOf, mappings, slotsOf}
 use Rattle.theory.specs.Entries.{absolute-has}
-use Rattle.theory.specs.Places.{viewAt, masked-pos, record-holds, no-damage}
+use Rattle.theory.specs.Places.{viewAt, record-holds, no-damage}
 use Rattle.theory.specs.Losing.{rowsFor}
 use Rattle.theory.specs.Picture.{Picture, viewsOf, pictureOf, Said, fileSays, added}
 use Rattle.theory.specs.Sound.{Bounds, Sound, table-rising}

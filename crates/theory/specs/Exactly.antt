@@ -1,7 +1,6 @@
 -- C: what maintenance moves are exactly the ids whose current location is in a file of a rewritten group; the count is their number.
 use mathlib.Core.Path.{_≡_, refl, sym, ap, _∙_, subst}
 use mathlib.Core.Bool.{true≢false}
-use mathlib.Core.List.{append-nil}
 use mathlib.Core.Logic.{_⊎_, inl, inr, ⊎-elim}
 use Prim.Native.Nat.{_<_, _≤_}
 use native.Mathlib.Omega.{arith}
@@ -15,18 +14,19 @@ use Rattle.rules.specs.OpsLaws.{RisingOps}
 use Rattle.rules.specs.SettledLaws.{Last, silent, last, lastOn, settled-all, settled-rising, settled-last}
 use Rattle.rules.specs.SlotFile.{File, holds}
 use Rattle.rules.specs.Table.{lookup, unmapped}
-use Rattle.rules.specs.TableLaws.{Rising, Has, mapped-one, lookup-has, has-lookup}
+use Rattle.rules.specs.TableLaws.{Rising, mapped-one, has-lookup}
 use Rattle.rules.specs.FileMap.{recordAt, fileFor, fileCount}
 use Rattle.rules.specs.FileMapLaws.{not-empty, Among, slot-passes}
 use Rattle.rules.specs.Condition1.{outOfRange}
 use Rattle.rules.specs.Install.{installedAll}
+use Rattle.rules.specs.InstallLaws.{isAt}
 use Rattle.rules.specs.Maintenance.{objectsFound, deletesFound, foundIn, found, slotOf, filesOf, Stop, going, stopped, Course, isCandidate, newGeneration, group, groupTests, rewriteGroup, onward, groupsFrom, courseOf, ended, maintainCall}
 use Rattle.rules.specs.Prune.{pruned}
-use Rattle.rules.specs.Reopen.{inRange, mappedInto}
+use Rattle.rules.specs.Reopen.{inRange}
 use Rattle.rules.specs.World.{World, recordsOf, mappings, maintainGiven}
 use Rattle.theory.specs.Newest.{maskedAt}
 use Rattle.theory.specs.Places as places
-use Rattle.theory.specs.Places.{viewAt, isAt, record-holds, found-in-range}
+use Rattle.theory.specs.Places.{viewAt, record-holds, found-in-range}
 use Rattle.theory.specs.Picture.{viewsOf, pictureOf, heldSays, pictureSays, lastSays}
 use Rattle.theory.specs.Sound.{table-rising, table-stands}
 use Rattle.theory.specs.SoundWorld.{boundsOf, SoundWorld, sound-fine}
@@ -34,8 +34,8 @@ use Rattle.theory.specs.Writing.{engine}
 use Rattle.theory.specs.Pruning.{file-slot}
 use Rattle.theory.specs.Moving.{Movable, found-movable}
 use Rattle.theory.specs.Rewriting.{last-all, heard-of}
-use Rattle.theory.specs.Tally.{known, heardIn, heard-append, keep-same, count-heard}
-use Rattle.theory.specs.Moved.{InRangeOf, found-inside, found-count}
+use Rattle.theory.specs.Tally.{known, heardIn, keep-same, count-heard}
+use Rattle.theory.specs.Moved.{InRangeOf, found-inside, heard-each}
 use Rattle.theory.specs.Stopping.{group-files, Underway, onward-well}
 use Rattle.theory.specs.Relocated.{Left, Anew, group-relocates}
 use Rattle.theory.specs.Finished.{before}
@@ -90,49 +90,6 @@ both-ways : (a b : Bool) → (a ≡ true → b ≡ true) → (b ≡ true → a �
 both-ways true b f g = sym (f refl)
 both-ways false true f g = g refl
 both-ways false false f g = refl
-
--- ---- a test that is no wider, and passes as many, is the same
-abbrev Wider : (Entry → Bool) → (Entry → Bool) → List Entry → Type 0
-Wider p q t = (x l : ℕ) → Has t x l → p (record { id = x; location = l }) ≡ true → q (record { id = x; location = l }) ≡ true
-
-wider-more : (p q : Entry → Bool) (t : List Entry) → Wider p q t → length (keep p t) ≤ length (keep q t)
-unfolding keep
-wider-more p q [] h = omega arith
-wider-more p q (e ∷ t) h = go (p e) refl (q e) refl (wider-more p q t (λ x l a. h x l (inr a)))
-  where
-    go : (a : Bool) → p e ≡ a → (b : Bool) → q e ≡ b → length (keep p t) ≤ length (keep q t) → length (pick a (e ∷ keep p t) (keep p t)) ≤ length (pick b (e ∷ keep q t) (keep q t))
-    go true i true j ih = omega arith
-    go true i false j ih = absurd (true≢false (sym (h (e .id) (e .location) (inl (refl, refl)) i) ∙ j))
-    go false i true j ih = omega arith
-    go false i false j ih = ih
-
-as-wide : (p q : Entry → Bool) (t : List Entry) → Wider p q t → length (keep q t) ≤ length (keep p t) → Wider q p t
-unfolding keep
-as-wide p q [] h n x l a = absurd a
-as-wide p q (e ∷ t) h n x l a = go (λ m. as-wide p q t (λ x l a. h x l (inr a)) m x l) (p e) refl (q e) refl n a
-  where
-    at : (q e ≡ true → p e ≡ true) → (e .id ≡ x) × (e .location ≡ l) → q (record { id = x; location = l }) ≡ true → p (record { id = x; location = l }) ≡ true
-    at f z = subst (λ (d : Entry). q d ≡ true → p d ≡ true) (λ i. record { id = z .0 i; location = z .1 i }) f
-
-    go : (length (keep q t) ≤ length (keep p t) → Has t x l → q (record { id = x; location = l }) ≡ true → p (record { id = x; location = l }) ≡ true)
-        → (a : Bool) → p e ≡ a → (b : Bool) → q e ≡ b → length (pick b (e ∷ keep q t) (keep q t)) ≤ length (pick a (e ∷ keep p t) (keep p t)) → Has (e ∷ t) x l
-        → q (record { id = x; location = l }) ≡ true → p (record { id = x; location = l }) ≡ true
-    go ih true i b j n (inl z) = at (λ y. i) z
-    go ih true i true j n (inr z) = ih (omega arith) z
-    go ih true i false j n (inr z) = absurd (true≢false (sym (h (e .id) (e .location) (inl (refl, refl)) i) ∙ j))
-    go ih false i true j n z = absurd (let m = wider-more p q t (λ x l a. h x l (inr a)) in omega arith)
-    go ih false i false j n (inl z) = at (λ y. absurd (true≢false (sym y ∙ j))) z
-    go ih false i false j n (inr z) = ih n z
-
--- heard in one slot's file, so in all
-heard-among : (w : World) (ks : List ℕ) (k x : ℕ) → Among ks k → heardIn (foundIn w k) x ≡ true → heardIn (each (foundIn w) ks) x ≡ true
-unfolding each
-heard-among w [] k x a h = absurd a
-heard-among w (j ∷ ks) k x (inl q) h =
-    heard-append (foundIn w j) (each (foundIn w) ks) x
-    ∙ or-holds (heardIn (each (foundIn w) ks) x) (heardIn (foundIn w j) x) (inr (ap (λ (n : ℕ). heardIn (foundIn w n) x) q ∙ h))
-heard-among w (j ∷ ks) k x (inr a) h =
-    heard-append (foundIn w j) (each (foundIn w) ks) x ∙ or-holds (heardIn (each (foundIn w) ks) x) (heardIn (foundIn w j) x) (inl (heard-among w ks k x a h))
 
 -- ---- a group in the world in which it is rewritten
 module _ (w : World) (history : List Op) (s : SoundWorld w (engine history)) where
@@ -190,45 +147,15 @@ module _ (w : World) (history : List Op) (s : SoundWorld w (engine history)) whe
   unfolding found
   found-rising ks = settled-rising (each (foundIn w) ks)
 
-  -- one file: its live count is the ids mapped into it, and as many are found
-  slot-every : (k : ℕ) → 0 < recordAt (recordsOf w) k .lsn → (x l : ℕ) → lookup (mappings w) x ≡ Mapped l → fileFor (recordsOf w) l ≡ Is k → heardIn (found w (k ∷ [])) x ≡ true
-  unfolding mappedInto sum
-  slot-every k some x l e q = as-wide heard ranged (mappings w) narrower (omega (arith, many)) x l (lookup-has (mappings w) x l e) (sym (range-file x l k f h e) ∙ ap (isAt k) q ∙ eq-eqb k k refl)
-    where
-      f : File
-      f = file-slot w (engine history) s k (not-empty (recordAt (recordsOf w) k) some) .0
-
-      h : viewAt (viewsOf w) k ≡ holds f
-      h = file-slot w (engine history) s k (not-empty (recordAt (recordsOf w) k) some) .1
-
-      heard : Entry → Bool
-      heard d = heardIn (found w (k ∷ [])) (d .id)
-
-      ranged : Entry → Bool
-      ranged d = inRange (f .label) (maskedAt (d .location))
-
-      many : length (keep ranged (mappings w)) ≡ length (keep heard (mappings w))
-      many =
-          let a = found-count w history s 0 (k ∷ []) (omega arith, tt) (some, tt) in
-          let b = s .sound .counted k f h in
-          sym b ∙ (omega arith) ∙ heard-ids (k ∷ []) (found w (k ∷ [])) (found-rising (k ∷ [])) (found-only (k ∷ []) (some, tt))
-
-      narrower : Wider heard ranged (mappings w)
-      narrower y m a p =
-          let i = found-only (k ∷ []) (some, tt) y p in
-          let z = has-lookup 0 (mappings w) rises y m a in
-          sym (range-file y m k f h z) ∙ ap (λ (n : ℕ). isAt k (fileFor (recordsOf w) n)) (mapped-one (sym z ∙ i .1)) ∙ at (i .2 .0) (i .2 .1) (i .2 .2)
-        where
-          at : (j : ℕ) → Among (k ∷ []) j → {o : Slot} → o ≡ Is j → isAt k o ≡ true
-          at j (inl b) c = ap (isAt k) c ∙ eq-eqb j k (sym b)
-          at j (inr b) c = absurd b
-
   found-every : (ks : List ℕ) → All (λ (k : ℕ). 0 < recordAt (recordsOf w) k .lsn) ks → (x : ℕ) → Inside w ks x → heardIn (found w ks) x ≡ true
-  unfolding found each
+  unfolding found
   found-every ks files x (l, e, (k, a, q)) =
+      let f = file-slot w (engine history) s k (not-empty (recordAt (recordsOf w) k) (among-get (λ (j : ℕ). 0 < recordAt (recordsOf w) j .lsn) ks files k a)) in
       ap known (settled-last (each (foundIn w) ks) x)
-      ∙ heard-among w ks k x a
-      (ap (λ (os : List Op). heardIn os x) (sym (append-nil (foundIn w k))) ∙ sym (ap known (settled-last (foundIn w k ++ []) x)) ∙ slot-every k (among-get (λ (j : ℕ). 0 < recordAt (recordsOf w) j .lsn) ks files k a) x l e q)
+      ∙ heard-each w history s ks files x l e
+      ∙ slot-any (λ (j : ℕ). inRange (recordAt (recordsOf w) j) (maskedAt l)) ks k a
+      (ap (λ (r : Record). inRange r (maskedAt l)) (record-holds (viewsOf w) (recordsOf w) (s .sound .filed) k (f .0) (f .1))
+      ∙ sym (range-file x l k (f .0) (f .1) e) ∙ ap (isAt k) q ∙ eq-eqb k k refl)
 
   -- both ways, each once: so as many
   exactly : (ks : List ℕ) (ops : List Op) → RisingOps 0 ops → ((x : ℕ) → heardIn ops x ≡ true → Inside w ks x) → ((x : ℕ) → Inside w ks x → heardIn ops x ≡ true) → Exactly w ks ops

@@ -8,7 +8,7 @@ use borrow.Author.Tests.{leb-true, leb-false, lt-leb, eq-eqb}
 use Rattle.rules.specs.Base.{Bool, true, false, _&&_, List, [], _∷_, _++_, map, ℕ, zero, suc, _+_, _-_, length, replicate, leb, eqb, pick, any, each, larger, greatest}
 use Rattle.theory.specs.Types.{Entry, Refusal}
 use Rattle.disk_location.specs.Locations.{maskedOf, positionOf}
-use Rattle.rules.specs.BaseLaws.{or-false, or-clear}
+use Rattle.rules.specs.BaseLaws.{or-false, or-clear, replicate-at}
 use Rattle.rules.specs.Refusal.{NoneHolds}
 use Rattle.rules.specs.SlotFile.{File, View, empty, damaged, holds}
 use Rattle.rules.specs.FileMap.{emptyRecord, recordAt}
@@ -180,13 +180,8 @@ next-above vs k f h m =
     omega arith
 
 -- ---- the file map
-all-empty : (m j : ℕ) → recordAt (replicate m emptyRecord) j ≡ emptyRecord
-all-empty zero j = refl
-all-empty (suc m) zero = refl
-all-empty (suc m) (suc j) = all-empty m j
-
 records-at : (table : List Entry) (vs : List View) (m k : ℕ) → recordAt (map (recordOf table) vs ++ replicate m emptyRecord) k ≡ recordOf table (viewAt vs k)
-records-at table [] m k = all-empty m k
+records-at table [] m k = replicate-at m k emptyRecord
 records-at table (v ∷ vs) m zero = refl
 records-at table (v ∷ vs) m (suc k) = records-at table vs m k
 

@@ -6,7 +6,7 @@ use native.Mathlib.Nat.{add-zero}
 use lib.ListN.{length-replicate, List·getD-eq-default}
 use lib.Seq.{ext-getD, getD-take, getD-drop}
 use borrow.Author.Tests.{eq-eqb, ltb-true, ltb-false, le-ltb}
-use Rattle.rules.specs.Base.{Bool, true, false, List, [], _∷_, ℕ, zero, suc, _*_, length, getD, take, drop, replicate, ltb, any, each, greatest}
+use Rattle.rules.specs.Base.{Bool, true, false, List, [], _∷_, ℕ, suc, _*_, length, getD, take, drop, replicate, ltb, any, each, greatest}
 use Rattle.theory.specs.Types.{Entry, Refusal}
 use Rattle.rules.specs.Refusal.{decide, NoneHolds, decide-clear, none-append}
 use Rattle.rules.specs.Condition1.{outOfRange}
@@ -19,11 +19,12 @@ use Rattle.rules.specs.Table.{lookup}
 use Rattle.rules.specs.TableLaws.{rise-end, Has}
 use Rattle.rules.specs.Layout.{capacityOf, laidOut, usedEntries}
 use Rattle.rules.specs.LayoutLaws.{laid-out-ids, laid-out-locations, used-laid-out, form-laid-out}
-use Rattle.rules.specs.FileMap.{emptyRecord, recordAt, noFiles}
+use Rattle.rules.specs.FileMap.{emptyRecord, noFiles}
 use Rattle.rules.specs.Claims.{noClaims}
 use Rattle.rules.specs.Reopen.{viewTests, filesIn, overlapping, notRising, latestFrom, tableOf, reopenTests, recordOf, recordsFrom, nextAfter, stateOf, opened, reopenCall}
 use Rattle.rules.specs.ReopenLaws.{records-from-length}
 use Rattle.rules.specs.World.{World, slotsOf, accepted}
+use Rattle.rules.specs.BaseLaws.{replicate-at}
 use Rattle.theory.specs.Places.{viewAt, not-empty}
 use Rattle.theory.specs.Files.{no-damage-tests, record-from}
 use Rattle.theory.specs.Picture.{viewsOf, pictureOf, heldSays, pictureSays}
@@ -49,11 +50,6 @@ no-files [] h = refl
 no-files (empty ∷ vs) h = no-files vs (λ k. h (suc k))
 no-files (damaged r ∷ vs) h = absurd (let e = h 0 in let z : _≡_ {A = ℕ} 0 1 = cc in omega arith)
 no-files (holds f ∷ vs) h = absurd (not-empty (sym (h 0)))
-
-all-empty : (n k : ℕ) → recordAt (replicate n emptyRecord) k ≡ emptyRecord
-all-empty zero k = refl
-all-empty (suc n) zero = refl
-all-empty (suc n) (suc k) = all-empty n k
 
 module _ (w : World) (range : outOfRange (w .settings) (length (w .heap)) (w .table) ≡ false) (blank : Blank w) where
   limits : InLimits (w .settings) (length (w .heap)) (w .table)
@@ -89,7 +85,7 @@ module _ (w : World) (range : outOfRange (w .settings) (length (w .heap)) (w .ta
   no-records =
       ext-getD emptyRecord (recordsFrom (tableOf (filesIn (viewsOf w))) (viewsOf w)) (replicate 256 emptyRecord)
       (records-from-length (tableOf (filesIn (viewsOf w))) (viewsOf w) fits ∙ sym (length-replicate 256 emptyRecord))
-      (λ k h. record-from (tableOf (filesIn (viewsOf w))) (viewsOf w) k ∙ ap (recordOf (tableOf (filesIn (viewsOf w)))) (views-blank k) ∙ sym (all-empty 256 k))
+      (λ k h. record-from (tableOf (filesIn (viewsOf w))) (viewsOf w) k ∙ ap (recordOf (tableOf (filesIn (viewsOf w)))) (views-blank k) ∙ sym (replicate-at 256 k emptyRecord))
     where
       fits : length (viewsOf w) ≤ 256
       fits = let a = views-length (slotsOf w) (w .settings .«slot_bytes») (w .heap) in let b = limits .heap .most in omega arith
@@ -146,7 +142,7 @@ module _ (w : World) (range : outOfRange (w .settings) (length (w .heap)) (w .ta
         sound = record {
           filed = record {
             fits = let n = views-length (slotsOf w) (w .settings .«slot_bytes») (w .heap) in let m = limits .heap .most in let r = length-replicate 256 emptyRecord in omega arith;
-            agree = λ k. rw (views-blank k) (all-empty 256 k);
+            agree = λ k. rw (views-blank k) (replicate-at 256 k emptyRecord);
             made = λ k f e. absurd (no k f e);
             single = λ k f e. absurd (no k f e);
             apart = λ j k f g e. absurd (no j f e);

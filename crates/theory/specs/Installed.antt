@@ -19,14 +19,14 @@ use Rattle.rules.specs.Table.{lookup, insertAll}
 use Rattle.rules.specs.TableLaws.{Rising, Has, lookup-has, table-ext, orElse, rising-insert-all, lookup-insert-all, has-lookup}
 use Rattle.rules.specs.FileMap.{emptyRecord, recordAt, withLive, fileFor}
 use Rattle.rules.specs.Install.{newRecord, losing}
-use Rattle.rules.specs.InstallLaws.{losing-length}
+use Rattle.rules.specs.InstallLaws.{losing-length, Less, losing-record}
 use Rattle.rules.specs.Reopen.{filesIn, tableOf, inRange, mappedInto}
 use Rattle.rules.specs.Read.{objectTests}
 use Rattle.theory.specs.Entries.{shiftHeld, lookup-absolute, rising-absolute, has-absolute, absolute-has}
 use Rattle.theory.specs.Counting.{count, count-none}
 use Rattle.theory.specs.Newest.{maskedAt, newest-iff, newest-one, newest-insert-all}
 use Rattle.theory.specs.Places.{viewAt, rowsIn, rowsOf, WellMade, Single, rising-single, Apart, Agrees, Filed, Stands, stands-has, has-stands, not-empty, holds-inj, own-file, in-own-range, in-no-other, found-in-range, distinct, masked-entry}
-use Rattle.theory.specs.Losing.{liveAt, rowsFor, Less, losing-record, losing-live, losing-new}
+use Rattle.theory.specs.Losing.{liveAt, rowsFor, losing-live, losing-new}
 use Rattle.rules.specs.WrittenLaws.{fileOfOps}
 use Rattle.theory.specs.Picture.{Picture, Said, unheard, gone, body, broken, placeSays, entrySays, fileSays, viewSays, slotSays, heldSays, pictureSays, added}
 use Rattle.theory.specs.Sound.{Bounds, OfOps, Sound, newest-table, rising-table, table-rising, table-newest, table-stands}

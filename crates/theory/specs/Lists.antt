@@ -1,14 +1,9 @@
 -- What holds of all elements of a list, and of those among it: no word of the paper is here.
 use mathlib.Core.Path.{_≡_, refl, subst}
 use mathlib.Core.Logic.{inl, inr}
-use Rattle.rules.specs.Base.{Bool, true, false, List, [], _∷_, _++_, map, ℕ, zero, suc, getD, set, replicate, pick, keep, each}
-use Rattle.rules.specs.BaseLaws.{All}
+use Rattle.rules.specs.Base.{Bool, true, false, List, [], _∷_, map, ℕ, zero, suc, getD, set, replicate, pick, keep, each}
+use Rattle.rules.specs.BaseLaws.{All, all-append}
 use Rattle.rules.specs.FileMapLaws.{Among}
-
--- of both
-pub all-append : {A : Type 0} (P : A → Type 0) (xs ys : List A) → All P xs → All P ys → All P (xs ++ ys)
-all-append P [] ys a b = b
-all-append P (x ∷ xs) ys a b = (a .0, all-append P xs ys (a .1) b)
 
 -- those that are kept, changed
 pub all-kept : {A B : Type 0} (Q : A → Type 0) (P : B → Type 0) (f : A → Bool) (g : A → B) (xs : List A) → ((x : A) → Q x → f x ≡ true → P (g x))
@@ -30,11 +25,6 @@ all-pass f (x ∷ xs) = go (f x) refl (all-pass f xs)
     go : (b : Bool) → f x ≡ b → All (λ (y : _). f y ≡ true) (keep f xs) → All (λ (y : _). f y ≡ true) (pick b (x ∷ keep f xs) (keep f xs))
     go true e ih = (e, ih)
     go false e ih = ih
-
--- two things at once
-pub all-both : {A : Type 0} (P Q : A → Type 0) (xs : List A) → All P xs → All Q xs → All (λ (x : A). P x × Q x) xs
-all-both P Q [] a b = tt
-all-both P Q (x ∷ xs) a b = ((a .0, b .0), all-both P Q xs (a .1) (b .1))
 
 -- one element changed
 pub all-set : {A : Type 0} (P : A → Type 0) (xs : List A) (i : ℕ) (a : A) → All P xs → P a → All P (set xs i a)

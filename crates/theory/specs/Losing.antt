@@ -1,26 +1,21 @@
 -- "each replaced location's file .. loses one live": live counts as ids leave their old locations, one by one.
-use mathlib.Core.Path.{_≡_, refl, sym, ap, _∙_}
-use mathlib.Core.Logic.{_⊎_, inl, inr}
+use mathlib.Core.Path.{_≡_, refl, ap, _∙_}
+use mathlib.Core.Logic.{inl, inr}
 use Prim.Native.Nat.{_≤_, zero-le}
-use native.Mathlib.Nat.{sub-zero}
 use native.Mathlib.Omega.{arith}
-use lib.ListN.{List·getD-eq-default}
-use lib.Seq.{getD-set-same, getD-set-other, set-out}
-use borrow.Author.Tests.{ltb-true, ltb-false, eq-eqb, ne-eqb}
-use Rattle.rules.specs.Base.{Bool, true, false, List, [], _∷_, map, ℕ, suc, _+_, _-_, length, set, ltb, eqb}
-use Rattle.theory.specs.Types.{Entry, Record, Held, Mapped, Unmapped, Slot, Is, NoSlot}
+use Rattle.rules.specs.Base.{Bool, true, false, List, [], _∷_, map, ℕ, suc, _+_, _-_, length}
+use Rattle.theory.specs.Types.{Entry, Record, Held, Mapped, Unmapped, Slot}
 use Rattle.disk_location.specs.Locations.{bitOf, rawOf}
 use Rattle.rules.specs.Trailer.{absolute}
 use Rattle.rules.specs.Ops.{Op, isDelete, sizeOf, entriesOf}
 use Rattle.rules.specs.OpsLaws.{RisingOps, ops-rise}
 use Rattle.rules.specs.Table.{lookup, insert, insertAll}
-use Rattle.rules.specs.FileMap.{emptyRecord, recordAt, withLive, fileFor, lessLive}
+use Rattle.rules.specs.FileMap.{recordAt, fileFor, lessLive}
 use Rattle.rules.specs.Install.{fileHolding, losing}
-use Rattle.rules.specs.BaseLaws.{same?}
 use Rattle.rules.specs.TableLaws.{Rising, Has, lookup-insert-other, rising-insert}
 use Rattle.theory.specs.Counting.{count, had, count-insert}
 use Rattle.rules.specs.FileMapLaws.{file-same, less-live-length}
-use Rattle.theory.specs.Places.{isAt}
+use Rattle.rules.specs.InstallLaws.{isAt, less-at}
 
 -- the live count of a slot
 abbrev pub liveAt : List Record → ℕ → ℕ
@@ -35,55 +30,11 @@ abbrev pub rowsFor : ℕ → ℕ → List Op → List Entry
 rowsFor lsn position os = map (absolute lsn) (entriesOf position os)
 
 -- ---- one file loses one
-less-same : (rs : List Record) (k : ℕ) → recordAt (lessLive (Is k) rs) k ≡ withLive (recordAt rs k) (liveAt rs k - 1)
-less-same rs k = go (ltb k (length rs)) refl
-  where
-    go : (b : Bool) → ltb k (length rs) ≡ b
-        → recordAt (set rs k (withLive (recordAt rs k) (liveAt rs k - 1))) k ≡ withLive (recordAt rs k) (liveAt rs k - 1)
-    go true h = getD-set-same rs k (withLive (recordAt rs k) (liveAt rs k - 1)) emptyRecord (ltb-true k (length rs) h)
-    go false h =
-        let o : length rs ≤ k = ltb-false k (length rs) h in
-        let d : recordAt rs k ≡ emptyRecord = List·getD-eq-default rs emptyRecord {n = k} o in
-        ap (λ (l : List Record). recordAt l k) (set-out rs k (withLive (recordAt rs k) (liveAt rs k - 1)) o)
-        ∙ d ∙ sym (ap (λ (r : Record). withLive r (r .live - 1)) d)
-
--- LAW: only the file that was found loses, and one
-pub less-at : (o : Slot) (rs : List Record) (j : ℕ) → recordAt (lessLive o rs) j ≡ withLive (recordAt rs j) (liveAt rs j - bitOf (isAt j o))
-less-at NoSlot rs j = ap (withLive (recordAt rs j)) (sym (sub-zero (liveAt rs j)))
-less-at (Is k) rs j = go (same? k j)
-  where
-    go : (k ≡ j) ⊎ (k ≡ j → ⊥) → recordAt (lessLive (Is k) rs) j ≡ withLive (recordAt rs j) (liveAt rs j - bitOf (eqb k j))
-    go (inl q) = rw (q, eq-eqb j j refl) (less-same rs j)
-    go (inr q) =
-        rw (ne-eqb k j q, sub-zero (liveAt rs j))
-        (getD-set-other rs k j (withLive (recordAt rs k) (liveAt rs k - 1)) emptyRecord (λ z. q (sym z)))
-
 -- lookups do not change
 pub less-file : (o : Slot) (rs : List Record) (l : ℕ) → fileFor (lessLive o rs) l ≡ fileFor rs l
 less-file o rs l = file-same (lessLive o rs) rs (less-live-length o rs) (λ j. ap (λ (r : Record). r .lsn) (less-at o rs j)) l
 
 -- ---- all that are replaced
--- a record but for its live count, which does not grow
-pub record Less (r q : Record) : Type 0 where
-  pub same : q ≡ withLive r (q .live)
-  pub less : q .live ≤ r .live
-
--- only live counts fall
-pub losing-record : (t : List Entry) (os : List Op) (rs : List Record) (j : ℕ) → Less (recordAt rs j) (recordAt (losing t os rs) j)
-unfolding losing
-losing-record t [] rs j = record { same = refl; less = omega arith }
-losing-record t (o ∷ os) rs j =
-    step (recordAt rs j) (recordAt (lessLive (fileHolding rs (lookup t (o .id))) rs) j)
-    (recordAt (losing t os (lessLive (fileHolding rs (lookup t (o .id))) rs)) j)
-    (bitOf (isAt j (fileHolding rs (lookup t (o .id))))) (less-at (fileHolding rs (lookup t (o .id))) rs j)
-    (losing-record t os (lessLive (fileHolding rs (lookup t (o .id))) rs) j)
-  where
-    step : (r p q : Record) (n : ℕ) → p ≡ withLive r (r .live - n) → Less p q → Less r q
-    step r p q n u w =
-        let v : p .live ≡ r .live - n = ap (λ (s : Record). s .live) u in
-        let z = w .less in
-        record { same = w .same ∙ ap (λ (s : Record). withLive s (q .live)) u; less = omega arith }
-
 -- p: being in slot j, said of locations. t is the table before, u what it has become; the ids still to come have not changed.
 module _ (p : ℕ → Bool) (j lsn : ℕ) (t : List Entry) where
   held-share : (rs : List Record) (o : Held) → ((m : ℕ) → o ≡ Mapped m → isAt j (fileFor rs m) ≡ p m) → bitOf (isAt j (fileHolding rs o)) ≡ had p o

@@ -9,7 +9,7 @@ use Rattle.rules.specs.Base.{Bool, true, false, _&&_, _||_, List, [], _∷_, _+
 use Rattle.theory.specs.Types.{Entry, Record, Held, Mapped, Unmapped}
 use Rattle.disk_location.specs.Locations.{maskedOf, positionOf, deleteOf, rawOf}
 use Rattle.disk_location.specs.LocationLaws.{masked-plain}
-use Rattle.rules.specs.BaseLaws.{All, all-map, and-true}
+use Rattle.rules.specs.BaseLaws.{All, all-map, and-true, all-append}
 use Rattle.rules.specs.Object.{Stored, objectsIn}
 use Rattle.rules.specs.ObjectLaws.{storedObject}
 use Rattle.rules.specs.Trailer.{absolute}
@@ -18,7 +18,7 @@ use Rattle.rules.specs.OpsLaws.{storedHere, storedOf, objects-back, Stands, Of,
 use Rattle.rules.specs.SettledLaws.{Last, silent, last, lastOn, settled-rising, settled-last}
 use Rattle.rules.specs.SlotFile.{objectPart, trailerEntries, File, View, empty, damaged, holds}
 use Rattle.rules.specs.Table.{lookup, unmapped, mappedTo}
-use Rattle.rules.specs.TableLaws.{Rising, Has, mapped-one, has-lookup}
+use Rattle.rules.specs.TableLaws.{Rising, Has, mapped-one, has-lookup, mapped-to}
 use Rattle.rules.specs.FileMap.{emptyRecord, recordAt, withLive}
 use Rattle.rules.specs.Maintenance.{deletesOf, objectsFound, deletesFound, slotOf, foundIn, found}
 use Rattle.rules.specs.Reopen.{inRange, mappedInto}
@@ -32,10 +32,10 @@ use Rattle.theory.specs.SoundWorld.{boundsOf, SoundWorld, shown}
 use Rattle.theory.specs.Writing.{engine}
 use Rattle.rules.specs.FileMapLaws.{not-empty}
 use Rattle.theory.specs.Pruning.{file-slot}
-use Rattle.theory.specs.Moving.{Movable, StandsIn, objects-stand, objects-inside, mapped-to, found-movable}
+use Rattle.theory.specs.Moving.{Movable, StandsIn, objects-stand, objects-inside, found-movable}
 use Rattle.theory.specs.Rewriting.{last-all, heard-of}
 use Rattle.theory.specs.Tally.{known, heardIn, heard-append, heard-cons, keep-same, count-heard, Ascending, sum-same, count-slots}
-use Rattle.theory.specs.Lists.{all-append, all-kept}
+use Rattle.theory.specs.Lists.{all-kept}
 
 -- a position of a file lies in its masked range
 in-range-at : (f : File) → WellMade f → (p l : ℕ) → p ≤ f .label .«trailer_offset» → positionOf l ≡ f .label .lsn + p → inRange (f .label) (maskedAt l) ≡ true
@@ -196,7 +196,8 @@ module _ (w : World) (history : List Op) (s : SoundWorld w (engine history)) whe
       both silent p false q = ap known p ∙ sym q
       both (last c) p b q = ap known p ∙ sym (last-all (InRangeOf (mappings w) (f .label)) here (found-inside k f h (recordAt (recordsOf w) k .live)) x c p l e)
 
-  heard-each : (ks : List ℕ) → All (λ (k : ℕ). 0 < recordAt (recordsOf w) k .lsn) ks → (x l : ℕ) → lookup (mappings w) x ≡ Mapped l
+  -- LAW: so in the files of some slots
+  pub heard-each : (ks : List ℕ) → All (λ (k : ℕ). 0 < recordAt (recordsOf w) k .lsn) ks → (x l : ℕ) → lookup (mappings w) x ≡ Mapped l
       → heardIn (each (foundIn w) ks) x ≡ any (λ (k : ℕ). inRange (recordAt (recordsOf w) k) (maskedAt l)) ks
   unfolding each any lastOn
   heard-each [] a x l e = refl

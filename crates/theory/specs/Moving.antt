@@ -4,11 +4,10 @@ use Prim.Native.Nat.{_<_, _≤_}
 use native.Mathlib.Omega.{arith}
 use lib.ListN.{length-take, length-drop}
 use lib.Seq.{drop-drop}
-use borrow.Author.Tests.{eqb-true}
 use Rattle.rules.specs.Base.{Bool, true, false, List, [], _∷_, _++_, ℕ, zero, suc, _+_, _-_, _*_, _%_, _^_, length, drop, eqb, pick, keep, each}
-use Rattle.theory.specs.Types.{Entry, Record, Answer, Done, Refused, Held, Mapped, Unmapped, Slot, Is}
+use Rattle.theory.specs.Types.{Entry, Record, Answer, Done, Refused, Held, Mapped, Slot, Is}
 use Rattle.disk_location.specs.Locations.{positionOf, deleteOf, rawOf}
-use Rattle.rules.specs.BaseLaws.{All, any-false}
+use Rattle.rules.specs.BaseLaws.{All, any-false, all-append, all-both}
 use Rattle.rules.specs.Refusal.{decide, after}
 use Rattle.rules.specs.Object.{Stored, storedAt, objectsFrom, objectsIn}
 use Rattle.rules.specs.Trailer.{absolute}
@@ -18,7 +17,7 @@ use Rattle.rules.specs.Batch.{tooLarge, anyTooLarge}
 use Rattle.rules.specs.SettledLaws.{Last, last, lastOn, settled-all}
 use Rattle.rules.specs.SlotFile.{slotBytes, fileIn, objectPart, trailerEntries, File, View, empty, damaged, holds}
 use Rattle.rules.specs.Table.{lookup, mappedTo}
-use Rattle.rules.specs.TableLaws.{lookup-has}
+use Rattle.rules.specs.TableLaws.{lookup-has, mapped-to}
 use Rattle.rules.specs.FileMap.{emptyRecord, recordAt, fileFor}
 use Rattle.rules.specs.Read.{objectTests}
 use Rattle.rules.specs.Maintenance.{storedObjects, deletesOf, objectsFound, deletesFound, slotOf, foundIn, found}
@@ -30,7 +29,7 @@ use Rattle.theory.specs.Sound.{OfOps}
 use Rattle.theory.specs.SoundWorld.{SoundWorld, shown}
 use Rattle.theory.specs.Writing.{engine}
 use Rattle.theory.specs.Reading.{not-broken}
-use Rattle.theory.specs.Lists.{all-append, all-kept, all-pass, all-both, all-each, every}
+use Rattle.theory.specs.Lists.{all-kept, all-pass, all-each, every}
 
 -- an operation that says what is said already, and that neither 3 nor an id's width refuses
 abbrev pub Movable : ℕ → (ℕ → Said) → Op → Type 0
@@ -47,11 +46,6 @@ stored-small limit position (o ∷ os) a = go (o .content) (a .0) (stored-small 
         → All (λ (o : Stored). tooLarge limit (put (o .body)) ≡ false) (storedHere position (o .id) c (length (objectsOf os)) ++ storedOf (position + sizeOf (o .content)) os)
     go (put b) h ih = (h, ih)
     go delete h ih = ih
-
--- the test as a fact
-pub mapped-to : (o : Held) (l : ℕ) → mappedTo o l ≡ true → o ≡ Mapped l
-mapped-to Unmapped l h = absurd (let z : _≡_ {A = ℕ} 0 1 = cc in omega arith)
-mapped-to (Mapped m) l h = ap Mapped (eqb-true m l h)
 
 -- ---- the walk over object bytes: each object is what stands at its position
 abbrev pub StandsIn : List ℕ → Stored → Type 0

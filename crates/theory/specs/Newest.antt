@@ -3,7 +3,7 @@ use mathlib.Core.Path.{_≡_, refl, sym, ap, _∙_}
 use mathlib.Core.Logic.{_⊎_, inl, inr, ⊎-elim}
 use Prim.Native.Nat.{_<_, _≤_, zero-le}
 use native.Mathlib.Omega.{arith}
-use borrow.Author.Tests.{ltb-true, ltb-false, lt-ltb, le-ltb, eq-eqb, ne-eqb}
+use borrow.Author.Tests.{ltb-true, ltb-false, lt-ltb, eq-eqb, ne-eqb}
 use Rattle.rules.specs.Base.{Bool, true, false, List, [], _∷_, ℕ, suc, ltb, eqb, pick}
 use Rattle.theory.specs.Types.{Entry, Held, Mapped, Unmapped}
 use Rattle.disk_location.specs.Locations.{maskedOf, positionOf}
@@ -11,6 +11,7 @@ use Rattle.rules.specs.Table.{lookup, insert, insertAll}
 use Rattle.rules.specs.Reopen.{maskedPosition, latest, latestFrom, latestOf}
 use Rattle.rules.specs.BaseLaws.{order, same?}
 use Rattle.rules.specs.TableLaws.{Rising, rise, rise-end, Has, lookup-here, lookup-next, lookup-insert-same, lookup-insert-other, rising-has, lookup-below}
+use Rattle.rules.specs.ReopenLaws.{latest-next, latest-here, latest-before, latest-rising}
 
 -- a location's masked position
 abbrev pub maskedAt : ℕ → ℕ
@@ -50,19 +51,6 @@ later (Mapped k) l = pick (ltb (maskedAt k) (maskedAt l)) (Mapped l) (Mapped k)
 -- what one entry makes of an id's location
 abbrev pub heldWith : Held → Entry → ℕ → Held
 heldWith o e x = pick (eqb (e .id) x) (later o (e .location)) o
-
-module _ (n e : Entry) (es : List Entry) where
-  latest-next : e .id < n .id → latest n (e ∷ es) ≡ e ∷ latest n es
-  unfolding latest
-  latest-next h = simp (lt-ltb _ _ h)
-
-  latest-here : e .id ≡ n .id → latest n (e ∷ es) ≡ pick (ltb (maskedPosition e) (maskedPosition n)) n e ∷ es
-  unfolding latest
-  latest-here h = simp (le-ltb (e .id) (n .id) (omega arith), eq-eqb _ _ h)
-
-  latest-before : n .id < e .id → latest n (e ∷ es) ≡ n ∷ e ∷ es
-  unfolding latest
-  latest-before h = simp (le-ltb (e .id) (n .id) (omega arith), ne-eqb (e .id) (n .id) (λ q. omega arith))
 
 -- the later of two entries of one id
 lookup-later : (n e : Entry) (es : List Entry) → e .id ≡ n .id → (x : ℕ) → n .id ≡ x
@@ -118,27 +106,6 @@ lookup-latest f t r n x = go (same? (n .id) x)
         ∙ sym (simp (eq-eqb (n .id) x q))
     go (inr q) = lookup-latest-other t n x q ∙ sym (simp (ne-eqb (n .id) x q))
 
--- the order is kept
-pub rising-latest : (f : ℕ) (t : List Entry) (n : Entry) → f ≤ n .id → Rising f t → Rising f (latest n t)
-unfolding latest
-rising-latest f [] n h r = rise h rise-end
-rising-latest f (e ∷ t) n h (rise a r) = go (λ k. rising-latest (suc (e .id)) t n k r) (order (e .id) (n .id))
-  where
-    here : (b : Bool) → e .id ≡ n .id → Rising f (pick b n e ∷ t)
-    here true k = rise h (rw k at r)
-    here false k = rise a r
-
-    go : (e .id < n .id → Rising (suc (e .id)) (latest n t)) → (e .id < n .id) ⊎ ((e .id ≡ n .id) ⊎ (n .id < e .id)) → Rising f (latest n (e ∷ t))
-    go ih (inl k) = rw (latest-next n e t k) (rise a (ih k))
-    go ih (inr (inl k)) = rw (latest-here n e t k) (here (ltb (maskedPosition e) (maskedPosition n)) k)
-    go ih (inr (inr k)) = rw (latest-before n e t k) (rise h (rise k r))
-
--- the order is kept
-pub rising-from : (t es : List Entry) → Rising 0 t → Rising 0 (latestFrom t es)
-unfolding latestFrom
-rising-from t [] r = r
-rising-from t (e ∷ es) r = rising-from (latest e t) es (rising-latest 0 t e zero-le r)
-
 -- ---- all entries
 newest-with : (P : ℕ → Type 0) (o : Held) (e : Entry) (x : ℕ) → Newest P o
     → Newest (λ l. P l ⊎ ((e .id ≡ x) × (e .location ≡ l))) (heldWith o e x)
@@ -177,7 +144,7 @@ newest-from t (e ∷ es) x P r n =
     (lookup (latestFrom (latest e t) es) x)
     (λ l. ⊎-elim (⊎-elim (λ a. inl a) (λ b. inr (inl b))) (λ c. inr (inr c)))
     (λ l. ⊎-elim (λ a. inl (inl a)) (⊎-elim (λ b. inl (inr b)) (λ c. inr c)))
-    (newest-from (latest e t) es x (λ l. P l ⊎ ((e .id ≡ x) × (e .location ≡ l))) (rising-latest 0 t e zero-le r)
+    (newest-from (latest e t) es x (λ l. P l ⊎ ((e .id ≡ x) × (e .location ≡ l))) (latest-rising 0 e t zero-le r)
     (rw (lookup-latest 0 t r e x) (newest-with P (lookup t x) e x n)))
 
 -- LAW: the greatest of all entries of an id; an id that none mentions is unmapped
@@ -187,10 +154,6 @@ newest-latest es x =
     newest-iff (λ l. ⊥ ⊎ Has es x l) (Has es x) (lookup (latestFrom [] es) x)
     (λ l. ⊎-elim (λ a. absurd a) (λ b. b)) (λ l a. inr a)
     (newest-from [] es x (λ l. ⊥) rise-end (λ l a. a))
-
--- ids rise
-pub rising-latest-of : (es : List Entry) → Rising 0 (latestOf es)
-rising-latest-of es = rising-from [] es rise-end
 
 -- ---- stores in the order of the ids
 later-put : (o : Held) (l : ℕ) → ((m : ℕ) → o ≡ Mapped m → maskedAt m < maskedAt l) → later o l ≡ Mapped l

@@ -5,8 +5,9 @@ use Prim.Native.Nat.{_<_, _≤_}
 use native.Mathlib.Omega.{arith}
 use borrow.Author.Tests.{ltb-true, ltb-false, le-leb, lt-leb, eq-eqb, ne-eqb}
 use Rattle.rules.specs.Base.{Bool, true, false, _&&_, List, [], _∷_, _++_, map, ℕ, zero, suc, _+_, _-_, _*_, _/_, _%_, _^_, length, getD, ltb, leb, eqb, each}
-use Rattle.theory.specs.Types.{Entry, Record, Refusal, Slot, Is, NoSlot}
+use Rattle.theory.specs.Types.{Entry, Record, Refusal, Is}
 use Rattle.disk_location.specs.Locations.{maskedOf, positionOf}
+use Rattle.disk_location.specs.LocationLaws.{masked-pos}
 use Rattle.rules.specs.Trailer.{absolute}
 use Rattle.rules.specs.SlotFile.{File, View, empty, damaged, holds}
 use Rattle.rules.specs.FileMap.{emptyRecord, recordAt, withLive, fileFor}
@@ -16,6 +17,7 @@ use Rattle.rules.specs.TableLaws.{Rising, Has, mapped-one, has-lookup}
 use Rattle.theory.specs.Entries.{has-absolute, absolute-has, has-append-l, has-append-r, append-has}
 use Rattle.theory.specs.Newest.{maskedAt}
 use Rattle.rules.specs.FileMapLaws.{file-is}
+use Rattle.rules.specs.InstallLaws.{isAt}
 
 -- what slot k shows; past the last slot nothing
 abbrev pub viewAt : List View → ℕ → View
@@ -28,11 +30,6 @@ rowsIn f = map (absolute (f .label .lsn)) (f .entries)
 -- those of all files
 abbrev pub rowsOf : List View → List Entry
 rowsOf views = each rowsIn (filesIn views)
-
--- slot k is the one found
-abbrev pub isAt : ℕ → Slot → Bool
-isAt k (Is j) = eqb j k
-isAt k NoSlot = false
 
 -- what 8 and 12 leave of a file
 pub record WellMade (f : File) : Type 0 where
@@ -107,11 +104,6 @@ lower a ta b tb p h2 h3 h4 h5 h6 d h7 = go (kinds a h2) (kinds b h5) d
     go (inr u) (inl v) (inr d) = omega arith
     go (inr u) (inr v) (inl d) = omega arith
     go (inr u) (inr v) (inr d) = omega arith
-
--- a masked position above 0 is one of an lsn above 0
-pub masked-pos : (n : ℕ) → 0 < maskedOf n → 0 < n
-unfolding maskedOf
-masked-pos n h = omega arith
 
 -- an entry's masked position is its position in the file, counted from the masked lsn
 pub masked-entry : (f : File) → WellMade f → (x r : ℕ) → Has (f .entries) x r → maskedAt (r + 2 * f .label .lsn) ≡ maskedOf (f .label .lsn) + positionOf r

@@ -7,6 +7,7 @@ use borrow.Author.Tests.{ltb-false, eq-eqb}
 use Rattle.rules.specs.Base.{Bool, true, false, List, [], _∷_, ℕ, _+_, length, any, each}
 use Rattle.theory.specs.Types.{Entry, Record, Refusal, Limits, Answer, Done, Refused, Mapped, Unmapped, Is}
 use Rattle.disk_location.specs.Locations.{maskedOf}
+use Rattle.disk_location.specs.LocationLaws.{masked-pos}
 use Rattle.rules.specs.Refusal.{_gives_, decide, after, numberOf, NoneHolds, clear-when, none-first, none-rest}
 use Rattle.rules.specs.Answers.{known}
 use Rattle.rules.specs.Condition1.{outOfRange}
@@ -22,9 +23,10 @@ use Rattle.rules.specs.ReopenLaws.{records-from-length}
 use Rattle.rules.specs.World.{World, recordsOf, mappings, slotsOf, accepted, After, unchanged}
 use Rattle.theory.specs.Counting.{count, count-same}
 use Rattle.theory.specs.Newest.{maskedAt, Newest}
-use Rattle.theory.specs.Places.{viewAt, rowsOf, WellMade, Agrees, Filed, Stands, stands-has, has-stands, own-file, isAt, found-in-range, distinct, masked-pos, holds-lt}
+use Rattle.theory.specs.Places.{viewAt, rowsOf, WellMade, Agrees, Filed, Stands, stands-has, has-stands, own-file, found-in-range, distinct, holds-lt}
 use Rattle.rules.specs.SlotLaws.{views-length, views-at}
 use Rattle.rules.specs.SeenLaws.{seen}
+use Rattle.rules.specs.InstallLaws.{isAt}
 use Rattle.theory.specs.Files.{any-file, undamaged, overlap-apart, clear-single, next-above, record-from}
 use Rattle.theory.specs.Losing.{liveAt}
 use Rattle.theory.specs.Picture.{viewsOf}

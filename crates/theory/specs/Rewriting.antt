@@ -21,10 +21,10 @@ use Rattle.rules.specs.TableLaws.{Has}
 use Rattle.rules.specs.FileMap.{emptyRecord, isEmpty, recordAt, withLive, slotsWhere, emptySlots}
 use Rattle.rules.specs.FileMapLaws.{empty-is, is-empty}
 use Rattle.rules.specs.Install.{newRecord, losing, newSlot, newLsn, recordsWith, storesFor, nextWith, installed, installedAll, emptyOf}
-use Rattle.rules.specs.InstallLaws.{losing-length}
+use Rattle.rules.specs.InstallLaws.{losing-length, Less, losing-record}
 use Rattle.rules.specs.World.{World, recordsOf, mappings, slotsOf}
 use Rattle.theory.specs.Entries.{insert-all-old, absolute-has}
-use Rattle.theory.specs.Losing.{rowsFor, Less, losing-record}
+use Rattle.theory.specs.Losing.{rowsFor}
 use Rattle.theory.specs.Picture.{pictureOf, Said, unheard, fileSays, heldSays, pictureSays, lastSays}
 use Rattle.theory.specs.Sound.{table-rising}
 use Rattle.theory.specs.Installed.{over}

@@ -1,16 +1,16 @@
 -- The files that come out of a group: each is a selection of what is moved, in order, and not empty.
 use mathlib.Core.Path.{_≡_, refl, subst}
 use mathlib.Core.List.{append-assoc, append-nil}
-use Prim.Native.Nat.{_<_, _≤_}
+use Prim.Native.Nat.{_<_}
 use native.Mathlib.Omega.{arith}
 use lib.ListN.{length-append}
 use borrow.Author.Tests.{ltb-true}
 use Rattle.rules.specs.Base.{Bool, true, false, List, [], _∷_, _++_, map, ℕ, suc, _+_, length, getD, set, replicate, ltb, pick, keep}
-use Rattle.rules.specs.BaseLaws.{All, all-map}
+use Rattle.rules.specs.BaseLaws.{All, all-map, all-append}
 use Rattle.rules.specs.Ops.{Op, shardFor}
-use Rattle.rules.specs.OpsLaws.{RisingOps, ops-end, ops-rise}
+use Rattle.rules.specs.OpsLaws.{RisingOps, ops-rise, ops-lower}
 use Rattle.rules.specs.Maintenance.{Shard, noEntries, Split, cutOff, joining, splitFrom, hasEntries, filesOf}
-use Rattle.theory.specs.Lists.{all-append, all-set, all-get, all-replicate}
+use Rattle.theory.specs.Lists.{all-set, all-get, all-replicate}
 
 -- a selection of these operations, in order
 pub data Sub : List Op → List Op → Type 0 where
@@ -31,11 +31,6 @@ sub-append : {a b : List Op} (c : List Op) → Sub a b → Sub a (b ++ c)
 sub-append c sub-nil = sub-empty c
 sub-append c (sub-keep s) = sub-keep (sub-append c s)
 sub-append c (sub-skip s) = sub-skip (sub-append c s)
-
--- the order is kept, and what holds of all
-ops-lower : (f g : ℕ) (a : List Op) → g ≤ f → RisingOps f a → RisingOps g a
-ops-lower f g [] h r = ops-end
-ops-lower f g (o ∷ a) h (ops-rise p r) = let q : g ≤ o .id = omega arith in ops-rise q r
 
 -- a selection of rising ids rises
 pub sub-rising : {a b : List Op} {f : ℕ} → Sub a b → RisingOps f b → RisingOps f a

@@ -14,7 +14,8 @@ use Rattle.rules.specs.SlotFile.{File, View, holds}
 use Rattle.rules.specs.Table.{lookup}
 use Rattle.rules.specs.Reopen.{filesIn, inRange, tableOf, mappedInto}
 use Rattle.rules.specs.TableLaws.{Rising, Has}
-use Rattle.theory.specs.Newest.{maskedAt, Newest, newest-latest, rising-latest-of}
+use Rattle.rules.specs.ReopenLaws.{latest-of-rising}
+use Rattle.theory.specs.Newest.{maskedAt, Newest, newest-latest}
 use Rattle.theory.specs.Places.{viewAt, rowsOf, Filed, Stands, has-stands, holds-inj, in-no-other}
 use Rattle.theory.specs.Losing.{liveAt}
 use Rattle.theory.specs.Picture.{Picture, Said, pictureSays}
@@ -61,7 +62,7 @@ newest-table views x = newest-latest (rowsOf views) x
 -- its ids rise
 pub rising-table : (views : List View) → Rising 0 (tableOf (filesIn views))
 unfolding tableOf
-rising-table views = rising-latest-of (rowsOf views)
+rising-table views = latest-of-rising (rowsOf views)
 
 -- its trailer's ids rise
 pub written-rising : (limit : ℕ) (f : File) → OfOps limit f → Rising 0 (f .entries)

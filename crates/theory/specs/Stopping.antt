@@ -4,21 +4,20 @@ use mathlib.Core.Logic.{_⊎_, inl, inr}
 use Prim.Native.Nat.{_<_, _≤_}
 use native.Mathlib.Nat.{zero-add}
 use native.Mathlib.Omega.{arith}
-use lib.Seq.{getD-set-same, getD-set-other, set-out}
-use borrow.Author.Tests.{ltb-true, ltb-false}
-use Rattle.rules.specs.Base.{Bool, true, false, _&&_, List, [], _∷_, ℕ, _+_, length, set, ltb, eqb, pick, each}
+use Rattle.rules.specs.Base.{Bool, true, false, _&&_, List, [], _∷_, ℕ, _+_, length, ltb, eqb, pick, each}
 use Rattle.theory.specs.Types.{Record, Refusal, SlotRoom, NoEmptySlot, PositionsSpent, Answer, Done, Refused}
-use Rattle.rules.specs.BaseLaws.{All, all-map, same?, and-true}
+use Rattle.rules.specs.BaseLaws.{All, all-map, and-true}
 use Rattle.rules.specs.Refusal.{_gives_, decide, after, NoneHolds, decide-append}
 use Rattle.rules.specs.Ops.{Op}
-use Rattle.rules.specs.FileMap.{emptyRecord, isEmpty, recordAt, fileCount}
+use Rattle.rules.specs.FileMap.{isEmpty, recordAt, fileCount}
 use Rattle.rules.specs.FileMapLaws.{not-empty, slot-passes}
-use Rattle.rules.specs.Install.{newRecord, losing, newSlot, newLsn, recordsWith, nextWith, installed, installedAll, roomTests, positionTests}
+use Rattle.rules.specs.Install.{nextWith, installed, installedAll, roomTests, positionTests}
 use Rattle.rules.specs.Maintenance.{found, filesOf, fileTests, slotOf, Stop, going, stopped, Course, isCandidate, newGeneration, group, groupTests, rewriteGroup, onward, groupsFrom}
 use Rattle.rules.specs.MaintenanceLaws.{candidate}
 use Rattle.rules.specs.World.{World, recordsOf, mappings}
-use Rattle.theory.specs.Places.{masked-pos, record-holds}
-use Rattle.theory.specs.Losing.{losing-record}
+use Rattle.rules.specs.InstallLaws.{installed-lsn}
+use Rattle.disk_location.specs.LocationLaws.{masked-pos}
+use Rattle.theory.specs.Places.{record-holds}
 use Rattle.theory.specs.Picture.{viewsOf}
 use Rattle.theory.specs.SoundWorld.{SoundWorld}
 use Rattle.theory.specs.Writing.{engine}
@@ -43,25 +42,6 @@ spent-tests false false false r e = absurd (let z : _≡_ {A = ℕ} 0 1 = cc in 
 abbrev pub Stay : World → World → Type 0
 Stay w v = (k : ℕ) → 0 < recordAt (recordsOf w) k .lsn → 0 < recordAt (recordsOf v) k .lsn
 
-stay-installed : (bit g : ℕ) (w : World) (os : List Op) → 0 < w .state .«next_position» → Stay w (installed bit g w os)
-unfolding installed recordsWith newRecord
-stay-installed bit g w os start k h = go (same? k (newSlot w))
-  where
-    kept : 0 < recordAt (losing (mappings w) os (recordsOf w)) k .lsn
-    kept = let e : recordAt (losing (mappings w) os (recordsOf w)) k .lsn ≡ recordAt (recordsOf w) k .lsn = ap (λ (r : Record). r .lsn) (losing-record (mappings w) os (recordsOf w) k .same) in omega arith
-
-    at : (b : Bool) → ltb k (length (losing (mappings w) os (recordsOf w))) ≡ b → 0 < recordAt (set (losing (mappings w) os (recordsOf w)) k (newRecord (newLsn bit w) g os)) k .lsn
-    at true e =
-        let z : recordAt (set (losing (mappings w) os (recordsOf w)) k (newRecord (newLsn bit w) g os)) k .lsn ≡ newLsn bit w
-        = ap (λ (r : Record). r .lsn) (getD-set-same (losing (mappings w) os (recordsOf w)) k (newRecord (newLsn bit w) g os) emptyRecord (ltb-true k _ e)) in
-        omega arith
-    at false e =
-        subst (λ (rs : List Record). 0 < recordAt rs k .lsn) (sym (set-out (losing (mappings w) os (recordsOf w)) k (newRecord (newLsn bit w) g os) (ltb-false k _ e))) kept
-
-    go : (k ≡ newSlot w) ⊎ (k ≡ newSlot w → ⊥) → 0 < recordAt (set (losing (mappings w) os (recordsOf w)) (newSlot w) (newRecord (newLsn bit w) g os)) k .lsn
-    go (inl e) = subst (λ (i : ℕ). 0 < recordAt (set (losing (mappings w) os (recordsOf w)) i (newRecord (newLsn bit w) g os)) k .lsn) e (at (ltb k _) refl)
-    go (inr e) = subst (λ (r : Record). 0 < r .lsn) (sym (getD-set-other (losing (mappings w) os (recordsOf w)) (newSlot w) k (newRecord (newLsn bit w) g os) emptyRecord e)) kept
-
 next-installed : (bit g : ℕ) (w : World) (os : List Op) → 0 < w .state .«next_position» → 0 < installed bit g w os .state .«next_position»
 unfolding installed nextWith
 next-installed bit g w os h = omega arith
@@ -69,7 +49,7 @@ next-installed bit g w os h = omega arith
 stay-all : (g : ℕ) (files : List (List Op)) (w : World) → 0 < w .state .«next_position» → Stay w (installedAll 0 g w files)
 unfolding installedAll
 stay-all g [] w h k l = l
-stay-all g (f ∷ fs) w h k l = stay-all g fs (installed 0 g w f) (next-installed 0 g w f h) k (stay-installed 0 g w f h k l)
+stay-all g (f ∷ fs) w h k l = stay-all g fs (installed 0 g w f) (next-installed 0 g w f h) k (installed-lsn 0 g w f h k l)
 
 -- ---- the slots of a group are files', as the call starts and when the group's turn comes
 file-lsn : (w : World) (history : List Op) → SoundWorld w (engine history) → (k : ℕ) → isEmpty (recordAt (recordsOf w) k) ≡ false → 0 < recordAt (recordsOf w) k .lsn

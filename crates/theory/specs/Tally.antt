@@ -11,11 +11,10 @@ use Rattle.disk_location.specs.Locations.{bitOf}
 use Rattle.rules.specs.BaseLaws.{All, order, same?, or-clear}
 use Rattle.rules.specs.Ops.{Op}
 use Rattle.rules.specs.OpsLaws.{RisingOps, ops-rise}
-use Rattle.rules.specs.SettledLaws.{last-below, Last, silent, last, orEarlier, saidBy, lastOn}
+use Rattle.rules.specs.SettledLaws.{last-below, Last, silent, last, orEarlier, saidBy, lastOn, last-append}
 use Rattle.rules.specs.Table.{lookup, unmapped}
 use Rattle.rules.specs.TableLaws.{Rising, rise, Has, lookup-next, lookup-below, rising-has}
 use Rattle.theory.specs.Counting.{count, count-cons, count-nil}
-use Rattle.theory.specs.Told.{last-append}
 use Rattle.theory.specs.Lists.{every}
 
 -- an operation on x is among these

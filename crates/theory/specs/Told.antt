@@ -5,9 +5,10 @@ use Prim.Native.Nat.{_<_}
 use native.Mathlib.Nat.{sub-zero}
 use native.Mathlib.Omega.{arith}
 use borrow.Author.Tests.{eq-eqb, ne-eqb}
-use Rattle.rules.specs.Base.{Bool, true, false, List, [], _∷_, _++_, ℕ, suc, _+_, _-_, _*_, _%_, _^_, length, drop, pick}
+use Rattle.rules.specs.Base.{Bool, true, false, List, [], _∷_, ℕ, suc, _+_, _-_, _^_, length, drop, pick}
 use Rattle.theory.specs.Types.{Answer, Held, Mapped, Unmapped}
 use Rattle.disk_location.specs.Locations.{positionOf, deleteOf, rawOf}
+use Rattle.disk_location.specs.LocationLaws.{delete-raw}
 use Rattle.rules.specs.BaseLaws.{same?}
 use Rattle.rules.specs.Refusal.{after, decide-clear}
 use Rattle.rules.specs.Object.{storedAt}
@@ -44,20 +45,6 @@ last-none q (o ∷ os) x h = go (last-none (q + sizeOf (o .content)) os x) (same
         (ih (sym (lookup-next (record { id = o .id; location = rawOf q (isDelete (o .content)) }) (entriesOf (q + sizeOf (o .content)) os) x i) ∙ h))
         ∙ rw (ne-eqb (o .id) x i) refl
 
--- one list of operations behind the other
-pub last-append : (xs ys : List Op) (x : ℕ) → lastOn (xs ++ ys) x ≡ orEarlier (lastOn ys x) (lastOn xs x)
-unfolding lastOn
-last-append [] ys x = sym (or-silent (lastOn ys x))
-  where
-    or-silent : (l : Last) → orEarlier l silent ≡ l
-    or-silent silent = refl
-    or-silent (last c) = refl
-last-append (o ∷ xs) ys x = ap (λ (l : Last). orEarlier l (saidBy o x)) (last-append xs ys x) ∙ assoc (lastOn ys x) (lastOn xs x) (saidBy o x)
-  where
-    assoc : (a b c : Last) → orEarlier (orEarlier a b) c ≡ orEarlier a (orEarlier b c)
-    assoc silent b c = refl
-    assoc (last d) b c = refl
-
 -- the later word over the earlier
 pub over-last : (a b : Last) → over (lastSays a) (lastSays b) ≡ lastSays (orEarlier a b)
 over-last silent b = refl
@@ -65,10 +52,6 @@ over-last (last (put c)) b = refl
 over-last (last delete) b = refl
 
 -- ---- what was written is read
-delete-raw : (p : ℕ) (b : Bool) → deleteOf (rawOf p b) ≡ b
-delete-raw p true = let z : (p * 2 + 1) % 2 ≡ 1 = omega arith in rw z refl
-delete-raw p false = let z : (p * 2 + 0) % 2 ≡ 0 = omega arith in rw z refl
-
 entry-says : (lsn g : ℕ) (os : List Op) (x r : ℕ) → IdsFit os → length (objectsOf os) < 2 ^ 64 → x < 2 ^ 64 → (w : Of 0 os x r)
     → entrySays (fileOfOps lsn g os) (Mapped r) x ≡ lastSays (last (w .content))
 entry-says lsn g os x r i n t w = go (w .content) (w .stands) (w .location)

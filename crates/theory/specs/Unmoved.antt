@@ -19,10 +19,11 @@ use Rattle.rules.specs.Install.{newRecord, fileHolding, losing, newSlot, newLsn
 use Rattle.rules.specs.Reopen.{inRange}
 use Rattle.rules.specs.World.{World, recordsOf, mappings}
 use Rattle.rules.specs.WrittenLaws.{fileOfOps}
+use Rattle.rules.specs.InstallLaws.{isAt, less-at}
 use Rattle.theory.specs.Entries.{rising-absolute}
 use Rattle.theory.specs.Newest.{maskedAt}
-use Rattle.theory.specs.Places.{viewAt, isAt, record-holds, in-no-other, found-in-range}
-use Rattle.theory.specs.Losing.{liveAt, rowsFor, less-at, less-file}
+use Rattle.theory.specs.Places.{viewAt, record-holds, in-no-other, found-in-range}
+use Rattle.theory.specs.Losing.{liveAt, rowsFor, less-file}
 use Rattle.theory.specs.Picture.{Picture, viewsOf, pictureOf, fileSays, added}
 use Rattle.theory.specs.Sound.{table-stands}
 use Rattle.theory.specs.Installed.{over, filed-added, stands-new, view-old}

@@ -1,4 +1,4 @@
--- Write in a reader's words: where the file of an accepted one stands, what is read and reopened after it. Refused calls change nothing.
+-- Calls in a reader's words: where the file of an accepted write stands, what is read and reopened after it; that every other call leaves reads as they were; that refused calls change nothing.
 use mathlib.Core.Path.{_≡_, refl, sym, ap, _∙_, subst}
 use Prim.Native.Nat.{_<_}
 use native.Mathlib.Omega.{arith}
@@ -9,7 +9,7 @@ use Rattle.rules.specs.Condition1.{outOfRange, refused1}
 use Rattle.rules.specs.Claims.{isClaimed, notAFile, claimSet, claimCleared, withClaims, claimCall, releaseCall}
 use Rattle.rules.specs.Prune.{pruned, pruneCall}
 use Rattle.rules.specs.Ops.{put, delete, Op, settled}
-use Rattle.rules.specs.SettledLaws.{Last, silent, last, orEarlier, lastOn}
+use Rattle.rules.specs.SettledLaws.{Last, silent, last, orEarlier, lastOn, last-append}
 use Rattle.rules.specs.Batch.{batchIn, opsOf}
 use Rattle.rules.specs.Read.{readOf, partOf}
 use Rattle.rules.specs.Install.{installed, installedAll}
@@ -18,14 +18,13 @@ use Rattle.rules.specs.WriteLaws.{opsIn, write-accepted}
 use Rattle.rules.specs.Reopen.{reopenCall}
 use Rattle.rules.specs.World.{World, recordsOf, Given, accepted, After, unchanged}
 use Rattle.theory.specs.SoundWorld.{SoundWorld}
-use Rattle.theory.specs.Told.{last-append}
 use Rattle.theory.specs.Reopened.{refused-not}
 use Rattle.theory.specs.Standing.{Stood, fitting-stands}
 use Rattle.theory.specs.Writing.{engine, heard, fits-write, sound-write}
 use Rattle.theory.specs.Reading.{Reads, sound-read}
 use Rattle.theory.specs.Again.{reopen-accepted}
 use Rattle.theory.specs.Fresh.{Blank}
-use Rattle.theory.specs.History.{Call, write, maintain, prune, claim, release, reopen, called, lived, born, sound-history}
+use Rattle.theory.specs.History.{Call, write, maintain, prune, claim, release, reopen, called, hears, lived, born, sound-called, sound-history}
 
 -- what a read gives a host: nothing, the bytes of a part of the heap, or a refusal
 pub data Got : Type 0 where
@@ -118,6 +117,38 @@ pub any-write : (w : World) → outOfRange (w .settings) (length (w .heap)) (w .
     → (calls : List Call) (batch : List ℕ) → writeCall (lived (born w) calls .world) batch .answer ≡ accepted [] → Wrote (lived (born w) calls .world) batch
 any-write w range blank calls batch e =
     write-means (lived (born w) calls .world) (lived (born w) calls .history) (sound-history w range blank calls) batch e
+
+-- ---- the other calls
+-- a call that brings no put and no delete
+abbrev pub Quiet : Call → Type 0
+Quiet (write batch) = ⊥
+Quiet maintain = Unit {0}
+Quiet prune = Unit {0}
+Quiet (claim slot) = Unit {0}
+Quiet (release slot) = Unit {0}
+Quiet reopen = Unit {0}
+
+-- so the engine hears nothing of it
+hears-nothing : (w : World) (history : List Op) (c : Call) → Quiet c → hears w history c ≡ history
+hears-nothing w history (write batch) q = absurd q
+hears-nothing w history maintain q = refl
+hears-nothing w history prune q = refl
+hears-nothing w history (claim slot) q = refl
+hears-nothing w history (release slot) q = refl
+hears-nothing w history reopen q = refl
+
+-- LAW: what is read stays as it was, whether the call is accepted or refused
+pub reads-stay : (w : World) (history : List Op) → SoundWorld w (engine history) → (c : Call) → Quiet c → (id : ℕ) → got (called w c .world) id ≡ got w id
+reads-stay w history s c q id =
+    got-last (called w c .world) history
+    (subst (λ (h : List Op). SoundWorld (called w c .world) (engine h)) (hears-nothing w history c q) (sound-called w history c s)) id
+    ∙ sym (got-last w history s id)
+
+-- LAW: so it is on every store of demand 3
+pub any-reads-stay : (w : World) → outOfRange (w .settings) (length (w .heap)) (w .table) ≡ false → Blank w
+    → (calls : List Call) (c : Call) → Quiet c → (id : ℕ) → got (called (lived (born w) calls .world) c .world) id ≡ got (lived (born w) calls .world) id
+any-reads-stay w range blank calls c =
+    reads-stay (lived (born w) calls .world) (lived (born w) calls .history) (sound-history w range blank calls) c
 
 -- ---- refused calls
 -- all but maintenance, which keeps finished groups, and reopening, which gives the old table up

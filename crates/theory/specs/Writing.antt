@@ -8,7 +8,7 @@ use Rattle.theory.specs.Types.{Answer, Done, Refused}
 use Rattle.rules.specs.Refusal.{decide, after}
 use Rattle.rules.specs.Answers.{known}
 use Rattle.rules.specs.Ops.{Op, objectsOf, entriesOf, settled}
-use Rattle.rules.specs.SettledLaws.{Last, last, orEarlier, lastOn, settled-rising, settled-last, settled-all}
+use Rattle.rules.specs.SettledLaws.{Last, last, orEarlier, lastOn, settled-rising, settled-last, settled-all, last-append}
 use Rattle.rules.specs.WrittenLaws.{fileOfOps}
 use Rattle.rules.specs.Batch.{batchIn, opsOf, tooLarge, anyTooLarge}
 use Rattle.rules.specs.BaseLaws.{any-false, any-clear}
@@ -20,7 +20,7 @@ use Rattle.rules.specs.World.{World, mappings, Given, accepted, unchanged}
 use Rattle.theory.specs.SameIds.{room-absolute}
 use Rattle.theory.specs.Picture.{Said, fileSays, lastSays}
 use Rattle.theory.specs.Installed.{over}
-use Rattle.theory.specs.Told.{last-append, over-last, file-says}
+use Rattle.theory.specs.Told.{over-last, file-says}
 use Rattle.theory.specs.SoundWorld.{SoundWorld}
 use Rattle.theory.specs.Adding.{Fitting, sound-installed}
 

@@ -1,7 +1,7 @@
 -- A trailer's entries by number, and how many there are.
 use mathlib.Core.Path.{_≡_, refl, ap, _∙_}
 use mathlib.Core.Bool.{Bool, true, false}
-use mathlib.Core.List.{List, [], _∷_}
+use mathlib.Core.List.{List}
 use Prim.Native.Nat.{ℕ, zero, suc, _+_, _*_, _<_, _≤_}
 use native.Mathlib.Omega.{arith}
 use native.Mathlib.Numerals.{add-one}
@@ -16,10 +16,8 @@ use Rattle.rules.specs.declared.Answer.the-variants.{Done}
 use Rattle.rules.specs.Base.{any}
 use Rattle.rules.specs.Refusal.{decide, clear-when, NoneHolds}
 use Rattle.rules.specs.Trailer.{countIn, trailerTests, entriesFrom, entriesIn}
-
--- past the last entry
-abbrev pub noEntry : Entry
-noEntry = record { id = 0; location = 0 }
+use Rattle.rules.specs.TrailerLaws.{entries-next}
+use Rattle.rules.specs.Table.{noEntry}
 
 -- "12 entry position over T"
 abbrev pub someOver : ℕ → List Entry → Bool
@@ -29,24 +27,19 @@ someOver offset es = any (λ (e : Entry). ltb offset (positionOf (e .location)))
 abbrev pub entryAt : List ℕ → Entry
 entryAt bytes = record { id = leValue (take 8 bytes); location = leValue (take 8 (drop 8 bytes)) }
 
-entries-cons : (k : ℕ) (bytes : List ℕ) → 0 < length bytes → entriesFrom (suc k) bytes ≡ entryAt bytes ∷ entriesFrom k (drop 16 bytes)
-unfolding entriesFrom
-entries-cons k [] h = absurd (omega arith)
-entries-cons k (b ∷ bs) h = refl
-
 entries-many : (k : ℕ) (bytes : List ℕ) → 16 * k ≤ length bytes → length (entriesFrom k bytes) ≡ k
 unfolding entriesFrom
 entries-many zero bytes h = refl
 entries-many (suc k) bytes h =
-    ap length (entries-cons k bytes (omega arith)) ∙ ap suc (entries-many k (drop 16 bytes) (omega (arith, length-drop 16 bytes)))
+    ap length (entries-next k bytes (omega arith)) ∙ ap suc (entries-many k (drop 16 bytes) (omega (arith, length-drop 16 bytes)))
 
 entries-get : (k i : ℕ) (bytes : List ℕ) → i < k → 16 * k ≤ length bytes → getD (entriesFrom k bytes) i noEntry ≡ entryAt (drop (16 * i) bytes)
 unfolding entriesFrom
 entries-get zero i bytes h fit = absurd (omega arith)
-entries-get (suc k) zero bytes h fit = rw (entries-cons k bytes (omega arith)) refl
+entries-get (suc k) zero bytes h fit = rw (entries-next k bytes (omega arith)) refl
 entries-get (suc k) (suc i) bytes h fit =
     let on : 16 * suc i ≡ 16 + 16 * i = omega arith in
-    rw (entries-cons k bytes (omega arith), on, ← drop-drop (16 * i) 16 bytes)
+    rw (entries-next k bytes (omega arith), on, ← drop-drop (16 * i) 16 bytes)
     (entries-get k i (drop 16 bytes) (omega arith) (omega (arith, length-drop 16 bytes)))
 
 module _ (trailer : List ℕ) (fit : 12 + 16 * countIn trailer ≤ length trailer) where

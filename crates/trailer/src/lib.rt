@@ -12,7 +12,8 @@ ghost use Prim.Native.Nat.{_+_, _*_, _≤_, _<_};
 ghost use lib.ListN.{length, getD};
 ghost use Rattle.rules.specs.Refusal.{decide};
 ghost use Rattle.rules.specs.Trailer.{countIn, trailerTests, entriesIn};
-ghost use Rattle.trailer.specs.Entries.{noEntry, someOver};
+ghost use Rattle.rules.specs.Table.{noEntry};
+ghost use Rattle.trailer.specs.Entries.{someOver};
 
 // "entry count 8"
 pub fn count(trailer: &[u8]) -> u64

@@ -67,7 +67,11 @@ fn add_file(
     put_file(heap, start, batch, new, count, total);
     let from = start + 64 + total as usize;
     let end = from + (12 + 16 * count as usize);
-    install::install(state, ids, locations, &heap[from..end], slot, new)
+    let files = state.files;
+    let lsns = file_map::lsns(files);
+    let mut lives = file_map::lives(files);
+    install::install(&lsns, &mut lives, ids, locations, &heap[from..end], new.lsn);
+    install::with_file(state, &lives, slot, new)
 }
 
 pub fn write(

@@ -13,25 +13,18 @@ sized-requires c κs =
     let p = start .pre .0 in
     (placing-walking (a .settings) (a .state) (a .heap .now) (a .ids .now) (a .locations .now) (a .places .now) (a .pieces .now) p, omega (arith, p .limits .limits .table .most))
 
-div-n : tie.Need-div-n
-div-n c = search needs
-
-lowest-empty-requires : tie.Need-lowest-empty-requires
-lowest-empty-requires c κs = search needs
-
 add-at-requires : tie.Need-add-at-requires
 add-at-requires c κs =
-    let l = c .before .before .before in
-    let z = l .before .before in
+    let z = c .before .before .before in
     let known = z .before .before .before .before .before .before in
     let start = known .before .before in
     let a = start .args in
     let p = start .pre .0 in
     let f : Fits (a .settings) (a .state) (a .heap .now) (filedOps (a .piece) (a .heap .now) (a .ids .now) (a .places .now) (a .pieces .now)) (a .generation) =
-    record { young = start .pre .1 .0; room = start .pre .1 .1 .0; free = start .pre .1 .1 .1 .0; last = start .pre .1 .1 .1 .1 } in
+    record { young = start .pre .1 .0; room = start .pre .1 .1 .0; free = start .pre .1 .1 .1 .0 .0; last = start .pre .1 .1 .1 .1 } in
     let e = z .sized .ensures in (
-      piece-addable (a .settings) (a .state) (a .heap .now) (a .ids .now) (a .locations .now) (a .places .now) (a .pieces .now) p (a .piece) (a .generation) f _ _ _ (l .lowest-empty .ensures) (e .0) (e .1) (λ i. known .slice-known2 .given i .fits),
-      piece-writing (a .settings) (a .state) (a .heap .now) (a .ids .now) (a .locations .now) (a .places .now) (a .pieces .now) p (a .piece) (a .generation) f _ _ _ (l .lowest-empty .ensures) (e .0) (e .1),
+      piece-addable (a .settings) (a .state) (a .heap .now) (a .ids .now) (a .locations .now) (a .places .now) (a .pieces .now) p (a .piece) (a .generation) f _ _ _ (start .pre .1 .1 .1 .0 .1) (e .0) (e .1) (λ i. known .slice-known2 .given i .fits),
+      piece-writing (a .settings) (a .state) (a .heap .now) (a .ids .now) (a .locations .now) (a .places .now) (a .pieces .now) p (a .piece) (a .generation) f _ _ _ (start .pre .1 .1 .1 .0 .1) (e .0) (e .1),
     )
 
 same-length : tie.Need-same-length
@@ -46,23 +39,20 @@ same-length-3 c = search needs
 returns : tie.Need-returns
 returns c =
     let d = c .before .before .before .before .before .before in
-    let l = d .before .before .before .before in
-    let z = l .before .before in
+    let z = d .before .before .before .before in
     let start = z .before .before .before .before .before .before .before .before in
     let a = start .args in
     let p = start .pre .0 in
     let f : Fits (a .settings) (a .state) (a .heap .now) (filedOps (a .piece) (a .heap .now) (a .ids .now) (a .places .now) (a .pieces .now)) (a .generation) =
-    record { young = start .pre .1 .0; room = start .pre .1 .1 .0; free = start .pre .1 .1 .1 .0; last = start .pre .1 .1 .1 .1 } in
+    record { young = start .pre .1 .0; room = start .pre .1 .1 .0; free = start .pre .1 .1 .1 .0 .0; last = start .pre .1 .1 .1 .1 } in
     let left = piece-left (a .settings) (a .state) (a .heap .now) (a .ids .now) (a .locations .now) (a .places .now) (a .pieces .now) p (a .piece) (a .generation) f _ _ _ _ (d .add-at .ensures noClaims) in
-    (d .add-at .ensures, (left .placing, (left .same, (left .filed, (left .fewer, left .next)))))
+    (d .add-at .ensures, (left .placing, (left .same, (left .filed, (rw (start .pre .1 .1 .1 .0 .1) (left .frees), left .next)))))
 
 pub add-piece-spec : {M : Type 1} → statement M
 add-piece-spec =
     tie.close
     (tie.spec
     sized-requires
-    div-n
-    lowest-empty-requires
     add-at-requires
     same-length
     same-length-2

@@ -1,47 +1,105 @@
-use Prim.Native.Nat.{ℕ, _≤_}
-use lib.ListN.{length, replicate, length-replicate}
+use mathlib.Core.Path.{_≡_, sym, ap, ap₂, _∙_}
+use mathlib.Core.List.{List}
+use Prim.Native.Nat.{ℕ}
+use native.Mathlib.Omega.{arith}
+use lib.ListN.{length, length-map}
 use borrow.Author.Needs.{needs}
-use Rattle.gc_places.specs.GroupLaws.{group-checked, places-told}
+use Rattle.numbers.specs.Parts.{front}
+use Rattle.rules.specs.declared.Record.{Record}
+use Rattle.file_map.proofs.Turns.{mapped-length}
+use Rattle.gc_files.specs.Places.{placesFor}
+use Rattle.gc_places.specs.Group.{Checked}
+use Rattle.gc_places.specs.GroupLaws.{group-checked, placeables, places-told}
 use Rattle.gc_places.proofs.place_group.Statement.{statement}
 use Rattle.gc_places.proofs.place_group.Tie as tie
 
--- a mark for each entry that a table can have
-abbrev most : ℕ
-most = length (replicate {A = ℕ} 65536 0)
+all-records : (start : tie.Start) → length (start .args .m .records) ≡ 256
+all-records start = search (mapped-length, needs)
 
-at-most : (k : ℕ) → k ≤ 65536 → k ≤ most
-at-most k h = rw (length-replicate {0} {A = ℕ} 65536 0) h
+slice-aggregate-mark-group : tie.Need-slice-aggregate-mark-group
+slice-aggregate-mark-group c = search needs
 
-slice-aggregate-place-marked : tie.Need-slice-aggregate-place-marked
-slice-aggregate-place-marked c = search needs
+mark-group-requires : tie.Need-mark-group-requires
+mark-group-requires c κs = search needs
 
-place-marked-requires : tie.Need-place-marked-requires
-place-marked-requires c κs =
-    let start = c .before .before .before .before .before .before .before in
-    let a = start .args in
-    let asked = start .pre in
-    let room = asked .1 .1 .1 .1 in
-    let wide = at-most (length (a .ids .now)) (room .0) in
-    let checked =
-    group-checked (a .s) (a .heap .now) (a .m .records) (a .plan .now) (a .generation) (a .ids .now) (a .locations .now) most (asked .0) (asked .1 .0) (asked .1 .1 .0) (asked .1 .1 .1 .0) wide in
-    (checked, room .1 .0)
+enum-known-refusal : tie.Need-enum-known-refusal
+enum-known-refusal c = search needs
 
 same-length : tie.Need-same-length
 same-length c = search needs
 
 returns : tie.Need-returns
 returns c =
-    let put = c .before .before .before in
-    let start = put .before .before .before .before .before .before .before .before in
+    let group = c .before .before .before .before .before .before in
+    (sym (c .before .refusal .given .1) ∙ group .mark-group .ensures .0, λ e. absurd (let z : _≡_ {A = ℕ} 0 1 = cc in omega arith))
+
+enum-told : tie.Need-enum-told
+enum-told c = search needs
+
+-- none of the checks refuses the group
+cleared : (c : tie.After-enum-told) → let a = c .before .before .before .before .before .before .before .before .before .before .before .before .before .before .args in
+    Checked (a .s .«max_object_size») (a .s .«slot_bytes») (a .heap .now) (a .m .records) (a .plan .now) (a .generation) (a .ids .now) (a .locations .now) (length (a .marks .now))
+cleared c =
+    let group = c .before .before .before .before .before in
+    let start = group .before .before .before .before .before .before .before .before .before in
     let a = start .args in
     let asked = start .pre in
-    let room = asked .1 .1 .1 .1 in
-    let wide = at-most (length (a .ids .now)) (room .0) in
-    let checked =
-    group-checked (a .s) (a .heap .now) (a .m .records) (a .plan .now) (a .generation) (a .ids .now) (a .locations .now) most (asked .0) (asked .1 .0) (asked .1 .1 .0) (asked .1 .1 .1 .0) wide in
-    places-told (a .s .«max_object_size») (a .s .«slot_bytes») (a .heap .now) (a .m .records) (a .plan .now) (a .generation) (a .ids .now) (a .locations .now) most checked
-    (a .places .now) _ (room .1 .0) (room .1 .1) (put .place-marked .ensures)
+    group-checked (a .s) (a .heap .now) (a .m .records) (a .plan .now) (a .generation) (a .ids .now) (a .locations .now) (length (a .marks .now)) (asked .0) (asked .1 .0)
+    (sym (group .mark-group .ensures .0) ∙ c .enum-told .given .1) (asked .1 .1 .0) (asked .1 .1 .1 .0)
+
+slice-aggregate-place-all : tie.Need-slice-aggregate-place-all
+slice-aggregate-place-all c = search needs
+
+place-all-requires : tie.Need-place-all-requires
+place-all-requires c κs =
+    let told = c .before .before .before in
+    let group = told .before .before .before .before .before in
+    let start = group .before .before .before .before .before .before .before .before .before in
+    let a = start .args in
+    let done = told .enum-told .given .1 in
+    let lsns = group .mark-group .ensures .1 .1 done in
+    let marks = group .mark-group .ensures .1 .0 done in
+    let checked = cleared told in (
+      checked .high,
+      placeables (a .s .«max_object_size») (a .s .«slot_bytes») (a .heap .now) (a .m .records) (a .plan .now) (a .generation) (a .ids .now) (a .locations .now) (length (a .marks .now)) checked
+          _ _ (a .places .now) (ap length lsns ∙ length-map (a .m .records) (λ (r : Record). r .lsn) ∙ all-records start) lsns marks (start .pre .1 .1 .1 .1),
+    )
+
+same-length-2 : tie.Need-same-length-2
+same-length-2 c = search needs
+
+same-length-3 : tie.Need-same-length-3
+same-length-3 c = search needs
+
+returns-2 : tie.Need-returns-2
+returns-2 c =
+    let put = c .before .before in
+    let told = put .before .before .before .before in
+    let group = told .before .before .before .before .before in
+    let start = group .before .before .before .before .before .before .before .before .before in
+    let a = start .args in
+    let done = told .enum-told .given .1 in
+    let lsns = group .mark-group .ensures .1 .1 done in
+    let marks = group .mark-group .ensures .1 .0 done in (
+      sym done ∙ group .mark-group .ensures .0,
+      λ e.
+          places-told (a .s .«max_object_size») (a .s .«slot_bytes») (a .heap .now) (a .m .records) (a .plan .now) (a .generation) (a .ids .now) (a .locations .now) (length (a .marks .now)) (cleared told)
+          (a .places .now) _ (start .pre .1 .1 .1 .1) (start .pre .1 .1 .1 .2)
+          (put .place-all .ensures ∙ ap₂ (λ (ns ms : List ℕ). front (placesFor (a .s .«slot_bytes») ns (a .locations .now) ms) (a .places .now)) lsns marks),
+    )
 
 pub place-group-spec : {M : Type 1} → statement M
 place-group-spec =
-    tie.close (tie.spec slice-aggregate-place-marked place-marked-requires same-length returns)
+    tie.close
+    (tie.spec
+    slice-aggregate-mark-group
+    mark-group-requires
+    enum-known-refusal
+    same-length
+    returns
+    enum-told
+    slice-aggregate-place-all
+    place-all-requires
+    same-length-2
+    same-length-3
+    returns-2)

@@ -1,14 +1,13 @@
-use mathlib.Core.Path.{_≡_, refl, sym, ap, ap₂, subst, _∙_}
-use mathlib.Core.List.{List}
-use Prim.Native.Nat.{ℕ, _+_, _-_, _≤_, _<_, zero-le}
+use mathlib.Core.Path.{_≡_, refl, sym, ap, _∙_}
+use Prim.Native.Nat.{_+_, _-_, _≤_, _<_, zero-le}
 use native.Mathlib.Omega.{arith}
 use borrow.Author.Needs.{needs}
 use lib.ListN.{length, drop, getD}
 use Rattle.rules.specs.declared.Entry.{Entry}
 use Rattle.rules.specs.Trailer.{countIn, entriesIn}
-use Rattle.rules.specs.Table.{lookup}
+use Rattle.rules.specs.Table.{lookup, noEntry}
 use Rattle.rules.specs.Layout.{usedEntries}
-use Rattle.trailer.specs.Entries.{noEntry, entries-count}
+use Rattle.trailer.specs.Entries.{entries-count}
 use Rattle.location_table.specs.Tables.{table}
 use Rattle.file_map.specs.Lists.{lessAt}
 use Rattle.file_map.specs.ListLaws.{length-less}

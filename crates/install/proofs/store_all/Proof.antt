@@ -4,12 +4,12 @@ use mathlib.Core.Bool.{false}
 use Prim.Native.Nat.{ℕ, _+_, _-_, _^_, _≤_, _<_, zero-le}
 use native.Mathlib.Omega.{arith}
 use borrow.Author.Needs.{needs}
-use lib.ListN.{length, drop, getD}
+use lib.ListN.{length, drop}
 use Rattle.rules.specs.declared.Entry.{Entry}
 use Rattle.rules.specs.Trailer.{countIn, entriesIn, absolute}
-use Rattle.rules.specs.Table.{insert, insertAll, full}
+use Rattle.rules.specs.Table.{insert, insertAll, full, noEntry}
 use Rattle.rules.specs.Layout.{Buffers, laidOut, usedEntries}
-use Rattle.trailer.specs.Entries.{noEntry, entries-count}
+use Rattle.trailer.specs.Entries.{entries-count}
 use Rattle.location_table.specs.Tables.{table, Formed}
 use Rattle.disk_location.specs.Locations.{positionOf}
 use Rattle.location_table.specs.LayoutLaws.{laid-out}

@@ -1,7 +1,6 @@
-use mathlib.Core.Path.{_≡_, ap, _∙_}
-use Prim.Native.Nat.{ℕ}
-use native.Mathlib.Omega.{arith}
+use mathlib.Core.Path.{ap, _∙_}
 use borrow.Author.Needs.{needs}
+use Rattle.rules.specs.declared.Entry.{Entry}
 use Rattle.rules.specs.TableCalls.{withStored}
 use Rattle.location_table.specs.Tables.{table}
 use Rattle.location_table.specs.StoreLaws.{stored-is}
@@ -26,7 +25,7 @@ returns c =
     let a = w .before .before .before .before .before .before .args in
     let pre = w .before .before .before .before .before .before .pre in
     let b = table (a .ids .now) (a .locations .now) in
-    stored-is b (a .e .id) _ (pre .3) _ _ (w .store-in .ensures) ∙ ap (withStored b (a .e .id)) (w .before .before .before .absolute .ensures)
+    stored-is b (a .e .id) _ (pre .3) _ _ (w .store-in .ensures) ∙ ap (λ (x : Entry). withStored b (a .e .id) (x .location)) (w .before .before .before .absolute .ensures)
 
 pub store-one-spec : {M : Type 1} → statement M
 store-one-spec =

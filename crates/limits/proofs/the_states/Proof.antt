@@ -16,15 +16,15 @@ returns-2 : tie.Need-returns-2
 unfolding theStates
 returns-2 c =
     let heap = c .before .before .before .before .before .args .heap in
-    let state = c .before .before .before .before .before .args .state in
-    rw (sym (c .before .before .before .same-settings .ensures) ∙ not-false _ (c .before .before .if1 .left), ne-eqb heap (state .«heap_len») (c .if2 .taken)) refl
+    let rest = c .before .before .before .before .before .args .rest in
+    rw (sym (c .before .before .before .same-settings .ensures) ∙ not-false _ (c .before .before .if1 .left), ne-eqb heap (rest .«heap_len») (c .if2 .taken)) refl
 
 returns-3 : tie.Need-returns-3
 unfolding theStates
 returns-3 c =
     let heap = c .before .before .before .before .before .before .args .heap in
-    let state = c .before .before .before .before .before .before .args .state in
-    rw (sym (c .before .before .before .before .same-settings .ensures) ∙ not-false _ (c .before .before .before .if1 .left), eq-eqb heap (state .«heap_len») (c .before .if2 .left)) refl
+    let rest = c .before .before .before .before .before .before .args .rest in
+    rw (sym (c .before .before .before .before .same-settings .ensures) ∙ not-false _ (c .before .before .before .if1 .left), eq-eqb heap (rest .«heap_len») (c .before .if2 .left)) refl
 
 pub the-states-spec : {M : Type 1} → statement M
 the-states-spec = tie.close (tie.spec same-settings-requires returns returns-2 returns-3)

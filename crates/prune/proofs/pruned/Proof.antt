@@ -1,22 +1,27 @@
+use mathlib.Core.Path.{_≡_, _∙_}
 use borrow.Author.Needs.{needs}
+use lib.ListN.{length}
+use Rattle.file_map.proofs.Turns.{mapped-length}
 use Rattle.prune.specs.CallLaws.{pruned-parts}
+use Rattle.prune.proofs.Turns.{all-made}
 use Rattle.prune.proofs.pruned.Statement.{statement}
 use Rattle.prune.proofs.pruned.Tie as tie
 
-zero-labels-requires : tie.Need-zero-labels-requires
-zero-labels-requires c κs = search needs
+all-records : (start : tie.Start) → length (start .args .state .files .records) ≡ 256
+all-records start = search (mapped-length, needs)
 
-emptied-requires : tie.Need-emptied-requires
-emptied-requires c κs = search needs
+prune-stores-requires : tie.Need-prune-stores-requires
+prune-stores-requires c κs = search needs
 
 same-length : tie.Need-same-length
 same-length c = search needs
 
 returns : tie.Need-returns
 returns c =
-    let w = c .before .before .before in
-    let a = w .before .before .before .before .args in
-    λ ids locations. pruned-parts (a .settings) (a .state) (a .claims) (a .heap .now) ids locations _ _ (c .emptied .ensures) (w .zero-labels .ensures)
+    let w = c .before .before in
+    let start = w .before .before .before .before in
+    let a = start .args in
+    λ ids locations. pruned-parts (a .settings) (a .state) (a .claims) (a .heap .now) ids locations _ _ (w .prune-stores .ensures .0) (w .prune-stores .ensures .1 ∙ all-made (a .settings .«slot_bytes») (a .claims) (a .state .files .records) (a .heap .now) (all-records start))
 
 pub pruned-spec : {M : Type 1} → statement M
-pruned-spec = tie.close (tie.spec zero-labels-requires emptied-requires same-length returns)
+pruned-spec = tie.close (tie.spec prune-stores-requires same-length returns)

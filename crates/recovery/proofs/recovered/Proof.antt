@@ -1,12 +1,15 @@
 use mathlib.Core.Path.{sym, _∙_}
+use Rattle.rules.specs.Base.{each}
 use Rattle.rules.specs.Refusal.{decide}
+use Rattle.rules.specs.Reopen.{viewTests}
 use Rattle.rules.specs.Settings.{slotsIn}
 use Rattle.rules.specs.SettingsLaws.{heap-whole}
 use Rattle.rules.specs.SlotFile.{viewsIn}
 use Rattle.location_table.specs.Tables.{table}
-use Rattle.reopen_tests.specs.Tests.{fileTests, checked, told-refused, told-clear, told-labels, slots-clear}
+use Rattle.reopen_tests.specs.Labels.{surveyed}
+use Rattle.reopen_tests.specs.Tests.{told-refused, told-clear, told-labels, slots-refuse}
 use Rattle.recovery.specs.Reopening.{bare}
-use Rattle.recovery.specs.Steps.{tests-refuse, tests-clear, cleared-blank, blank-same, gives-up}
+use Rattle.recovery.specs.Steps.{tests-refuse, cleared-blank, blank-same, gives-up}
 use native.Mathlib.Omega.{arith}
 use borrow.Author.Needs.{needs}
 use lib.ListN.{length}
@@ -19,8 +22,8 @@ div-n c = search needs
 clear-requires : tie.Need-clear-requires
 clear-requires c κs = search needs
 
-check-requires : tie.Need-check-requires
-check-requires c κs =
+survey-requires : tie.Need-survey-requires
+survey-requires c κs =
     let start = c .before .before .before .before .before .before .before .before .before .before in
     let a = start .args in
     (omega (arith, heap-whole (a .settings) (length (a .heap .now)) (start .pre .heap)), start .pre .heap .most)
@@ -34,9 +37,9 @@ given-up-requires c κs = search needs
 enum-told : tie.Need-enum-told
 enum-told c = search needs
 
-rebuilt-requires : tie.Need-rebuilt-requires
-unfolding checked
-rebuilt-requires c κs =
+tested-requires : tie.Need-tested-requires
+unfolding surveyed
+tested-requires c κs =
     let start = c .before .before .before .before .before .before .before .before .before .before .before .before .before .before .before .before in
     let a = start .args in
     let heap = a .heap .now in
@@ -45,8 +48,8 @@ rebuilt-requires c κs =
       record {
         within = omega (arith, heap-whole (a .settings) (length heap) (start .pre .heap));
         most = start .pre .heap .most;
-        clear = slots-clear views (told-clear (decide (fileTests views)) views _ (c .before .before .before .before .before .check .ensures) done);
-        labels = told-labels (decide (fileTests views)) views _ (c .before .before .before .before .before .check .ensures) done;
+        clear = told-clear (decide (each viewTests views)) views _ (c .before .before .before .before .before .survey .ensures) done;
+        labels = told-labels (decide (each viewTests views)) views _ (c .before .before .before .before .before .survey .ensures) done;
       },
       start .pre .settings .slot-high,
       cleared-blank (table (a .ids .now) (a .locations .now)) (start .pre .table .equal) _ (c .before .before .before .before .before .before .before .before .before .before .clear .ensures),
@@ -59,13 +62,13 @@ same-length-2 : tie.Need-same-length-2
 same-length-2 c = search needs
 
 returns : tie.Need-returns
-unfolding checked
+unfolding surveyed
 returns c =
     let start = c .before .before .before .before .before .before .before .before .before .before .before .before .before .before .before in
     let a = start .args in
     let heap = a .heap .now in
     let views = viewsIn (slotsIn (a .settings) (length heap)) (a .settings .«slot_bytes») heap in
-    let said = told-refused (decide (fileTests views)) views _ (c .before .before .before .before .check .ensures) _ (c .before .before .answer .given .1) in
+    let said = slots-refuse views _ (told-refused (decide (each viewTests views)) views _ (c .before .before .before .before .survey .ensures) _ (c .before .before .answer .given .1)) in
     gives-up (a .settings) heap (a .ids .now) (a .locations .now) _ _ _ _ (c .before .before .answer .given .0 .0) (c .given-up .ensures) (c .before .before .before .before .before .before .before .before .before .clear .kept .0) (c .before .before .before .before .before .before .before .before .before .clear .ensures)
     ∙ sym (tests-refuse (bare (a .settings) heap (a .ids .now) (a .locations .now)) views (c .before .before .answer .given .0 .0) said)
 
@@ -76,16 +79,14 @@ same-length-4 : tie.Need-same-length-4
 same-length-4 c = search needs
 
 returns-2 : tie.Need-returns-2
-unfolding checked
+unfolding surveyed
 returns-2 c =
     let start = c .before .before .before .before .before .before .before .before .before .before .before .before .before .before .before .before .before .before .before .before .before in
     let a = start .args in
     let heap = a .heap .now in
     let views = viewsIn (slotsIn (a .settings) (length heap)) (a .settings .«slot_bytes») heap in
-    let said = told-clear (decide (fileTests views)) views _ (c .before .before .before .before .before .before .before .before .before .before .check .ensures) (c .before .before .before .before .before .before .before .before .enum-told .given .1) in
-    c .before .before .before .before .rebuilt .ensures
+    c .before .before .before .before .tested .ensures
     ∙ blank-same (a .settings) heap (a .ids .now) (a .locations .now) views _ (c .before .before .before .before .before .before .before .before .before .before .before .before .before .before .before .clear .ensures)
-    ∙ sym (tests-clear (bare (a .settings) heap (a .ids .now) (a .locations .now)) views said)
 
 pub recovered-spec : {M : Type 1} → statement M
 recovered-spec =
@@ -93,11 +94,11 @@ recovered-spec =
     (tie.spec
     div-n
     clear-requires
-    check-requires
+    survey-requires
     enum-known-answer
     given-up-requires
     enum-told
-    rebuilt-requires
+    tested-requires
     same-length
     same-length-2
     returns

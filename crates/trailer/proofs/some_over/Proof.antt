@@ -4,7 +4,8 @@ use lib.ListN.{drop, length, getD}
 use Rattle.disk_location.specs.Locations.{positionOf}
 use Rattle.rules.specs.declared.Entry.{Entry}
 use Rattle.rules.specs.Trailer.{countIn, entriesIn}
-use Rattle.trailer.specs.Entries.{noEntry, someOver, entries-count, over-here, over-later, over-end}
+use Rattle.rules.specs.Table.{noEntry}
+use Rattle.trailer.specs.Entries.{someOver, entries-count, over-here, over-later, over-end}
 use native.Mathlib.Omega.{arith}
 use borrow.Author.Needs.{needs}
 use Rattle.trailer.proofs.some_over.Statement.{statement}

@@ -1,8 +1,9 @@
 use mathlib.Core.Path.{_≡_, ap, _∙_}
-use Prim.Native.Nat.{_+_, _-_, _*_, _^_}
+use Prim.Native.Nat.{_+_, _-_, _*_, _^_, _≤_}
 use native.Mathlib.Omega.{arith}
 use borrow.Author.Needs.{needs}
-use lib.ListN.{length}
+use lib.ListN.{length, length-map}
+use Rattle.rules.specs.declared.Record.{Record}
 use Rattle.rules.specs.Ops.{entriesOf, settled}
 use Rattle.rules.specs.OpsLaws.{entries-of-length}
 use Rattle.rules.specs.StoreLaws.{made-length}
@@ -113,6 +114,18 @@ add-end-2 c =
     let small = sizes-small (2 ^ 62) (settled (opsIn (a .batch .now))) (a .settings) (a .state) (a .heap .now) b (a .slot) (a .count) (a .total) d in
     omega (arith, inside, small .0, start .good)
 
+lsns-requires : tie.Need-lsns-requires
+lsns-requires c κs = search needs
+
+lives-requires : tie.Need-lives-requires
+lives-requires c κs = search needs
+
+slice-aggregate-install : tie.Need-slice-aggregate-install
+slice-aggregate-install c = search needs
+
+slice-aggregate-install-2 : tie.Need-slice-aggregate-install-2
+slice-aggregate-install-2 c = search needs
+
 sub-install : tie.Need-sub-install
 sub-install c = search needs
 
@@ -121,7 +134,7 @@ part-install-start c = search needs
 
 part-install-end : tie.Need-part-install-end
 part-install-end c =
-    let p = c .before .before .before .before .before in
+    let p = c .before .before .before .before .before .before .before .before .before .before in
     let n = p .before .before in
     let start = n .before .before .before .before .before in
     let a = start .args in
@@ -134,7 +147,7 @@ part-install-end c =
 
 install-requires : tie.Need-install-requires
 install-requires c κs =
-    let p = c .before .before .before .before .before .before in
+    let p = c .before .before .before .before .before .before .before .before .before .before .before in
     let n = p .before .before in
     let start = n .before .before .before .before .before in
     let a = start .args in
@@ -147,14 +160,30 @@ install-requires c κs =
     let size : from + (12 + 16 * a .count) - from ≡ 12 + 16 * a .count = omega arith in
     let there = trailer-there (2 ^ 62) (settled (opsIn (a .batch .now))) (a .settings) (a .state) (a .heap .now) b (a .slot) (a .count) (a .total) d (n .new-record .result) _ (p .put-file .ensures) in
     let ops = settled (opsIn (a .batch .now)) in
+    let counts = c .before .before .before .before .before .before in
+    let rs = a .state .files .records in
+    let even : length (counts .before .lsns .result) ≤ length (counts .lives .result) =
+    omega (arith, ap length (counts .before .lsns .ensures), ap length (counts .lives .ensures), length-map rs (λ (r : Record). r .lsn), length-map rs (λ (r : Record). r .live)) in
     rw (size, there, entries-there (2 ^ 62) (settled (opsIn (a .batch .now))) (a .settings) (a .state) (a .heap .now) b (a .slot) (a .count) (a .total) d, count-there (2 ^ 62) (settled (opsIn (a .batch .now))) (a .settings) (a .state) (a .heap .now) b (a .slot) (a .count) (a .total) d, n .new-record .ensures) (
       passed-formed (a .settings) _ b (a .state) (f .limits),
+      even,
       omega (arith, trailer-length (entriesOf 0 ops), entries-of-length 0 ops, f .sized .entries),
       entries-placed (2 ^ 62) (settled (opsIn (a .batch .now))) (a .settings) (a .state) (a .heap .now) b (a .slot) (a .count) (a .total) d,
       omega (arith, f .limits .next),
       d .room _,
+    )
+
+slice-aggregate-with-file : tie.Need-slice-aggregate-with-file
+slice-aggregate-with-file c = search needs
+
+with-file-requires : tie.Need-with-file-requires
+with-file-requires c κs =
+    let n = c .before .before .before .before .before .before .before .before .before .before .before .before .before .before .before .before .before .before .before .before in
+    let start = n .before .before .before .before .before in
+    let f = start .pre in (
+      search needs,
       omega (arith, f .free, f .limits .limits .heap .most),
-      omega (arith, f .last),
+      omega (arith, f .last, ap (λ (r : Record). r .«trailer_offset») (n .new-record .ensures)),
     )
 
 same-length : tie.Need-same-length
@@ -168,8 +197,9 @@ same-length-3 c = search needs
 
 returns : tie.Need-returns
 returns c =
-    let i = c .before .before .before .before in
-    let p = i .before .before .before .before .before .before .before in
+    let i = c .before .before .before .before .before .before .before in
+    let counts = i .before .before .before .before .before .before .before in
+    let p = counts .before .before .before .before .before in
     let n = p .before .before in
     let start = n .before .before .before .before .before in
     let a = start .args in
@@ -181,7 +211,7 @@ returns c =
     let there = trailer-there (2 ^ 62) (settled (opsIn (a .batch .now))) (a .settings) (a .state) (a .heap .now) b (a .slot) (a .count) (a .total) d (n .new-record .result) _ (p .put-file .ensures) in
     let ops = settled (opsIn (a .batch .now)) in
     let left = rw (size, there, entries-there (2 ^ 62) (settled (opsIn (a .batch .now))) (a .settings) (a .state) (a .heap .now) b (a .slot) (a .count) (a .total) d) at (i .install .ensures) in
-    λ w. added (2 ^ 62) (settled (opsIn (a .batch .now))) (a .settings) (a .state) (a .heap .now) b (a .slot) (a .count) (a .total) d 0 w (n .new-record .result) _ _ _ (n .new-record .ensures ∙ record-new (2 ^ 62) (settled (opsIn (a .batch .now))) (a .settings) (a .state) (a .heap .now) b (a .slot) (a .count) (a .total) d 0) (p .put-file .ensures) (left .0) (left .1)
+    λ w. added (2 ^ 62) (settled (opsIn (a .batch .now))) (a .settings) (a .state) (a .heap .now) b (a .slot) (a .count) (a .total) d 0 w (n .new-record .result) _ _ _ _ _ _ (n .new-record .ensures ∙ record-new (2 ^ 62) (settled (opsIn (a .batch .now))) (a .settings) (a .state) (a .heap .now) b (a .slot) (a .count) (a .total) d 0) (p .put-file .ensures) (counts .before .lsns .ensures) (counts .lives .ensures) (left .0) (c .with-file .ensures) (left .1)
 
 pub add-file-spec : {M : Type 1} → statement M
 add-file-spec =
@@ -195,10 +225,16 @@ add-file-spec =
     mul-end
     add-end
     add-end-2
+    lsns-requires
+    lives-requires
+    slice-aggregate-install
+    slice-aggregate-install-2
     sub-install
     part-install-start
     part-install-end
     install-requires
+    slice-aggregate-with-file
+    with-file-requires
     same-length
     same-length-2
     same-length-3

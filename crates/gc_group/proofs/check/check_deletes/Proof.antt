@@ -11,7 +11,8 @@ use Rattle.rules.specs.TurnLaws.{each-next, each-end}
 use Rattle.rules.specs.declared.Entry.{Entry}
 use Rattle.rules.specs.Refusal.{decide, decide-none, decide-early, decide-late}
 use Rattle.rules.specs.Trailer.{countIn, entriesIn}
-use Rattle.trailer.specs.Entries.{noEntry, entries-count}
+use Rattle.rules.specs.Table.{noEntry}
+use Rattle.trailer.specs.Entries.{entries-count}
 use Rattle.location_table.specs.LayoutLaws.{used}
 use Rattle.gc_group.specs.Checks.{entryTests}
 

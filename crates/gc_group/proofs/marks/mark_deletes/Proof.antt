@@ -8,12 +8,14 @@ use Rattle.gc_group.proofs.marks.mark_deletes.Tie as tie
 use Rattle.rules.specs.Base.{each}
 use Rattle.rules.specs.Trailer.{countIn, entriesIn}
 use Rattle.rules.specs.declared.Entry.{Entry}
-use Rattle.trailer.specs.Entries.{noEntry, entries-count}
+use Rattle.rules.specs.Table.{noEntry}
+use Rattle.rules.specs.BaseLaws.{all-at}
+use Rattle.trailer.specs.Entries.{entries-count}
 use Rattle.location_table.specs.LayoutLaws.{used}
 use Rattle.gc_group.specs.Clear.{SumFits}
 use Rattle.gc_group.specs.Marks.{deleteId, marked}
 use Rattle.gc_group.specs.MarkLaws.{marked-length}
-use Rattle.gc_group.proofs.MarkTurns.{all-at, entries-mark, entries-done}
+use Rattle.gc_group.proofs.MarkTurns.{entries-mark, entries-done}
 use mathlib.Core.List.{List}
 
 abbrev Inv-loop : tie.InvT-loop

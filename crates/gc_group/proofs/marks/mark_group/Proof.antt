@@ -2,47 +2,72 @@ use Prim.Native.Nat.{ℕ, suc, _+_, _≤_, _<_, _-_}
 use mathlib.Core.Path.{_≡_, refl, sym, ap, ap₂, _∙_, subst}
 use native.Mathlib.Omega.{arith}
 use borrow.Author.Needs.{needs}
-use lib.ListN.{length, drop, length-replicate}
-use Rattle.gc_group.proofs.marks.mark_group.Statement.{statement}
-use Rattle.gc_group.proofs.marks.mark_group.Tie as tie
+use lib.ListN.{length, drop, set, length-set, length-replicate}
 use mathlib.Core.Logic.{⊎-elim}
 use mathlib.Core.List.{List}
+use native.Mathlib.Numerals.{add-one}
+use Rattle.rules.specs.declared.Answer.{Answer}
+use Rattle.rules.specs.declared.Record.{Record}
+use Rattle.rules.specs.Refusal.{decide}
 use Rattle.rules.specs.FileMap.{recordAt}
 use Rattle.rules.specs.SlotFile.{slotBytes}
 use Rattle.rules.specs.SlotLaws.{slot-length}
+use Rattle.rules.specs.Maintenance.{fileTests}
 use Rattle.location_table.specs.LayoutLaws.{used}
+use Rattle.file_map.proofs.Turns.{mapped-length, copied, copied-start, copied-next, copied-end}
 use Rattle.gc_group.specs.Plan.{planned, plannedFrom, planned-here, planned-next, planned-start, planned-end}
 use Rattle.gc_group.specs.Source.{source, Lies}
-use Rattle.gc_group.specs.Clear.{Clear, GroupClear}
+use Rattle.gc_group.specs.Checks.{groupChecks, group-refused, group-on, group-none}
+use Rattle.gc_group.specs.Clear.{Clear, file-clear}
 use Rattle.gc_group.specs.Marks.{foundFile, idsOf, marked, marksFrom, marksOf}
 use Rattle.gc_group.specs.MarkLaws.{marked-length, marks-next, marks-end, marks-start}
-use native.Mathlib.Numerals.{add-one}
+use Rattle.gc_group.proofs.marks.mark_group.Statement.{statement}
+use Rattle.gc_group.proofs.marks.mark_group.Tie as tie
 
 abbrev Inv-loop : tie.InvT-loop
-Inv-loop slot-bytes heap plan generation ids locations marks₀ m i₀ marks i =
-    let from = source slot-bytes heap (m .records) (used ids locations) in
-    (i ≤ 256) × (length marks ≡ length marks₀) × GroupClear from (plannedFrom i (drop i plan) generation)
+Inv-loop s heap plan generation ids locations marks₀ lsns₀ m i₀ marks lsns i =
+    let from = source (s .«slot_bytes») heap (m .records) (used ids locations) in
+    (i ≤ 256) × (length marks ≡ length marks₀) × (length lsns ≡ 256)
+    × (decide (groupChecks (s .«max_object_size») from (plannedFrom i (drop i plan) generation)) ≡ decide (groupChecks (s .«max_object_size») from (planned plan generation)))
     × (marksFrom from (plannedFrom i (drop i plan) generation) marks ≡ marksOf from (length marks₀) (planned plan generation))
+    × (lsns ≡ copied (λ (r : Record). r .lsn) (m .records) i lsns₀)
 
 abbrev μ-loop : tie.MeasureT-loop
-μ-loop slot-bytes heap plan generation ids locations marks₀ m i₀ marks i = 256 - i
+μ-loop s heap plan generation ids locations marks₀ lsns₀ m i₀ marks lsns i = 256 - i
+
+all-records : (start : tie.Start Inv-loop μ-loop) → length (start .args .t3 .records) ≡ 256
+all-records start = search (mapped-length, needs)
 
 unmark-requires : tie.Need-unmark-requires Inv-loop μ-loop
 unmark-requires c κs = search needs
 
 loop-holds : tie.Need-loop-holds Inv-loop μ-loop
 loop-holds c =
-    let start = c .before .before .before .before .before .before .before .before .before in
+    let start = c .before .before .before .before .before .before .before .before .before .before in
     let a = start .args in
-    let from = source (a .slot-bytes) (a .heap .now) (a .t3 .records) (used (a .ids .now) (a .locations .now)) in
+    let from = source (a .s .«slot_bytes») (a .heap .now) (a .t3 .records) (used (a .ids .now) (a .locations .now)) in
     let zeros = c .before .before .unmark .ensures in
     let first = planned-start (a .plan .now) (a .generation) in (
       omega arith,
       refl,
-      subst (GroupClear from) first (start .pre .1 .0),
+      start .pre .1 .1 .1,
+      ap (λ (ks : List ℕ). decide (groupChecks (a .s .«max_object_size») from ks)) (sym first),
       ap₂ (marksFrom from) (sym first) zeros ∙ marks-start from (length (a .marks .now)) (planned (a .plan .now) (a .generation))
           ∙ ap (λ (n : ℕ). marksOf from n (planned (a .plan .now) (a .generation))) (sym (ap length zeros ∙ length-replicate {A = ℕ} (length (a .marks .now)) 0)),
+      copied-start (λ (r : Record). r .lsn) (a .t3 .records) (a .lsns .now),
     )
+
+mul-r : tie.Need-mul-r Inv-loop μ-loop
+mul-r c = search needs
+
+element-copy-out-r : tie.Need-element-copy-out-r Inv-loop μ-loop
+element-copy-out-r c = search needs
+
+mul-lsns : tie.Need-mul-lsns Inv-loop μ-loop
+mul-lsns c = search needs
+
+slice-write-lsns : tie.Need-slice-write-lsns Inv-loop μ-loop
+slice-write-lsns c = search needs
 
 mul-if1 : tie.Need-mul-if1 Inv-loop μ-loop
 mul-if1 c = search needs
@@ -52,15 +77,61 @@ shared-slice-read-if1 c = search needs
 
 slot-at-requires : tie.Need-slot-at-requires Inv-loop μ-loop
 slot-at-requires c κs =
-    let at = c .before .before .before in
-    let start = at .before .before .before .before .before .before .before .before .before .before in
+    let at = c .before .before .before .before in
+    let start = at .before .before .before .before .before .before .before .before .before .before .before in
     start .pre .0 .standing (at .loop .i) (c .if1 .taken)
 
-mul-mark-file : tie.Need-mul-mark-file Inv-loop μ-loop
-mul-mark-file c = search needs
+check-file-requires : tie.Need-check-file-requires Inv-loop μ-loop
+check-file-requires c κs =
+    let chosen = c .before in
+    let at = chosen .before .before .before .before in
+    let start = at .before .before .before .before .before .before .before .before .before .before .before in
+    let a = start .args in
+    let i = at .loop .i in
+    let whole : length (c .slot-at .result .now) ≡ a .s .«slot_bytes» =
+    ap length (c .slot-at .ensures) ∙ slot-length (a .s .«slot_bytes») (a .heap .now) i (start .pre .0 .standing i (chosen .if1 .taken)) in
+    (subst (λ (n : ℕ). Lies n (recordAt (a .t3 .records) i)) (sym whole) (start .pre .0 .files i), start .pre .1 .0)
 
-element-copy-out-mark-file : tie.Need-element-copy-out-mark-file Inv-loop μ-loop
-element-copy-out-mark-file c = search needs
+-- what is decided of the file in a slot
+checked : (c : tie.After-check-file Inv-loop μ-loop) → let at = c .before .before .before .before .before .before in
+    let a = at .before .before .before .before .before .before .before .before .before .before .before .args in
+    decide (fileTests (a .s .«max_object_size») (used (a .ids .now) (a .locations .now)) (recordAt (a .t3 .records) (at .loop .i)) (slotBytes (a .s .«slot_bytes») (a .heap .now) (at .loop .i))) ≡ c .check-file .result
+checked c =
+    let at = c .before .before .before .before .before .before in
+    let a = at .before .before .before .before .before .before .before .before .before .before .before .args in
+    ap (λ (bytes : List ℕ). decide (fileTests (a .s .«max_object_size») (used (a .ids .now) (a .locations .now)) (recordAt (a .t3 .records) (at .loop .i)) bytes)) (sym (c .before .slot-at .ensures))
+    ∙ sym (c .check-file .ensures)
+
+enum-known-refusal : tie.Need-enum-known-refusal Inv-loop μ-loop
+enum-known-refusal c = search needs
+
+same-length : tie.Need-same-length Inv-loop μ-loop
+same-length c = search needs
+
+same-length-2 : tie.Need-same-length-2 Inv-loop μ-loop
+same-length-2 c =
+    let at = c .before .before .before .before .before .before .before .before .before in
+    let start = at .before .before .before .before .before .before .before .before .before .before .before in
+    length-set (at .loop .lsns) (at .loop .i) _ ∙ at .loop .inv .2 ∙ sym (start .pre .1 .1 .1)
+
+returns : tie.Need-returns Inv-loop μ-loop
+returns c =
+    let done = c .before .before .before in
+    let chosen = done .before .before in
+    let at = chosen .before .before .before .before in
+    let start = at .before .before .before .before .before .before .before .before .before .before .before in
+    let a = start .args in
+    let from = source (a .s .«slot_bytes») (a .heap .now) (a .t3 .records) (used (a .ids .now) (a .locations .now)) in
+    let i = at .loop .i in (
+      sym (
+          ap (λ (ks : List ℕ). decide (groupChecks (a .s .«max_object_size») from ks)) (planned-here (a .plan .now) (a .generation) i (omega (arith, start .pre .0 .slots)) (chosen .if1 .taken))
+          ∙ group-refused (a .s .«max_object_size») from i _ _ (checked done ∙ c .before .refusal .given .1))
+          ∙ at .loop .inv .3,
+      ((λ e. absurd (let z : _≡_ {A = ℕ} 0 1 = cc in omega arith)), (λ e. absurd (let z : _≡_ {A = ℕ} 0 1 = cc in omega arith))),
+    )
+
+enum-told : tie.Need-enum-told Inv-loop μ-loop
+enum-told c = search needs
 
 cast-mark-file : tie.Need-cast-mark-file Inv-loop μ-loop
 cast-mark-file c = search needs
@@ -70,20 +141,23 @@ add-mark-file c = search needs
 
 mark-file-requires : tie.Need-mark-file-requires Inv-loop μ-loop
 mark-file-requires c κs =
-    let chosen = c .before .before .before in
-    let at = chosen .before .before .before in
+    let done = c .before .before .before in
+    let chosen = done .before .before in
+    let at = chosen .before .before .before .before in
     let blank = at .before .before .before in
-    let start = blank .before .before .before .before .before .before .before in
+    let start = blank .before .before .before .before .before .before .before .before in
     let a = start .args in
     let i = at .loop .i in
-    let from = source (a .slot-bytes) (a .heap .now) (a .t3 .records) (used (a .ids .now) (a .locations .now)) in
-    let bytes = c .before .before .slot-at .ensures in
-    let whole : length (c .before .before .slot-at .result .now) ≡ a .slot-bytes = ap length bytes ∙ slot-length (a .slot-bytes) (a .heap .now) i (start .pre .0 .standing i (chosen .if1 .taken)) in
-    let clear = subst (GroupClear from) (planned-here (a .plan .now) (a .generation) i (omega (arith, start .pre .0 .slots)) (chosen .if1 .taken)) (at .loop .inv .2) in (
-      subst (λ (n : ℕ). Lies n (recordAt (a .t3 .records) i)) (sym whole) (start .pre .0 .files i),
+    let r = recordAt (a .t3 .records) i in
+    let bytes = done .before .slot-at .ensures in
+    let whole : length (done .before .slot-at .result .now) ≡ a .s .«slot_bytes» =
+    ap length bytes ∙ slot-length (a .s .«slot_bytes») (a .heap .now) i (start .pre .0 .standing i (chosen .if1 .taken)) in
+    let clear =
+    file-clear (a .s .«max_object_size») (used (a .ids .now) (a .locations .now)) r (slotBytes (a .s .«slot_bytes») (a .heap .now) i) (checked done ∙ c .before .enum-told .given .1) in (
+      subst (λ (n : ℕ). Lies n r) (sym whole) (start .pre .0 .files i),
       (
-        subst (Clear (recordAt (a .t3 .records) i)) (sym bytes) (clear .0),
-        (start .pre .1 .1 .0, omega (arith, start .pre .1 .1 .1, at .loop .inv .1, ap length (blank .unmark .ensures) ∙ length-replicate {A = ℕ} (length (a .marks .now)) 0)),
+        subst (Clear r) (sym bytes) clear,
+        (start .pre .1 .0, omega (arith, start .pre .1 .1 .0, at .loop .inv .1, ap length (blank .unmark .ensures) ∙ length-replicate {A = ℕ} (length (a .marks .now)) 0)),
       ),
     )
 
@@ -95,50 +169,73 @@ loop-less c = search needs
 
 loop-again : tie.Need-loop-again Inv-loop μ-loop
 loop-again c =
-    let at = c .before .before .before in
-    let start = at .before .before .before .before .before .before .before .before .before .before in
+    let at = c .before .before .before .before in
+    let start = at .before .before .before .before .before .before .before .before .before .before .before in
     let a = start .args in
     let i = at .loop .i in
     let table = used (a .ids .now) (a .locations .now) in
-    let from = source (a .slot-bytes) (a .heap .now) (a .t3 .records) table in
-    let r = recordAt (a .t3 .records) i in
+    let from = source (a .s .«slot_bytes») (a .heap .now) (a .t3 .records) table in
+    let rs = a .t3 .records in
+    let r = recordAt rs i in
     let rest = plannedFrom (i + 1) (drop (i + 1) (a .plan .now)) (a .generation) in
     let inside : i < length (a .plan .now) = omega (arith, start .pre .0 .slots) in
+    let f : List ℕ → Answer = λ ks. decide (groupChecks (a .s .«max_object_size») from ks) in
+    let all = all-records start in
+    let long = length-set (at .loop .lsns) i (r .lsn) ∙ at .loop .inv .2 in
+    let read =
+    ap (λ (ns : List ℕ). set ns i (r .lsn)) (at .loop .inv .5) ∙ copied-next (λ (q : Record). q .lsn) rs i (a .lsns .now) (omega arith) (omega (arith, start .pre .1 .1 .1)) in
     ⊎-elim
     (λ w.
     let here = planned-here (a .plan .now) (a .generation) i inside (w .0 .taken) in
-    let ids = idsOf (foundFile table r (slotBytes (a .slot-bytes) (a .heap .now) i)) in
+    let ids = idsOf (foundFile table r (slotBytes (a .s .«slot_bytes») (a .heap .now) i)) in
     let after : c .if1 .marks ≡ marked (suc i) ids table (at .loop .marks) =
-    w .7 ∙ w .4 .ensures ∙ ap₂ (λ (m : ℕ) (bytes : List ℕ). marked m (idsOf (foundFile table r bytes)) table (at .loop .marks)) (add-one i) (w .1 .ensures) in (
+    w .9 ∙ w .6 .ensures ∙ ap₂ (λ (m : ℕ) (bytes : List ℕ). marked m (idsOf (foundFile table r bytes)) table (at .loop .marks)) (add-one i) (w .1 .ensures) in (
       omega arith,
       ap length after ∙ marked-length (suc i) ids table (at .loop .marks) ∙ at .loop .inv .1,
-      subst (GroupClear from) here (at .loop .inv .2) .1,
-      ap (marksFrom from rest) after ∙ sym (marks-next from i rest (at .loop .marks)) ∙ sym (ap (λ (ks : List ℕ). marksFrom from ks (at .loop .marks)) here) ∙ at .loop .inv .3,
+      long,
+      sym (
+          ap f here
+          ∙ group-on (a .s .«max_object_size») from i _ (checked (record { before = record { before = record { before = c .before; if1 = w .0 }; slot-at = w .1 }; check-file = w .2 }) ∙ w .4 .given .1))
+          ∙ at .loop .inv .3,
+      ap (marksFrom from rest) after ∙ sym (marks-next from i rest (at .loop .marks)) ∙ sym (ap (λ (ks : List ℕ). marksFrom from ks (at .loop .marks)) here) ∙ at .loop .inv .4,
+      read,
     ))
     (λ w.
     let past = planned-next (a .plan .now) (a .generation) i inside (w .0 .left) in (
       omega arith,
       ap length (w .1) ∙ at .loop .inv .1,
-      subst (GroupClear from) past (at .loop .inv .2),
-      ap (marksFrom from rest) (w .1) ∙ sym (ap (λ (ks : List ℕ). marksFrom from ks (at .loop .marks)) past) ∙ at .loop .inv .3,
+      long,
+      sym (ap f past) ∙ at .loop .inv .3,
+      ap (marksFrom from rest) (w .1) ∙ sym (ap (λ (ks : List ℕ). marksFrom from ks (at .loop .marks)) past) ∙ at .loop .inv .4,
+      read,
     ))
     (c .if1 .came)
 
-same-length : tie.Need-same-length Inv-loop μ-loop
-same-length c = search needs
+same-length-3 : tie.Need-same-length-3 Inv-loop μ-loop
+same-length-3 c = search needs
 
-returns : tie.Need-returns Inv-loop μ-loop
-returns c =
+same-length-4 : tie.Need-same-length-4 Inv-loop μ-loop
+same-length-4 c = search needs
+
+returns-2 : tie.Need-returns-2 Inv-loop μ-loop
+returns-2 c =
     let at = c .before in
     let blank = at .before .before .before in
-    let start = blank .before .before .before .before .before .before .before in
+    let start = blank .before .before .before .before .before .before .before .before in
     let a = start .args in
-    let from = source (a .slot-bytes) (a .heap .now) (a .t3 .records) (used (a .ids .now) (a .locations .now)) in
-    sym (
-    ap (λ (ks : List ℕ). marksFrom from ks (at .loop .marks)) (planned-end (a .plan .now) (a .generation) (at .loop .i) (omega (arith, start .pre .0 .slots)))
-    ∙ marks-end from (at .loop .marks))
-    ∙ at .loop .inv .3
-    ∙ ap (λ (n : ℕ). marksOf from n (planned (a .plan .now) (a .generation))) (ap length (blank .unmark .ensures) ∙ length-replicate {A = ℕ} (length (a .marks .now)) 0)
+    let from = source (a .s .«slot_bytes») (a .heap .now) (a .t3 .records) (used (a .ids .now) (a .locations .now)) in
+    let rs = a .t3 .records in
+    let all = all-records start in
+    let past = planned-end (a .plan .now) (a .generation) (at .loop .i) (omega (arith, start .pre .0 .slots)) in (
+      sym (ap (λ (ks : List ℕ). decide (groupChecks (a .s .«max_object_size») from ks)) past ∙ group-none (a .s .«max_object_size») from) ∙ at .loop .inv .3,
+      (
+        (λ e.
+            sym (ap (λ (ks : List ℕ). marksFrom from ks (at .loop .marks)) past ∙ marks-end from (at .loop .marks))
+            ∙ at .loop .inv .4
+            ∙ ap (λ (n : ℕ). marksOf from n (planned (a .plan .now) (a .generation))) (ap length (blank .unmark .ensures) ∙ length-replicate {A = ℕ} (length (a .marks .now)) 0)),
+        (λ e. at .loop .inv .5 ∙ copied-end (λ (r : Record). r .lsn) rs (at .loop .i) (a .lsns .now) (omega arith) (omega (arith, start .pre .1 .1 .1))),
+      ),
+    )
 
 pub mark-group-spec : {M : Type 1} → statement M
 mark-group-spec =
@@ -148,16 +245,25 @@ mark-group-spec =
     μ-loop
     unmark-requires
     loop-holds
+    mul-r
+    element-copy-out-r
+    mul-lsns
+    slice-write-lsns
     mul-if1
     shared-slice-read-if1
     slot-at-requires
-    mul-mark-file
-    element-copy-out-mark-file
+    check-file-requires
+    enum-known-refusal
+    same-length
+    same-length-2
+    returns
+    enum-told
     cast-mark-file
     add-mark-file
     mark-file-requires
     add-i
     loop-less
     loop-again
-    same-length
-    returns)
+    same-length-3
+    same-length-4
+    returns-2)

@@ -7,7 +7,7 @@ use Rattle.gc_group.proofs.marks.unmark.Statement.{statement}
 use Rattle.gc_group.proofs.marks.unmark.Tie as tie
 use mathlib.Core.List.{List}
 use Rattle.gc_group.proofs.Turns.{filled, filled-start, filled-next, filled-end}
-use Rattle.gc_group.specs.MarkLaws.{blank-at}
+use Rattle.rules.specs.BaseLaws.{replicate-at}
 
 abbrev Inv-loop : tie.InvT-loop
 Inv-loop marks₀ i₀ marks i = (i ≤ length marks₀) × (length marks ≡ length marks₀) × (marks ≡ filled (replicate (length marks₀) 0) i marks₀)
@@ -38,7 +38,7 @@ loop-again c =
     let ms = at .before .args .marks .now in
     let n : length (replicate {A = ℕ} (length ms) 0) ≡ length ms = length-replicate {A = ℕ} (length ms) 0 in
     let i = at .loop .i in
-    let zero : 0 ≡ getD (replicate {A = ℕ} (length ms) 0) i 0 = sym (blank-at (length ms) i) in (
+    let zero : 0 ≡ getD (replicate {A = ℕ} (length ms) 0) i 0 = sym (replicate-at {A = ℕ} (length ms) i 0) in (
       omega arith,
       simp length-set (omega arith),
       ap (set (at .loop .marks) i) zero ∙ ap (λ (s : List ℕ). set s i (getD (replicate {A = ℕ} (length ms) 0) i 0)) (at .loop .inv .2)

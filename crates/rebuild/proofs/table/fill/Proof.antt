@@ -8,10 +8,10 @@ use Rattle.rules.specs.Base.{each}
 use Rattle.rules.specs.SlotFile.{View, viewIn, viewsIn}
 use Rattle.rules.specs.SlotLaws.{slots-apart, views-length, views-at}
 use Rattle.rules.specs.Reopen.{fileOf, filesIn}
+use Rattle.rules.specs.BaseLaws.{all-take}
 use Rattle.location_table.specs.Tables.{table}
 use Rattle.reopen_tests.specs.Shown.{Sound, shown-at, sound-views}
 use Rattle.rebuild.specs.Filled.{rowsOf, Filled, filled-none, filled-formed}
-use Rattle.rebuild.proofs.Turns.{all-take}
 use Rattle.rebuild.proofs.FillTurns.{rowsIn, filled-as, chunk-in, chunk-out, slot-in, slot-out, slot-end, views-in-use}
 use native.Mathlib.Omega.{arith}
 use borrow.Author.Needs.{needs}
@@ -50,7 +50,7 @@ fill-slot-requires c κs =
     let a = start .args in
     let l = c .before .before .before .before .before .loop in
     let views = viewsIn (a .n) (a .size) (a .heap .now) in
-    let sound = all-take (Sound (a .size)) views (sound-views (a .n) (a .size) (a .heap .now) (a .t4 .records) (start .pre .1)) (l .k) in (
+    let sound = all-take (Sound (a .size)) (l .k) views (sound-views (a .n) (a .size) (a .heap .now) (a .t4 .records) (start .pre .1)) in (
       filled-formed (table (a .ids .now) (a .locations .now)) (start .pre .0) (rowsIn (take (l .k) views)) (table (l .ids) (l .locations)) (views-in-use (a .size) (take (l .k) views) sound) (l .inv .3),
       rw (c .before .before .before .slot-at .ensures) (shown-at (a .n) (a .size) (a .heap .now) (a .t4 .records) (start .pre .1) (l .k) (c .before .before .before .before .loop-test .taken)),
     )
@@ -69,7 +69,7 @@ returns c =
     let low = c .before .before .before .before .before .before .before .before .before .before .loop-test .taken in
     let views = viewsIn (a .n) (a .size) (a .heap .now) in
     let many = views-length (a .n) (a .size) (a .heap .now) in
-    let sound = all-take (Sound (a .size)) views (sound-views (a .n) (a .size) (a .heap .now) (a .t4 .records) (start .pre .1)) (l .k) in
+    let sound = all-take (Sound (a .size)) (l .k) views (sound-views (a .n) (a .size) (a .heap .now) (a .t4 .records) (start .pre .1)) in
     let view = ap viewIn (c .before .before .before .before .before .before .before .before .before .slot-at .ensures) ∙ sym (views-at (a .n) (a .size) (a .heap .now) (l .k) low) in
     let rows = slot-out views (l .k) (omega arith) ∙ ap (λ (v : View). (rowsIn (take (l .k) views) ++ each rowsOf (fileOf v)) ++ rowsIn (drop (l .k + 1) views)) (sym view) in
     chunk-out (table (a .ids .now) (a .locations .now)) (start .pre .0) (rowsIn (take (l .k) views)) _ (views-in-use (a .size) (take (l .k) views) sound) _ (l .inv .3) _ _ (c .before .before .before .before .before .fill-slot .ensures) (not-true _ (c .if1 .taken)) (rowsIn views) _ rows
@@ -88,7 +88,7 @@ loop-again c =
     let low = c .before .before .before .before .before .before .before .before .before .before .loop-test .taken in
     let views = viewsIn (a .n) (a .size) (a .heap .now) in
     let many = views-length (a .n) (a .size) (a .heap .now) in
-    let sound = all-take (Sound (a .size)) views (sound-views (a .n) (a .size) (a .heap .now) (a .t4 .records) (start .pre .1)) (l .k) in
+    let sound = all-take (Sound (a .size)) (l .k) views (sound-views (a .n) (a .size) (a .heap .now) (a .t4 .records) (start .pre .1)) in
     let view = ap viewIn (c .before .before .before .before .before .before .before .before .before .slot-at .ensures) ∙ sym (views-at (a .n) (a .size) (a .heap .now) (l .k) low) in
     let rows = slot-in views (l .k) (omega arith) ∙ ap (λ (v : View). rowsIn (take (l .k) views) ++ each rowsOf (fileOf v)) (sym view) in (
       omega arith,

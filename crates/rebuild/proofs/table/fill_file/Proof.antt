@@ -4,14 +4,15 @@ use Prim.Native.Nat.{zero-le, _^_, _+_, _≤_, _<_, _-_}
 use borrow.Author.Tests.{not-true, not-false}
 use Rattle.rules.specs.declared.Entry.{Entry}
 use Rattle.disk_location.specs.Locations.{positionOf}
-use Rattle.trailer.specs.Entries.{noEntry, entries-count}
+use Rattle.trailer.specs.Entries.{entries-count}
 use Rattle.rebuild.specs.Latest.{InUse}
 use Rattle.rebuild.specs.Filled.{filled-none, filled-formed, rows-in-use, Filled}
-use Rattle.rebuild.proofs.Turns.{all-at, all-take}
 use Rattle.rebuild.proofs.FillTurns.{filled-as, chunk-in, chunk-out, entry-in, entry-out, entry-end}
 use mathlib.Core.Bool.{true}
 use lib.ListN.{take, length}
 use Rattle.rules.specs.Trailer.{absolute, countIn, entriesIn}
+use Rattle.rules.specs.Table.{noEntry}
+use Rattle.rules.specs.BaseLaws.{all-at, all-take}
 use Rattle.location_table.specs.Tables.{table}
 use native.Mathlib.Omega.{arith}
 use borrow.Author.Needs.{needs}
@@ -43,7 +44,7 @@ absolute-requires c κs =
     let lsn = start .args .lsn in
     let t = start .args .trailer .now in
     let l = c .before .before .loop in
-    let low = all-at (λ (e : Entry). positionOf (e .location) + lsn < 2 ^ 63) noEntry (entriesIn t) (start .pre .2 .low) (l .k) (omega (arith, l .inv, entries-count t (start .pre .1), c .before .loop-test .taken)) in
+    let low = all-at (λ (e : Entry). positionOf (e .location) + lsn < 2 ^ 63) (entriesIn t) (l .k) noEntry (start .pre .2 .low) (omega (arith, l .inv, entries-count t (start .pre .1), c .before .loop-test .taken)) in
     (start .pre .2 .some, subst (λ (e : Entry). positionOf (e .location) + lsn < 2 ^ 63) (sym (c .entry .ensures)) low)
 
 meet-requires : tie.Need-meet-requires Inv-loop μ-loop
@@ -53,7 +54,7 @@ meet-requires c κs =
     let l = c .before .before .before .before .before .loop in
     let rows = map (absolute lsn) (entriesIn (start .args .trailer .now)) in
     let used = rows-in-use lsn (entriesIn (start .args .trailer .now)) (start .pre .2 .some) in (
-      filled-formed (table (start .args .ids .now) (start .args .locations .now)) (start .pre .0) (take (l .k) rows) (table (l .ids) (l .locations)) (all-take InUse rows used (l .k)) (l .inv .4),
+      filled-formed (table (start .args .ids .now) (start .args .locations .now)) (start .pre .0) (take (l .k) rows) (table (l .ids) (l .locations)) (all-take InUse (l .k) rows used) (l .inv .4),
       subst InUse (sym (c .before .before .absolute .ensures)) (rows-in-use lsn (c .before .before .before .entry .result ∷ []) (start .pre .2 .some) .0),
     )
 
@@ -71,7 +72,7 @@ returns c =
     let es = entriesIn t in
     let l = c .before .before .before .before .before .before .before .before .before .before .before .loop in
     let rows = map (absolute lsn) es in
-    let used = all-take InUse rows (rows-in-use lsn es (start .pre .2 .some)) (l .k) in
+    let used = all-take InUse (l .k) rows (rows-in-use lsn es (start .pre .2 .some)) in
     let is = c .before .before .before .before .before .before .before .before .absolute .ensures ∙ ap (absolute lsn) (c .before .before .before .before .before .before .before .before .before .entry .ensures) in
     let low : l .k < length es = omega (arith, l .inv, entries-count t (start .pre .1), c .before .before .before .before .before .before .before .before .before .before .loop-test .taken) in
     chunk-out (table (start .args .ids .now) (start .args .locations .now)) (start .pre .0) (take (l .k) rows) _ used _ (l .inv .4) _ _ (c .before .before .before .before .before .meet .ensures) (not-true _ (c .if1 .taken)) rows _
@@ -91,7 +92,7 @@ loop-again c =
     let es = entriesIn t in
     let l = c .before .before .before .before .before .before .before .before .before .before .before .loop in
     let rows = map (absolute lsn) es in
-    let used = all-take InUse rows (rows-in-use lsn es (start .pre .2 .some)) (l .k) in
+    let used = all-take InUse (l .k) rows (rows-in-use lsn es (start .pre .2 .some)) in
     let is = c .before .before .before .before .before .before .before .before .absolute .ensures ∙ ap (absolute lsn) (c .before .before .before .before .before .before .before .before .before .entry .ensures) in
     let low : l .k < length es = omega (arith, l .inv, entries-count t (start .pre .1), c .before .before .before .before .before .before .before .before .before .before .loop-test .taken) in (
       l .inv .0,

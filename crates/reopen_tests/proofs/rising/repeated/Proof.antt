@@ -1,10 +1,12 @@
 use mathlib.Core.Path.{sym, ap, _∙_, _≡_}
-use Rattle.trailer.specs.Entries.{entries-count, noEntry}
+use Rattle.trailer.specs.Entries.{entries-count}
 use Rattle.rules.specs.declared.Entry.{Entry}
-use Rattle.reopen_tests.proofs.Turns.{any-here, any-later, any-end}
+use Rattle.reopen_tests.proofs.Turns.{any-here, any-later}
 use lib.ListN.{drop, getD}
 use Rattle.rules.specs.Base.{any}
 use Rattle.rules.specs.Trailer.{countIn, entriesIn}
+use Rattle.rules.specs.Table.{noEntry}
+use Rattle.rules.specs.TurnLaws.{any-end}
 use Rattle.reopen_tests.specs.Ascending.{repeats}
 use Prim.Native.Nat.{_+_, _≤_, _-_}
 use native.Mathlib.Omega.{arith}
@@ -64,7 +66,7 @@ returns-2 c =
     let t = c .before .before .before .before .before .args .trailer .now in
     let es = entriesIn t in
     let l = c .before .loop in
-    sym (any-end _ noEntry es (l .j) (omega (arith, entries-count t (c .before .before .before .before .before .pre .1), l .inv))) ∙ l .inv .3
+    sym (any-end es (l .j) (omega (arith, entries-count t (c .before .before .before .before .before .pre .1), l .inv)) _) ∙ l .inv .3
     ∙ ap (λ (e : Entry). any (repeats e) (drop (c .before .before .before .before .before .args .k + 1) es)) (l .inv .2)
 
 pub repeated-spec : {M : Type 1} → statement M

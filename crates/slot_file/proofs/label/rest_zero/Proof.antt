@@ -1,5 +1,5 @@
 use mathlib.Core.Path.{_≡_, sym, _∙_}
-use Rattle.slot_file.specs.Labels.{zeros-more, zeros-not, zeros-end}
+use Rattle.rules.specs.TurnLaws.{zeros-more, zeros-not, zeros-end}
 use Rattle.rules.specs.Base.{zeros}
 use lib.ListN.{drop, length}
 use Prim.Native.Nat.{_-_}

@@ -3,9 +3,10 @@ use lib.ListN.{take, drop, length-drop, length}
 use lib.Seq.{take-all}
 use native.Mathlib.Numerals.{add-one}
 use Rattle.stores.specs.Runs.{made-then}
-use Rattle.slot_writer.specs.Labels.{labelStores, label-length}
+use Rattle.slot_writer.specs.Labels.{labelStores}
 use native.Mathlib.Omega.{arith}
 use borrow.Author.Needs.{needs}
+use Rattle.rules.specs.LabelLaws.{label-length}
 use Rattle.slot_writer.proofs.label.put.Statement.{statement}
 use Rattle.slot_writer.proofs.label.put.Tie as tie
 

@@ -1,0 +1,60 @@
+use mathlib.Core.Path.{ap}
+use Rattle.desk.specs.Desk.{Outcome}
+use borrow.Author.Needs.{needs}
+use Rattle.bench.proofs.commands.after_line.Statement.{statement}
+use Rattle.bench.proofs.commands.after_line.Tie as tie
+
+order-of-requires : tie.Need-order-of-requires
+order-of-requires c κs = search needs
+
+sub-after-order : tie.Need-sub-after-order
+sub-after-order c = search needs
+
+part-after-order-start : tie.Need-part-after-order-start
+part-after-order-start c = search needs
+
+part-after-order-end : tie.Need-part-after-order-end
+part-after-order-end c = search needs
+
+after-order-requires : tie.Need-after-order-requires
+after-order-requires c κs = search needs
+
+array-read-written : tie.Need-array-read-written
+array-read-written c = search needs
+
+written-requires : tie.Need-written-requires
+written-requires c κs = search needs
+
+same-length : tie.Need-same-length
+same-length c = search needs
+
+same-length-2 : tie.Need-same-length-2
+same-length-2 c = search needs
+
+same-length-3 : tie.Need-same-length-3
+same-length-3 c = search needs
+
+same-length-4 : tie.Need-same-length-4
+same-length-4 c = search needs
+
+returns : tie.Need-returns
+returns c =
+    let w = c .before .before .before .before .before .before .before .before .before .before .before in
+    record { keyword = _; numbers = _; bytes = _; done = ap (λ (o : Outcome). o .desk) (w .after-order .ensures); wordless = w .before .before .before .before .before .before .before .before .before .order-of .ensures .1 }
+
+pub after-line-spec : {M : Type 1} → statement M
+after-line-spec =
+    tie.close
+    (tie.spec
+    order-of-requires
+    sub-after-order
+    part-after-order-start
+    part-after-order-end
+    after-order-requires
+    array-read-written
+    written-requires
+    same-length
+    same-length-2
+    same-length-3
+    same-length-4
+    returns)

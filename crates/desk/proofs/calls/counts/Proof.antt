@@ -1,0 +1,17 @@
+use mathlib.Core.Path.{ap}
+use Rattle.desk.specs.Desk.{counted, answered}
+use borrow.Author.Needs.{needs}
+use Rattle.desk.proofs.calls.counts.Statement.{statement}
+use Rattle.desk.proofs.calls.counts.Tie as tie
+
+counts-requires : tie.Need-counts-requires
+counts-requires c κs = search needs
+
+returns : tie.Need-returns
+returns c =
+    let w = c in
+    let a = w .before .before .before .before .before .before .args in
+    ap (answered counted (a .b)) (w .counts .ensures (a .b .claims))
+
+pub counts-spec : {M : Type 1} → statement M
+counts-spec = tie.close (tie.spec counts-requires returns)

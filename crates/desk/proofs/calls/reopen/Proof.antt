@@ -1,0 +1,23 @@
+use mathlib.Core.Path.{ap}
+use Rattle.desk.specs.Desk.{plain, answered}
+use borrow.Author.Needs.{needs}
+use Rattle.desk.proofs.calls.reopen.Statement.{statement}
+use Rattle.desk.proofs.calls.reopen.Tie as tie
+
+reopen-requires : tie.Need-reopen-requires
+reopen-requires c κs = search needs
+
+same-length : tie.Need-same-length
+same-length c = search needs
+
+same-length-2 : tie.Need-same-length-2
+same-length-2 c = search needs
+
+returns : tie.Need-returns
+returns c =
+    let w = c .before .before .before .before .before .before in
+    let a = w .before .before .before .before .before .before .before .before .before .args in
+    ap (answered plain (a .b)) (w .reopen .ensures)
+
+pub reopen-spec : {M : Type 1} → statement M
+reopen-spec = tie.close (tie.spec reopen-requires same-length same-length-2 returns)

@@ -1,0 +1,82 @@
+use Rattle.desk.specs.Commands.{lentBy}
+use Rattle.desk.proofs.Lending.{lending-from}
+use borrow.Author.Needs.{needs}
+use Rattle.desk.proofs.lent.Statement.{statement}
+use Rattle.desk.proofs.lent.Tie as tie
+
+least-requires : tie.Need-least-requires
+least-requires c κs = search needs
+
+least-requires-2 : tie.Need-least-requires-2
+least-requires-2 c κs = search needs
+
+least-requires-3 : tie.Need-least-requires-3
+least-requires-3 c κs = search needs
+
+sub-after-lent : tie.Need-sub-after-lent
+sub-after-lent c = search needs
+
+part-after-lent-start : tie.Need-part-after-lent-start
+part-after-lent-start c = search needs
+
+part-after-lent-end : tie.Need-part-after-lent-end
+part-after-lent-end c = search needs
+
+sub-after-lent-2 : tie.Need-sub-after-lent-2
+sub-after-lent-2 c = search needs
+
+part-after-lent-start-2 : tie.Need-part-after-lent-start-2
+part-after-lent-start-2 c = search needs
+
+part-after-lent-end-2 : tie.Need-part-after-lent-end-2
+part-after-lent-end-2 c = search needs
+
+sub-after-lent-3 : tie.Need-sub-after-lent-3
+sub-after-lent-3 c = search needs
+
+part-after-lent-start-3 : tie.Need-part-after-lent-start-3
+part-after-lent-start-3 c = search needs
+
+part-after-lent-end-3 : tie.Need-part-after-lent-end-3
+part-after-lent-end-3 c = search needs
+
+after-lent-requires : tie.Need-after-lent-requires
+after-lent-requires c κs = search needs
+
+same-length : tie.Need-same-length
+same-length c = search needs
+
+same-length-2 : tie.Need-same-length-2
+same-length-2 c = search needs
+
+same-length-3 : tie.Need-same-length-3
+same-length-3 c = search needs
+
+returns : tie.Need-returns
+returns c =
+    let w = c .before .before .before .before .before .before in
+    let a = w .before .before .before .before .before .before .before .before .before .before .before .args in
+    lending-from (lentBy (a .keyword) (a .n) (a .bytes .now)) (a .b) (a .heap .now) (a .ids .now) (a .locations .now) (w .before .before .before .before .before .before .least .result) (w .before .before .before .before .before .least2 .result) (w .before .before .before .before .least3 .result) (w .after-lent .result) _ _ _
+    (w .before .before .before .before .before .before .least .ensures .2) (w .before .before .before .before .before .least2 .ensures .2) (w .before .before .before .before .least3 .ensures .2) (w .after-lent .ensures)
+
+pub lent-spec : {M : Type 1} → statement M
+lent-spec =
+    tie.close
+    (tie.spec
+    least-requires
+    least-requires-2
+    least-requires-3
+    sub-after-lent
+    part-after-lent-start
+    part-after-lent-end
+    sub-after-lent-2
+    part-after-lent-start-2
+    part-after-lent-end-2
+    sub-after-lent-3
+    part-after-lent-start-3
+    part-after-lent-end-3
+    after-lent-requires
+    same-length
+    same-length-2
+    same-length-3
+    returns)

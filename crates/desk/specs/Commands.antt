@@ -1,0 +1,156 @@
+-- What each command of the console does.
+use Rattle.rules.specs.Base.{_||_, List, ℕ, _+_, length, getD, set, replicate, leb, ltb, pick}
+use Rattle.rules.specs.Layout.{Buffers, cleared}
+use Rattle.rules.specs.Settings.{defaults}
+use Rattle.rules.specs.Claims.{noClaims, claimCall, releaseCall}
+use Rattle.rules.specs.Counts.{countsCall}
+use Rattle.rules.specs.Maintenance.{maintainCall}
+use Rattle.rules.specs.Prune.{pruneCall}
+use Rattle.rules.specs.Read.{readCall}
+use Rattle.rules.specs.Reopen.{reopenCall}
+use Rattle.rules.specs.TableCalls.{loadCall, storeCall, compareCall, greaterCall}
+use Rattle.rules.specs.World.{World, noState}
+use Rattle.rules.specs.Write.{writeCall}
+use Rattle.numbers.specs.Parts.{putAt}
+use Rattle.script.specs.declared.Keyword.the-variants as key
+use Rattle.desk.specs.Types.{Settings, Record, State, Claims, Keyword, Bench, Comment, Help, Listing, Dump, BadLine, Turn}
+use Rattle.desk.specs.Desk.{Desk, desk, plain, found, moved, counted, located, compared, raised, Outcome, left, replied, done, badLine, looked, changed, called, onTable, onLent}
+
+-- number k of a line
+abbrev pub nth : List ℕ → ℕ → ℕ
+nth n k = getD n k 0
+
+-- ---- settings and state by hand
+-- `settings S PERCENT MINFILES TARGET THRESHOLD MAXOBJECT`
+abbrev pub settingsFrom : List ℕ → Settings
+settingsFrom n = record {
+  «slot_bytes» = nth n 0;
+  «file_compaction_percent» = nth n 1;
+  «min_compaction_files» = nth n 2;
+  «target_file_size» = nth n 3;
+  «small_file_cleanup_threshold» = nth n 4;
+  «max_object_size» = nth n 5;
+}
+
+-- `state`, the six settings, then `HEAPBYTES TABLE NEXT`
+abbrev pub stateFrom : List ℕ → State → State
+stateFrom n s = record { settings = settingsFrom n; «heap_len» = nth n 6; «table_len» = nth n 7; files = s .files; «next_position» = nth n 8 }
+
+-- `record SLOT LSN T SIZE PRESENT GEN LIVE`
+abbrev pub recordFrom : List ℕ → Record
+recordFrom n = record { lsn = nth n 1; «trailer_offset» = nth n 2; «file_size» = nth n 3; «present_objects» = nth n 4; generation = nth n 5; live = nth n 6 }
+
+-- `claims A B C D`
+abbrev pub claimsFrom : List ℕ → Claims
+claimsFrom n = record { a = nth n 0; b = nth n 1; c = nth n 2; d = nth n 3 }
+
+-- all else the same
+abbrev pub withSettings : Bench → Settings → Bench
+withSettings b s = record { settings = s; state = b .state; claims = b .claims; «heap_len» = b .«heap_len»; «ids_len» = b .«ids_len»; «locations_len» = b .«locations_len» }
+
+-- all else the same
+abbrev pub withState : Bench → State → Bench
+withState b s = record { settings = b .settings; state = s; claims = b .claims; «heap_len» = b .«heap_len»; «ids_len» = b .«ids_len»; «locations_len» = b .«locations_len» }
+
+-- all else the same
+abbrev pub withClaims : Bench → Claims → Bench
+withClaims b c = record { settings = b .settings; state = b .state; claims = c; «heap_len» = b .«heap_len»; «ids_len» = b .«ids_len»; «locations_len» = b .«locations_len» }
+
+-- a record put into its slot
+abbrev pub withRecord : State → ℕ → Record → State
+withRecord s slot r = record { settings = s .settings; «heap_len» = s .«heap_len»; «table_len» = s .«table_len»; files = record { records = set (s .files .records) slot r }; «next_position» = s .«next_position» }
+
+-- a slot past the file map: `bad line`
+abbrev pub recordBy : List ℕ → Bench → Turn
+recordBy n b = pick (leb 256 (nth n 0)) (replied BadLine b) (done (withState b (withRecord (b .state) (nth n 0) (recordFrom n))))
+
+-- ---- buffers by hand
+-- another heap length lent
+abbrev pub lendingHeap : Bench → ℕ → Bench
+lendingHeap b bytes = record { settings = b .settings; state = b .state; claims = b .claims; «heap_len» = bytes; «ids_len» = b .«ids_len»; «locations_len» = b .«locations_len» }
+
+-- other table lengths lent
+abbrev pub lendingTable : Bench → ℕ → ℕ → Bench
+lendingTable b ids locations = record { settings = b .settings; state = b .state; claims = b .claims; «heap_len» = b .«heap_len»; «ids_len» = ids; «locations_len» = locations }
+
+-- `heap BYTES`: lends so many zeros
+abbrev pub heapBy : ℕ → Desk → Outcome
+heapBy bytes d =
+    pick (ltb (length (d .heap)) bytes) (badLine d)
+    (changed (desk (lendingHeap (d .bench) bytes) (replicate (length (d .heap)) 0) (d .ids) (d .locations)))
+
+-- `table IDS LOCATIONS`: lends so many zeros of each
+abbrev pub tableBy : ℕ → ℕ → Desk → Outcome
+tableBy ids locations d =
+    pick (ltb (length (d .ids)) ids || ltb (length (d .locations)) locations) (badLine d)
+    (changed (desk (lendingTable (d .bench) ids locations) (d .heap) (replicate (length (d .ids)) 0) (replicate (length (d .locations)) 0)))
+
+-- `poke OFFSET HEX`: within the lent heap
+abbrev pub pokeBy : ℕ → List ℕ → Desk → Outcome
+pokeBy at bytes d = pick (ltb (length (d .heap)) (at + length bytes)) (badLine d) (changed (desk (d .bench) (putAt (d .heap) at bytes) (d .ids) (d .locations)))
+
+-- `entry K ID RAW`: a place below both lent lengths
+abbrev pub entryBy : ℕ → ℕ → ℕ → Desk → Outcome
+entryBy k id raw d =
+    pick (leb (length (d .ids)) k || leb (length (d .locations)) k) (badLine d) (changed (desk (d .bench) (d .heap) (set (d .ids) k id) (set (d .locations) k raw)))
+
+-- ---- the commands: a keyword, its numbers and bytes
+-- those on the lent parts
+unfoldable pub lentBy : Keyword → List ℕ → List ℕ → Desk → Outcome
+lentBy key.Poke n bytes d = pokeBy (nth n 0) bytes d
+lentBy key.Entry n bytes d = entryBy (nth n 0) (nth n 1) (nth n 2) d
+lentBy key.Reopen n bytes d = called plain reopenCall d
+lentBy key.Write n bytes d = called plain (λ (w : World). writeCall w bytes) d
+lentBy key.Read n bytes d = called found (λ (w : World). readCall w (nth n 0)) d
+lentBy key.Prune n bytes d = called plain pruneCall d
+lentBy key.Maintain n bytes d = called moved maintainCall d
+lentBy key.Claim n bytes d = called plain (λ (w : World). claimCall w (nth n 0)) d
+lentBy key.Release n bytes d = called plain (λ (w : World). releaseCall w (nth n 0)) d
+lentBy key.Counts n bytes d = called counted countsCall d
+lentBy key.Load n bytes d = called located (onTable (λ (t : Buffers). loadCall t (nth n 0))) d
+lentBy key.Store n bytes d = called plain (onTable (λ (t : Buffers). storeCall t (nth n 0) (nth n 1))) d
+lentBy key.Cas n bytes d = called compared (onTable (λ (t : Buffers). compareCall t (nth n 0) (nth n 1) (nth n 2))) d
+lentBy key.Max n bytes d = called raised (onTable (λ (t : Buffers). greaterCall t (nth n 0) (nth n 1))) d
+lentBy key.Blank n bytes d = badLine d
+lentBy key.Bad n bytes d = badLine d
+lentBy key.Settings n bytes d = badLine d
+lentBy key.Heap n bytes d = badLine d
+lentBy key.Table n bytes d = badLine d
+lentBy key.State n bytes d = badLine d
+lentBy key.Record n bytes d = badLine d
+lentBy key.Claims n bytes d = badLine d
+lentBy key.List n bytes d = badLine d
+lentBy key.Dump n bytes d = badLine d
+lentBy key.Help n bytes d = badLine d
+
+-- all of them
+unfoldable pub doneBy : Keyword → List ℕ → List ℕ → Desk → Outcome
+doneBy key.Blank n bytes d = looked Comment d
+doneBy key.Bad n bytes d = badLine d
+doneBy key.Settings n bytes d = left (done (withSettings (d .bench) (settingsFrom n))) (d .heap) (d .ids) (d .locations)
+doneBy key.State n bytes d = left (done (withState (d .bench) (stateFrom n (d .bench .state)))) (d .heap) (d .ids) (d .locations)
+doneBy key.Record n bytes d = left (recordBy n (d .bench)) (d .heap) (d .ids) (d .locations)
+doneBy key.Claims n bytes d = left (done (withClaims (d .bench) (claimsFrom n))) (d .heap) (d .ids) (d .locations)
+doneBy key.Heap n bytes d = heapBy (nth n 0) d
+doneBy key.Table n bytes d = tableBy (nth n 0) (nth n 1) d
+doneBy key.List n bytes d = looked Listing d
+doneBy key.Dump n bytes d = looked Dump d
+doneBy key.Help n bytes d = looked Help d
+doneBy key.Poke n bytes d = onLent (lentBy key.Poke n bytes) d
+doneBy key.Entry n bytes d = onLent (lentBy key.Entry n bytes) d
+doneBy key.Reopen n bytes d = onLent (lentBy key.Reopen n bytes) d
+doneBy key.Write n bytes d = onLent (lentBy key.Write n bytes) d
+doneBy key.Read n bytes d = onLent (lentBy key.Read n bytes) d
+doneBy key.Prune n bytes d = onLent (lentBy key.Prune n bytes) d
+doneBy key.Maintain n bytes d = onLent (lentBy key.Maintain n bytes) d
+doneBy key.Claim n bytes d = onLent (lentBy key.Claim n bytes) d
+doneBy key.Release n bytes d = onLent (lentBy key.Release n bytes) d
+doneBy key.Counts n bytes d = onLent (lentBy key.Counts n bytes) d
+doneBy key.Load n bytes d = onLent (lentBy key.Load n bytes) d
+doneBy key.Store n bytes d = onLent (lentBy key.Store n bytes) d
+doneBy key.Cas n bytes d = onLent (lentBy key.Cas n bytes) d
+doneBy key.Max n bytes d = onLent (lentBy key.Max n bytes) d
+
+-- ---- before the first command
+abbrev pub freshBench : Bench
+freshBench = record { settings = defaults; state = noState; claims = noClaims; «heap_len» = 65536; «ids_len» = 1024; «locations_len» = 1024 }

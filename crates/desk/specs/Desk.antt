@@ -1,0 +1,125 @@
+-- The desk: what the console's commands are given and change; what a command leaves.
+use Rattle.rules.specs.Base.{List, [], _++_, ℕ, take, drop}
+use Rattle.rules.specs.Layout.{Buffers}
+use Rattle.rules.specs.TableCalls.{TableAfter}
+use Rattle.rules.specs.World.{World, world, Given, accepted, answerGiven, readGiven, maintainGiven, countsGiven, loadGiven, compareGiven, After}
+use Rattle.desk.specs.Types.{Settings, State, Claims, Done, Bench, Look, Reply, BadLine, Answered, Read, Maintained, Counted, Loaded, Compared, Raised, Shown, Turn}
+
+-- settings, state, claims and how much of each buffer is lent; the three buffers, whole
+pub record Desk : Type 0 where
+  pub bench : Bench
+  pub heap : List ℕ
+  pub ids : List ℕ
+  pub locations : List ℕ
+
+-- the same, as a command's parameters give it
+abbrev pub desk : Bench → List ℕ → List ℕ → List ℕ → Desk
+desk bench heap ids locations = record { bench = bench; heap = heap; ids = ids; locations = locations }
+
+-- ---- replies
+-- in which words an answer is written: `ok`; a body; a count of ids; four counts; a location; the one that differs; the one held before
+pub data Words : Type 0 where
+  plain : Words
+  found : Words
+  moved : Words
+  counted : Words
+  located : Words
+  compared : Words
+  raised : Words
+
+-- `bad line`; the paper's number and values; lines to look at
+pub data Said : Type 0 where
+  bad-line : Said
+  gave : Words → Given → Said
+  shows : Look → Said
+
+-- what a reply says
+abbrev pub said : Reply → Said
+said BadLine = bad-line
+said (Answered a) = gave plain (answerGiven a)
+said (Read a) = gave found (readGiven a)
+said (Maintained a) = gave moved (maintainGiven a)
+said (Counted a) = gave counted (countsGiven a)
+said (Loaded a) = gave located (loadGiven a)
+said (Compared a) = gave compared (compareGiven a)
+said (Raised a) = gave raised (loadGiven a)
+said (Shown look) = shows look
+
+-- a command's reply, and the desk after it
+pub record Outcome : Type 0 where
+  pub reply : Said
+  pub desk : Desk
+
+-- the same, as a command's result and the buffers give it
+abbrev pub left : Turn → List ℕ → List ℕ → List ℕ → Outcome
+left turn heap ids locations = record { reply = said (turn .reply); desk = desk (turn .bench) heap ids locations }
+
+-- a reply, the bench as it was
+abbrev pub replied : Reply → Bench → Turn
+replied reply bench = record { reply = reply; bench = bench }
+
+-- `ok` to a command by hand
+abbrev pub done : Bench → Turn
+done bench = replied (Answered Done) bench
+
+-- "bad line, and nothing changes"
+abbrev pub badLine : Desk → Outcome
+badLine d = record { reply = bad-line; desk = d }
+
+-- a look changes nothing
+abbrev pub looked : Look → Desk → Outcome
+looked look d = record { reply = shows look; desk = d }
+
+-- `ok`
+abbrev pub changed : Desk → Outcome
+changed d = record { reply = gave plain (accepted []); desk = d }
+
+-- ---- a call
+-- what a call is given
+abbrev pub worldOf : Desk → World
+worldOf d = world (d .bench .settings) (d .bench .state) (d .bench .claims) (d .heap) (d .ids) (d .locations)
+
+-- a world on a desk that lends as much as before
+abbrev pub deskOf : Bench → World → Desk
+deskOf b w = record {
+  bench = record { settings = w .settings; state = w .state; claims = w .claims; «heap_len» = b .«heap_len»; «ids_len» = b .«ids_len»; «locations_len» = b .«locations_len» };
+  heap = w .heap;
+  ids = w .table .ids;
+  locations = w .table .locations;
+}
+
+-- its answer, and everything after it
+abbrev pub answered : Words → Bench → After → Outcome
+answered words b a = record { reply = gave words (a .answer); desk = deskOf b (a .world) }
+
+-- a call of the rules
+abbrev pub called : Words → (World → After) → Desk → Outcome
+called words call d = answered words (d .bench) (call (worldOf d))
+
+-- a world with another table
+abbrev pub withTable : World → Buffers → World
+withTable w t = record { settings = w .settings; state = w .state; claims = w .claims; heap = w .heap; table = t }
+
+-- what a table call left, beside the rest of the world
+abbrev pub besides : World → TableAfter → After
+besides w t = record { answer = t .answer; world = withTable w (t .table) }
+
+-- a table call goes by the two table buffers alone
+abbrev pub onTable : (Buffers → TableAfter) → World → After
+onTable call w = besides w (call (w .table))
+
+-- ---- the lent parts
+-- what a command on the lent parts is given
+abbrev pub lentOf : Desk → Desk
+lentOf d = desk (d .bench) (take (d .bench .«heap_len») (d .heap)) (take (d .bench .«ids_len») (d .ids)) (take (d .bench .«locations_len») (d .locations))
+
+-- the parts come back; what was not lent stays
+abbrev pub putBack : Desk → Outcome → Outcome
+putBack d o = record {
+  reply = o .reply;
+  desk = desk (o .desk .bench) (o .desk .heap ++ drop (d .bench .«heap_len») (d .heap)) (o .desk .ids ++ drop (d .bench .«ids_len») (d .ids)) (o .desk .locations ++ drop (d .bench .«locations_len») (d .locations));
+}
+
+-- a command on the lent parts
+abbrev pub onLent : (Desk → Outcome) → Desk → Outcome
+onLent command d = putBack d (command (lentOf d))

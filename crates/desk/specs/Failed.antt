@@ -1,0 +1,232 @@
+-- "bad line, and nothing changes"; "A refusal changes no state or buffer": a command that fails leaves the desk as it was, but for the two
+-- that document 01 names.
+use mathlib.Core.Path.{_≡_, refl, sym, ap, _∙_}
+use mathlib.Core.Logic.{_⊎_, inl, inr}
+use native.Mathlib.Omega.{arith}
+use lib.ListN.{take-append-drop}
+use Rattle.rules.specs.Base.{Bool, true, false, not, _||_, List, [], _∷_, ℕ, _+_, length, set, replicate, leb, ltb, eqb, pick}
+use Rattle.rules.specs.declared.Held.{Held}
+use Rattle.rules.specs.declared.Held.the-variants.{Mapped, Unmapped}
+use Rattle.rules.specs.declared.Refusal.the-variants.{TableRoom, NotThere, EqualLocation, Location}
+use Rattle.rules.specs.Refusal.{_gives_, decide, after}
+use Rattle.rules.specs.Condition1.{outOfRange, refused1}
+use Rattle.rules.specs.Counts.{countsCall}
+use Rattle.rules.specs.Layout.{Buffers, capacityOf, usedEntries}
+use Rattle.rules.specs.Maintenance.{maintainCall, courseOf, finished}
+use Rattle.rules.specs.Read.{readCall}
+use Rattle.rules.specs.Reopen.{reopenCall, reopenTests, givenUp, opened}
+use Rattle.rules.specs.SlotFile.{viewsIn}
+use Rattle.rules.specs.Table.{lookup, unmapped, mappedTo, full}
+use Rattle.rules.specs.TableCalls.{TableAfter, notForm, same, heldGiven, below, withStored, loadCall, storeCall, compareCall, greaterCall}
+use Rattle.rules.specs.World.{World, Given, accepted, refused, slotsOf, unchanged, After}
+use Rattle.numbers.specs.Parts.{putAt}
+use Rattle.theory.specs.History.{Call, write, prune, claim, release}
+use Rattle.theory.specs.History.{called as calling}
+use Rattle.theory.specs.Writes.{refused-unchanged}
+use Rattle.theory.specs.Writes.{Plain as PlainCall}
+use Rattle.script.specs.declared.Keyword.the-variants as key
+use Rattle.desk.specs.Types.{Refusal, Limits, Answer, Done, Refused, Keyword, Bench, BadLine}
+use Rattle.desk.specs.Desk.{Desk, desk, Words, plain, found, moved, counted, located, compared, raised, Said, bad-line, gave, shows, Outcome, left, replied, done, badLine, changed, worldOf, deskOf, answered, called, onTable, lentOf, putBack, onLent}
+use Rattle.desk.specs.Commands.{nth, recordFrom, withState, withRecord, lendingHeap, lendingTable, heapBy, tableBy, pokeBy, entryBy, lentBy, doneBy}
+
+-- `bad line`, or a refusal's number
+abbrev pub failing : Said → Bool
+failing bad-line = true
+failing (gave words g) = not (eqb (g .number) 0)
+failing (shows look) = false
+
+-- the two commands whose failure may change something
+abbrev pub Kept : Keyword → Type 0
+Kept key.Blank = Unit {0}
+Kept key.Bad = Unit {0}
+Kept key.Settings = Unit {0}
+Kept key.Heap = Unit {0}
+Kept key.Table = Unit {0}
+Kept key.Poke = Unit {0}
+Kept key.Entry = Unit {0}
+Kept key.State = Unit {0}
+Kept key.Record = Unit {0}
+Kept key.Claims = Unit {0}
+Kept key.Reopen = ⊥
+Kept key.Write = Unit {0}
+Kept key.Claim = Unit {0}
+Kept key.Release = Unit {0}
+Kept key.Prune = Unit {0}
+Kept key.Read = Unit {0}
+Kept key.Maintain = ⊥
+Kept key.Counts = Unit {0}
+Kept key.Load = Unit {0}
+Kept key.Store = Unit {0}
+Kept key.Cas = Unit {0}
+Kept key.Max = Unit {0}
+Kept key.List = Unit {0}
+Kept key.Dump = Unit {0}
+Kept key.Help = Unit {0}
+
+clash : false ≡ true → ⊥
+clash e = let z : _≡_ {A = ℕ} 0 1 = ap (λ (t : Bool). pick t 1 0) e in omega arith
+
+-- a refused answer is no success
+not-accepted : (g : Given) → not (eqb (g .number) 0) ≡ true → g ≡ accepted [] → ⊥
+not-accepted g h p = clash (sym (ap (λ (x : Given). not (eqb (x .number) 0)) p) ∙ h)
+
+-- ---- by hand
+bad-kept : (t : Bool) (d e : Desk) → failing (pick t (badLine d) (changed e) .reply) ≡ true → pick t (badLine d) (changed e) .desk ≡ d
+bad-kept true d e h = refl
+bad-kept false d e h = absurd (clash h)
+
+heap-kept : (bytes : ℕ) (d : Desk) → failing (heapBy bytes d .reply) ≡ true → heapBy bytes d .desk ≡ d
+heap-kept bytes d h = bad-kept (ltb (length (d .heap)) bytes) d (desk (lendingHeap (d .bench) bytes) (replicate (length (d .heap)) 0) (d .ids) (d .locations)) h
+
+lending-kept : (ids locations : ℕ) (d : Desk) → failing (tableBy ids locations d .reply) ≡ true → tableBy ids locations d .desk ≡ d
+lending-kept ids locations d h =
+    bad-kept (ltb (length (d .ids)) ids || ltb (length (d .locations)) locations) d
+    (desk (lendingTable (d .bench) ids locations) (d .heap) (replicate (length (d .ids)) 0) (replicate (length (d .locations)) 0)) h
+
+poke-kept : (at : ℕ) (bytes : List ℕ) (d : Desk) → failing (pokeBy at bytes d .reply) ≡ true → pokeBy at bytes d .desk ≡ d
+poke-kept at bytes d h = bad-kept (ltb (length (d .heap)) (at + length bytes)) d (desk (d .bench) (putAt (d .heap) at bytes) (d .ids) (d .locations)) h
+
+entry-kept : (k id raw : ℕ) (d : Desk) → failing (entryBy k id raw d .reply) ≡ true → entryBy k id raw d .desk ≡ d
+entry-kept k id raw d h =
+    bad-kept (leb (length (d .ids)) k || leb (length (d .locations)) k) d (desk (d .bench) (d .heap) (set (d .ids) k id) (set (d .locations) k raw)) h
+
+record-kept : (t : Bool) (d : Desk) (b : Bench) → failing (left (pick t (replied BadLine (d .bench)) (done b)) (d .heap) (d .ids) (d .locations) .reply) ≡ true
+    → left (pick t (replied BadLine (d .bench)) (done b)) (d .heap) (d .ids) (d .locations) .desk ≡ d
+record-kept true d b h = refl
+record-kept false d b h = absurd (clash h)
+
+-- ---- the lent parts
+-- parts that come back as they were lent are the buffers as they were
+pub back-same : (d : Desk) (o : Outcome) → o .desk ≡ lentOf d → putBack d o .desk ≡ d
+back-same d o e =
+    ap (λ (l : Desk). putBack d (record { reply = o .reply; desk = l }) .desk) e
+    ∙ rw (take-append-drop (d .bench .«heap_len») (d .heap), take-append-drop (d .bench .«ids_len») (d .ids), take-append-drop (d .bench .«locations_len») (d .locations)) refl
+
+-- ---- calls
+-- a call that leaves the world leaves the desk
+world-kept : (words : Words) (call : World → After) (d : Desk) → call (worldOf d) .world ≡ worldOf d → called words call d .desk ≡ d
+world-kept words call d e = ap (deskOf (d .bench)) e
+
+-- the four that are refused as one
+call-kept : (c : Call) → PlainCall c → (d : Desk) → not (eqb (calling (worldOf d) c .answer .number) 0) ≡ true → called plain (λ (w : World). calling w c) d .desk ≡ d
+call-kept c p d h = world-kept plain (λ (w : World). calling w c) d (refused-unchanged (worldOf d) c p (not-accepted (calling (worldOf d) c .answer) h))
+
+-- a refused table call, of those whose success has number 0
+table-kept : (b : Buffers) (a : Answer) (x : TableAfter) → x .answer .number ≡ 0
+    → not (eqb (after a (λ (r : Refusal). same b (refused r)) x .answer .number) 0) ≡ true → after a (λ (r : Refusal). same b (refused r)) x .table ≡ b
+table-kept b Done x z h = absurd (clash (sym (ap (λ (k : ℕ). not (eqb k 0)) z) ∙ h))
+table-kept b (Refused r) x z h = refl
+
+held-zero : (h : Held) → heldGiven h .number ≡ 0
+held-zero (Mapped l) = refl
+held-zero Unmapped = refl
+
+-- it leaves the desk too
+on-table : (words : Words) (call : Buffers → TableAfter) (d : Desk) → call (worldOf d .table) .table ≡ worldOf d .table → called words (onTable call) d .desk ≡ d
+on-table words call d e = ap (λ (t : Buffers). desk (d .bench) (d .heap) (t .ids) (t .locations)) e
+
+load-kept : (b : Buffers) (id : ℕ) → loadCall b id .table ≡ b
+unfolding loadCall
+load-kept b id = refl
+
+store-kept : (b : Buffers) (id raw : ℕ) → not (eqb (storeCall b id raw .answer .number) 0) ≡ true → storeCall b id raw .table ≡ b
+unfolding storeCall
+store-kept b id raw h =
+    table-kept b (decide (notForm b gives Limits ∷ eqb raw 0 gives Location ∷ full (usedEntries b) (capacityOf b) id gives TableRoom ∷ []))
+    (record { answer = accepted []; table = withStored b id raw }) refl h
+
+compare-kept : (b : Buffers) (id old raw : ℕ) → not (eqb (compareCall b id old raw .answer .number) 0) ≡ true → compareCall b id old raw .table ≡ b
+unfolding compareCall
+compare-kept b id old raw h =
+    let held = lookup (usedEntries b) id in
+    table-kept b (decide (notForm b gives Limits ∷ (eqb old 0 || eqb raw 0) gives Location ∷ unmapped held gives NotThere ∷ []))
+    (pick (mappedTo held old) (record { answer = accepted []; table = withStored b id raw }) (same b (heldGiven held))) (either (mappedTo held old) held (withStored b id raw)) h
+  where
+    either : (t : Bool) (held : Held) (y : Buffers) → pick t (record { answer = accepted []; table = y }) (same b (heldGiven held)) .answer .number ≡ 0
+    either true held y = refl
+    either false held y = held-zero held
+
+greater-kept : (b : Buffers) (id raw : ℕ) → not (eqb (greaterCall b id raw .answer .number) 0) ≡ true → greaterCall b id raw .table ≡ b
+unfolding greaterCall
+greater-kept b id raw h =
+    let held = lookup (usedEntries b) id in
+    table-kept b
+    (decide (notForm b gives Limits ∷ eqb raw 0 gives Location ∷ mappedTo held raw gives EqualLocation ∷ full (usedEntries b) (capacityOf b) id gives TableRoom ∷ []))
+    (record { answer = heldGiven held; table = pick (below held raw) (withStored b id raw) b }) (held-zero held) h
+
+read-kept : (w : World) (id : ℕ) → readCall w id .world ≡ w
+unfolding readCall
+read-kept w id = refl
+
+counts-kept : (w : World) → countsCall w .world ≡ w
+unfolding countsCall
+counts-kept w = refl
+
+-- LAW: a command that fails changes nothing
+pub failed-unchanged : (k : Keyword) → Kept k → (n bytes : List ℕ) (d : Desk) → failing (doneBy k n bytes d .reply) ≡ true → doneBy k n bytes d .desk ≡ d
+unfolding doneBy lentBy
+failed-unchanged key.Blank p n bytes d h = refl
+failed-unchanged key.Bad p n bytes d h = refl
+failed-unchanged key.Settings p n bytes d h = absurd (clash h)
+failed-unchanged key.Heap p n bytes d h = heap-kept (nth n 0) d h
+failed-unchanged key.Table p n bytes d h = lending-kept (nth n 0) (nth n 1) d h
+failed-unchanged key.Poke p n bytes d h = back-same d (lentBy key.Poke n bytes (lentOf d)) (poke-kept (nth n 0) bytes (lentOf d) h)
+failed-unchanged key.Entry p n bytes d h = back-same d (lentBy key.Entry n bytes (lentOf d)) (entry-kept (nth n 0) (nth n 1) (nth n 2) (lentOf d) h)
+failed-unchanged key.State p n bytes d h = absurd (clash h)
+failed-unchanged key.Record p n bytes d h = record-kept (leb 256 (nth n 0)) d (withState (d .bench) (withRecord (d .bench .state) (nth n 0) (recordFrom n))) h
+failed-unchanged key.Claims p n bytes d h = absurd (clash h)
+failed-unchanged key.Reopen p n bytes d h = absurd p
+failed-unchanged key.Write p n bytes d h = back-same d (lentBy key.Write n bytes (lentOf d)) (call-kept (write bytes) tt (lentOf d) h)
+failed-unchanged key.Claim p n bytes d h = back-same d (lentBy key.Claim n bytes (lentOf d)) (call-kept (claim (nth n 0)) tt (lentOf d) h)
+failed-unchanged key.Release p n bytes d h = back-same d (lentBy key.Release n bytes (lentOf d)) (call-kept (release (nth n 0)) tt (lentOf d) h)
+failed-unchanged key.Prune p n bytes d h = back-same d (lentBy key.Prune n bytes (lentOf d)) (call-kept prune tt (lentOf d) h)
+failed-unchanged key.Read p n bytes d h =
+    back-same d (lentBy key.Read n bytes (lentOf d)) (world-kept found (λ (w : World). readCall w (nth n 0)) (lentOf d) (read-kept (worldOf (lentOf d)) (nth n 0)))
+failed-unchanged key.Maintain p n bytes d h = absurd p
+failed-unchanged key.Counts p n bytes d h = back-same d (lentBy key.Counts n bytes (lentOf d)) (world-kept counted countsCall (lentOf d) (counts-kept (worldOf (lentOf d))))
+failed-unchanged key.Load p n bytes d h =
+    back-same d (lentBy key.Load n bytes (lentOf d)) (on-table located (λ (t : Buffers). loadCall t (nth n 0)) (lentOf d) (load-kept (worldOf (lentOf d) .table) (nth n 0)))
+failed-unchanged key.Store p n bytes d h =
+    back-same d (lentBy key.Store n bytes (lentOf d))
+    (on-table plain (λ (t : Buffers). storeCall t (nth n 0) (nth n 1)) (lentOf d) (store-kept (worldOf (lentOf d) .table) (nth n 0) (nth n 1) h))
+failed-unchanged key.Cas p n bytes d h =
+    back-same d (lentBy key.Cas n bytes (lentOf d))
+    (on-table compared (λ (t : Buffers). compareCall t (nth n 0) (nth n 1) (nth n 2)) (lentOf d) (compare-kept (worldOf (lentOf d) .table) (nth n 0) (nth n 1) (nth n 2) h))
+failed-unchanged key.Max p n bytes d h =
+    back-same d (lentBy key.Max n bytes (lentOf d))
+    (on-table raised (λ (t : Buffers). greaterCall t (nth n 0) (nth n 1)) (lentOf d) (greater-kept (worldOf (lentOf d) .table) (nth n 0) (nth n 1) h))
+failed-unchanged key.List p n bytes d h = refl
+failed-unchanged key.Dump p n bytes d h = refl
+failed-unchanged key.Help p n bytes d h = refl
+
+-- LAW: a reopening refused with 1 changes nothing
+pub reopen-limits : (n bytes : List ℕ) (d : Desk) → outOfRange (worldOf (lentOf d) .settings) (length (lentOf d .heap)) (worldOf (lentOf d) .table) ≡ true → doneBy key.Reopen n bytes d .desk ≡ d
+unfolding reopenCall decide doneBy lentBy
+reopen-limits n bytes d e = back-same d (lentBy key.Reopen n bytes (lentOf d)) (world-kept plain reopenCall (lentOf d) (rw e refl))
+
+first-clear : (w : World) → outOfRange (w .settings) (length (w .heap)) (w .table) ≡ false → decide (outOfRange (w .settings) (length (w .heap)) (w .table) gives Limits ∷ []) ≡ Done
+unfolding decide
+first-clear w e = rw e refl
+
+-- LAW: refused with any other number it leaves what `givenUp` says: no file, no claims, next position 1, the lent table zeroed; the heap stays
+pub reopen-given-up : (n bytes : List ℕ) (d : Desk) (r : Refusal) → outOfRange (worldOf (lentOf d) .settings) (length (lentOf d .heap)) (worldOf (lentOf d) .table) ≡ false
+    → decide (reopenTests (worldOf (lentOf d)) (viewsIn (slotsOf (worldOf (lentOf d))) (worldOf (lentOf d) .settings .«slot_bytes») (lentOf d .heap))) ≡ Refused r
+    → doneBy key.Reopen n bytes d ≡ onLent (called plain (λ (w : World). givenUp w r)) d
+unfolding reopenCall doneBy lentBy
+reopen-given-up n bytes d r e f =
+    let w = worldOf (lentOf d) in
+    let up : reopenCall w ≡ givenUp w r = rw (first-clear w e, f) refl in
+    ap (λ (a : After). putBack d (answered plain (d .bench) a)) up
+
+-- LAW: maintenance refused with 1 changes nothing
+pub maintain-limits : (n bytes : List ℕ) (d : Desk) → refused1 (worldOf (lentOf d)) ≡ true → doneBy key.Maintain n bytes d .desk ≡ d
+unfolding maintainCall decide doneBy lentBy
+maintain-limits n bytes d e = back-same d (lentBy key.Maintain n bytes (lentOf d)) (world-kept moved maintainCall (lentOf d) (rw e refl))
+
+-- LAW: else it leaves what its course of groups left, also where that stopped
+pub maintain-course : (n bytes : List ℕ) (d : Desk) → refused1 (worldOf (lentOf d)) ≡ false → doneBy key.Maintain n bytes d ≡ onLent (called moved (λ (w : World). finished (courseOf w))) d
+unfolding maintainCall decide doneBy lentBy
+maintain-course n bytes d e =
+    let w = worldOf (lentOf d) in
+    let run : maintainCall w ≡ finished (courseOf w) = rw e refl in
+    ap (λ (a : After). putBack d (answered moved (d .bench) a)) run

@@ -1,0 +1,4 @@
+pub mod Types
+pub mod Desk
+pub mod Commands
+pub mod Failed

@@ -1,0 +1,184 @@
+// Commands that change settings, buffers and state by hand.
+use crate::Bench;
+use crate::Reply;
+use crate::Turn;
+use rules::Answer;
+use rules::Claims;
+use rules::Record;
+use rules::Settings;
+ghost use mathlib.Core.Path.{_≡_};
+ghost use lib.ListN.{length, replicate};
+ghost use Rattle.rules.specs.Base.{List, ℕ};
+ghost use Rattle.desk.specs.Desk.{desk, left, replied, done};
+ghost use Rattle.desk.specs.declared.Reply.the-variants.{BadLine};
+ghost use Rattle.desk.specs.Commands.{settingsFrom, recordFrom, claimsFrom, withSettings, withState, withClaims, stateFrom, recordBy, heapBy, tableBy, pokeBy, entryBy};
+
+fn bad_line(b: Bench) -> Turn
+    ensures { λ r. ⌜ r ≡ replied BadLine b ⌝ }
+{
+    Turn {
+        reply: Reply::BadLine,
+        bench: b,
+    }
+}
+
+fn done(b: Bench) -> Turn
+    ensures { λ r. ⌜ r ≡ done b ⌝ }
+{
+    Turn {
+        reply: Reply::Answered(Answer::Done),
+        bench: b,
+    }
+}
+
+fn settings_of(n: [u64; 9]) -> Settings
+    ensures { λ r. ⌜ r ≡ settingsFrom n ⌝ }
+{
+    Settings {
+        slot_bytes: n[0],
+        file_compaction_percent: n[1],
+        min_compaction_files: n[2],
+        target_file_size: n[3],
+        small_file_cleanup_threshold: n[4],
+        max_object_size: n[5],
+    }
+}
+
+pub fn settings(b: Bench, n: [u64; 9]) -> Turn
+    ensures { λ r. ⌜ r ≡ done (withSettings b (settingsFrom n)) ⌝ }
+{
+    let mut next = b;
+    let given = settings_of(n);
+    next.settings = given;
+    done(next)
+}
+
+fn zero_bytes(s: &mut [u8])
+    ensures { λ _. ⌜ now (s .exit) ≡ replicate (length (now (s .entry))) 0 ⌝ }
+{
+    let mut i: usize = 0;
+    while i < s.len() {
+        s[i] = 0;
+        i += 1;
+    }
+}
+
+pub fn heap(b: Bench, bytes: u64, heap: &mut [u8]) -> Turn
+    ensures { λ r. ⌜ ((ids locations : List ℕ) → left r (now (heap .exit)) ids locations ≡ heapBy bytes (desk b (now (heap .entry)) ids locations)) ⌝ }
+{
+    let mut next = b;
+    if (heap.len() as u64) < bytes {
+        return bad_line(b);
+    }
+    zero_bytes(heap);
+    next.heap_len = bytes as usize;
+    done(next)
+}
+
+pub fn table(
+    b: Bench,
+    count: u64,
+    locations_count: u64,
+    ids: &mut [u64],
+    locations: &mut [u64],
+) -> Turn
+    ensures { λ r. ⌜ ((heap : List ℕ) → left r heap (now (ids .exit)) (now (locations .exit)) ≡ tableBy count «locations_count» (desk b heap (now (ids .entry)) (now (locations .entry)))) ⌝ }
+{
+    let mut next = b;
+    if (ids.len() as u64) < count {
+        return bad_line(b);
+    }
+    if (locations.len() as u64) < locations_count {
+        return bad_line(b);
+    }
+    location_table::clear(ids, locations);
+    next.ids_len = count as usize;
+    next.locations_len = locations_count as usize;
+    done(next)
+}
+
+pub fn poke(b: Bench, at: u64, bytes: &[u8], heap: &mut [u8]) -> Turn
+    ensures { λ r. ⌜ ((ids locations : List ℕ) → left r (now (heap .exit)) ids locations ≡ pokeBy at (now (bytes .entry)) (desk b (now (heap .entry)) ids locations)) ⌝ }
+{
+    if heap.len() < bytes.len() {
+        return bad_line(b);
+    }
+    if ((heap.len() - bytes.len()) as u64) < at {
+        return bad_line(b);
+    }
+    let from = at as usize;
+    bytes::copy(bytes, &mut heap[from..]);
+    done(b)
+}
+
+pub fn entry(
+    b: Bench,
+    k: u64,
+    id: u64,
+    location: u64,
+    ids: &mut [u64],
+    locations: &mut [u64],
+) -> Turn
+    ensures { λ r. ⌜ ((heap : List ℕ) → left r heap (now (ids .exit)) (now (locations .exit)) ≡ entryBy k id location (desk b heap (now (ids .entry)) (now (locations .entry)))) ⌝ }
+{
+    if (ids.len() as u64) <= k {
+        return bad_line(b);
+    }
+    if (locations.len() as u64) <= k {
+        return bad_line(b);
+    }
+    let at = k as usize;
+    ids[at] = id;
+    locations[at] = location;
+    done(b)
+}
+
+pub fn state(b: Bench, n: [u64; 9]) -> Turn
+    ensures { λ r. ⌜ r ≡ done (withState b (stateFrom n (b .state))) ⌝ }
+{
+    let mut next = b;
+    let mut s = b.state;
+    let given = settings_of(n);
+    s.settings = given;
+    s.heap_len = n[6];
+    s.table_len = n[7];
+    s.next_position = n[8];
+    next.state = s;
+    done(next)
+}
+
+fn record_of(n: [u64; 9]) -> Record
+    ensures { λ r. ⌜ r ≡ recordFrom n ⌝ }
+{
+    file_map::with_live(file_map::labelled(n[1], n[2], n[3], n[4], n[5]), n[6])
+}
+
+pub fn record(b: Bench, n: [u64; 9]) -> Turn
+    ensures { λ r. ⌜ r ≡ recordBy n b ⌝ }
+{
+    let mut next = b;
+    let slot = n[0];
+    if 256 <= slot {
+        return bad_line(b);
+    }
+    let mut s = b.state;
+    let files = s.files;
+    let changed = file_map::with_record(files, slot as usize, record_of(n));
+    s.files = changed;
+    next.state = s;
+    done(next)
+}
+
+pub fn claims(b: Bench, n: [u64; 9]) -> Turn
+    ensures { λ r. ⌜ r ≡ done (withClaims b (claimsFrom n)) ⌝ }
+{
+    let mut next = b;
+    let given = Claims {
+        a: n[0],
+        b: n[1],
+        c: n[2],
+        d: n[3],
+    };
+    next.claims = given;
+    done(next)
+}

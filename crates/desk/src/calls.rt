@@ -1,0 +1,190 @@
+// The calls, one function to a command: the call on the lent buffers, its answer as the reply.
+use crate::Bench;
+use crate::Reply;
+use crate::Turn;
+ghost use mathlib.Core.Path.{_≡_};
+ghost use Rattle.rules.specs.Base.{List, ℕ};
+ghost use Rattle.rules.specs.Claims.{claimCall, releaseCall};
+ghost use Rattle.rules.specs.Counts.{countsCall};
+ghost use Rattle.rules.specs.Maintenance.{maintainCall};
+ghost use Rattle.rules.specs.Prune.{pruneCall};
+ghost use Rattle.rules.specs.Read.{readCall};
+ghost use Rattle.rules.specs.Reopen.{reopenCall};
+ghost use Rattle.rules.specs.TableCalls.{loadCall, storeCall, compareCall, greaterCall};
+ghost use Rattle.rules.specs.World.{World};
+ghost use Rattle.rules.specs.Layout.{Buffers};
+ghost use Rattle.rules.specs.Write.{writeCall};
+ghost use Rattle.desk.specs.Desk.{desk, left, plain, found, moved, counted, located, compared, raised, called, onTable};
+
+pub fn reopen(b: Bench, heap: &[u8], ids: &mut [u64], locations: &mut [u64]) -> Turn
+    ensures { λ r. ⌜ left r (now (heap .entry)) (now (ids .exit)) (now (locations .exit)) ≡ called plain reopenCall (desk b (now (heap .entry)) (now (ids .entry)) (now (locations .entry))) ⌝ }
+{
+    let mut next = b;
+    let settings = b.settings;
+    let state = b.state;
+    let held = b.claims;
+    let done = recovery::reopen(settings, state, held, heap, ids, locations);
+    let answer = done.answer;
+    let left = done.state;
+    let claims = done.claims;
+    next.state = left;
+    next.claims = claims;
+    Turn {
+        reply: Reply::Answered(answer),
+        bench: next,
+    }
+}
+
+pub fn write(
+    b: Bench,
+    heap: &mut [u8],
+    ids: &mut [u64],
+    locations: &mut [u64],
+    batch: &[u8],
+) -> Turn
+    ensures { λ r. ⌜ left r (now (heap .exit)) (now (ids .exit)) (now (locations .exit)) ≡ called plain (λ (w : World). writeCall w (now (batch .entry))) (desk b (now (heap .entry)) (now (ids .entry)) (now (locations .entry))) ⌝ }
+{
+    let mut next = b;
+    let settings = b.settings;
+    let state = b.state;
+    let done = writepath::write(settings, state, heap, ids, locations, batch);
+    let answer = done.answer;
+    let left = done.state;
+    next.state = left;
+    Turn {
+        reply: Reply::Answered(answer),
+        bench: next,
+    }
+}
+
+pub fn read(b: Bench, heap: &[u8], ids: &[u64], locations: &[u64], id: u64) -> Turn
+    ensures { λ r. ⌜ left r (now (heap .entry)) (now (ids .entry)) (now (locations .entry)) ≡ called found (λ (w : World). readCall w id) (desk b (now (heap .entry)) (now (ids .entry)) (now (locations .entry))) ⌝ }
+{
+    let settings = b.settings;
+    let state = b.state;
+    let answer = readpath::read_answer(settings, state, heap, ids, locations, id);
+    Turn {
+        reply: Reply::Read(answer),
+        bench: b,
+    }
+}
+
+pub fn prune(b: Bench, heap: &mut [u8], ids: &[u64], locations: &[u64]) -> Turn
+    ensures { λ r. ⌜ left r (now (heap .exit)) (now (ids .entry)) (now (locations .entry)) ≡ called plain pruneCall (desk b (now (heap .entry)) (now (ids .entry)) (now (locations .entry))) ⌝ }
+{
+    let mut next = b;
+    let settings = b.settings;
+    let state = b.state;
+    let held = b.claims;
+    let done = prune::prune(settings, state, held, heap, ids, locations);
+    let answer = done.answer;
+    let left = done.state;
+    next.state = left;
+    Turn {
+        reply: Reply::Answered(answer),
+        bench: next,
+    }
+}
+
+pub fn maintain(b: Bench, heap: &mut [u8], ids: &mut [u64], locations: &mut [u64]) -> Turn
+    ensures { λ r. ⌜ left r (now (heap .exit)) (now (ids .exit)) (now (locations .exit)) ≡ called moved maintainCall (desk b (now (heap .entry)) (now (ids .entry)) (now (locations .entry))) ⌝ }
+{
+    let mut next = b;
+    let settings = b.settings;
+    let state = b.state;
+    let held = b.claims;
+    let done = gc::maintain(settings, state, held, heap, ids, locations);
+    let answer = done.answer;
+    let left = done.state;
+    next.state = left;
+    Turn {
+        reply: Reply::Maintained(answer),
+        bench: next,
+    }
+}
+
+pub fn claim(b: Bench, heap: &[u8], ids: &[u64], locations: &[u64], slot: u64) -> Turn
+    ensures { λ r. ⌜ left r (now (heap .entry)) (now (ids .entry)) (now (locations .entry)) ≡ called plain (λ (w : World). claimCall w slot) (desk b (now (heap .entry)) (now (ids .entry)) (now (locations .entry))) ⌝ }
+{
+    let mut next = b;
+    let settings = b.settings;
+    let state = b.state;
+    let held = b.claims;
+    let done = claims::claim(settings, state, held, heap, ids, locations, slot);
+    let answer = done.answer;
+    let left = done.claims;
+    next.claims = left;
+    Turn {
+        reply: Reply::Answered(answer),
+        bench: next,
+    }
+}
+
+pub fn release(b: Bench, heap: &[u8], ids: &[u64], locations: &[u64], slot: u64) -> Turn
+    ensures { λ r. ⌜ left r (now (heap .entry)) (now (ids .entry)) (now (locations .entry)) ≡ called plain (λ (w : World). releaseCall w slot) (desk b (now (heap .entry)) (now (ids .entry)) (now (locations .entry))) ⌝ }
+{
+    let mut next = b;
+    let settings = b.settings;
+    let state = b.state;
+    let held = b.claims;
+    let done = claims::release(settings, state, held, heap, ids, locations, slot);
+    let answer = done.answer;
+    let left = done.claims;
+    next.claims = left;
+    Turn {
+        reply: Reply::Answered(answer),
+        bench: next,
+    }
+}
+
+pub fn counts(b: Bench, heap: &[u8], ids: &[u64], locations: &[u64]) -> Turn
+    ensures { λ r. ⌜ left r (now (heap .entry)) (now (ids .entry)) (now (locations .entry)) ≡ called counted countsCall (desk b (now (heap .entry)) (now (ids .entry)) (now (locations .entry))) ⌝ }
+{
+    let settings = b.settings;
+    let state = b.state;
+    let answer = claims::counts(settings, state, heap, ids, locations);
+    Turn {
+        reply: Reply::Counted(answer),
+        bench: b,
+    }
+}
+
+pub fn load(b: Bench, ids: &[u64], locations: &[u64], id: u64) -> Turn
+    ensures { λ r. ⌜ ((heap : List ℕ) → left r heap (now (ids .entry)) (now (locations .entry)) ≡ called located (onTable (λ (t : Buffers). loadCall t id)) (desk b heap (now (ids .entry)) (now (locations .entry)))) ⌝ }
+{
+    let answer = location_table::load(ids, locations, id);
+    Turn {
+        reply: Reply::Loaded(answer),
+        bench: b,
+    }
+}
+
+pub fn store(b: Bench, ids: &mut [u64], locations: &mut [u64], id: u64, raw: u64) -> Turn
+    ensures { λ r. ⌜ ((heap : List ℕ) → left r heap (now (ids .exit)) (now (locations .exit)) ≡ called plain (onTable (λ (t : Buffers). storeCall t id raw)) (desk b heap (now (ids .entry)) (now (locations .entry)))) ⌝ }
+{
+    let answer = location_table::store(ids, locations, id, raw);
+    Turn {
+        reply: Reply::Answered(answer),
+        bench: b,
+    }
+}
+
+pub fn cas(b: Bench, ids: &mut [u64], locations: &mut [u64], id: u64, old: u64, raw: u64) -> Turn
+    ensures { λ r. ⌜ ((heap : List ℕ) → left r heap (now (ids .exit)) (now (locations .exit)) ≡ called compared (onTable (λ (t : Buffers). compareCall t id old raw)) (desk b heap (now (ids .entry)) (now (locations .entry)))) ⌝ }
+{
+    let answer = location_table::compare_and_store(ids, locations, id, old, raw);
+    Turn {
+        reply: Reply::Compared(answer),
+        bench: b,
+    }
+}
+
+pub fn max(b: Bench, ids: &mut [u64], locations: &mut [u64], id: u64, raw: u64) -> Turn
+    ensures { λ r. ⌜ ((heap : List ℕ) → left r heap (now (ids .exit)) (now (locations .exit)) ≡ called raised (onTable (λ (t : Buffers). greaterCall t id raw)) (desk b heap (now (ids .entry)) (now (locations .entry)))) ⌝ }
+{
+    let answer = location_table::store_if_greater(ids, locations, id, raw);
+    Turn {
+        reply: Reply::Raised(answer),
+        bench: b,
+    }
+}

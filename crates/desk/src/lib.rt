@@ -1,0 +1,214 @@
+// The desk: what the console's commands are given and change, and one function for each command. A command answers by a reply; what is
+// written for a reply is not stated here (crate `bench`).
+pub mod by_hand;
+pub mod calls;
+
+use rules::Answer;
+use rules::Claims;
+use rules::CompareAnswer;
+use rules::CountsAnswer;
+use rules::LoadAnswer;
+use rules::MaintainAnswer;
+use rules::ReadAnswer;
+use rules::Settings;
+use rules::State;
+use script::Keyword;
+ghost use mathlib.Core.Path.{_≡_};
+ghost use Prim.Native.Nat.{_≤_};
+ghost use lib.Dec.{ltb};
+ghost use Rattle.rules.specs.Base.{pick};
+ghost use Rattle.rules.specs.Settings.{defaults};
+ghost use Rattle.rules.specs.World.{noState};
+ghost use Rattle.desk.specs.Desk.{desk, left, replied, onLent};
+ghost use Rattle.desk.specs.Commands.{freshBench, lentBy, doneBy};
+
+// What lies beside the buffers, and how much of each buffer is lent.
+pub struct Bench {
+    pub settings: Settings,
+    pub state: State,
+    pub claims: Claims,
+    pub heap_len: usize,
+    pub ids_len: usize,
+    pub locations_len: usize,
+}
+
+// Lines that show something and change nothing.
+pub enum Look {
+    Comment,
+    Help,
+    List,
+    Dump,
+}
+
+// What a command answers.
+pub enum Reply {
+    BadLine,
+    Answered(Answer),
+    Read(ReadAnswer),
+    Maintained(MaintainAnswer),
+    Counted(CountsAnswer),
+    Loaded(LoadAnswer),
+    Compared(CompareAnswer),
+    Raised(LoadAnswer),
+    Shown(Look),
+}
+
+// The reply, and what lies beside the buffers after it.
+pub struct Turn {
+    pub reply: Reply,
+    pub bench: Bench,
+}
+
+fn no_settings() -> Settings
+    ensures { λ s. ⌜ s ≡ noState .settings ⌝ }
+{
+    Settings {
+        slot_bytes: 0,
+        file_compaction_percent: 0,
+        min_compaction_files: 0,
+        target_file_size: 0,
+        small_file_cleanup_threshold: 0,
+        max_object_size: 0,
+    }
+}
+
+// "Port's default"
+fn defaults() -> Settings
+    ensures { λ s. ⌜ s ≡ defaults ⌝ }
+{
+    Settings {
+        slot_bytes: 4096,
+        file_compaction_percent: 75,
+        min_compaction_files: 2,
+        target_file_size: 2048,
+        small_file_cleanup_threshold: 64,
+        max_object_size: 1024,
+    }
+}
+
+// The state before the first reopening.
+fn no_state() -> State
+    ensures { λ s. ⌜ s ≡ noState ⌝ }
+{
+    State {
+        settings: no_settings(),
+        heap_len: 0,
+        table_len: 0,
+        files: file_map::no_files(),
+        next_position: 0,
+    }
+}
+
+// Before the first command.
+pub fn start() -> Bench
+    ensures { λ b. ⌜ b ≡ freshBench ⌝ }
+{
+    Bench {
+        settings: defaults(),
+        state: no_state(),
+        claims: claims::no_claims(),
+        heap_len: 65536,
+        ids_len: 1024,
+        locations_len: 1024,
+    }
+}
+
+pub fn least(a: usize, b: usize) -> usize
+    ensures { λ r. ⌜ (r ≤ a) × (r ≤ b) × (r ≡ pick (ltb a b) a b) ⌝ }
+{
+    if a < b { a } else { b }
+}
+
+// The bench as it was.
+fn replied(reply: Reply, b: Bench) -> Turn
+    ensures { λ r. ⌜ r ≡ replied reply b ⌝ }
+{
+    Turn {
+        reply: reply,
+        bench: b,
+    }
+}
+
+// Commands on the lent parts of the buffers.
+fn after_lent(
+    b: Bench,
+    keyword: Keyword,
+    n: [u64; 9],
+    bytes: &[u8],
+    heap: &mut [u8],
+    ids: &mut [u64],
+    locations: &mut [u64],
+) -> Turn
+    ensures { λ r. ⌜ left r (now (heap .exit)) (now (ids .exit)) (now (locations .exit)) ≡ lentBy keyword n (now (bytes .entry)) (desk b (now (heap .entry)) (now (ids .entry)) (now (locations .entry))) ⌝ }
+{
+    match keyword {
+        Keyword::Poke => by_hand::poke(b, n[0], bytes, heap),
+        Keyword::Entry => by_hand::entry(b, n[0], n[1], n[2], ids, locations),
+        Keyword::Reopen => calls::reopen(b, heap, ids, locations),
+        Keyword::Write => calls::write(b, heap, ids, locations, bytes),
+        Keyword::Read => calls::read(b, heap, ids, locations, n[0]),
+        Keyword::Prune => calls::prune(b, heap, ids, locations),
+        Keyword::Maintain => calls::maintain(b, heap, ids, locations),
+        Keyword::Claim => calls::claim(b, heap, ids, locations, n[0]),
+        Keyword::Release => calls::release(b, heap, ids, locations, n[0]),
+        Keyword::Counts => calls::counts(b, heap, ids, locations),
+        Keyword::Load => calls::load(b, ids, locations, n[0]),
+        Keyword::Store => calls::store(b, ids, locations, n[0], n[1]),
+        Keyword::Cas => calls::cas(b, ids, locations, n[0], n[1], n[2]),
+        Keyword::Max => calls::max(b, ids, locations, n[0], n[1]),
+        _ => replied(Reply::BadLine, b),
+    }
+}
+
+fn lent(
+    b: Bench,
+    keyword: Keyword,
+    n: [u64; 9],
+    bytes: &[u8],
+    heap: &mut [u8],
+    ids: &mut [u64],
+    locations: &mut [u64],
+) -> Turn
+    ensures { λ r. ⌜ left r (now (heap .exit)) (now (ids .exit)) (now (locations .exit)) ≡ onLent (lentBy keyword n (now (bytes .entry))) (desk b (now (heap .entry)) (now (ids .entry)) (now (locations .entry))) ⌝ }
+{
+    let h = least(b.heap_len, heap.len());
+    let i = least(b.ids_len, ids.len());
+    let l = least(b.locations_len, locations.len());
+    after_lent(
+        b,
+        keyword,
+        n,
+        bytes,
+        &mut heap[0..h],
+        &mut ids[0..i],
+        &mut locations[0..l],
+    )
+}
+
+// A command: its reply, and the desk after it.
+pub fn after_order(
+    b: Bench,
+    keyword: Keyword,
+    n: [u64; 9],
+    bytes: &[u8],
+    heap: &mut [u8],
+    ids: &mut [u64],
+    locations: &mut [u64],
+) -> Turn
+    ensures { λ r. ⌜ left r (now (heap .exit)) (now (ids .exit)) (now (locations .exit)) ≡ doneBy keyword n (now (bytes .entry)) (desk b (now (heap .entry)) (now (ids .entry)) (now (locations .entry))) ⌝ }
+{
+    match keyword {
+        Keyword::Blank => replied(Reply::Shown(Look::Comment), b),
+        Keyword::Bad => replied(Reply::BadLine, b),
+        Keyword::Settings => by_hand::settings(b, n),
+        Keyword::State => by_hand::state(b, n),
+        Keyword::Record => by_hand::record(b, n),
+        Keyword::Claims => by_hand::claims(b, n),
+        Keyword::Heap => by_hand::heap(b, n[0], heap),
+        Keyword::Table => by_hand::table(b, n[0], n[1], ids, locations),
+        Keyword::List => replied(Reply::Shown(Look::List), b),
+        Keyword::Dump => replied(Reply::Shown(Look::Dump), b),
+        Keyword::Help => replied(Reply::Shown(Look::Help), b),
+        _ => lent(b, keyword, n, bytes, heap, ids, locations),
+    }
+}

@@ -1,0 +1,38 @@
+use mathlib.Core.Path.{ap, ap₂, _∙_}
+use mathlib.Core.List.{List}
+use borrow.Author.Needs.{needs}
+use lib.ListN.{set}
+use Rattle.rules.specs.declared.Record.{Record}
+use Rattle.rules.specs.World.{stateWith}
+use Rattle.install.proofs.with_file.Statement.{statement}
+use Rattle.install.proofs.with_file.Tie as tie
+
+with-lives-requires : tie.Need-with-lives-requires
+with-lives-requires c κs = search needs
+
+with-record-requires : tie.Need-with-record-requires
+with-record-requires c κs = search needs
+
+next-after-requires : tie.Need-next-after-requires
+next-after-requires c κs = search needs
+
+state-with-requires : tie.Need-state-with-requires
+state-with-requires c κs = search needs
+
+returns : tie.Need-returns
+returns c =
+    let recorded = c .before .before in
+    let back = recorded .before in
+    let a = back .before .before .before .args in
+    c .state-with .ensures
+    ∙ ap₂ (stateWith (a .state)) (recorded .with-record .ensures ∙ ap (λ (rs : List Record). set rs (a .slot) (a .new)) (back .with-lives .ensures)) (c .before .next-after .ensures)
+
+pub with-file-spec : {M : Type 1} → statement M
+with-file-spec =
+    tie.close
+    (tie.spec
+    with-lives-requires
+    with-record-requires
+    next-after-requires
+    state-with-requires
+    returns)

@@ -1,0 +1,43 @@
+use lib.Dec.{ltb}
+use lib.ListN.{length}
+use Rattle.script.proofs.Silence.{blank-before, either}
+use borrow.Author.Needs.{needs}
+use Rattle.script.proofs.order_of.Statement.{statement}
+use Rattle.script.proofs.order_of.Tie as tie
+
+find-requires : tie.Need-find-requires
+find-requires c κs = search needs
+
+sub-order-in : tie.Need-sub-order-in
+sub-order-in c = search needs
+
+part-order-in-start : tie.Need-part-order-in-start
+part-order-in-start c = search needs
+
+part-order-in-end : tie.Need-part-order-in-end
+part-order-in-end c = search needs
+
+order-in-requires : tie.Need-order-in-requires
+order-in-requires c κs = search needs
+
+same-length : tie.Need-same-length
+same-length c = search needs
+
+returns : tie.Need-returns
+returns c =
+    let w = c .before .before in
+    let f = w .before .before .before in
+    let a = f .before .before .before .args in
+    (w .order-in .ensures .0, λ h. either (ltb (f .find .result) (length (a .line .now))) _ (w .order-in .ensures .1 (blank-before (a .line .now) (f .find .result) (f .find .ensures .0) h)))
+
+pub order-of-spec : {M : Type 1} → statement M
+order-of-spec =
+    tie.close
+    (tie.spec
+    find-requires
+    sub-order-in
+    part-order-in-start
+    part-order-in-end
+    order-in-requires
+    same-length
+    returns)
