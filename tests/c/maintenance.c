@@ -171,8 +171,8 @@ static void stops(void) {
 }
 
 /* Copies of the file map go by groups and by files that come out, not by slots, entries or objects. */
-#define COPIES_A_CALL 15
-#define COPIES_A_GROUP 2
+#define COPIES_A_CALL 10
+#define COPIES_A_GROUP 4
 #define COPIES_A_FILE 2
 
 static void copied(uint64_t groups, uint64_t files) {

@@ -1,10 +1,10 @@
 -- The steps of the call: its groups, its end, and what is known from group to group.
-use mathlib.Core.Path.{_≡_, refl, sym, _∙_}
+use mathlib.Core.Path.{_≡_, refl, sym, ap, _∙_}
 use mathlib.Core.Bool.{true≢false}
 use Prim.Native.Nat.{_≤_, _<_}
 use native.Mathlib.Omega.{arith}
-use borrow.Author.Tests.{lt-ltb, le-ltb}
-use Rattle.rules.specs.Base.{true, false, List, ℕ, length}
+use borrow.Author.Tests.{lt-ltb, le-ltb, leb-true, leb-false}
+use Rattle.rules.specs.Base.{Bool, true, false, _&&_, List, ℕ, length, leb}
 use Rattle.rules.specs.declared.Settings.{Settings}
 use Rattle.rules.specs.declared.State.{State}
 use Rattle.rules.specs.declared.Claims.{Claims}
@@ -21,13 +21,13 @@ use Rattle.rules.specs.Condition1Laws.{Passed}
 use Rattle.rules.specs.Maintenance.{Stop, going, Course, rewriteGroup, onward, groupsFrom, courseOf, finished, maintainCall}
 use Rattle.rules.specs.Prune.{pruned}
 use Rattle.rules.specs.World.{World, recordsOf, maintainGiven, leaving}
-use Rattle.gc_group.specs.Plan.{planOf, group-planned, plan-length}
+use Rattle.gc_group.specs.Plan.{planOf, planned, group-planned, plan-length}
 use Rattle.gc_group.specs.Source.{Ready, passed-lie, plan-files}
 use Rattle.gc_rewrite.specs.Courses.{courseGiven}
 use Rattle.gc.specs.declared.Halt.{Halt}
 use Rattle.gc.specs.declared.Halt.the-variants.{Going, Halted}
 use Rattle.gc.specs.declared.Run.{Run}
-use Rattle.gc.specs.Runs.{isGoing, stopOf, stopGiven, standing, answerOf, byPlan, Underway}
+use Rattle.gc.specs.Runs.{isGoing, stopOf, stopGiven, standing, answerOf, stepped, byPlan, Underway}
 
 -- ---- what is known from group to group
 -- as the call starts
@@ -72,6 +72,27 @@ module _ (halt : Halt) (generation : ℕ) (slots : List ℕ) (c : Course) where
   pub step-rewritten : isGoing halt ≡ true → c .world .settings .«min_compaction_files» ≤ length slots
       → rewriteGroup generation slots (c .moved) (c .world) ≡ onward (stopOf halt) generation slots c
   step-rewritten e h = rw (goes halt e, le-ltb (length slots) (c .world .settings .«min_compaction_files») h) refl
+
+-- a group that is not due is passed over
+pub not-due : (plan : List ℕ) (halt : Halt) (generation : ℕ) (c : Course) → c .stop ≡ stopOf halt
+    → (isGoing halt && leb (c .world .settings .«min_compaction_files») (length (planned plan generation))) ≡ false → stepped plan generation c ≡ c
+not-due plan halt generation c q e = ap (λ (s : Stop). onward s generation (planned plan generation) c) q ∙ go (isGoing halt) refl e
+  where
+    go : (b : Bool) → isGoing halt ≡ b → (b && leb (c .world .settings .«min_compaction_files») (length (planned plan generation))) ≡ false
+        → onward (stopOf halt) generation (planned plan generation) c ≡ c
+    go false g e = sym (step-halted halt generation (planned plan generation) c g)
+    go true g e = sym (step-skipped halt generation (planned plan generation) c g (leb-false _ _ e))
+
+-- one that is due is rewritten
+pub due : (plan : List ℕ) (halt : Halt) (generation : ℕ) (c : Course) → c .stop ≡ stopOf halt
+    → (isGoing halt && leb (c .world .settings .«min_compaction_files») (length (planned plan generation))) ≡ true
+    → rewriteGroup generation (planned plan generation) (c .moved) (c .world) ≡ stepped plan generation c
+due plan halt generation c q e = go (isGoing halt) refl e ∙ sym (ap (λ (s : Stop). onward s generation (planned plan generation) c) q)
+  where
+    go : (b : Bool) → isGoing halt ≡ b → (b && leb (c .world .settings .«min_compaction_files») (length (planned plan generation))) ≡ true
+        → rewriteGroup generation (planned plan generation) (c .moved) (c .world) ≡ onward (stopOf halt) generation (planned plan generation) c
+    go false g e = absurd (true≢false (sym e))
+    go true g e = step-rewritten halt generation (planned plan generation) c g (leb-true _ _ e)
 
 -- where the call stands after a group
 pub given-course : (generation : ℕ) (answer : Answer) (stop : Stop) (moved : ℕ) (w : World) → stop ≡ stopGiven generation answer

@@ -12,11 +12,13 @@ use rules::Settings;
 use rules::State;
 ghost use mathlib.Core.Path.{_≡_};
 ghost use mathlib.Core.List.{List};
+ghost use mathlib.Core.Bool.{_&&_};
 ghost use Prim.Native.Nat.{ℕ, _+_, _^_, _≤_, _<_};
 ghost use lib.ListN.{length};
+ghost use lib.Dec.{leb};
 ghost use Rattle.rules.specs.declared.Claims.{Claims};
 ghost use Rattle.rules.specs.Condition1Laws.{Passed};
-ghost use Rattle.rules.specs.Maintenance.{onward, courseOf, finished, maintainCall};
+ghost use Rattle.rules.specs.Maintenance.{rewriteGroup, courseOf, finished, maintainCall};
 ghost use Rattle.rules.specs.World.{world, leaving, maintainGiven};
 ghost use Rattle.location_table.specs.Tables.{table};
 ghost use Rattle.prune.specs.Labels.{LabelsIn};
@@ -63,6 +65,16 @@ fn halt_of(answer: Answer, generation: u64) -> Halt
 }
 
 // "one with fewer files than min_compaction_files is skipped"; nothing is done once a group was refused.
+fn is_due(halt: Halt, plan: &[u64], least: u64, generation: u64) -> bool
+    ensures { λ r. ⌜ r ≡ (isGoing halt && leb least (length (planned (now (plan .entry)) generation))) ⌝ }
+{
+    if !is_going(halt) {
+        return false;
+    }
+    least <= group_count(plan, generation)
+}
+
+// A group whose turn it is, rewritten.
 fn generation_step(
     settings: Settings,
     run: Run,
@@ -74,17 +86,10 @@ fn generation_step(
 ) -> Run
     requires { ⌜ Underway settings (length (now heap)) (table (now ids) (now locations)) (run .state) (now plan) ⌝ }
     requires { ⌜ (0 < generation) × (generation ≤ 3) × (run .moved ≤ 2 ^ 32) ⌝ }
-    ensures { λ r. ⌜ ((c : Claims) → standing r (world settings (r .state) c (now (heap .exit)) (now (ids .exit)) (now (locations .exit))) ≡ onward (stopOf (run .halt)) generation (planned (now (plan .entry)) generation) (standing run (world settings (run .state) c (now (heap .entry)) (now (ids .entry)) (now (locations .entry))))) ⌝ }
+    ensures { λ r. ⌜ ((c : Claims) → standing r (world settings (r .state) c (now (heap .exit)) (now (ids .exit)) (now (locations .exit))) ≡ rewriteGroup generation (planned (now (plan .entry)) generation) (run .moved) (world settings (run .state) c (now (heap .entry)) (now (ids .entry)) (now (locations .entry)))) ⌝ }
     ensures { λ r. ⌜ Underway settings (length (now (heap .exit))) (table (now (ids .exit)) (now (locations .exit))) (r .state) (now (plan .entry)) ⌝ }
     ensures { λ r. ⌜ r .moved ≤ run .moved + 65536 ⌝ }
 {
-    let halt = run.halt;
-    if !is_going(halt) {
-        return run;
-    }
-    if group_count(plan, generation) < settings.min_compaction_files {
-        return run;
-    }
     let state = run.state;
     let course = rewrite_group(
         settings,
@@ -123,9 +128,14 @@ fn generations(
         moved: 0,
         state: state,
     };
-    run = generation_step(settings, run, heap, ids, locations, plan, 1);
-    run = generation_step(settings, run, heap, ids, locations, plan, 2);
-    run = generation_step(settings, run, heap, ids, locations, plan, 3);
+    let mut generation: u64 = 1;
+    while generation <= 3 {
+        let halt = run.halt;
+        if is_due(halt, plan, settings.min_compaction_files, generation) {
+            run = generation_step(settings, run, heap, ids, locations, plan, generation);
+        }
+        generation += 1;
+    }
     run
 }
 

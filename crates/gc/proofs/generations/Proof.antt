@@ -1,63 +1,82 @@
-use mathlib.Core.Path.{ap, _∙_}
+use mathlib.Core.Path.{sym, _∙_}
+use mathlib.Core.Logic.{⊎-elim}
+use Prim.Native.Nat.{_-_}
 use native.Mathlib.Omega.{arith}
 use borrow.Author.Needs.{needs}
-use Rattle.gc.specs.Runs.{stepped}
+use Rattle.gc.specs.Midway.{Midway, midway-start, midway-skip, midway-step, midway-end}
 use Rattle.gc.proofs.generations.Statement.{statement}
 use Rattle.gc.proofs.generations.Tie as tie
 
-generation-step-requires : tie.Need-generation-step-requires
-generation-step-requires c κs = search needs
+abbrev Inv-loop : tie.InvT-loop
+Inv-loop settings heap₀ ids₀ locations₀ plan run₀ generation₀ heap ids locations run generation =
+    Midway settings plan (run₀ .state) heap₀ ids₀ locations₀ generation run heap ids locations
 
-generation-step-requires-2 : tie.Need-generation-step-requires-2
-generation-step-requires-2 c κs = search needs
+abbrev μ-loop : tie.MeasureT-loop
+μ-loop settings heap₀ ids₀ locations₀ plan run₀ generation₀ heap ids locations run generation = 4 - generation
 
-generation-step-requires-3 : tie.Need-generation-step-requires-3
-generation-step-requires-3 c κs =
-    let second = c .before .before .before .before .before .before .before .before .before in
-    let first = second .before .before .before .before .before .before .before .before .before .before in
-    let n = second .generation-step2 .ensures .1 in
-    let m = first .generation-step .ensures .1 .1 in
-    (n .0, (omega arith, omega arith, omega (arith, n .1, m)))
+loop-holds : tie.Need-loop-holds Inv-loop μ-loop
+loop-holds c =
+    let start = c .before .before .before .before in
+    midway-start _ _ _ _ _ _ (start .pre)
 
-same-length : tie.Need-same-length
-same-length c =
-    let third = c .before .before .before .before .before .before in
-    let second = third .before .before .before .before .before .before .before .before .before .before in
-    let first = second .before .before .before .before .before .before .before .before .before .before in
-    third .generation-step3 .kept .1 .1 .0 ∙ second .generation-step2 .kept .1 .1 .0 ∙ first .generation-step .kept .1 .1 .0
+is-due-requires : tie.Need-is-due-requires Inv-loop μ-loop
+is-due-requires c κs = search needs
 
-same-length-2 : tie.Need-same-length-2
-same-length-2 c =
-    let third = c .before .before .before .before .before .before in
-    let second = third .before .before .before .before .before .before .before .before .before .before in
-    let first = second .before .before .before .before .before .before .before .before .before .before in
-    third .generation-step3 .kept .1 .1 .1 .0 ∙ second .generation-step2 .kept .1 .1 .1 .0 ∙ first .generation-step .kept .1 .1 .1 .0
+generation-step-requires : tie.Need-generation-step-requires Inv-loop μ-loop
+generation-step-requires c κs =
+    let due = c .before .before .before .before in
+    let at = due .before .before in
+    let m = at .loop .inv in
+    (m .under, (m .low, due .before .loop-test .taken, omega (arith, m .few)))
 
-same-length-3 : tie.Need-same-length-3
-same-length-3 c =
-    let third = c .before .before .before .before .before .before in
-    let second = third .before .before .before .before .before .before .before .before .before .before in
-    let first = second .before .before .before .before .before .before .before .before .before .before in
-    third .generation-step3 .kept .1 .1 .1 .1 .0 ∙ second .generation-step2 .kept .1 .1 .1 .1 .0 ∙ first .generation-step .kept .1 .1 .1 .1 .0
+add-generation : tie.Need-add-generation Inv-loop μ-loop
+add-generation c = search needs
 
-returns : tie.Need-returns
+loop-less : tie.Need-loop-less Inv-loop μ-loop
+loop-less c = search needs
+
+loop-again : tie.Need-loop-again Inv-loop μ-loop
+loop-again c =
+    let asked = c .before in
+    let at = asked .before .before in
+    let l = at .loop in
+    let turn = asked .before .loop-test .taken in
+    ⊎-elim
+    (λ w.
+    rw (w .11, w .12, w .13, w .14)
+    (midway-step _ _ _ _ _ _ (l .generation) (l .run) (l .heap) (l .ids) (l .locations) (l .inv) turn (sym (asked .is-due .ensures) ∙ w .0 .taken) _ _ _ _
+    (w .4 .ensures .0) (w .4 .ensures .1 .0) (w .4 .ensures .1 .1) (w .4 .kept .1 .1 .0) (w .4 .kept .1 .1 .1 .0) (w .4 .kept .1 .1 .1 .1 .0)))
+    (λ w.
+    rw (w .1, w .2, w .3, w .4)
+    (midway-skip _ _ _ _ _ _ (l .generation) (l .run) (l .heap) (l .ids) (l .locations) (l .inv) turn (sym (asked .is-due .ensures) ∙ w .0 .left)))
+    (c .if1 .came)
+
+same-length : tie.Need-same-length Inv-loop μ-loop
+same-length c = c .before .loop .inv .heap-long
+
+same-length-2 : tie.Need-same-length-2 Inv-loop μ-loop
+same-length-2 c = c .before .loop .inv .ids-long
+
+same-length-3 : tie.Need-same-length-3 Inv-loop μ-loop
+same-length-3 c = c .before .loop .inv .locations-long
+
+returns : tie.Need-returns Inv-loop μ-loop
 returns c =
-    let third = c .before .before .before .before .before .before in
-    let second = third .before .before .before .before .before .before .before .before .before .before in
-    let first = second .before .before .before .before .before .before .before .before .before .before in
-    let start = first .before .before .before .before .before .before .before .before in
-    let plan = start .args .plan .now in (
-      λ m. third .generation-step3 .ensures .0 m ∙ ap (stepped plan 3) (second .generation-step2 .ensures .0 m ∙ ap (stepped plan 2) (first .generation-step .ensures .0 m)),
-      third .generation-step3 .ensures .1 .0,
-    )
+    let l = c .before .loop in
+    ((λ m. midway-end _ _ _ _ _ _ (l .generation) (l .run) (l .heap) (l .ids) (l .locations) (l .inv) (c .loop-test .left) m), l .inv .under)
 
 pub generations-spec : {M : Type 1} → statement M
 generations-spec =
     tie.close
     (tie.spec
+    Inv-loop
+    μ-loop
+    loop-holds
+    is-due-requires
     generation-step-requires
-    generation-step-requires-2
-    generation-step-requires-3
+    add-generation
+    loop-less
+    loop-again
     same-length
     same-length-2
     same-length-3
