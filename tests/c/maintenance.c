@@ -171,7 +171,7 @@ static void stops(void) {
 }
 
 /* Copies of the file map go by groups and by files that come out, not by slots, entries or objects. */
-#define COPIES_A_CALL 10
+#define COPIES_A_CALL 7
 #define COPIES_A_GROUP 4
 #define COPIES_A_FILE 2
 

@@ -1,7 +1,7 @@
 -- "a claim record of the host's" as four words.
 use mathlib.Core.Path.{_≡_, refl, sym, ap, _∙_}
 use native.Mathlib.Omega.{arith}
-use Rattle.rules.specs.Base.{List, [], _∷_, ℕ, length, getD, set}
+use Rattle.rules.specs.Base.{List, [], _∷_, ℕ, length, getD}
 use Rattle.rules.specs.declared.Claims.{Claims}
 
 -- the claim record that four words hold
@@ -25,12 +25,3 @@ claims-back (a ∷ b ∷ c ∷ d ∷ f ∷ ws) e = absurd (omega (arith, e))
 -- so a contract that settles the claim record settles every word
 pub claims-one : (ws vs : List ℕ) → length ws ≡ 4 → length vs ≡ 4 → claimsIn ws ≡ claimsIn vs → ws ≡ vs
 claims-one ws vs p q e = sym (claims-back ws p) ∙ ap claimWords e ∙ claims-back vs q
-
--- four words stored: the claim record that they hold
-pub claims-put : (ws : List ℕ) (c : Claims) → length ws ≡ 4 → claimsIn (set (set (set (set ws 0 (c .a)) 1 (c .b)) 2 (c .c)) 3 (c .d)) ≡ c
-unfolding claimsIn
-claims-put [] c e = absurd (omega (arith, e))
-claims-put (p ∷ []) c e = absurd (omega (arith, e))
-claims-put (p ∷ q ∷ []) c e = absurd (omega (arith, e))
-claims-put (p ∷ q ∷ r ∷ []) c e = absurd (omega (arith, e))
-claims-put (p ∷ q ∷ r ∷ s ∷ ws) c e = refl

@@ -1,8 +1,5 @@
 -- An answer in a host's out-parameters: the number, and a place for each value; a place that no value comes to is 0.
-use mathlib.Core.Path.{_≡_, refl}
-use native.Mathlib.Omega.{arith}
-use Rattle.rules.specs.Base.{List, _∷_, [], ℕ, length, set, eqb, pick, padded}
-use Rattle.rules.specs.declared.Counts.{Counts}
+use Rattle.rules.specs.Base.{List, _∷_, ℕ, eqb, pick, padded}
 use Rattle.rules.specs.World.{Given, After}
 use Rattle.rules.specs.TableCalls.{TableAfter}
 
@@ -25,12 +22,3 @@ shownTable k a = record { answer = shown k (a .answer); table = a .table }
 -- what a call left, its answer in two places
 abbrev pub stopAfter : After → After
 stopAfter a = record { answer = stopShown (a .answer); world = a .world }
-
--- four words stored
-pub counts-put : (ws : List ℕ) (c : Counts) → length ws ≡ 4 → set (set (set (set ws 0 (c .files)) 1 (c .bytes)) 2 (c .present)) 3 (c .live) ≡ c .files ∷ c .bytes ∷ c .present ∷ c .live ∷ []
-counts-put [] c e = absurd (omega (arith, e))
-counts-put (p ∷ []) c e = absurd (omega (arith, e))
-counts-put (p ∷ q ∷ []) c e = absurd (omega (arith, e))
-counts-put (p ∷ q ∷ r ∷ []) c e = absurd (omega (arith, e))
-counts-put (p ∷ q ∷ r ∷ s ∷ []) c e = refl
-counts-put (p ∷ q ∷ r ∷ s ∷ t ∷ ws) c e = absurd (omega (arith, e))

@@ -1,4 +1,5 @@
 // An enum answer as the paper's number, 0 for success, and its values.
+use crate::four_words::put_four;
 use rules::Answer;
 use rules::CompareAnswer;
 use rules::Counts;
@@ -186,8 +187,5 @@ pub fn put_counts(words: &mut [u64], c: Counts)
     requires { ⌜ length (now words) ≡ 4 ⌝ }
     ensures { λ _. ⌜ now (words .exit) ≡ c .files ∷ c .bytes ∷ c .present ∷ c .live ∷ [] ⌝ }
 {
-    words[0] = c.files;
-    words[1] = c.bytes;
-    words[2] = c.present;
-    words[3] = c.live;
+    put_four(words, c.files, c.bytes, c.present, c.live);
 }

@@ -1,4 +1,5 @@
 // The claim record as four lent words.
+use crate::four_words::put_four;
 use rules::Claims;
 ghost use mathlib.Core.Path.{_≡_};
 ghost use lib.ListN.{length};
@@ -22,8 +23,5 @@ pub fn put_claims(words: &mut [u64], c: Claims)
     requires { ⌜ length (now words) ≡ 4 ⌝ }
     ensures { λ _. ⌜ claimsIn (now (words .exit)) ≡ c ⌝ }
 {
-    words[0] = c.a;
-    words[1] = c.b;
-    words[2] = c.c;
-    words[3] = c.d;
+    put_four(words, c.a, c.b, c.c, c.d);
 }

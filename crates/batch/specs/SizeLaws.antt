@@ -1,7 +1,7 @@
 -- The sizes of a file, by count and T.
 use mathlib.Core.Path.{_≡_, refl, ap, _∙_}
 use mathlib.Core.Bool.{Bool, true, false}
-use mathlib.Core.List.{List, [], _∷_}
+use mathlib.Core.List.{List, []}
 use Prim.Native.Nat.{ℕ, _+_, _*_, _<_, _≤_}
 use native.Mathlib.Omega.{arith}
 use borrow.Author.Tests.{lt-ltb, le-ltb, ltb-true, ltb-false}
@@ -13,10 +13,12 @@ use Rattle.rules.specs.OpsLaws.{objects-nil, objects-length, file-length}
 use Rattle.batch.specs.Reading.{opIn}
 use Rattle.batch.specs.ReadingLaws.{piece-length}
 use Rattle.batch.specs.Sizes.{sizeIn, sizesOf}
+use Rattle.batch.specs.WalkLaws.{Stepped}
 use Rattle.batch.specs.declared.Operation.{Operation}
 use Rattle.batch.specs.declared.Room.the-variants.{Fits, TooLarge}
 
-size-is : (s : List ℕ) (o : Operation) → o .start + o .len ≤ length s → sizeOf (opIn s o .content) ≡ sizeIn o
+-- "an object adds 20 + length, a delete 0", by its numbers
+pub size-is : (s : List ℕ) (o : Operation) → o .start + o .len ≤ length s → sizeOf (opIn s o .content) ≡ sizeIn o
 size-is s o h = go (o .delete)
   where
     go : (d : Bool) → sizeOf (pick d delete (put (take (o .len) (drop (o .start) s)))) ≡ pick d 0 (20 + o .len)
@@ -31,15 +33,14 @@ size-bound o = go (o .delete)
     go false = omega arith
 
 -- T of what is left, one operation behind; and at the end
-pub total-next : (s : List ℕ) (ops rest : List Op) (o : Operation) → (ops ≡ opIn s o ∷ rest) × (o .start + o .len ≤ length s)
-    → length (objectsOf ops) ≡ sizeIn o + length (objectsOf rest)
-total-next s ops rest o e =
-    ap (λ (os : List Op). length (objectsOf os)) (e .0)
+pub total-next : {s : List ℕ} {ops rest : List Op} {o : Operation} → Stepped s ops o rest → length (objectsOf ops) ≡ sizeIn o + length (objectsOf rest)
+total-next {s} {ops} {rest} {o} e =
+    ap (λ (os : List Op). length (objectsOf os)) (e .next)
     ∙ objects-length (opIn s o) rest
-    ∙ ap (λ (n : ℕ). n + length (objectsOf rest)) (size-is s o (e .1))
+    ∙ ap (λ (n : ℕ). n + length (objectsOf rest)) (size-is s o (e .inside))
 
-pub total-end : (ops : List Op) → ops ≡ [] → length (objectsOf ops) ≡ 0
-total-end ops e = ap (λ (os : List Op). length (objectsOf os)) e ∙ ap length objects-nil
+pub total-end : {ops : List Op} → ops ≡ [] → length (objectsOf ops) ≡ 0
+total-end e = ap (λ (os : List Op). length (objectsOf os)) e ∙ ap length objects-nil
 
 pub sizes-fit : (slotSize count total : ℕ) (ops : List Op) → count ≡ length ops → total ≡ length (objectsOf ops) → 76 + total + 16 * count ≤ slotSize
     → Fits count total ≡ sizesOf slotSize ops

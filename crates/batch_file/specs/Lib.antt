@@ -1,3 +1,5 @@
+pub mod Putting
 pub mod Steps
+pub mod Summing
 pub mod Underway
 pub mod Whole

@@ -2,19 +2,19 @@
 use mathlib.Core.Path.{_≡_, refl, ap, ap₂, _∙_}
 use mathlib.Core.Bool.{Bool, true, false}
 use mathlib.Core.List.{List, [], _∷_, _++_}
-use Prim.Native.Nat.{ℕ, _+_, _^_, _≤_, _<_}
-use native.Mathlib.Omega.{arith}
+use Prim.Native.Nat.{ℕ, _+_, _^_, _<_}
 use lib.ListN.{length, take, drop}
 use Rattle.numbers.specs.Choice.{pick}
 use Rattle.disk_location.specs.Locations.{rawOf}
 use Rattle.rules.specs.declared.Entry.{Entry}
 use Rattle.rules.specs.Base.{each}
 use Rattle.rules.specs.Trailer.{entryBytes}
-use Rattle.rules.specs.Ops.{Op, put, delete, isDelete, sizeOf, contentBytes, objectsOf, entriesOf, settled}
-use Rattle.rules.specs.OpsLaws.{content-length, objects-cons, objects-nil, objects-length}
+use Rattle.rules.specs.Ops.{Op, put, delete, isDelete, contentBytes, objectsOf, entriesOf, settled}
+use Rattle.rules.specs.OpsLaws.{content-length, objects-cons}
 use Rattle.batch.specs.Reading.{opIn, opsIn}
 use Rattle.batch.specs.Sizes.{sizeIn}
-use Rattle.batch.specs.SizeLaws.{total-next}
+use Rattle.batch.specs.SizeLaws.{size-is}
+use Rattle.batch.specs.WalkLaws.{Stepped}
 use Rattle.batch.specs.declared.Operation.{Operation}
 
 -- an operation's entry, by the numbers
@@ -27,26 +27,18 @@ pub record Sized (s : List ℕ) (count total : ℕ) : Type 0 where
   pub objects : total ≡ length (objectsOf (settled (opsIn s)))
   pub small : total < 2 ^ 62
 
--- what a step of the walk tells: the next operation, its body within the batch, then the rest
-abbrev pub Stepped : List ℕ → List Op → Operation → List Op → Type 0
-Stepped s ops o rest = (ops ≡ opIn s o ∷ rest) × (o .start + o .len ≤ length s)
-
-module _ (s : List ℕ) (ops : List Op) (o : Operation) (rest : List Op) (e : Stepped s ops o rest) where
-  -- "an object adds 20 + length, a delete 0"
-  pub size-told : sizeOf (opIn s o .content) ≡ sizeIn o
-  size-told = omega (arith, total-next s ops rest o e, ap (λ (os : List Op). length (objectsOf os)) (e .0), objects-length (opIn s o) rest)
-
+module _ {s : List ℕ} {ops : List Op} {o : Operation} {rest : List Op} (e : Stepped s ops o rest) where
   pub content-size : length (contentBytes (o .id) (opIn s o .content)) ≡ sizeIn o
-  content-size = content-length (o .id) (opIn s o .content) ∙ size-told
+  content-size = content-length (o .id) (opIn s o .content) ∙ size-is s o (e .inside)
 
   pub objects-next : objectsOf ops ≡ contentBytes (o .id) (opIn s o .content) ++ objectsOf rest
-  objects-next = ap objectsOf (e .0) ∙ objects-cons (opIn s o) rest
+  objects-next = ap objectsOf (e .next) ∙ objects-cons (opIn s o) rest
 
-  pub entries-next : (position : ℕ) → entriesOf position ops ≡ entryIn position o ∷ entriesOf (position + sizeIn o) rest
+  entries-next : (position : ℕ) → entriesOf position ops ≡ entryIn position o ∷ entriesOf (position + sizeIn o) rest
   unfolding entriesOf
   entries-next position =
-      ap (entriesOf position) (e .0)
-      ∙ ap₂ (λ (d : Bool) (n : ℕ). record { id = o .id; location = rawOf position d } ∷ entriesOf (position + n) rest) (mark (o .delete)) size-told
+      ap (entriesOf position) (e .next)
+      ∙ ap₂ (λ (d : Bool) (n : ℕ). record { id = o .id; location = rawOf position d } ∷ entriesOf (position + n) rest) (mark (o .delete)) (size-is s o (e .inside))
     where
       mark : (d : Bool) → isDelete (pick d delete (put (take (o .len) (drop (o .start) s)))) ≡ d
       mark true = refl
@@ -57,9 +49,6 @@ module _ (s : List ℕ) (ops : List Op) (o : Operation) (rest : List Op) (e : St
   each-next position = ap (each entryBytes) (entries-next position)
 
 -- nothing is left
-pub objects-end : (ops : List Op) → ops ≡ [] → objectsOf ops ≡ []
-objects-end ops e = ap objectsOf e ∙ objects-nil
-
-pub each-end : (position : ℕ) (ops : List Op) → ops ≡ [] → each entryBytes (entriesOf position ops) ≡ []
+pub each-end : (position : ℕ) {ops : List Op} → ops ≡ [] → each entryBytes (entriesOf position ops) ≡ []
 unfolding entriesOf each
-each-end position ops e = ap (λ (os : List Op). each entryBytes (entriesOf position os)) e
+each-end position e = ap (λ (os : List Op). each entryBytes (entriesOf position os)) e

@@ -9,6 +9,10 @@ use rules::CompareAnswer;
 use rules::CountsAnswer;
 use rules::LoadAnswer;
 use rules::ReadAnswer;
+ghost use mathlib.Core.Path.{_≡_};
+ghost use lib.ListN.{length};
+ghost use Rattle.numbers.specs.Parts.{front};
+ghost use Rattle.script.specs.Asked.{askedBy};
 ghost use Rattle.desk.specs.Desk.{desk};
 ghost use Rattle.bench.specs.Lines.{Ran};
 
@@ -132,7 +136,8 @@ pub fn after_line(
     ids: &mut [u64],
     locations: &mut [u64],
 ) -> Bench
-    ensures { λ r. ⌜ Ran (now (line .entry)) (desk b (now (heap .entry)) (now (ids .entry)) (now (locations .entry))) (desk r (now (heap .exit)) (now (ids .exit)) (now (locations .exit))) ⌝ }
+    ensures { λ r. ⌜ Ran (length (now (decoded .entry))) (now (line .entry)) (desk b (now (heap .entry)) (now (ids .entry)) (now (locations .entry))) (desk r (now (heap .exit)) (now (ids .exit)) (now (locations .exit))) ⌝ }
+    ensures { λ _. ⌜ now (decoded .exit) ≡ front (askedBy (length (now (decoded .entry))) (now (line .entry)) .bytes) (now (decoded .entry)) ⌝ }
 {
     let order = script::order_of(line, decoded);
     let count = order.length;

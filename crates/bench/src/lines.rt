@@ -3,10 +3,13 @@ use desk::Bench;
 use desk::least;
 use libc::STDIN_FILENO;
 ghost use mathlib.Core.Path.{_≡_};
-ghost use Prim.Native.Nat.{_≤_, _<_};
+ghost use mathlib.Core.List.{List};
+ghost use Prim.Native.Nat.{ℕ, _≤_, _<_};
 ghost use lib.ListN.{length, take};
 ghost use Rattle.desk.specs.Desk.{desk};
+ghost use Rattle.desk.specs.Commands.{freshBench};
 ghost use Rattle.bench.specs.Lines.{nextLine, Answered};
+ghost use Rattle.bench.specs.Input.{Holds, Longer, ReadOn, takenTo, withLong, FedTo, lastDone, told};
 
 // The bench; how much of the input is taken; of the line that is being read, how much is held, that it is too long, and that
 // its end was met.
@@ -18,21 +21,31 @@ struct Reading {
     whole: bool,
 }
 
-// More of the line, unless it is too long.
-fn held(s: Reading, line: &mut [u8], part: &[u8]) -> Reading {
+// The line that is being read is too long.
+fn too_long(s: Reading) -> Reading
+    ensures { λ r. ⌜ r ≡ withLong s ⌝ }
+{
     let mut t = s;
+    t.long = true;
+    t
+}
+
+// More of the line, unless it is too long.
+fn held(s: Reading, line: &mut [u8], part: &[u8]) -> Reading
+    ensures { λ r. ⌜ (r .taken ≡ s .taken) × (r .whole ≡ s .whole) × Longer s (now (line .entry)) (now (part .entry)) r (now (line .exit)) ⌝ }
+{
     let n = least(s.held, line.len());
     if line.len() - n < part.len() {
-        t.long = true;
-        return t;
+        return too_long(s);
     }
     bytes::copy(part, &mut line[n..]);
+    let mut t = s;
     t.held = n + part.len();
     t
 }
 
 fn taken_to(s: Reading, at: usize, whole: bool) -> Reading
-    ensures { λ r. ⌜ r .taken ≡ at ⌝ }
+    ensures { λ r. ⌜ r ≡ takenTo s at whole ⌝ }
 {
     let mut t = s;
     t.taken = at;
@@ -43,7 +56,7 @@ fn taken_to(s: Reading, at: usize, whole: bool) -> Reading
 // The input up to the end of the line, or all that is left of it.
 fn read_on(s: Reading, input: &[u8], line: &mut [u8]) -> Reading
     requires { ⌜ s .taken < length (now input) ⌝ }
-    ensures { λ r. ⌜ s .taken < r .taken ⌝ }
+    ensures { λ r. ⌜ ReadOn s (now (input .entry)) (now (line .entry)) r (now (line .exit)) ⌝ }
 {
     let from = s.taken;
     let end = bytes::scan::find(input, from, input.len(), b'\n');
@@ -74,7 +87,7 @@ fn answered(
     ids: &mut [u64],
     locations: &mut [u64],
 ) -> Reading
-    ensures { λ r. ⌜ (r .taken ≡ s .taken) × Answered (s .whole) (s .long) s (take (s .held) (now (line .entry))) (desk (s .bench) (now (heap .entry)) (now (ids .entry)) (now (locations .entry))) r (desk (r .bench) (now (heap .exit)) (now (ids .exit)) (now (locations .exit))) ⌝ }
+    ensures { λ r. ⌜ (r .taken ≡ s .taken) × Answered (length (now (decoded .entry))) (s .whole) (s .long) s (take (s .held) (now (line .entry))) (desk (s .bench) (now (heap .entry)) (now (ids .entry)) (now (locations .entry))) r (desk (r .bench) (now (heap .exit)) (now (ids .exit)) (now (locations .exit))) ⌝ }
 {
     if !s.whole {
         return s;
@@ -91,6 +104,7 @@ fn answered(
     t
 }
 
+// Each line of the input is answered when its end is met; what is behind the last end is held.
 fn lines_in(
     s: Reading,
     input: &[u8],
@@ -99,7 +113,9 @@ fn lines_in(
     heap: &mut [u8],
     ids: &mut [u64],
     locations: &mut [u64],
-) -> Reading {
+) -> Reading
+    ensures { λ r. ⌜ ((text : List ℕ) → Holds s (now (line .entry)) text → FedTo (length (now (line .entry))) (length (now (decoded .entry))) (now (input .entry)) text (desk (s .bench) (now (heap .entry)) (now (ids .entry)) (now (locations .entry))) r (now (line .exit)) (desk (r .bench) (now (heap .exit)) (now (ids .exit)) (now (locations .exit)))) ⌝ }
+{
     let mut t = taken_to(s, 0, false);
     while t.taken < input.len() {
         t = read_on(t, input, line);
@@ -124,15 +140,27 @@ fn finished(
     heap: &mut [u8],
     ids: &mut [u64],
     locations: &mut [u64],
-) {
+) -> Bench
+    ensures { λ r. ⌜ ((text : List ℕ) → Holds s (now (line .entry)) text → desk r (now (heap .exit)) (now (ids .exit)) (now (locations .exit)) ≡ lastDone (length (now (line .entry))) (length (now (decoded .entry))) text (desk (s .bench) (now (heap .entry)) (now (ids .entry)) (now (locations .entry)))) ⌝ }
+{
     if s.held == 0 && !s.long {
-        return;
+        return s.bench;
     }
     let last = taken_to(s, 0, true);
-    answered(last, line, decoded, heap, ids, locations);
+    let t = answered(last, line, decoded, heap, ids, locations);
+    t.bench
 }
 
-// A proved loop has to end, and nothing says that the input does: the turns count down from a number that no run uses up.
+// None once the input has ended. A proved loop has to end, and nothing says that the input does: the turns count down from a
+// number that no run uses up.
+fn turns_left(turns: u64, got: usize) -> u64
+    requires { ⌜ 0 < turns ⌝ }
+    ensures { λ r. ⌜ r < turns ⌝ }
+{
+    if got == 0 { 0 } else { turns - 1 }
+}
+
+// Some input is told to the desk at the start: which, cannot be stated, since the kit states nothing of the bytes that are read.
 pub fn run_all(
     input: &mut [u8],
     line: &mut [u8],
@@ -140,7 +168,9 @@ pub fn run_all(
     heap: &mut [u8],
     ids: &mut [u64],
     locations: &mut [u64],
-) {
+) -> Bench
+    ensures { λ r. ⌜ ((bytes : List ℕ) × (desk r (now (heap .exit)) (now (ids .exit)) (now (locations .exit)) ≡ told (length (now (line .entry))) (length (now (decoded .entry))) bytes (desk freshBench (now (heap .entry)) (now (ids .entry)) (now (locations .entry))))) ⌝ }
+{
     let mut s = Reading {
         bench: desk::start(),
         taken: 0,
@@ -150,12 +180,9 @@ pub fn run_all(
     };
     let mut turns = u64::MAX;
     while turns > 0 {
-        turns -= 1;
         let n = read_some(input);
-        if n == 0 {
-            finished(s, line, decoded, heap, ids, locations);
-            return;
-        }
         s = lines_in(s, &input[0..n], line, decoded, heap, ids, locations);
+        turns = turns_left(turns, n);
     }
+    finished(s, line, decoded, heap, ids, locations)
 }

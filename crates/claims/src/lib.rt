@@ -1,10 +1,13 @@
 // The host's claim record, 256 bits in four words by value, and the calls that go by records alone: claim, release, counts.
 use file_map::is_empty;
+use limits::Rest;
+use limits::bad_files;
 use limits::refused_apart;
 use limits::rest_of;
 use rules::Answer;
 use rules::Claims;
 use rules::CountsAnswer;
+use rules::FileMap;
 use rules::Refusal;
 use rules::Settings;
 use rules::State;
@@ -13,13 +16,18 @@ ghost use mathlib.Core.Bool.{_||_};
 ghost use mathlib.Core.List.{[], _∷_};
 ghost use Prim.Native.Nat.{_-_, _^_, _<_};
 ghost use lib.Bits.{bitOr, bitAnd};
+ghost use lib.ListN.{length};
 ghost use Rattle.rules.specs.Refusal.{_gives_, decide};
 ghost use Rattle.rules.specs.Condition1.{refused1};
+ghost use Rattle.rules.specs.FileMap.{isEmpty, recordAt};
 ghost use Rattle.rules.specs.Claims.{noClaims, wordOf, withWord, isClaimed, claimSet, claimCleared, notAFile, claimCall, releaseCall};
 ghost use Rattle.rules.specs.Counts.{countsCall};
 ghost use Rattle.rules.specs.World.{world, leaving, answerGiven, countsGiven};
 ghost use Rattle.rules.specs.declared.Claims.{Claims};
+ghost use Rattle.rules.specs.declared.FileMap.{FileMap};
 ghost use Rattle.rules.specs.declared.Refusal.the-variants.{Limits, Claim};
+ghost use Rattle.location_table.specs.Tables.{table};
+ghost use Rattle.limits.specs.Settled.{stateOf, badFiles};
 
 // ---- the bits
 // "starts one without claims"
@@ -112,27 +120,39 @@ pub fn without_claim(c: Claims, slot: u64) -> Claims
 }
 
 // ---- the calls
-// 1; then 21 for "a slot out of range, an empty slot", or for one whose claim bars the call.
+// "an empty slot": past the records there is none that is not.
+fn empty_at(files: FileMap, slot: u64) -> bool
+    ensures { λ b. ⌜ b ≡ isEmpty (recordAt (files .records) slot) ⌝ }
+{
+    if 256 <= slot {
+        return true;
+    }
+    let i = slot as usize;
+    is_empty(files.records[i])
+}
+
+// 1; then 21 for "a slot out of range, an empty slot", or for one whose claim bars the call. `bad` and `empty` are what was found of the
+// state's records.
 fn decided(
     s: Settings,
-    state: State,
+    rest: Rest,
+    bad: bool,
+    empty: bool,
     heap: &[u8],
     ids: &[u64],
     locations: &[u64],
     slot: u64,
     barred: bool,
 ) -> Answer
-    ensures { λ r. ⌜ ((c : Claims) → let w = world s state c (now (heap .entry)) (now (ids .entry)) (now (locations .entry)) in r ≡ decide (refused1 w gives Limits ∷ (notAFile w slot || barred) gives Claim ∷ [])) ⌝ }
+    ensures { λ r. ⌜ ((files : FileMap) (c : Claims) → bad ≡ badFiles s (length (now (heap .entry))) (table (now (ids .entry)) (now (locations .entry))) (files .records) → empty ≡ isEmpty (recordAt (files .records) slot) → let w = world s (stateOf rest files) c (now (heap .entry)) (now (ids .entry)) (now (locations .entry)) in r ≡ decide (refused1 w gives Limits ∷ (notAFile w slot || barred) gives Claim ∷ [])) ⌝ }
 {
-    let files = state.files;
-    if refused_apart(s, heap.len() as u64, ids, locations, rest_of(state), files) {
+    if refused_apart(s, heap.len() as u64, ids, locations, rest, bad) {
         return Answer::Refused(Refusal::Limits);
     }
     if heap.len() as u64 / s.slot_bytes <= slot {
         return Answer::Refused(Refusal::Claim);
     }
-    let i = slot as usize;
-    if is_empty(files.records[i]) {
+    if empty {
         return Answer::Refused(Refusal::Claim);
     }
     if barred {
@@ -159,9 +179,14 @@ pub fn claim(
 ) -> ClaimAnswer
     ensures { λ r. ⌜ leaving (answerGiven (r .answer)) (world s state (r .claims) (now (heap .entry)) (now (ids .entry)) (now (locations .entry))) ≡ claimCall (world s state claims (now (heap .entry)) (now (ids .entry)) (now (locations .entry))) slot ⌝ }
 {
+    let files = state.files;
+    let bad = bad_files(s, heap.len() as u64, ids, locations, files);
+    let empty = empty_at(files, slot);
     match decided(
         s,
-        state,
+        rest_of(state),
+        bad,
+        empty,
         heap,
         ids,
         locations,
@@ -194,9 +219,14 @@ pub fn release(
 ) -> ClaimAnswer
     ensures { λ r. ⌜ leaving (answerGiven (r .answer)) (world s state (r .claims) (now (heap .entry)) (now (ids .entry)) (now (locations .entry))) ≡ releaseCall (world s state claims (now (heap .entry)) (now (ids .entry)) (now (locations .entry))) slot ⌝ }
 {
+    let files = state.files;
+    let bad = bad_files(s, heap.len() as u64, ids, locations, files);
+    let empty = empty_at(files, slot);
     match decided(
         s,
-        state,
+        rest_of(state),
+        bad,
+        empty,
         heap,
         ids,
         locations,
@@ -228,7 +258,8 @@ pub fn counts(
     ensures { λ r. ⌜ ((claims : Claims) → leaving (countsGiven r) (world s state claims (now (heap .entry)) (now (ids .entry)) (now (locations .entry))) ≡ countsCall (world s state claims (now (heap .entry)) (now (ids .entry)) (now (locations .entry)))) ⌝ }
 {
     let files = state.files;
-    if refused_apart(s, heap.len() as u64, ids, locations, rest_of(state), files) {
+    let bad = bad_files(s, heap.len() as u64, ids, locations, files);
+    if refused_apart(s, heap.len() as u64, ids, locations, rest_of(state), bad) {
         return CountsAnswer::CountsRefused(Refusal::Limits);
     }
     CountsAnswer::Counted(file_map::counts(files))

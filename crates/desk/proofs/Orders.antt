@@ -1,80 +1,115 @@
--- The keyword that a match was told; the keywords that its last arm is left with.
-use mathlib.Core.Path.{_≡_, refl, sym, ap}
-use Rattle.rules.specs.Base.{List, [], _∷_, ℕ}
-use types.Run.{OneOf, miss}
-use Rattle.script.proofs.Keyword as keyword
-use Rattle.script.specs.declared.Keyword.{Keyword}
+-- What a match on a keyword tells: its last arm, and arms of several.
+use mathlib.Core.Path.{_≡_, refl, sym, ap, _∙_, subst}
+use mathlib.Core.Logic.{_⊎_, inl, inr, ⊎-elim}
+use lib.Dec.{T, T-not, eqb-refl}
+use mir.Facts.{or-no}
+use mir.Val.{hasKey}
+use types.Run.{OneOf}
+use Rattle.rules.specs.Base.{Bool, true, false, not, List, [], _∷_, _++_, ℕ, map, getD, eqb, pick}
 use Rattle.script.specs.declared.Keyword.the-variants as key
-use denote.Enum.Declared.{tagOf}
-use Rattle.desk.specs.Desk.{Desk, Outcome, badLine, onLent}
+use Rattle.desk.specs.Types.{Keyword}
+use Rattle.desk.specs.Kinds.{number, Among}
+use Rattle.desk.specs.Desk.{Desk, badLine, onLent}
 use Rattle.desk.specs.Commands.{lentBy, doneBy}
 
-pub lent-told : (n bytes : List ℕ) (d : Desk) (k t : Keyword) → k ≡ t → lentBy t n bytes d ≡ lentBy k n bytes d
-lent-told n bytes d k t q = ap (λ (x : Keyword). lentBy x n bytes d) (sym q)
+-- ---- keywords by number
+abbrev keywords : List Keyword
+keywords =
+    key.Blank ∷ key.Bad ∷ key.Settings ∷ key.Heap ∷ key.Table ∷ key.Poke ∷ key.Entry ∷ key.State ∷ key.Record ∷ key.Claims ∷ key.Reopen ∷ key.Write ∷ key.Claim
+    ∷ key.Release ∷ key.Prune ∷ key.Read ∷ key.Maintain ∷ key.Counts ∷ key.Load ∷ key.Store ∷ key.Cas ∷ key.Max ∷ key.List ∷ key.Dump ∷ key.Help ∷ []
 
-pub done-told : (n bytes : List ℕ) (d : Desk) (k t : Keyword) → k ≡ t → doneBy t n bytes d ≡ doneBy k n bytes d
-done-told n bytes d k t q = ap (λ (x : Keyword). doneBy x n bytes d) (sym q)
+numbered : (k : Keyword) → getD keywords (number k) key.Bad ≡ k
+numbered key.Blank = refl
+numbered key.Bad = refl
+numbered key.Settings = refl
+numbered key.Heap = refl
+numbered key.Table = refl
+numbered key.Poke = refl
+numbered key.Entry = refl
+numbered key.State = refl
+numbered key.Record = refl
+numbered key.Claims = refl
+numbered key.Reopen = refl
+numbered key.Write = refl
+numbered key.Claim = refl
+numbered key.Release = refl
+numbered key.Prune = refl
+numbered key.Read = refl
+numbered key.Maintain = refl
+numbered key.Counts = refl
+numbered key.Load = refl
+numbered key.Store = refl
+numbered key.Cas = refl
+numbered key.Max = refl
+numbered key.List = refl
+numbered key.Dump = refl
+numbered key.Help = refl
 
--- those that are not on the lent parts
-abbrev pub whole : List ℕ
-whole = 0 ∷ 1 ∷ 2 ∷ 3 ∷ 4 ∷ 7 ∷ 8 ∷ 9 ∷ 22 ∷ 23 ∷ 24 ∷ []
+-- two of one number are one
+one-number : (k l : Keyword) → number k ≡ number l → k ≡ l
+one-number k l e = sym (numbered k) ∙ ap (λ (x : ℕ). getD keywords x key.Bad) e ∙ numbered l
+
+first-or : (n : ℕ) (ns : List ℕ) (x : ℕ) → OneOf (n ∷ ns) x → (x ≡ n) ⊎ OneOf ns x
+first-or n [] x h = inl h
+first-or n (m ∷ ns) x (inl h) = inl h
+first-or n (m ∷ ns) x (inr h) = inr h
+
+-- what holds of each of some
+abbrev All : (Keyword → Type 0) → List Keyword → Type 0
+All P [] = Unit {0}
+All P (k ∷ ks) = P k × All P ks
+
+each : (P : Keyword → Type 0) (ks : List Keyword) → All P ks → (k : Keyword) → Among ks k → P k
+each P [] a k h = absurd h
+each P (l ∷ ks) a k h =
+    ⊎-elim (λ e. subst P (sym (one-number k l e)) (a .0)) (λ r. each P ks (a .1) k r) (first-or (number l) (map number ks) (number k) h)
+
+-- ---- the last arm
+-- the numbers that are not among these
+abbrev without : List ℕ → List Keyword → List ℕ
+without told [] = []
+without told (k ∷ ks) = pick (hasKey told (number k)) (without told ks) (number k ∷ without told ks)
+
+-- the numbers that a last arm is left with
+abbrev pub leftBy : List Keyword → List ℕ
+leftBy told = without (map number told) keywords
+
+not-told : (told : List ℕ) (ks : List Keyword) (x : ℕ) → OneOf (without told ks) x → T (not (hasKey told x))
+not-told told [] x h = absurd h
+not-told told (k ∷ ks) x h = go (hasKey told (number k)) refl (not-told told ks x) h
+  where
+    go : (t : Bool) → hasKey told (number k) ≡ t → (OneOf (without told ks) x → T (not (hasKey told x)))
+        → OneOf (pick t (without told ks) (number k ∷ without told ks)) x → T (not (hasKey told x))
+    go true q later h = later h
+    go false q later h =
+        ⊎-elim (λ e. subst (λ (y : ℕ). T (not (hasKey told y))) (sym e) (subst (λ (t : Bool). T (not t)) (sym q) tt)) later (first-or (number k) (without told ks) x h)
+
+last-one : (told : List Keyword) (z k : Keyword) → Among (told ++ (z ∷ [])) k → T (not (hasKey (map number told) (number k))) → k ≡ z
+last-one [] z k p h = one-number k z p
+last-one (l ∷ told) z k p h =
+    let other = or-no (eqb (number l) (number k)) (hasKey (map number told) (number k)) h in
+    ⊎-elim (λ e. absurd (T-not (eqb (number l) (number k)) (other .0) (subst (λ (y : ℕ). T (eqb (number l) y)) (sym e) (eqb-refl (number l)))))
+    (λ r. last-one told z k r (other .1)) (first-or (number l) (map number (told ++ (z ∷ []))) (number k) p)
+
+-- of some keywords, all but the last told before
+pub last : (told : List Keyword) (z k : Keyword) → Among (told ++ (z ∷ [])) k → OneOf (leftBy told) (number k) → k ≡ z
+last told z k p h = last-one told z k p (not-told (map number told) keywords (number k) h)
+
+-- ---- the commands on the lent parts
+-- those that are not
+abbrev pub whole : List Keyword
+whole = key.Blank ∷ key.Bad ∷ key.Settings ∷ key.Heap ∷ key.Table ∷ key.State ∷ key.Record ∷ key.Claims ∷ key.List ∷ key.Dump ∷ key.Help ∷ []
 
 -- those that are
-abbrev pub parts : List ℕ
-parts = 5 ∷ 6 ∷ 10 ∷ 11 ∷ 12 ∷ 13 ∷ 14 ∷ 15 ∷ 16 ∷ 17 ∷ 18 ∷ 19 ∷ 20 ∷ 21 ∷ []
+abbrev pub parts : List Keyword
+parts =
+    key.Poke ∷ key.Entry ∷ key.Reopen ∷ key.Write ∷ key.Claim ∷ key.Release ∷ key.Prune ∷ key.Read ∷ key.Maintain ∷ key.Counts ∷ key.Load ∷ key.Store ∷ key.Cas
+    ∷ key.Max ∷ []
 
-pub lent-rest : (n bytes : List ℕ) (d : Desk) (k : Keyword) → OneOf whole (tagOf keyword.the-type k) → badLine d ≡ lentBy k n bytes d
+pub lent-rest : (n bytes : List ℕ) (d : Desk) (k : Keyword) → Among whole k → badLine d ≡ lentBy k n bytes d
 unfolding lentBy
-lent-rest n bytes d key.Blank h = refl
-lent-rest n bytes d key.Bad h = refl
-lent-rest n bytes d key.Settings h = refl
-lent-rest n bytes d key.Heap h = refl
-lent-rest n bytes d key.Table h = refl
-lent-rest n bytes d key.Poke h = absurd (miss whole 5 tt h)
-lent-rest n bytes d key.Entry h = absurd (miss whole 6 tt h)
-lent-rest n bytes d key.State h = refl
-lent-rest n bytes d key.Record h = refl
-lent-rest n bytes d key.Claims h = refl
-lent-rest n bytes d key.Reopen h = absurd (miss whole 10 tt h)
-lent-rest n bytes d key.Write h = absurd (miss whole 11 tt h)
-lent-rest n bytes d key.Claim h = absurd (miss whole 12 tt h)
-lent-rest n bytes d key.Release h = absurd (miss whole 13 tt h)
-lent-rest n bytes d key.Prune h = absurd (miss whole 14 tt h)
-lent-rest n bytes d key.Read h = absurd (miss whole 15 tt h)
-lent-rest n bytes d key.Maintain h = absurd (miss whole 16 tt h)
-lent-rest n bytes d key.Counts h = absurd (miss whole 17 tt h)
-lent-rest n bytes d key.Load h = absurd (miss whole 18 tt h)
-lent-rest n bytes d key.Store h = absurd (miss whole 19 tt h)
-lent-rest n bytes d key.Cas h = absurd (miss whole 20 tt h)
-lent-rest n bytes d key.Max h = absurd (miss whole 21 tt h)
-lent-rest n bytes d key.List h = refl
-lent-rest n bytes d key.Dump h = refl
-lent-rest n bytes d key.Help h = refl
+lent-rest n bytes d = each (λ (k : Keyword). badLine d ≡ lentBy k n bytes d) whole (refl, (refl, (refl, (refl, (refl, (refl, (refl, (refl, (refl, (refl, (refl, tt)))))))))))
 
-pub done-rest : (n bytes : List ℕ) (d : Desk) (k : Keyword) → OneOf parts (tagOf keyword.the-type k) → onLent (lentBy k n bytes) d ≡ doneBy k n bytes d
+pub done-rest : (n bytes : List ℕ) (d : Desk) (k : Keyword) → Among parts k → onLent (lentBy k n bytes) d ≡ doneBy k n bytes d
 unfolding doneBy
-done-rest n bytes d key.Blank h = absurd (miss parts 0 tt h)
-done-rest n bytes d key.Bad h = absurd (miss parts 1 tt h)
-done-rest n bytes d key.Settings h = absurd (miss parts 2 tt h)
-done-rest n bytes d key.Heap h = absurd (miss parts 3 tt h)
-done-rest n bytes d key.Table h = absurd (miss parts 4 tt h)
-done-rest n bytes d key.Poke h = refl
-done-rest n bytes d key.Entry h = refl
-done-rest n bytes d key.State h = absurd (miss parts 7 tt h)
-done-rest n bytes d key.Record h = absurd (miss parts 8 tt h)
-done-rest n bytes d key.Claims h = absurd (miss parts 9 tt h)
-done-rest n bytes d key.Reopen h = refl
-done-rest n bytes d key.Write h = refl
-done-rest n bytes d key.Claim h = refl
-done-rest n bytes d key.Release h = refl
-done-rest n bytes d key.Prune h = refl
-done-rest n bytes d key.Read h = refl
-done-rest n bytes d key.Maintain h = refl
-done-rest n bytes d key.Counts h = refl
-done-rest n bytes d key.Load h = refl
-done-rest n bytes d key.Store h = refl
-done-rest n bytes d key.Cas h = refl
-done-rest n bytes d key.Max h = refl
-done-rest n bytes d key.List h = absurd (miss parts 22 tt h)
-done-rest n bytes d key.Dump h = absurd (miss parts 23 tt h)
-done-rest n bytes d key.Help h = absurd (miss parts 24 tt h)
+done-rest n bytes d = each (λ (k : Keyword). onLent (lentBy k n bytes) d ≡ doneBy k n bytes d) parts (refl, (refl, (refl, (refl, (refl, (refl, (refl, (refl, (refl, (refl, (refl, (refl, (refl, (refl, tt))))))))))))))

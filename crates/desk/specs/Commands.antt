@@ -1,6 +1,6 @@
 -- What each command of the console does.
 use Rattle.rules.specs.Base.{_||_, List, ℕ, _+_, length, getD, set, replicate, leb, ltb, pick}
-use Rattle.rules.specs.Layout.{Buffers, cleared}
+use Rattle.rules.specs.Layout.{Buffers}
 use Rattle.rules.specs.Settings.{defaults}
 use Rattle.rules.specs.Claims.{noClaims, claimCall, releaseCall}
 use Rattle.rules.specs.Counts.{countsCall}

@@ -3,7 +3,7 @@ use Rattle.rules.specs.Base.{List, [], _++_, ℕ, take, drop}
 use Rattle.rules.specs.Layout.{Buffers}
 use Rattle.rules.specs.TableCalls.{TableAfter}
 use Rattle.rules.specs.World.{World, world, Given, accepted, answerGiven, readGiven, maintainGiven, countsGiven, loadGiven, compareGiven, After}
-use Rattle.desk.specs.Types.{Settings, State, Claims, Done, Bench, Look, Reply, BadLine, Answered, Read, Maintained, Counted, Loaded, Compared, Raised, Shown, Turn}
+use Rattle.desk.specs.Types.{Done, Bench, Look, Reply, BadLine, Answered, Read, Maintained, Counted, Loaded, Compared, Raised, Shown, Turn}
 
 -- settings, state, claims and how much of each buffer is lent; the three buffers, whole
 pub record Desk : Type 0 where

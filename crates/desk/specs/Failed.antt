@@ -1,8 +1,7 @@
 -- "bad line, and nothing changes"; "A refusal changes no state or buffer": a command that fails leaves the desk as it was, but for the two
 -- that document 01 names.
 use mathlib.Core.Path.{_≡_, refl, sym, ap, _∙_}
-use mathlib.Core.Logic.{_⊎_, inl, inr}
-use native.Mathlib.Omega.{arith}
+use mathlib.Core.Bool.{false≢true}
 use lib.ListN.{take-append-drop}
 use Rattle.rules.specs.Base.{Bool, true, false, not, _||_, List, [], _∷_, ℕ, _+_, length, set, replicate, leb, ltb, eqb, pick}
 use Rattle.rules.specs.declared.Held.{Held}
@@ -14,11 +13,11 @@ use Rattle.rules.specs.Counts.{countsCall}
 use Rattle.rules.specs.Layout.{Buffers, capacityOf, usedEntries}
 use Rattle.rules.specs.Maintenance.{maintainCall, courseOf, finished}
 use Rattle.rules.specs.Read.{readCall}
-use Rattle.rules.specs.Reopen.{reopenCall, reopenTests, givenUp, opened}
+use Rattle.rules.specs.Reopen.{reopenCall, reopenTests, givenUp}
 use Rattle.rules.specs.SlotFile.{viewsIn}
 use Rattle.rules.specs.Table.{lookup, unmapped, mappedTo, full}
 use Rattle.rules.specs.TableCalls.{TableAfter, notForm, same, heldGiven, below, withStored, loadCall, storeCall, compareCall, greaterCall}
-use Rattle.rules.specs.World.{World, Given, accepted, refused, slotsOf, unchanged, After}
+use Rattle.rules.specs.World.{World, Given, accepted, refused, slotsOf, After}
 use Rattle.numbers.specs.Parts.{putAt}
 use Rattle.theory.specs.History.{Call, write, prune, claim, release}
 use Rattle.theory.specs.History.{called as calling}
@@ -63,17 +62,14 @@ Kept key.List = Unit {0}
 Kept key.Dump = Unit {0}
 Kept key.Help = Unit {0}
 
-clash : false ≡ true → ⊥
-clash e = let z : _≡_ {A = ℕ} 0 1 = ap (λ (t : Bool). pick t 1 0) e in omega arith
-
 -- a refused answer is no success
 not-accepted : (g : Given) → not (eqb (g .number) 0) ≡ true → g ≡ accepted [] → ⊥
-not-accepted g h p = clash (sym (ap (λ (x : Given). not (eqb (x .number) 0)) p) ∙ h)
+not-accepted g h p = false≢true (sym (ap (λ (x : Given). not (eqb (x .number) 0)) p) ∙ h)
 
 -- ---- by hand
 bad-kept : (t : Bool) (d e : Desk) → failing (pick t (badLine d) (changed e) .reply) ≡ true → pick t (badLine d) (changed e) .desk ≡ d
 bad-kept true d e h = refl
-bad-kept false d e h = absurd (clash h)
+bad-kept false d e h = absurd (false≢true h)
 
 heap-kept : (bytes : ℕ) (d : Desk) → failing (heapBy bytes d .reply) ≡ true → heapBy bytes d .desk ≡ d
 heap-kept bytes d h = bad-kept (ltb (length (d .heap)) bytes) d (desk (lendingHeap (d .bench) bytes) (replicate (length (d .heap)) 0) (d .ids) (d .locations)) h
@@ -93,7 +89,7 @@ entry-kept k id raw d h =
 record-kept : (t : Bool) (d : Desk) (b : Bench) → failing (left (pick t (replied BadLine (d .bench)) (done b)) (d .heap) (d .ids) (d .locations) .reply) ≡ true
     → left (pick t (replied BadLine (d .bench)) (done b)) (d .heap) (d .ids) (d .locations) .desk ≡ d
 record-kept true d b h = refl
-record-kept false d b h = absurd (clash h)
+record-kept false d b h = absurd (false≢true h)
 
 -- ---- the lent parts
 -- parts that come back as they were lent are the buffers as they were
@@ -114,7 +110,7 @@ call-kept c p d h = world-kept plain (λ (w : World). calling w c) d (refused-un
 -- a refused table call, of those whose success has number 0
 table-kept : (b : Buffers) (a : Answer) (x : TableAfter) → x .answer .number ≡ 0
     → not (eqb (after a (λ (r : Refusal). same b (refused r)) x .answer .number) 0) ≡ true → after a (λ (r : Refusal). same b (refused r)) x .table ≡ b
-table-kept b Done x z h = absurd (clash (sym (ap (λ (k : ℕ). not (eqb k 0)) z) ∙ h))
+table-kept b Done x z h = absurd (false≢true (sym (ap (λ (k : ℕ). not (eqb k 0)) z) ∙ h))
 table-kept b (Refused r) x z h = refl
 
 held-zero : (h : Held) → heldGiven h .number ≡ 0
@@ -167,14 +163,14 @@ pub failed-unchanged : (k : Keyword) → Kept k → (n bytes : List ℕ) (d : De
 unfolding doneBy lentBy
 failed-unchanged key.Blank p n bytes d h = refl
 failed-unchanged key.Bad p n bytes d h = refl
-failed-unchanged key.Settings p n bytes d h = absurd (clash h)
+failed-unchanged key.Settings p n bytes d h = absurd (false≢true h)
 failed-unchanged key.Heap p n bytes d h = heap-kept (nth n 0) d h
 failed-unchanged key.Table p n bytes d h = lending-kept (nth n 0) (nth n 1) d h
 failed-unchanged key.Poke p n bytes d h = back-same d (lentBy key.Poke n bytes (lentOf d)) (poke-kept (nth n 0) bytes (lentOf d) h)
 failed-unchanged key.Entry p n bytes d h = back-same d (lentBy key.Entry n bytes (lentOf d)) (entry-kept (nth n 0) (nth n 1) (nth n 2) (lentOf d) h)
-failed-unchanged key.State p n bytes d h = absurd (clash h)
+failed-unchanged key.State p n bytes d h = absurd (false≢true h)
 failed-unchanged key.Record p n bytes d h = record-kept (leb 256 (nth n 0)) d (withState (d .bench) (withRecord (d .bench .state) (nth n 0) (recordFrom n))) h
-failed-unchanged key.Claims p n bytes d h = absurd (clash h)
+failed-unchanged key.Claims p n bytes d h = absurd (false≢true h)
 failed-unchanged key.Reopen p n bytes d h = absurd p
 failed-unchanged key.Write p n bytes d h = back-same d (lentBy key.Write n bytes (lentOf d)) (call-kept (write bytes) tt (lentOf d) h)
 failed-unchanged key.Claim p n bytes d h = back-same d (lentBy key.Claim n bytes (lentOf d)) (call-kept (claim (nth n 0)) tt (lentOf d) h)

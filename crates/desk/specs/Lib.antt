@@ -1,4 +1,5 @@
 pub mod Types
+pub mod Kinds
 pub mod Desk
 pub mod Commands
 pub mod Failed

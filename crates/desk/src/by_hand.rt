@@ -1,35 +1,16 @@
 // Commands that change settings, buffers and state by hand.
 use crate::Bench;
-use crate::Reply;
 use crate::Turn;
-use rules::Answer;
+use crate::turns::bad_line;
+use crate::turns::done;
 use rules::Claims;
 use rules::Record;
 use rules::Settings;
 ghost use mathlib.Core.Path.{_≡_};
 ghost use lib.ListN.{length, replicate};
 ghost use Rattle.rules.specs.Base.{List, ℕ};
-ghost use Rattle.desk.specs.Desk.{desk, left, replied, done};
-ghost use Rattle.desk.specs.declared.Reply.the-variants.{BadLine};
+ghost use Rattle.desk.specs.Desk.{desk, left, done};
 ghost use Rattle.desk.specs.Commands.{settingsFrom, recordFrom, claimsFrom, withSettings, withState, withClaims, stateFrom, recordBy, heapBy, tableBy, pokeBy, entryBy};
-
-fn bad_line(b: Bench) -> Turn
-    ensures { λ r. ⌜ r ≡ replied BadLine b ⌝ }
-{
-    Turn {
-        reply: Reply::BadLine,
-        bench: b,
-    }
-}
-
-fn done(b: Bench) -> Turn
-    ensures { λ r. ⌜ r ≡ done b ⌝ }
-{
-    Turn {
-        reply: Reply::Answered(Answer::Done),
-        bench: b,
-    }
-}
 
 fn settings_of(n: [u64; 9]) -> Settings
     ensures { λ r. ⌜ r ≡ settingsFrom n ⌝ }

@@ -2,6 +2,9 @@
 use crate::Bench;
 use crate::Reply;
 use crate::Turn;
+use crate::turns::answered;
+use crate::turns::with_claims;
+use crate::turns::with_state;
 ghost use mathlib.Core.Path.{_≡_};
 ghost use Rattle.rules.specs.Base.{List, ℕ};
 ghost use Rattle.rules.specs.Claims.{claimCall, releaseCall};
@@ -19,20 +22,9 @@ ghost use Rattle.desk.specs.Desk.{desk, left, plain, found, moved, count
 pub fn reopen(b: Bench, heap: &[u8], ids: &mut [u64], locations: &mut [u64]) -> Turn
     ensures { λ r. ⌜ left r (now (heap .entry)) (now (ids .exit)) (now (locations .exit)) ≡ called plain reopenCall (desk b (now (heap .entry)) (now (ids .entry)) (now (locations .entry))) ⌝ }
 {
-    let mut next = b;
-    let settings = b.settings;
-    let state = b.state;
-    let held = b.claims;
-    let done = recovery::reopen(settings, state, held, heap, ids, locations);
+    let done = recovery::reopen(b.settings, b.state, b.claims, heap, ids, locations);
     let answer = done.answer;
-    let left = done.state;
-    let claims = done.claims;
-    next.state = left;
-    next.claims = claims;
-    Turn {
-        reply: Reply::Answered(answer),
-        bench: next,
-    }
+    answered(answer, with_claims(with_state(b, done.state), done.claims))
 }
 
 pub fn write(
@@ -44,25 +36,15 @@ pub fn write(
 ) -> Turn
     ensures { λ r. ⌜ left r (now (heap .exit)) (now (ids .exit)) (now (locations .exit)) ≡ called plain (λ (w : World). writeCall w (now (batch .entry))) (desk b (now (heap .entry)) (now (ids .entry)) (now (locations .entry))) ⌝ }
 {
-    let mut next = b;
-    let settings = b.settings;
-    let state = b.state;
-    let done = writepath::write(settings, state, heap, ids, locations, batch);
+    let done = writepath::write(b.settings, b.state, heap, ids, locations, batch);
     let answer = done.answer;
-    let left = done.state;
-    next.state = left;
-    Turn {
-        reply: Reply::Answered(answer),
-        bench: next,
-    }
+    answered(answer, with_state(b, done.state))
 }
 
 pub fn read(b: Bench, heap: &[u8], ids: &[u64], locations: &[u64], id: u64) -> Turn
     ensures { λ r. ⌜ left r (now (heap .entry)) (now (ids .entry)) (now (locations .entry)) ≡ called found (λ (w : World). readCall w id) (desk b (now (heap .entry)) (now (ids .entry)) (now (locations .entry))) ⌝ }
 {
-    let settings = b.settings;
-    let state = b.state;
-    let answer = readpath::read_answer(settings, state, heap, ids, locations, id);
+    let answer = readpath::read_answer(b.settings, b.state, heap, ids, locations, id);
     Turn {
         reply: Reply::Read(answer),
         bench: b,
@@ -72,77 +54,42 @@ pub fn read(b: Bench, heap: &[u8], ids: &[u64], locations: &[u64], id: u64) -> T
 pub fn prune(b: Bench, heap: &mut [u8], ids: &[u64], locations: &[u64]) -> Turn
     ensures { λ r. ⌜ left r (now (heap .exit)) (now (ids .entry)) (now (locations .entry)) ≡ called plain pruneCall (desk b (now (heap .entry)) (now (ids .entry)) (now (locations .entry))) ⌝ }
 {
-    let mut next = b;
-    let settings = b.settings;
-    let state = b.state;
-    let held = b.claims;
-    let done = prune::prune(settings, state, held, heap, ids, locations);
+    let done = prune::prune(b.settings, b.state, b.claims, heap, ids, locations);
     let answer = done.answer;
-    let left = done.state;
-    next.state = left;
-    Turn {
-        reply: Reply::Answered(answer),
-        bench: next,
-    }
+    answered(answer, with_state(b, done.state))
 }
 
 pub fn maintain(b: Bench, heap: &mut [u8], ids: &mut [u64], locations: &mut [u64]) -> Turn
     ensures { λ r. ⌜ left r (now (heap .exit)) (now (ids .exit)) (now (locations .exit)) ≡ called moved maintainCall (desk b (now (heap .entry)) (now (ids .entry)) (now (locations .entry))) ⌝ }
 {
-    let mut next = b;
-    let settings = b.settings;
-    let state = b.state;
-    let held = b.claims;
-    let done = gc::maintain(settings, state, held, heap, ids, locations);
+    let done = gc::maintain(b.settings, b.state, b.claims, heap, ids, locations);
     let answer = done.answer;
-    let left = done.state;
-    next.state = left;
     Turn {
         reply: Reply::Maintained(answer),
-        bench: next,
+        bench: with_state(b, done.state),
     }
 }
 
 pub fn claim(b: Bench, heap: &[u8], ids: &[u64], locations: &[u64], slot: u64) -> Turn
     ensures { λ r. ⌜ left r (now (heap .entry)) (now (ids .entry)) (now (locations .entry)) ≡ called plain (λ (w : World). claimCall w slot) (desk b (now (heap .entry)) (now (ids .entry)) (now (locations .entry))) ⌝ }
 {
-    let mut next = b;
-    let settings = b.settings;
-    let state = b.state;
-    let held = b.claims;
-    let done = claims::claim(settings, state, held, heap, ids, locations, slot);
+    let done = claims::claim(b.settings, b.state, b.claims, heap, ids, locations, slot);
     let answer = done.answer;
-    let left = done.claims;
-    next.claims = left;
-    Turn {
-        reply: Reply::Answered(answer),
-        bench: next,
-    }
+    answered(answer, with_claims(b, done.claims))
 }
 
 pub fn release(b: Bench, heap: &[u8], ids: &[u64], locations: &[u64], slot: u64) -> Turn
     ensures { λ r. ⌜ left r (now (heap .entry)) (now (ids .entry)) (now (locations .entry)) ≡ called plain (λ (w : World). releaseCall w slot) (desk b (now (heap .entry)) (now (ids .entry)) (now (locations .entry))) ⌝ }
 {
-    let mut next = b;
-    let settings = b.settings;
-    let state = b.state;
-    let held = b.claims;
-    let done = claims::release(settings, state, held, heap, ids, locations, slot);
+    let done = claims::release(b.settings, b.state, b.claims, heap, ids, locations, slot);
     let answer = done.answer;
-    let left = done.claims;
-    next.claims = left;
-    Turn {
-        reply: Reply::Answered(answer),
-        bench: next,
-    }
+    answered(answer, with_claims(b, done.claims))
 }
 
 pub fn counts(b: Bench, heap: &[u8], ids: &[u64], locations: &[u64]) -> Turn
     ensures { λ r. ⌜ left r (now (heap .entry)) (now (ids .entry)) (now (locations .entry)) ≡ called counted countsCall (desk b (now (heap .entry)) (now (ids .entry)) (now (locations .entry))) ⌝ }
 {
-    let settings = b.settings;
-    let state = b.state;
-    let answer = claims::counts(settings, state, heap, ids, locations);
+    let answer = claims::counts(b.settings, b.state, heap, ids, locations);
     Turn {
         reply: Reply::Counted(answer),
         bench: b,
@@ -162,11 +109,7 @@ pub fn load(b: Bench, ids: &[u64], locations: &[u64], id: u64) -> Turn
 pub fn store(b: Bench, ids: &mut [u64], locations: &mut [u64], id: u64, raw: u64) -> Turn
     ensures { λ r. ⌜ ((heap : List ℕ) → left r heap (now (ids .exit)) (now (locations .exit)) ≡ called plain (onTable (λ (t : Buffers). storeCall t id raw)) (desk b heap (now (ids .entry)) (now (locations .entry)))) ⌝ }
 {
-    let answer = location_table::store(ids, locations, id, raw);
-    Turn {
-        reply: Reply::Answered(answer),
-        bench: b,
-    }
+    answered(location_table::store(ids, locations, id, raw), b)
 }
 
 pub fn cas(b: Bench, ids: &mut [u64], locations: &mut [u64], id: u64, old: u64, raw: u64) -> Turn

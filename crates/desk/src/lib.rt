@@ -2,6 +2,7 @@
 // written for a reply is not stated here (crate `bench`).
 pub mod by_hand;
 pub mod calls;
+mod turns;
 
 use rules::Answer;
 use rules::Claims;
@@ -13,13 +14,16 @@ use rules::ReadAnswer;
 use rules::Settings;
 use rules::State;
 use script::Keyword;
+use turns::bad_line;
+use turns::shown;
 ghost use mathlib.Core.Path.{_≡_};
 ghost use Prim.Native.Nat.{_≤_};
 ghost use lib.Dec.{ltb};
-ghost use Rattle.rules.specs.Base.{pick};
+ghost use Rattle.rules.specs.Base.{List, ℕ, pick};
 ghost use Rattle.rules.specs.Settings.{defaults};
 ghost use Rattle.rules.specs.World.{noState};
-ghost use Rattle.desk.specs.Desk.{desk, left, replied, onLent};
+ghost use Rattle.desk.specs.Desk.{desk, left, onLent};
+ghost use Rattle.desk.specs.Kinds.{Among, atBench, asking, tabling};
 ghost use Rattle.desk.specs.Commands.{freshBench, lentBy, doneBy};
 
 // What lies beside the buffers, and how much of each buffer is lent.
@@ -119,13 +123,59 @@ pub fn least(a: usize, b: usize) -> usize
     if a < b { a } else { b }
 }
 
-// The bench as it was.
-fn replied(reply: Reply, b: Bench) -> Turn
-    ensures { λ r. ⌜ r ≡ replied reply b ⌝ }
+// Commands that touch no buffer.
+fn at_bench(b: Bench, keyword: Keyword, n: [u64; 9]) -> Turn
+    requires { ⌜ Among atBench keyword ⌝ }
+    ensures { λ r. ⌜ ((bytes heap ids locations : List ℕ) → left r heap ids locations ≡ doneBy keyword n bytes (desk b heap ids locations)) ⌝ }
 {
-    Turn {
-        reply: reply,
-        bench: b,
+    match keyword {
+        Keyword::Blank => shown(Look::Comment, b),
+        Keyword::Bad => bad_line(b),
+        Keyword::Settings => by_hand::settings(b, n),
+        Keyword::State => by_hand::state(b, n),
+        Keyword::Record => by_hand::record(b, n),
+        Keyword::Claims => by_hand::claims(b, n),
+        Keyword::List => shown(Look::List, b),
+        Keyword::Dump => shown(Look::Dump, b),
+        _ => shown(Look::Help, b),
+    }
+}
+
+// Calls that change no buffer.
+fn asked(
+    b: Bench,
+    keyword: Keyword,
+    n: [u64; 9],
+    heap: &[u8],
+    ids: &[u64],
+    locations: &[u64],
+) -> Turn
+    requires { ⌜ Among asking keyword ⌝ }
+    ensures { λ r. ⌜ ((bytes : List ℕ) → left r (now (heap .entry)) (now (ids .entry)) (now (locations .entry)) ≡ lentBy keyword n bytes (desk b (now (heap .entry)) (now (ids .entry)) (now (locations .entry)))) ⌝ }
+{
+    let x = n[0];
+    match keyword {
+        Keyword::Claim => calls::claim(b, heap, ids, locations, x),
+        Keyword::Release => calls::release(b, heap, ids, locations, x),
+        Keyword::Read => calls::read(b, heap, ids, locations, x),
+        Keyword::Counts => calls::counts(b, heap, ids, locations),
+        _ => calls::load(b, ids, locations, x),
+    }
+}
+
+// Commands that change the table alone.
+fn on_table(b: Bench, keyword: Keyword, n: [u64; 9], ids: &mut [u64], locations: &mut [u64]) -> Turn
+    requires { ⌜ Among tabling keyword ⌝ }
+    ensures { λ r. ⌜ ((bytes heap : List ℕ) → left r heap (now (ids .exit)) (now (locations .exit)) ≡ lentBy keyword n bytes (desk b heap (now (ids .entry)) (now (locations .entry)))) ⌝ }
+{
+    let x = n[0];
+    let y = n[1];
+    let z = n[2];
+    match keyword {
+        Keyword::Entry => by_hand::entry(b, x, y, z, ids, locations),
+        Keyword::Store => calls::store(b, ids, locations, x, y),
+        Keyword::Cas => calls::cas(b, ids, locations, x, y, z),
+        _ => calls::max(b, ids, locations, x, y),
     }
 }
 
@@ -143,20 +193,17 @@ fn after_lent(
 {
     match keyword {
         Keyword::Poke => by_hand::poke(b, n[0], bytes, heap),
-        Keyword::Entry => by_hand::entry(b, n[0], n[1], n[2], ids, locations),
         Keyword::Reopen => calls::reopen(b, heap, ids, locations),
         Keyword::Write => calls::write(b, heap, ids, locations, bytes),
-        Keyword::Read => calls::read(b, heap, ids, locations, n[0]),
         Keyword::Prune => calls::prune(b, heap, ids, locations),
         Keyword::Maintain => calls::maintain(b, heap, ids, locations),
-        Keyword::Claim => calls::claim(b, heap, ids, locations, n[0]),
-        Keyword::Release => calls::release(b, heap, ids, locations, n[0]),
-        Keyword::Counts => calls::counts(b, heap, ids, locations),
-        Keyword::Load => calls::load(b, ids, locations, n[0]),
-        Keyword::Store => calls::store(b, ids, locations, n[0], n[1]),
-        Keyword::Cas => calls::cas(b, ids, locations, n[0], n[1], n[2]),
-        Keyword::Max => calls::max(b, ids, locations, n[0], n[1]),
-        _ => replied(Reply::BadLine, b),
+        Keyword::Entry | Keyword::Store | Keyword::Cas | Keyword::Max => {
+            on_table(b, keyword, n, ids, locations)
+        }
+        Keyword::Claim | Keyword::Release | Keyword::Read | Keyword::Counts | Keyword::Load => {
+            asked(b, keyword, n, heap, ids, locations)
+        }
+        _ => bad_line(b),
     }
 }
 
@@ -198,17 +245,17 @@ pub fn after_order(
     ensures { λ r. ⌜ left r (now (heap .exit)) (now (ids .exit)) (now (locations .exit)) ≡ doneBy keyword n (now (bytes .entry)) (desk b (now (heap .entry)) (now (ids .entry)) (now (locations .entry))) ⌝ }
 {
     match keyword {
-        Keyword::Blank => replied(Reply::Shown(Look::Comment), b),
-        Keyword::Bad => replied(Reply::BadLine, b),
-        Keyword::Settings => by_hand::settings(b, n),
-        Keyword::State => by_hand::state(b, n),
-        Keyword::Record => by_hand::record(b, n),
-        Keyword::Claims => by_hand::claims(b, n),
         Keyword::Heap => by_hand::heap(b, n[0], heap),
         Keyword::Table => by_hand::table(b, n[0], n[1], ids, locations),
-        Keyword::List => replied(Reply::Shown(Look::List), b),
-        Keyword::Dump => replied(Reply::Shown(Look::Dump), b),
-        Keyword::Help => replied(Reply::Shown(Look::Help), b),
+        Keyword::Blank
+        | Keyword::Bad
+        | Keyword::Settings
+        | Keyword::State
+        | Keyword::Record
+        | Keyword::Claims
+        | Keyword::List
+        | Keyword::Dump
+        | Keyword::Help => at_bench(b, keyword, n),
         _ => lent(b, keyword, n, bytes, heap, ids, locations),
     }
 }

@@ -2,11 +2,11 @@
 use mathlib.Core.Path.{_≡_, refl, sym, ap, _∙_}
 use mathlib.Core.Bool.{true, false}
 use mathlib.Core.List.{List, [], _∷_, _++_, map, append-assoc, append-nil}
-use Prim.Native.Nat.{ℕ, zero, suc, _+_, _*_, _-_, _/_, _<_, _≤_}
+use Prim.Native.Nat.{ℕ, zero, suc, _+_, _*_, _/_, _<_, _≤_}
 use native.Mathlib.Numerals.{add-one}
 use native.Mathlib.Omega.{arith}
 use native.Mathlib.Nat.{zero-add, add-zero, add-assoc}
-use lib.ListN.{take, getD, set, length, drop, drop-of-length-le, length-map}
+use lib.ListN.{take, getD, set, length, drop, drop-of-length-le, length-map, length-set}
 use lib.Seq.{take-suc, set-at, length-take-le, take-all, drop-cons, getD-take}
 use borrow.Author.Tests.{lt-ltb, le-ltb, le-leb, lt-leb, eq-eqb, ne-eqb}
 use Rattle.numbers.specs.Choice.{pick}
@@ -158,6 +158,22 @@ copied-next f rs i ns h m =
 pub copied-end : (f : Record → ℕ) (rs : List Record) (i : ℕ) (ns : List ℕ) → length rs ≤ i → length ns ≤ i → copied f rs i ns ≡ map f rs
 unfolding copied
 copied-end f rs i ns h m = rw (drop-of-length-le ns m, take-all i rs h) (append-nil (map f rs))
+
+-- the array while i records of 256 are copied
+abbrev pub Copying : (Record → ℕ) → List Record → List ℕ → ℕ → List ℕ → Type 0
+Copying f rs zeros i ns = (i ≤ 256) × (length ns ≡ 256) × (ns ≡ copied f rs i zeros)
+
+module _ (f : Record → ℕ) (rs : List Record) (zeros : List ℕ) (l : length rs ≡ 256) (z : length zeros ≡ 256) where
+  pub copying-start : Copying f rs zeros 0 zeros
+  copying-start = (omega arith, z, copied-start f rs zeros)
+
+  module _ (i : ℕ) (ns : List ℕ) (c : Copying f rs zeros i ns) where
+    pub copying-next : i < 256 → Copying f rs zeros (i + 1) (set ns i (f (recordAt rs i)))
+    copying-next h =
+        (omega arith, length-set ns i (f (recordAt rs i)) ∙ c .1, ap (λ (ns : List ℕ). set ns i (f (recordAt rs i))) (c .2) ∙ copied-next f rs i zeros (omega arith) (omega arith))
+
+    pub copying-end : 256 ≤ i → ns ≡ map f rs
+    copying-end h = c .2 ∙ copied-end f rs i zeros (omega arith) (omega arith)
 
 -- ---- live counts put into the records up to i
 unfoldable pub livesTo : ℕ → List Record → List ℕ → List Record

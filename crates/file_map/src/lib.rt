@@ -4,7 +4,7 @@ use rules::FileMap;
 use rules::Record;
 use rules::Slot;
 ghost use mathlib.Core.Path.{_≡_};
-ghost use Prim.Native.Nat.{ℕ, _<_, _≤_};
+ghost use Prim.Native.Nat.{ℕ, _-_, _<_, _≤_};
 ghost use lib.ListN.{set, length};
 ghost use Rattle.rules.specs.FileMap.{emptyRecord, isEmpty, withLive, noFiles, lowestEmpty, fileFor, lessLive};
 ghost use Rattle.rules.specs.Label.{outOfBounds};
@@ -72,25 +72,34 @@ pub fn is_empty(r: Record) -> bool
     r.live == 0
 }
 
-// 8's bounds; S is in its range where this is asked.
+// What a slot has behind its label.
+fn room(slot_bytes: u64) -> u64
+    ensures { λ n. ⌜ n ≡ «slot_bytes» - 64 ⌝ }
+{
+    if slot_bytes < 64 {
+        return 0;
+    }
+    slot_bytes - 64
+}
+
+// 8's bounds; a sum is only held against what is left of its bound, so that it cannot wrap.
 pub fn out_of_bounds(slot_bytes: u64, r: Record) -> bool
-    requires { ⌜ (64 ≤ «slot_bytes») × («slot_bytes» ≤ 1048576) ⌝ }
     ensures { λ b. ⌜ b ≡ outOfBounds «slot_bytes» r ⌝ }
 {
-    if slot_bytes - 64 < r.file_size {
+    if room(slot_bytes) < r.file_size {
         return true;
     }
     if r.file_size < r.trailer_offset {
         return true;
     }
-    let masked = disk_location::masked(r.lsn);
-    if masked == 0 {
+    let at = disk_location::masked(r.lsn);
+    if at == 0 {
         return true;
     }
-    if 1 << 63 <= r.lsn {
+    if 9223372036854775808 <= r.lsn {
         return true;
     }
-    if 1 << 62 <= masked + r.trailer_offset {
+    if 4611686018427387904 - at <= r.trailer_offset {
         return true;
     }
     255 < r.generation

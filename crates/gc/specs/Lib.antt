@@ -1,4 +1,3 @@
 pub mod Runs
 pub mod RunLaws
-pub mod Midway
 pub mod Unique

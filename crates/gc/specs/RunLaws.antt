@@ -4,7 +4,7 @@ use mathlib.Core.Bool.{true≢false}
 use Prim.Native.Nat.{_≤_, _<_}
 use native.Mathlib.Omega.{arith}
 use borrow.Author.Tests.{lt-ltb, le-ltb, leb-true, leb-false}
-use Rattle.rules.specs.Base.{Bool, true, false, _&&_, List, ℕ, length, leb}
+use Rattle.rules.specs.Base.{Bool, true, false, _&&_, List, ℕ, length, leb, pick}
 use Rattle.rules.specs.declared.Settings.{Settings}
 use Rattle.rules.specs.declared.State.{State}
 use Rattle.rules.specs.declared.Claims.{Claims}
@@ -108,21 +108,13 @@ by-plan w plan e = rw (group-planned w 1 (omega arith), group-planned w 2 (omega
 
 -- ---- the end
 module _ (r : Run) (w : World) where
-  -- "nothing is pruned"
-  pub finish-halted : isGoing (r .halt) ≡ false → leaving (maintainGiven (answerOf (r .halt) (r .moved))) w ≡ finished (standing r w)
-  finish-halted e = go (r .halt) e
+  -- "nothing is pruned. Success prunes and gives the count of ids moved."
+  pub finish-run : (due : Bool) → due ≡ isGoing (r .halt) → leaving (maintainGiven (answerOf (r .halt) (r .moved))) (pick due (pruned w) w) ≡ finished (standing r w)
+  finish-run due e = rw e (go (r .halt))
     where
-      go : (h : Halt) → isGoing h ≡ false → leaving (maintainGiven (answerOf h (r .moved))) w ≡ finished (record { stop = stopOf h; moved = r .moved; world = w })
-      go Going e = absurd (true≢false e)
-      go (Halted q g) e = refl
-
-  -- "Success prunes and gives the count of ids moved"
-  pub finish-going : isGoing (r .halt) ≡ true → leaving (maintainGiven (answerOf (r .halt) (r .moved))) (pruned w) ≡ finished (standing r w)
-  finish-going e = go (r .halt) e
-    where
-      go : (h : Halt) → isGoing h ≡ true → leaving (maintainGiven (answerOf h (r .moved))) (pruned w) ≡ finished (record { stop = stopOf h; moved = r .moved; world = w })
-      go Going e = refl
-      go (Halted q g) e = absurd (true≢false (sym e))
+      go : (h : Halt) → leaving (maintainGiven (answerOf h (r .moved))) (pick (isGoing h) (pruned w) w) ≡ finished (record { stop = stopOf h; moved = r .moved; world = w })
+      go Going = refl
+      go (Halted q g) = refl
 
 -- 1
 pub maintain-refused : (w : World) → refused1 w ≡ true → leaving (maintainGiven (Stopped Limits 0 0)) w ≡ maintainCall w

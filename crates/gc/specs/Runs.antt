@@ -1,7 +1,7 @@
 -- Where the call stands between two groups, as the definitions say it, and what is known there.
 use mathlib.Core.Path.{_≡_}
 use Prim.Native.Nat.{_<_}
-use Rattle.rules.specs.Base.{Bool, true, false, List, ℕ, zero, suc, _+_, length, getD}
+use Rattle.rules.specs.Base.{Bool, true, false, List, ℕ, length, getD}
 use Rattle.rules.specs.declared.Settings.{Settings}
 use Rattle.rules.specs.declared.State.{State}
 use Rattle.rules.specs.declared.Answer.{Answer}
@@ -45,11 +45,6 @@ answerOf (Halted r g) moved = Stopped r g moved
 -- one generation by a plan
 abbrev pub stepped : List ℕ → ℕ → Course → Course
 stepped plan generation c = onward (c .stop) generation (planned plan generation) c
-
--- so many generations, from this one on
-abbrev pub steppedFrom : ℕ → ℕ → List ℕ → Course → Course
-steppedFrom zero generation plan c = c
-steppedFrom (suc k) generation plan c = steppedFrom k (generation + 1) plan (stepped plan generation c)
 
 -- generations 1, 2 and 3 by a plan
 abbrev pub byPlan : List ℕ → World → Course

@@ -175,13 +175,7 @@ fn finish(settings: Settings, run: Run, claims: Claims, heap: &mut [u8]) -> Main
     let end = run.halt;
     let state = run.state;
     let answer = answer_of(end, run.moved);
-    if !is_going(end) {
-        return Maintained {
-            answer: answer,
-            state: state,
-        };
-    }
-    let after = pruned(settings, state, claims, heap);
+    let after = pruned(settings, state, claims, heap, is_going(end));
     Maintained {
         answer: answer,
         state: after,

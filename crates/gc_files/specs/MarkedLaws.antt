@@ -2,6 +2,7 @@
 use mathlib.Core.Path.{_≡_, refl, sym, ap, _∙_}
 use mathlib.Core.List.{append-assoc}
 use Prim.Native.Nat.{_≤_, _<_}
+use native.Mathlib.Nat.{mul-le-mul}
 use native.Mathlib.Omega.{arith}
 use lib.ListN.{length-append, length-drop, take-append-drop}
 use lib.Seq.{take-append-le, drop-append-le, drop-drop, length-take-le}
@@ -13,7 +14,7 @@ use Rattle.rules.specs.Ops.{put, delete}
 use Rattle.rules.specs.Object.{storedAt}
 use Rattle.rules.specs.SlotFile.{slotBytes, objectPart}
 use Rattle.rules.specs.declared.Record.{Record}
-use Rattle.gc_files.specs.Places.{lengthAt, movingAt, opAt, Whole, placeFor}
+use Rattle.gc_files.specs.Places.{lengthAt, movingAt, opAt, Whole, placeFor, Placeable}
 
 -- n bytes of a part that stands in the heap from `at` on
 part-piece : (part rest heap : List ℕ) (at p n : ℕ) → part ++ rest ≡ drop at heap → p + n ≤ length part → take n (drop p part) ≡ take n (drop (at + p) heap)
@@ -64,6 +65,17 @@ object-part-stands r size heap k wide whole =
     (_, front-of (take (r .«trailer_offset») file) _ _ _ _ (take-append-drop (r .«trailer_offset») file) second)
 
 -- ---- one marked entry
+-- its slot begins within 256 slots, and its object within a slot's bytes behind that
+module _ {size : ℕ} {lsns : List ℕ} {location mark : ℕ} (small : size ≤ 2 ^ 20) (p : Placeable lsns location mark) where
+  pub mark-far : (mark - 1) * size ≤ 255 * 2 ^ 20
+  mark-far = let few : mark - 1 ≤ 255 = omega (arith, p .slot) in mul-le-mul few small
+
+  pub place-told : (mark ≡ 0 → ⊥) → deleteOf location ≡ false
+      → (getD lsns (mark - 1) 0 ≤ positionOf location) × ((mark - 1) * size + 64 + (positionOf location - getD lsns (mark - 1) 0) < 2 ^ 32)
+  place-told some object =
+      let marked : 0 < mark = omega (arith, some) in
+      (p .low marked object, omega (arith, mark-far, p .high marked object))
+
 module _ (size : ℕ) (heap lsns : List ℕ) (location k : ℕ) (mark : ℕ) (e : mark ≡ k + 1) where
   -- a delete
   pub place-delete : (id : ℕ) → deleteOf location ≡ true → opAt heap id (placeFor size lsns location mark) ≡ record { id = id; content = delete }

@@ -1,5 +1,5 @@
 -- A group's operations by their places: turns of the loops over them, and which of them are in which file.
-use mathlib.Core.Path.{_≡_, refl, sym, ap, ap₂}
+use mathlib.Core.Path.{_≡_, refl, sym, ap, ap₂, _∙_}
 use mathlib.Core.List.{append-assoc}
 use mathlib.Core.Logic.{_⊎_, inl, inr}
 use Prim.Native.Nat.{_≤_, _<_}
@@ -16,7 +16,7 @@ use Rattle.rules.specs.BaseLaws.{same?}
 use Rattle.batch.specs.declared.Operation.{Operation}
 use Rattle.batch.specs.ReadingLaws.{piece-length}
 use Rattle.batch.specs.Sizes.{sizeIn}
-use Rattle.batch_file.specs.Steps.{size-told}
+use Rattle.batch.specs.SizeLaws.{size-is, size-bound}
 use Rattle.gc_files.specs.Places.{lengthAt, movingAt, Whole, placeFor, placesFor, opAt, placedOps, filedOps, entryTaken, entryPiece, piecesAlong}
 
 -- ---- a turn over all entries, and the end
@@ -122,7 +122,7 @@ pub moving-told : (heap : List ℕ) (id place : ℕ) → 0 < place → (1 < plac
 moving-told heap id place some whole =
     let o = movingAt heap id place in
     let w = moving-inside heap id place some whole in
-    record { inside = w .0; short = w .1; shard = go (o .delete) (piece-length heap (o .start) (o .len) (w .0)); size = size-told heap (opAt heap id place ∷ []) o [] (refl, w .0) }
+    record { inside = w .0; short = w .1; shard = go (o .delete) (piece-length heap (o .start) (o .len) (w .0)); size = size-is heap o (w .0) }
   where
     body : List ℕ
     body = take (movingAt heap id place .len) (drop (movingAt heap id place .start) heap)
@@ -130,6 +130,23 @@ moving-told heap id place some whole =
     go : (d : Bool) → length body ≡ movingAt heap id place .len → shardFor (pick d delete (put body)) ≡ pick d 0 (shardOf (movingAt heap id place .len))
     go true e = refl
     go false e = ap shardOf e
+
+-- the shard and the size that were found of the operation at a place
+pub record Measured (heap : List ℕ) (id place n z : ℕ) : Type 0 where
+  pub shard : n ≡ shardFor (opAt heap id place .content)
+  pub size : z ≡ sizeOf (opAt heap id place .content)
+  pub most : z ≤ 2 ^ 21
+
+pub measured : (heap : List ℕ) (id place : ℕ) → (place ≡ 0 → ⊥) → (1 < place → Whole heap place) → {o : Operation} {n z : ℕ} → o ≡ movingAt heap id place
+    → n ≡ pick (o .delete) 0 (shardOf (o .len)) → z ≡ sizeIn o → Measured heap id place n z
+measured heap id place moved whole is shard size =
+    let some : 0 < place = omega (arith, moved) in
+    let told = moving-told heap id place some whole in
+    let long = rw is at size in record {
+      shard = rw is at shard ∙ sym (told .shard);
+      size = long ∙ sym (told .size);
+      most = omega (arith, long, size-bound (movingAt heap id place), told .short);
+    }
 
 -- ---- a turn over the entries that are placed, and the end
 module _ (size : ℕ) (lsns ls ms : List ℕ) (i : ℕ) where

@@ -1,6 +1,6 @@
 use disk_location::DiskLocation;
 ghost use mathlib.Core.Path.{_≡_};
-ghost use Prim.Native.Nat.{_+_, _*_, _-_, _^_, _<_, _≤_};
+ghost use Prim.Native.Nat.{_^_, _≤_};
 ghost use Rattle.numbers.specs.Parts.{front};
 ghost use Rattle.gc_files.specs.Places.{placeFor, placesFor, Placeable, Placeables};
 

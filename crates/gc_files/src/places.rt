@@ -1,11 +1,9 @@
 use batch::Operation;
 use numbers::little_endian;
 ghost use mathlib.Core.Path.{_≡_};
-ghost use Prim.Native.Nat.{_+_, _^_, _<_};
-ghost use lib.ListN.{length};
+ghost use Prim.Native.Nat.{_<_};
 ghost use Rattle.numbers.specs.Choice.{pick};
 ghost use Rattle.disk_location.specs.Locations.{shardOf};
-ghost use Rattle.batch.specs.Sizes.{sizeIn};
 ghost use Rattle.gc_files.specs.Places.{movingAt, Whole};
 
 // The operation on an id at a place: 1 is a delete's, any other an object's, whose length stands behind checksum and id.
@@ -31,17 +29,6 @@ pub fn moving_at(heap: &[u8], id: u64, place: u32) -> Operation
         start: at + 20,
         len: size as usize,
     }
-}
-
-// "an object adds 20 + length, a delete 0"
-pub fn size_of(o: Operation) -> u64
-    requires { ⌜ o .len < 2 ^ 32 ⌝ }
-    ensures { λ r. ⌜ r ≡ sizeIn o ⌝ }
-{
-    if o.delete {
-        return 0;
-    }
-    20 + o.len as u64
 }
 
 // "how many bits the length needs, 0 for length 0 and for a delete"

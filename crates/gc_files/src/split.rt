@@ -1,9 +1,9 @@
 use crate::places::moving_at;
 use crate::places::shard_of;
-use crate::places::size_of;
+use batch::size_of;
 use gc_split::Totals;
 ghost use mathlib.Core.Path.{_≡_};
-ghost use Prim.Native.Nat.{_+_, _<_};
+ghost use Prim.Native.Nat.{_<_};
 ghost use lib.ListN.{length, getD, set};
 ghost use Rattle.gc_split.specs.Tally.{tally, tallyFrom, Within};
 ghost use Rattle.gc_files.specs.Places.{Whole, Splitting, placedOps, entryTaken, entryPiece, piecesAlong};

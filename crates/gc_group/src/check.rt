@@ -18,7 +18,6 @@ ghost use Rattle.rules.specs.Refusal.{decide};
 ghost use Rattle.rules.specs.Object.{storedAt, objectsIn};
 ghost use Rattle.rules.specs.Trailer.{countIn, entriesIn};
 ghost use Rattle.rules.specs.Table.{lookup, unmapped};
-ghost use Rattle.rules.specs.SlotFile.{slotBytes};
 ghost use Rattle.rules.specs.Maintenance.{movedTests, fileTests};
 ghost use Rattle.slot_file.specs.Objects.{Walked};
 ghost use Rattle.location_table.specs.Tables.{table, Formed};
@@ -138,15 +137,4 @@ pub fn check_file(slot: &[u8], r: Record, ids: &[u64], locations: &[u64], limit:
         Answer::Done => {}
     }
     check_deletes(trailer, r.lsn, ids, locations)
-}
-
-// Slot k's part of the heap.
-pub fn slot_at(heap: &[u8], slot_bytes: u64, k: usize) -> &[u8]
-    requires { ⌜ k * «slot_bytes» + «slot_bytes» ≤ length (now heap) ⌝ }
-    ensures { λ r. ⌜ now r ≡ slotBytes «slot_bytes» (now (heap .entry)) k ⌝ }
-{
-    let size = slot_bytes as usize;
-    let start = k * size;
-    let end = start + size;
-    &heap[start..end]
 }

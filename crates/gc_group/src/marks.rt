@@ -1,5 +1,4 @@
 use crate::check::check_file;
-use crate::check::slot_at;
 use disk_location::DiskLocation;
 use disk_location::RelativeDiskLocation;
 use location_table::Place;
@@ -13,6 +12,7 @@ use rules::Settings;
 use slot_file::Step;
 use slot_file::object;
 use slot_file::slot::object_part;
+use slot_file::slot::slot_at;
 use slot_file::slot::trailer_part;
 ghost use mathlib.Core.Path.{_≡_};
 ghost use Prim.Native.Nat.{_+_, _*_, _^_, _<_, _≤_};
@@ -176,7 +176,7 @@ pub fn mark_group(
         let r = m.records[i];
         lsns[i] = r.lsn;
         if plan[i] == generation {
-            let slot = slot_at(heap, s.slot_bytes, i);
+            let slot = slot_at(heap, s.slot_bytes as usize, i);
             match check_file(slot, r, ids, locations, s.max_object_size) {
                 Answer::Refused(refusal) => return Answer::Refused(refusal),
                 Answer::Done => {}

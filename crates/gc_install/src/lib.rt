@@ -16,19 +16,10 @@ ghost use Rattle.rules.specs.Stores.{made, fileStores};
 ghost use Rattle.rules.specs.Install.{installed};
 ghost use Rattle.rules.specs.World.{world};
 ghost use Rattle.location_table.specs.Tables.{table};
-ghost use Rattle.file_map.specs.Records.{fresh};
 ghost use Rattle.install.specs.Standing.{Addable};
 ghost use Rattle.gc_files.specs.Places.{filedOps};
 ghost use Rattle.gc_writer.specs.Writing.{Writing};
 ghost use Rattle.gc_install.specs.Placing.{Placing};
-
-// "lsn = base without the batch bit", the new generation.
-fn new_record(base: u64, count: u64, total: u64, generation: u64) -> Record
-    requires { ⌜ total + (12 + 16 * count) < 2 ^ 63 ⌝ }
-    ensures { λ r. ⌜ r ≡ fresh base total (total + (12 + 16 * count)) count generation ⌝ }
-{
-    file_map::fresh(base, total, total + (12 + 16 * count), count, generation)
-}
 
 // The whole run of the file: it is no longer than the heap.
 fn put_piece(
@@ -81,7 +72,9 @@ fn add_at(
     requires { ⌜ Writing (slot * settings .«slot_bytes») (settings .«slot_bytes») (now heap) (now ids) (now places) (now pieces) piece count total ⌝ }
     ensures { λ r. ⌜ ((c : Claims) → world settings r c (now (heap .exit)) (now (ids .exit)) (now (locations .exit)) ≡ installed 0 generation (world settings state c (now (heap .entry)) (now (ids .entry)) (now (locations .entry))) (filedOps piece (now (heap .entry)) (now (ids .entry)) (now (places .entry)) (now (pieces .entry)))) ⌝ }
 {
-    let new = new_record(state.next_position, count, total, generation);
+    // "lsn = base without the batch bit", the new generation
+    let base = state.next_position;
+    let new = install::new_record(base, count, total, generation);
     let slot_bytes = settings.slot_bytes;
     let start = slot * slot_bytes as usize;
     put_piece(
@@ -96,12 +89,20 @@ fn add_at(
         count,
         total,
     );
-    let from = start + 64 + total as usize;
-    let end = from + (12 + 16 * count as usize);
     let files = state.files;
     let lsns = file_map::lsns(files);
     let mut lives = file_map::lives(files);
-    install::install(&lsns, &mut lives, ids, locations, &heap[from..end], new.lsn);
+    install::install(
+        &lsns,
+        &mut lives,
+        ids,
+        locations,
+        heap,
+        start,
+        count,
+        total,
+        new.lsn,
+    );
     install::with_file(state, &lives, slot, new)
 }
 

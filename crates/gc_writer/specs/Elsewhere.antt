@@ -8,7 +8,7 @@ use borrow.Author.Tests.{eq-eqb, ne-eqb}
 use lib.ListN.{length-set, length-drop}
 use lib.Seq.{take-set-le, drop-set-lt, take-take, drop-drop, length-take-le}
 use Rattle.numbers.specs.LittleEndian.{leValue}
-use Rattle.rules.specs.Base.{Bool, true, false, List, [], _∷_, _++_, ℕ, suc, _+_, _-_, _*_, length, getD, take, drop, set, eqb, pick}
+use Rattle.rules.specs.Base.{Bool, List, [], _∷_, _++_, ℕ, suc, _+_, _-_, _*_, length, getD, take, drop, set, eqb, pick}
 use Rattle.rules.specs.BaseLaws.{All, order, same?, all-append, all-take}
 use Rattle.rules.specs.PartLaws.{drop-take}
 use Rattle.rules.specs.Label.{labelBytes}
@@ -17,7 +17,6 @@ use Rattle.rules.specs.Stores.{Store, made, storesOf, fileStores}
 use Rattle.rules.specs.declared.Record.{Record}
 use Rattle.rules.specs.LabelLaws.{label-length}
 use Rattle.stores.specs.Runs.{Made}
-use Rattle.batch.specs.declared.Operation.{Operation}
 use Rattle.gc_files.specs.Places.{lengthAt, movingAt, opAt, filedOps, Whole, InSlot}
 
 -- the bytes before `start` and those from `start + size` on are the same
@@ -125,32 +124,20 @@ module _ {start size : ℕ} {heap after : List ℕ} (e : Elsewhere start size he
       let w = apart i h in
       (whole-elsewhere (getD places i 0) (w .0) (w .1), off-elsewhere (getD places i 0) (w .0) (w .1))
 
-  -- the operation at a place, by its numbers, and itself
-  module _ (id place : ℕ) (some : 0 < place) (apart : 1 < place → Whole heap place × Off start size heap place) where
-    pub moving-elsewhere : movingAt after id place ≡ movingAt heap id place
-    unfolding movingAt
-    moving-elsewhere = go (same? place 1)
-      where
-        at : Bool → ℕ → Operation
-        at b n = pick b (record { id = id; delete = true; start = 0; len = 0 }) (record { id = id; delete = false; start = place + 20; len = n })
-
-        go : (place ≡ 1) ⊎ (place ≡ 1 → ⊥) → at (eqb place 1) (lengthAt after place) ≡ at (eqb place 1) (lengthAt heap place)
-        go (inl one) = rw (eq-eqb place 1 one) refl
-        go (inr other) = let w = apart (omega (arith, other)) in ap (at (eqb place 1)) (length-elsewhere place (w .0) (w .1))
-
-    pub op-elsewhere : opAt after id place ≡ opAt heap id place
-    unfolding movingAt
-    op-elsewhere = go (same? place 1)
-      where
-        go : (place ≡ 1) ⊎ (place ≡ 1 → ⊥) → opAt after id place ≡ opAt heap id place
-        go (inl one) = rw (eq-eqb place 1 one) refl
-        go (inr other) =
-            let w = apart (omega (arith, other)) in
-            let inside = w .0 .inside in
-            let size′ = length-elsewhere place (w .0) (w .1) in
-            let body = bytes-elsewhere (place + 20) (lengthAt heap place) (omega arith) (⊎-elim (λ h. inl (omega arith)) (λ h. inr (omega arith)) (w .1)) in
-            rw (ne-eqb place 1 other)
-            (ap (λ (b : List ℕ). record { id = id; content = put b }) (ap (λ (n : ℕ). take n (drop (place + 20) after)) size′ ∙ body))
+  -- the operation at a place
+  op-elsewhere : (id place : ℕ) → 0 < place → (1 < place → Whole heap place × Off start size heap place) → opAt after id place ≡ opAt heap id place
+  unfolding movingAt
+  op-elsewhere id place some apart = go (same? place 1)
+    where
+      go : (place ≡ 1) ⊎ (place ≡ 1 → ⊥) → opAt after id place ≡ opAt heap id place
+      go (inl one) = rw (eq-eqb place 1 one) refl
+      go (inr other) =
+          let w = apart (omega (arith, other)) in
+          let inside = w .0 .inside in
+          let size′ = length-elsewhere place (w .0) (w .1) in
+          let body = bytes-elsewhere (place + 20) (lengthAt heap place) (omega arith) (⊎-elim (λ h. inl (omega arith)) (λ h. inr (omega arith)) (w .1)) in
+          rw (ne-eqb place 1 other)
+          (ap (λ (b : List ℕ). record { id = id; content = put b }) (ap (λ (n : ℕ). take n (drop (place + 20) after)) size′ ∙ body))
 
   -- the operations of every piece
   pub filed-elsewhere : (piece : ℕ) (ids places pieces : List ℕ) → Apart start size heap places

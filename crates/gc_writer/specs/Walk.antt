@@ -5,13 +5,15 @@ use mathlib.Core.Logic.{_⊎_, inl, inr}
 use Prim.Native.Nat.{_≤_, _<_}
 use native.Mathlib.Omega.{arith}
 use borrow.Author.Tests.{eq-eqb}
-use Rattle.rules.specs.Base.{Bool, true, false, List, [], _∷_, ℕ, _+_, length, getD, drop, eqb, pick}
+use Rattle.rules.specs.Base.{Bool, true, false, List, [], _∷_, ℕ, _+_, _^_, length, getD, drop, eqb, pick}
 use Rattle.rules.specs.BaseLaws.{zero-or-more}
 use Rattle.rules.specs.TurnLaws.{left-next, left-none}
 use Rattle.rules.specs.Ops.{Op}
-use Rattle.batch_file.specs.Steps.{Stepped}
+use Rattle.batch.specs.Sizes.{sizeIn}
+use Rattle.batch.specs.WalkLaws.{Stepped}
+use Rattle.batch.specs.declared.Operation.{Operation}
 use Rattle.gc_files.specs.Places.{movingAt, opAt, filedOps, Standing}
-use Rattle.gc_files.specs.PlaceLaws.{MovingTold, moving-told}
+use Rattle.gc_files.specs.PlaceLaws.{moving-told}
 
 -- the operations of a piece from entry i on
 abbrev pub filedFrom : ℕ → List ℕ → List ℕ → List ℕ → List ℕ → ℕ → List Op
@@ -62,7 +64,7 @@ module _ (piece : ℕ) (heap ids places pieces : List ℕ) (i : ℕ) where
       go false = refl
 
   -- entry i is in the piece
-  pub filed-here : i < length ids → i < length places → i < length pieces → filedHere piece (getD places i 0) (getD pieces i 0) ≡ true
+  filed-here : i < length ids → i < length places → i < length pieces → filedHere piece (getD places i 0) (getD pieces i 0) ≡ true
       → filedFrom piece heap ids places pieces i ≡ opAt heap (getD ids i 0) (getD places i 0) ∷ filedFrom piece heap ids places pieces (i + 1)
   filed-here h g k e = filed-turn h g k ∙ rw e refl
 
@@ -75,18 +77,31 @@ module _ (piece : ℕ) (heap ids places pieces : List ℕ) (i : ℕ) where
   unfolding filedOps
   filed-end h = rw (left-none ids i h) refl
 
-  -- a step of the walk: the operation, then those behind it
-  module _ (walk : Walking heap ids places pieces) (h : i < length ids) (e : filedHere piece (getD places i 0) (getD pieces i 0) ≡ true) where
-    pub filed-told : MovingTold heap (getD ids i 0) (getD places i 0)
-    filed-told = moving-told heap (getD ids i 0) (getD places i 0) (filed-moved piece (getD places i 0) (getD pieces i 0) e) (walk .standing i)
+-- a turn of the walk: the operation of entry i, which is of the piece, the size of its object, and the entry at which the walk goes on
+pub record Turned (piece : ℕ) (heap ids places pieces : List ℕ) (i : ℕ) (o : Operation) (size next : ℕ) : Type 0 where
+  pub some : 0 < getD places i 0
+  pub is : o ≡ movingAt heap (getD ids i 0) (getD places i 0)
+  pub short : o .len < 2 ^ 20
+  pub long : size ≡ sizeIn o
+  pub step : Stepped heap (filedFrom piece heap ids places pieces i) o (filedFrom piece heap ids places pieces next)
+  pub on : i < next
+  pub here : next < length ids → filedHere piece (getD places next 0) (getD pieces next 0) ≡ true
 
-    pub filed-step : Stepped heap (filedFrom piece heap ids places pieces i) (movingAt heap (getD ids i 0) (getD places i 0)) (filedFrom piece heap ids places pieces (i + 1))
-    filed-step =
-        let wide = walk .wide in
-        let numbered = walk .numbered in
-        (filed-here h (omega arith) (omega arith) e, filed-told .inside)
-
-    -- where the walk goes on with the next of the piece
-    pub filed-stepped : (next : ℕ) → Next piece ids places pieces (i + 1) next
-        → Stepped heap (filedFrom piece heap ids places pieces i) (movingAt heap (getD ids i 0) (getD places i 0)) (filedFrom piece heap ids places pieces next)
-    filed-stepped next n = rw (n .same heap) filed-step
+-- what a turn tells
+pub turned : {piece : ℕ} {heap ids places pieces : List ℕ} {i : ℕ} {o : Operation} {size next : ℕ} → Walking heap ids places pieces → i < length ids
+    → filedHere piece (getD places i 0) (getD pieces i 0) ≡ true → o ≡ movingAt heap (getD ids i 0) (getD places i 0) → size ≡ sizeIn o
+    → Next piece ids places pieces (i + 1) next → Turned piece heap ids places pieces i o size next
+turned {piece} {heap} {ids} {places} {pieces} {i} walk h e is long n =
+    let wide = walk .wide in
+    let numbered = walk .numbered in
+    let some = filed-moved piece (getD places i 0) (getD pieces i 0) e in
+    let told = moving-told heap (getD ids i 0) (getD places i 0) some (walk .standing i) in
+    record {
+      some = some;
+      is = is;
+      short = rw is (told .short);
+      long = long;
+      step = rw (is, n .same heap) (record { next = filed-here piece heap ids places pieces i h (omega arith) (omega arith) e; inside = told .inside });
+      on = omega (arith, n .on);
+      here = n .here;
+    }

@@ -5,8 +5,9 @@ use Prim.Native.Nat.{_≤_, _<_}
 use native.Mathlib.Omega.{arith}
 use borrow.Author.Tests.{eq-eqb, ne-eqb}
 use lib.ListN.{length-append}
+use lib.Seq.{getD-drop}
 use Rattle.numbers.specs.LittleEndian.{leBytes, le-length}
-use Rattle.rules.specs.Base.{true, false, List, _++_, ℕ, _+_, _*_, _^_, length, getD, eqb, pick}
+use Rattle.rules.specs.Base.{true, false, List, _++_, ℕ, _+_, _*_, _^_, length, getD, drop, eqb, pick}
 use Rattle.rules.specs.BaseLaws.{same?}
 use Rattle.rules.specs.Ops.{objectsOf, fileBytes}
 use Rattle.rules.specs.OpsLaws.{file-length}
@@ -15,8 +16,8 @@ use Rattle.stores.specs.Runs.{Made}
 use Rattle.batch.specs.declared.Operation.{Operation}
 use Rattle.batch.specs.Sizes.{sizeIn}
 use Rattle.gc_files.specs.Places.{lengthAt, movingAt, filedOps, Whole}
-use Rattle.gc_writer.specs.Elsewhere.{Elsewhere, Off, Apart, apart-elsewhere, made-elsewhere, among-stores}
-use Rattle.gc_writer.specs.Walk.{Walking}
+use Rattle.gc_writer.specs.Elsewhere.{Elsewhere, Off, Apart, apart-elsewhere, made-elsewhere, among-stores, filed-elsewhere}
+use Rattle.gc_writer.specs.Walk.{filedFrom, Walking, Turned}
 
 -- n bytes of the heap from `at` on, off every object that is moved
 pub record Free (at n : ℕ) (heap ids places pieces : List ℕ) : Type 0 where
@@ -55,8 +56,17 @@ module _ {at n : ℕ} {heap ids places pieces : List ℕ} (free : Free at n heap
       go i (inl h) = inl (omega arith)
       go i (inr h) = inr (omega arith)
 
+  -- stores among them leave the bytes free, and the operations that are left
+  pub free-put : (to : ℕ) (bytes : List ℕ) {k left : ℕ} {after : List ℕ} → at ≤ to → to + length bytes ≤ at + n → Made k (storesOf to bytes) heap after left
+      → Free at n after ids places pieces × ((piece i : ℕ) → filedFrom piece after ids places pieces i ≡ filedFrom piece heap ids places pieces i)
+  free-put to bytes low high put =
+      let away = made-elsewhere at n (among-stores at n to bytes low high) put in (
+        free-elsewhere away,
+        λ piece i. filed-elsewhere away piece (drop i ids) (drop i places) (drop i pieces) (λ j. rw (getD-drop i places j 0) (free .apart (i + j))),
+      )
+
 -- an object goes to free bytes, off its body
-pub moving-off : (at n : ℕ) (heap : List ℕ) (id place to : ℕ) → 0 < place → (1 < place → Whole heap place × Off at n heap place)
+moving-off : (at n : ℕ) (heap : List ℕ) (id place to : ℕ) → 0 < place → (1 < place → Whole heap place × Off at n heap place)
     → at ≤ to → to + sizeIn (movingAt heap id place) ≤ at + n
     → (to + sizeIn (movingAt heap id place) ≤ movingAt heap id place .start) ⊎ (movingAt heap id place .start + movingAt heap id place .len ≤ to)
 unfolding movingAt
@@ -72,6 +82,11 @@ moving-off at n heap id place to some apart low high = go (same? place 1) high
     go : (place ≡ 1) ⊎ (place ≡ 1 → ⊥) → to + sizeIn o ≤ at + n → (to + sizeIn o ≤ o .start) ⊎ (o .start + o .len ≤ to)
     go (inl one) fit = rw (eq-eqb place 1 one) (inr (omega arith))
     go (inr other) fit = let there = rw (ne-eqb place 1 other) at fit in rw (ne-eqb place 1 other) (off (apart (omega (arith, other)) .1) there)
+
+pub turned-off : {at n : ℕ} {heap ids places pieces : List ℕ} {piece i : ℕ} {o : Operation} {size next : ℕ} → Free at n heap ids places pieces
+    → Turned piece heap ids places pieces i o size next → (to : ℕ) → at ≤ to → to + sizeIn o ≤ at + n → (to + sizeIn o ≤ o .start) ⊎ (o .start + o .len ≤ to)
+turned-off {at} {n} {heap} {ids} {places} {i = i} free t to low high =
+    rw (t .is) (moving-off at n heap (getD ids i 0) (getD places i 0) to (t .some) (free .apart i) low (rw (t .is) at high))
 
 -- ---- writers that leave what is moved
 -- the head of a trailer

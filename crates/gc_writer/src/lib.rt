@@ -1,17 +1,17 @@
 // The file of one piece of a group, straight from the old places of its objects into a slot: a walk over the entries of the table.
 // Each writer makes as many stores of the file's run as `left` reaches, and answers how many are left.
 use batch::Operation;
+use batch::size_of;
 use batch_file::entry_of;
 use gc_files::places::moving_at;
-use gc_files::places::size_of;
 use rules::Record;
 use trailer::write;
 ghost use mathlib.Core.Logic.{_⊎_};
 ghost use mathlib.Core.Path.{_≡_};
 ghost use Prim.Native.Nat.{_+_, _*_, _≤_, _<_, _^_};
-ghost use lib.ListN.{length};
+ghost use lib.ListN.{length, getD};
 ghost use Rattle.checksum.specs.Checksum.{crc32};
-ghost use Rattle.rules.specs.Base.{each};
+ghost use Rattle.rules.specs.Base.{true, each};
 ghost use Rattle.rules.specs.Ops.{contentBytes, objectsOf, entriesOf, fileBytes};
 ghost use Rattle.rules.specs.Label.{labelBytes};
 ghost use Rattle.rules.specs.Trailer.{entryBytes, listed, trailerBytes};
@@ -20,13 +20,20 @@ ghost use Rattle.stores.specs.Runs.{Made};
 ghost use Rattle.batch.specs.Reading.{opIn};
 ghost use Rattle.batch.specs.Sizes.{sizeIn};
 ghost use Rattle.gc_files.specs.Places.{filedOps};
-ghost use Rattle.gc_writer.specs.Walk.{Next, Walking, filedHere};
+ghost use Rattle.gc_writer.specs.Walk.{Next, Walking, Turned, filedHere};
 ghost use Rattle.gc_writer.specs.Writing.{Free, Writing};
 
 // How many entries a piece has, and T, its object bytes.
 pub struct Sizes {
     pub count: u64,
     pub total: u64,
+}
+
+// A turn of a walk: the operation, its object's size, and the next entry of the piece.
+struct Turn {
+    operation: Operation,
+    size: u64,
+    next: usize,
 }
 
 // Whether an entry is moved, and in this piece.
@@ -54,6 +61,22 @@ fn next_filed(ids: &[u64], places: &[u32], pieces: &[u32], piece: u32, from: usi
     i
 }
 
+// The operation of an entry of a piece, and where the walk goes on.
+fn turn_at(heap: &[u8], ids: &[u64], places: &[u32], pieces: &[u32], piece: u32, i: usize) -> Turn
+    requires { ⌜ Walking (now heap) (now ids) (now places) (now pieces) ⌝ }
+    requires { ⌜ (i < length (now ids)) × (filedHere piece (getD (now places) i 0) (getD (now pieces) i 0) ≡ true) ⌝ }
+    ensures { λ r. ⌜ Turned piece (now (heap .entry)) (now (ids .entry)) (now (places .entry)) (now (pieces .entry)) i (r .operation) (r .size) (r .next) ⌝ }
+{
+    let o = moving_at(heap, ids[i], places[i]);
+    let size = size_of(o);
+    let next = next_filed(ids, places, pieces, piece, i + 1);
+    Turn {
+        operation: o,
+        size: size,
+        next: next,
+    }
+}
+
 // The sizes of a piece's file.
 pub fn sized(heap: &[u8], ids: &[u64], places: &[u32], pieces: &[u32], piece: u32) -> Sizes
     requires { ⌜ Walking (now heap) (now ids) (now places) (now pieces) ⌝ }
@@ -64,10 +87,10 @@ pub fn sized(heap: &[u8], ids: &[u64], places: &[u32], pieces: &[u32], piece: u3
     let mut total: u64 = 0;
     let mut i = next_filed(ids, places, pieces, piece, 0);
     while i < ids.len() {
-        let o = moving_at(heap, ids[i], places[i]);
+        let t = turn_at(heap, ids, places, pieces, piece, i);
         count += 1;
-        total += size_of(o);
-        i = next_filed(ids, places, pieces, piece, i + 1);
+        total += t.size;
+        i = t.next;
     }
     Sizes {
         count: count,
@@ -86,11 +109,11 @@ fn sum(heap: &[u8], ids: &[u64], places: &[u32], pieces: &[u32], piece: u32, cou
     let mut position: u64 = 0;
     let mut i = next_filed(ids, places, pieces, piece, 0);
     while i < ids.len() {
-        let o = moving_at(heap, ids[i], places[i]);
-        let e = entry_of(o, position);
+        let t = turn_at(heap, ids, places, pieces, piece, i);
+        let e = entry_of(t.operation, position);
         register = write::sum_entry(register, e);
-        position += size_of(o);
-        i = next_filed(ids, places, pieces, piece, i + 1);
+        position += t.size;
+        i = t.next;
     }
     write::sum_end(register)
 }
@@ -123,10 +146,10 @@ fn put_objects(
     let mut to = at;
     let mut i = next_filed(ids, places, pieces, piece, 0);
     while i < ids.len() {
-        let o = moving_at(heap, ids[i], places[i]);
-        rest = put_content(heap, to, o, rest);
-        to += size_of(o) as usize;
-        i = next_filed(ids, places, pieces, piece, i + 1);
+        let t = turn_at(heap, ids, places, pieces, piece, i);
+        rest = put_content(heap, to, t.operation, rest);
+        to += t.size as usize;
+        i = t.next;
     }
     rest
 }
@@ -150,12 +173,12 @@ fn put_entries(
     let mut position: u64 = 0;
     let mut i = next_filed(ids, places, pieces, piece, 0);
     while i < ids.len() {
-        let o = moving_at(heap, ids[i], places[i]);
-        let e = entry_of(o, position);
+        let t = turn_at(heap, ids, places, pieces, piece, i);
+        let e = entry_of(t.operation, position);
         rest = write::put_entry(heap, to, e, rest);
         to += 16;
-        position += size_of(o);
-        i = next_filed(ids, places, pieces, piece, i + 1);
+        position += t.size;
+        i = t.next;
     }
     rest
 }

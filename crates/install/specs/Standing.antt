@@ -3,12 +3,13 @@ use mathlib.Core.Path.{_≡_, refl, sym, ap, ap₂, _∙_}
 use mathlib.Core.List.{append-assoc, append-nil}
 use Prim.Native.Nat.{_≤_, _<_}
 use native.Mathlib.Omega.{arith}
-use lib.ListN.{length-append}
+use lib.ListN.{length-append, length-map}
 use Rattle.numbers.specs.Parts.{putAt, put-field}
 use Rattle.disk_location.specs.Locations.{positionOf}
 use Rattle.disk_location.specs.LocationLaws.{position-raw}
-use Rattle.rules.specs.Base.{List, [], _∷_, _++_, ℕ, zero, suc, _+_, _*_, _^_, length, getD, set, take, drop}
+use Rattle.rules.specs.Base.{List, [], _∷_, _++_, ℕ, zero, suc, _+_, _*_, _^_, length, getD, set}
 use Rattle.rules.specs.declared.Settings.{Settings}
+use Rattle.rules.specs.declared.Entry.{Entry}
 use Rattle.rules.specs.declared.Record.{Record}
 use Rattle.rules.specs.declared.State.{State}
 use Rattle.rules.specs.declared.Claims.{Claims}
@@ -25,13 +26,14 @@ use Rattle.rules.specs.SettingsLaws.{slot-within}
 use Rattle.rules.specs.FileMap.{lowestEmpty}
 use Rattle.rules.specs.Condition1Laws.{Passed}
 use Rattle.rules.specs.Stores.{made, fileStores}
-use Rattle.rules.specs.StoreLaws.{file-made}
+use Rattle.rules.specs.StoreLaws.{made-length, file-made}
 use Rattle.rules.specs.Install.{newRecord, installed, recordsWith, storesFor, tableWith, nextWith, newSlot}
 use Rattle.rules.specs.World.{World, stateWith}
+use Rattle.location_table.specs.Tables.{Formed}
 use Rattle.file_map.specs.Records.{fresh, new-record}
 use Rattle.file_map.specs.Lists.{lsnsOf, livesOf, withLives}
 use Rattle.install.specs.Losing.{losingBy, losingLives, losing-entries, losing-lives}
-use Rattle.install.specs.Adding.{taken, Placed}
+use Rattle.install.specs.Adding.{taken, Placed, trailerAt, Installable}
 
 -- `world` of a table in one piece
 abbrev pub worldOf : Settings → State → Claims → List ℕ → Buffers → World
@@ -60,7 +62,7 @@ position-within q (o ∷ os) (suc k) = omega (arith, position-within (q + sizeOf
 parts : (label objects trailer : List ℕ) → label ++ (objects ++ trailer) ≡ ((label ++ objects) ++ trailer) ++ []
 parts label objects trailer = sym (append-nil ((label ++ objects) ++ trailer) ∙ append-assoc label objects trailer)
 
-module _ (bit : ℕ) (ops : List Op) (s : Settings) (t : State) (heap : List ℕ) (b : Buffers) (slot count total : ℕ) (f : Addable bit ops s t heap b slot count total) where
+module _ {bit : ℕ} {ops : List Op} {s : Settings} {t : State} {heap : List ℕ} {b : Buffers} {slot count total : ℕ} (f : Addable bit ops s t heap b slot count total) where
   -- the file lies within the heap
   pub slot-inside : slot * s .«slot_bytes» + (64 + length (fileBytes ops)) ≤ length heap
   slot-inside = omega (arith, slot-within s (length heap) slot (f .limits .limits .heap) (f .free), f .fits)
@@ -71,70 +73,94 @@ module _ (bit : ℕ) (ops : List Op) (s : Settings) (t : State) (heap : List ℕ
       let size = file-length ops in
       (omega (arith, f .entries, f .objects), omega (arith, f .fits, f .limits .limits .settings .slot-high))
 
-  -- its record
-  pub record-new : (generation : ℕ)
-      → fresh (t .«next_position» + bit) total (total + (12 + 16 * count)) count generation ≡ newRecord (t .«next_position» + bit) generation ops
-  record-new generation = rw (sizes-small .0, f .objects, f .entries) (sym (new-record (t .«next_position» + bit) generation ops))
-
-  -- its trailer stands behind its objects
-  pub trailer-there : (new : Record) (after : List ℕ) → after ≡ made (fileStores (slot * s .«slot_bytes») (labelBytes new) (fileBytes ops)) heap
-      → take (12 + 16 * count) (drop (slot * s .«slot_bytes» + 64 + total) after) ≡ trailerBytes (entriesOf 0 ops)
-  unfolding fileBytes
-  trailer-there new after e =
-      let start = slot * s .«slot_bytes» in
-      let label = labelBytes new in
-      let objects = objectsOf ops in
-      let trailer = trailerBytes (entriesOf 0 ops) in
-      let size : 12 + 16 * count ≡ length trailer = omega (arith, trailer-length (entriesOf 0 ops), entries-of-length 0 ops, f .entries) in
-      let place : start + 64 + total ≡ start + length (label ++ objects) = omega (arith, length-append label objects, label-length new, f .objects) in
-      let whole : after ≡ putAt heap start (((label ++ objects) ++ trailer) ++ []) =
-      e ∙ file-made start label (fileBytes ops) heap (label-length new) slot-inside ∙ ap (putAt heap start) (parts label objects trailer) in
-      rw (size, place, whole) (put-field heap start (label ++ objects) trailer [] (omega (arith, slot-inside)))
-
-  -- and is read back
-  pub entries-there : entriesIn (trailerBytes (entriesOf 0 ops)) ≡ entriesOf 0 ops
-  entries-there =
-      trailer-back (entriesOf 0 ops) (omega (arith, entries-of-length 0 ops, f .entries, sizes-small .0, sizes-small .1))
-      (entries-of-fits 0 ops (f .ids) (omega (arith, f .objects, f .last)))
-
-  -- so is its count
-  pub count-there : countIn (trailerBytes (entriesOf 0 ops)) ≡ count
-  count-there =
-      count-back (entriesOf 0 ops) (omega (arith, entries-of-length 0 ops, f .entries, sizes-small .0, sizes-small .1))
-      ∙ entries-of-length 0 ops ∙ sym (f .entries)
-
   -- its entries have absolute locations
-  pub entries-placed : Placed (t .«next_position» + bit) (entriesOf 0 ops)
+  entries-placed : Placed (t .«next_position» + bit) (entriesOf 0 ops)
   entries-placed k = omega (arith, position-within 0 ops k, f .objects, f .last, f .plain)
 
-  -- ---- what adding it leaves
-  pub added : (generation : ℕ) (c : Claims) (new : Record) (r : State) (after : List ℕ) (b′ : Buffers) (lsns lives left : List ℕ)
-      → new ≡ newRecord (t .«next_position» + bit) generation ops
-      → after ≡ made (fileStores (slot * s .«slot_bytes») (labelBytes new) (fileBytes ops)) heap
-      → lsns ≡ lsnsOf (t .files .records)
-      → lives ≡ livesOf (t .files .records)
-      → left ≡ losingLives lsns (usedEntries b) (entriesOf 0 ops) lives
-      → r ≡ stateWith t (set (withLives (t .files .records) left) slot new) (t .«next_position» + (new .«trailer_offset» + 1))
-      → b′ ≡ laidOut (capacityOf b) (insertAll (usedEntries b) (taken (new .lsn) (entriesOf 0 ops)))
-      → worldOf s r c after b′ ≡ installed bit generation (worldOf s t c heap b) ops
-  unfolding installed recordsWith storesFor tableWith nextWith newRecord
-  added generation c new r after b′ lsns lives left e h x y z q g =
-      let es = entriesOf 0 ops in
-      let lost : withLives (t .files .records) left ≡ losingBy (usedEntries b) es (t .files .records) =
-      ap (withLives (t .files .records)) (z ∙ ap₂ (λ (ns ls : List ℕ). losingLives ns (usedEntries b) es ls) x y) ∙ losing-lives (usedEntries b) es (t .files .records) in
-      let w = worldOf s t c heap b in
-      let n = newRecord (t .«next_position» + bit) generation ops in
-      let state : r ≡ stateWith t (recordsWith n w ops) (nextWith w ops) =
-      q
-      ∙ ap (λ (rs : List Record). stateWith t (set rs slot new) (t .«next_position» + (new .«trailer_offset» + 1))) lost
-      ∙ ap₂ (λ (k : ℕ) (m : Record). stateWith t (set (losingBy (usedEntries b) es (t .files .records)) k m) (t .«next_position» + (m .«trailer_offset» + 1))) (f .lowest) e
-      ∙ ap (λ (rs : List Record). stateWith t (set rs (newSlot w) n) (nextWith w ops)) (sym (losing-entries (usedEntries b) 0 ops (t .files .records))) in
-      let stores : after ≡ made (storesFor n w ops) heap =
-      h ∙ ap₂ (λ (k : ℕ) (m : Record). made (fileStores (k * s .«slot_bytes») (labelBytes m) (fileBytes ops)) heap) (f .lowest) e in
-      let entries : b′ ≡ tableWith (t .«next_position» + bit) w ops =
-      g ∙ ap (λ (m : Record). laidOut (capacityOf b) (insertAll (usedEntries b) (taken (m .lsn) es))) e in
-      same-world state stores entries
-    where
-      same-world : {r q : State} {h k : List ℕ} {x y : Buffers} → r ≡ q → h ≡ k → x ≡ y
-          → worldOf s r c h x ≡ worldOf s q c k y
-      same-world e f g = rw (e, f, g) refl
+  -- its record has a slot, and a next position
+  pub record-fits : {lsn size generation : ℕ} {new : Record} → new ≡ fresh lsn total size count generation
+      → (slot < 256) × (t .«next_position» + (new .«trailer_offset» + 1) < 2 ^ 64)
+  record-fits numbers =
+      (omega (arith, f .free, f .limits .limits .heap .most), omega (arith, f .last, ap (λ (r : Record). r .«trailer_offset») numbers))
+
+  -- once its label, its objects and its trailer are written
+  module _ {lsn generation : ℕ} {new : Record} {after : List ℕ} (base : lsn ≡ t .«next_position» + bit)
+      (numbers : new ≡ fresh lsn total (total + (12 + 16 * count)) count generation)
+      (written : after ≡ made (fileStores (slot * s .«slot_bytes») (labelBytes new) (fileBytes ops)) heap) where
+    -- the record is the new file's
+    record-new : new ≡ newRecord (t .«next_position» + bit) generation ops
+    record-new = numbers ∙ rw (base, sizes-small .0, f .objects, f .entries) (sym (new-record (t .«next_position» + bit) generation ops))
+
+    -- its trailer stands behind its objects
+    trailer-there : trailerAt after (slot * s .«slot_bytes») count total ≡ trailerBytes (entriesOf 0 ops)
+    unfolding fileBytes
+    trailer-there =
+        let start = slot * s .«slot_bytes» in
+        let label = labelBytes new in
+        let objects = objectsOf ops in
+        let trailer = trailerBytes (entriesOf 0 ops) in
+        let size : 12 + 16 * count ≡ length trailer = omega (arith, trailer-length (entriesOf 0 ops), entries-of-length 0 ops, f .entries) in
+        let place : start + 64 + total ≡ start + length (label ++ objects) = omega (arith, length-append label objects, label-length new, f .objects) in
+        let whole : after ≡ putAt heap start (((label ++ objects) ++ trailer) ++ []) =
+        written ∙ file-made start label (fileBytes ops) heap (label-length new) slot-inside ∙ ap (putAt heap start) (parts label objects trailer) in
+        rw (size, place, whole) (put-field heap start (label ++ objects) trailer [] (omega (arith, slot-inside)))
+
+    -- and is read back
+    entries-there : entriesIn (trailerAt after (slot * s .«slot_bytes») count total) ≡ entriesOf 0 ops
+    entries-there =
+        ap entriesIn trailer-there
+        ∙ trailer-back (entriesOf 0 ops) (omega (arith, entries-of-length 0 ops, f .entries, sizes-small .0, sizes-small .1))
+        (entries-of-fits 0 ops (f .ids) (omega (arith, f .objects, f .last)))
+
+    -- so is its count
+    count-there : countIn (trailerAt after (slot * s .«slot_bytes») count total) ≡ count
+    count-there =
+        ap countIn trailer-there
+        ∙ count-back (entriesOf 0 ops) (omega (arith, entries-of-length 0 ops, f .entries, sizes-small .0, sizes-small .1))
+        ∙ entries-of-length 0 ops ∙ sym (f .entries)
+
+    module _ {lsns lives : List ℕ} (x : lsns ≡ lsnsOf (t .files .records)) (y : lives ≡ livesOf (t .files .records)) where
+      -- LAW: it can be added
+      pub installable : Formed b → Installable lsns lives b after (slot * s .«slot_bytes») count total (new .lsn)
+      installable formed =
+          let rs = t .files .records in
+          let there = ap (λ (r : Record). r .lsn) numbers ∙ base in
+          record {
+            formed = formed;
+            even = omega (arith, ap length x, ap length y, length-map rs (λ (r : Record). r .lsn), length-map rs (λ (r : Record). r .live));
+            inside = omega (arith, slot-inside, sizes-small .0, ap length written, made-length (fileStores (slot * s .«slot_bytes») (labelBytes new) (fileBytes ops)) heap);
+            counted = count-there;
+            placed = rw (there, entries-there) entries-placed;
+            some = omega (arith, there, f .limits .next);
+            room = rw entries-there (f .room (new .lsn));
+          }
+
+      -- LAW: what adding it leaves
+      pub added : {r : State} {b′ : Buffers} {left : List ℕ}
+          → (left ≡ losingLives lsns (usedEntries b) (entriesIn (trailerAt after (slot * s .«slot_bytes») count total)) lives)
+          × (b′ ≡ laidOut (capacityOf b) (insertAll (usedEntries b) (taken (new .lsn) (entriesIn (trailerAt after (slot * s .«slot_bytes») count total)))))
+          → r ≡ stateWith t (set (withLives (t .files .records) left) slot new) (t .«next_position» + (new .«trailer_offset» + 1))
+          → (c : Claims) → worldOf s r c after b′ ≡ installed bit generation (worldOf s t c heap b) ops
+      unfolding installed recordsWith storesFor tableWith nextWith newRecord
+      added {r} {b′} {left} z q c =
+          let es = entriesOf 0 ops in
+          let there = entries-there in
+          let e = record-new in
+          let lost : withLives (t .files .records) left ≡ losingBy (usedEntries b) es (t .files .records) =
+          ap (withLives (t .files .records)) (z .0 ∙ rw (x, y, there) refl) ∙ losing-lives (usedEntries b) es (t .files .records) in
+          let w = worldOf s t c heap b in
+          let n = newRecord (t .«next_position» + bit) generation ops in
+          let state : r ≡ stateWith t (recordsWith n w ops) (nextWith w ops) =
+          q
+          ∙ ap (λ (rs : List Record). stateWith t (set rs slot new) (t .«next_position» + (new .«trailer_offset» + 1))) lost
+          ∙ ap₂ (λ (k : ℕ) (m : Record). stateWith t (set (losingBy (usedEntries b) es (t .files .records)) k m) (t .«next_position» + (m .«trailer_offset» + 1))) (f .lowest) e
+          ∙ ap (λ (rs : List Record). stateWith t (set rs (newSlot w) n) (nextWith w ops)) (sym (losing-entries (usedEntries b) 0 ops (t .files .records))) in
+          let stores : after ≡ made (storesFor n w ops) heap =
+          written ∙ ap₂ (λ (k : ℕ) (m : Record). made (fileStores (k * s .«slot_bytes») (labelBytes m) (fileBytes ops)) heap) (f .lowest) e in
+          let entries : b′ ≡ tableWith (t .«next_position» + bit) w ops =
+          z .1 ∙ ap₂ (λ (m : Record) (xs : List Entry). laidOut (capacityOf b) (insertAll (usedEntries b) (taken (m .lsn) xs))) e there in
+          same-world state stores entries
+        where
+          same-world : {r q : State} {h k : List ℕ} {x y : Buffers} → r ≡ q → h ≡ k → x ≡ y
+              → worldOf s r c h x ≡ worldOf s q c k y
+          same-world e f g = rw (e, f, g) refl

@@ -18,7 +18,8 @@ ghost use Rattle.rules.specs.World.{stateWith};
 ghost use Rattle.location_table.specs.Tables.{table, Formed};
 ghost use Rattle.file_map.specs.Lists.{lessAt, withLives};
 ghost use Rattle.install.specs.Losing.{slotHolding, losingLives};
-ghost use Rattle.install.specs.Adding.{taken, Placed};
+ghost use Rattle.file_map.specs.Records.{fresh};
+ghost use Rattle.install.specs.Adding.{taken, Placed, trailerAt, Installable};
 
 // "loses one live": the file of the location that the table has for the id.
 fn lose_one(lsns: &[u64], lives: &mut [u64], ids: &[u64], locations: &[u64], id: u64)
@@ -106,8 +107,16 @@ fn next_after(next_position: u64, total: u64) -> u64
     next_position + (total + 1)
 }
 
-// The entries of a file that stands in the heap, by its trailer: live counts, then table.
-pub fn install(
+// A new file's record, by its lsn, its count of entries, T and its generation.
+pub fn new_record(lsn: u64, count: u64, total: u64, generation: u64) -> Record
+    requires { ⌜ total + (12 + 16 * count) < 2 ^ 63 ⌝ }
+    ensures { λ r. ⌜ r ≡ fresh lsn total (total + (12 + 16 * count)) count generation ⌝ }
+{
+    file_map::fresh(lsn, total, total + (12 + 16 * count), count, generation)
+}
+
+// The entries of a trailer: live counts, then table.
+fn by_trailer(
     lsns: &[u64],
     lives: &mut [u64],
     ids: &mut [u64],
@@ -120,6 +129,26 @@ pub fn install(
 {
     lose(lsns, lives, ids, locations, trailer);
     store_all(ids, locations, trailer, lsn);
+}
+
+// The entries of a file that stands in the heap, by its trailer.
+pub fn install(
+    lsns: &[u64],
+    lives: &mut [u64],
+    ids: &mut [u64],
+    locations: &mut [u64],
+    heap: &[u8],
+    start: usize,
+    count: u64,
+    total: u64,
+    lsn: u64,
+)
+    requires { ⌜ Installable (now lsns) (now lives) (table (now ids) (now locations)) (now heap) start count total lsn ⌝ }
+    ensures { λ _. ⌜ (now (lives .exit) ≡ losingLives (now (lsns .entry)) (usedEntries (table (now (ids .entry)) (now (locations .entry)))) (entriesIn (trailerAt (now (heap .entry)) start count total)) (now (lives .entry))) × (table (now (ids .exit)) (now (locations .exit)) ≡ laidOut (length (now (ids .entry))) (insertAll (usedEntries (table (now (ids .entry)) (now (locations .entry)))) (taken lsn (entriesIn (trailerAt (now (heap .entry)) start count total))))) ⌝ }
+{
+    let from = start + 64 + total as usize;
+    let end = from + (12 + 16 * count as usize);
+    by_trailer(lsns, lives, ids, locations, &heap[from..end], lsn);
 }
 
 // The state with the live counts that are left and the file's record in its slot.

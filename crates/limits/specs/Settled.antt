@@ -1,17 +1,19 @@
 -- What a call knows of lengths, records and table once 1 does not refuse it, in the form that the functions below the calls ask for.
 use mathlib.Core.Path.{_≡_, refl}
 use mathlib.Core.Logic.{⊎-elim}
-use Prim.Native.Nat.{zero-le}
+use Prim.Native.Nat.{_≤_, zero-le}
 use native.Mathlib.Omega.{arith}
-use Rattle.rules.specs.Base.{Bool, true, false, not, _&&_, ℕ, eqb}
+use Rattle.rules.specs.Base.{Bool, true, false, not, _&&_, _||_, List, ℕ, eqb, within}
+use Rattle.rules.specs.BaseLaws.{within-holds}
 use Rattle.rules.specs.declared.Settings.{Settings}
+use Rattle.rules.specs.declared.Record.{Record}
 use Rattle.rules.specs.declared.State.{State}
 use Rattle.rules.specs.declared.FileMap.{FileMap}
 use Rattle.rules.specs.Settings.{sameSettings}
 use Rattle.rules.specs.Layout.{Buffers, capacityOf}
 use Rattle.rules.specs.FileMap.{isEmpty, recordAt}
 use Rattle.rules.specs.FileMapLaws.{empty-is, empty-or-not}
-use Rattle.rules.specs.Condition1.{notTheStates}
+use Rattle.rules.specs.Condition1.{notTheStates, badFrom}
 use Rattle.rules.specs.Condition1Laws.{Passed}
 use Rattle.location_table.specs.Tables.{Formed}
 use Rattle.file_map.specs.Records.{Small, Bounded}
@@ -29,6 +31,16 @@ pub the-states : (s : Settings) (heapLen : ℕ) (b : Buffers) (t : Rest) (files 
     → notTheStates s heapLen b (stateOf t files) ≡ not (theStates s heapLen (capacityOf b) t)
 unfolding notTheStates theStates
 the-states s heapLen b t files = refl
+
+-- some record is bad, or S is out of its range
+unfoldable pub badFiles : Settings → ℕ → Buffers → List Record → Bool
+badFiles s heapLen b rs = not (within 128 1048576 (s .«slot_bytes»)) || badFrom s heapLen b 0 rs
+
+-- where S is in its range, the records alone
+pub bad-files : (s : Settings) (heapLen : ℕ) (b : Buffers) (rs : List Record) → 128 ≤ s .«slot_bytes» → s .«slot_bytes» ≤ 1048576
+    → badFiles s heapLen b rs ≡ badFrom s heapLen b 0 rs
+unfolding badFiles
+bad-files s heapLen b rs low high = rw (within-holds 128 1048576 (s .«slot_bytes») low high) refl
 
 -- the table is in form
 pub passed-formed : (s : Settings) (heapLen : ℕ) (b : Buffers) (t : State) → Passed s heapLen b t → Formed b

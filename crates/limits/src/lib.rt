@@ -9,13 +9,15 @@ use rules::Record;
 use rules::Settings;
 use rules::State;
 ghost use mathlib.Core.Path.{_≡_};
-ghost use mathlib.Core.Bool.{true};
-ghost use Prim.Native.Nat.{_<_};
+ghost use mathlib.Core.Bool.{false};
+ghost use Prim.Native.Nat.{_<_, _≤_};
+ghost use Rattle.rules.specs.declared.FileMap.{FileMap};
 ghost use Rattle.rules.specs.Settings.{inRanges, heapInRange, sameSettings};
 ghost use Rattle.rules.specs.SettingsLaws.{InRanges};
-ghost use Rattle.rules.specs.Condition1.{outOfRange, badRecord, badFrom, conditionOne};
+ghost use Rattle.rules.specs.Condition1Laws.{InLimits};
+ghost use Rattle.rules.specs.Condition1.{outOfRange, badRecord, conditionOne};
 ghost use Rattle.location_table.specs.Tables.{table};
-ghost use Rattle.limits.specs.Settled.{stateOf, theStates};
+ghost use Rattle.limits.specs.Settled.{stateOf, theStates, badFiles};
 
 // The column "Range", for the six settings.
 fn in_ranges(s: Settings) -> bool
@@ -120,7 +122,7 @@ fn the_states(s: Settings, heap: u64, entries: u64, rest: Rest) -> bool
 
 // "a non-empty record at slot N or above, outside 8's bounds, or with present over file_size or live over the table's length"
 fn bad_record(s: Settings, heap: u64, ids: &[u64], locations: &[u64], slot: u64, r: Record) -> bool
-    requires { ⌜ InRanges s ⌝ }
+    requires { ⌜ (128 ≤ s .«slot_bytes») × (s .«slot_bytes» ≤ 1048576) ⌝ }
     ensures { λ b. ⌜ b ≡ badRecord s heap (table (now (ids .entry)) (now (locations .entry))) slot r ⌝ }
 {
     if is_empty(r) {
@@ -138,10 +140,14 @@ fn bad_record(s: Settings, heap: u64, ids: &[u64], locations: &[u64], slot: u64,
     (ids.len() as u64) < r.live
 }
 
-fn bad_files(s: Settings, heap: u64, ids: &[u64], locations: &[u64], files: FileMap) -> bool
-    requires { ⌜ InRanges s ⌝ }
-    ensures { λ b. ⌜ b ≡ badFrom s heap (table (now (ids .entry)) (now (locations .entry))) 0 (files .records) ⌝ }
+// Some record is such, or S is out of its range. Every call asks this before its first branch: there, compiled, it reads the caller's
+// records where they stand; behind a branch it would copy them.
+pub fn bad_files(s: Settings, heap: u64, ids: &[u64], locations: &[u64], files: FileMap) -> bool
+    ensures { λ b. ⌜ b ≡ badFiles s heap (table (now (ids .entry)) (now (locations .entry))) (files .records) ⌝ }
 {
+    if !within(128, 1048576, s.slot_bytes) {
+        return true;
+    }
     let mut i: usize = 0;
     while i < 256 {
         if bad_record(s, heap, ids, locations, i as u64, files.records[i]) {
@@ -152,17 +158,17 @@ fn bad_files(s: Settings, heap: u64, ids: &[u64], locations: &[u64], files: File
     false
 }
 
-// All of 1 for every other call. A caller takes the records out of its state and hands on these alone: a state that is handed on whole is
-// copied once more.
+// All of 1 for every other call: `bad` is what was found of the state's records.
 pub fn refused_apart(
     s: Settings,
     heap: u64,
     ids: &[u64],
     locations: &[u64],
     rest: Rest,
-    files: FileMap,
+    bad: bool,
 ) -> bool
-    ensures { λ r. ⌜ r ≡ conditionOne s heap (table (now (ids .entry)) (now (locations .entry))) (stateOf rest files) ⌝ }
+    ensures { λ r. ⌜ ((files : FileMap) → bad ≡ badFiles s heap (table (now (ids .entry)) (now (locations .entry))) (files .records) → r ≡ conditionOne s heap (table (now (ids .entry)) (now (locations .entry))) (stateOf rest files)) ⌝ }
+    ensures { λ r. ⌜ (r ≡ false → InLimits s heap (table (now (ids .entry)) (now (locations .entry)))) ⌝ }
 {
     if out_of_range(s, heap, ids, locations) {
         return true;
@@ -176,7 +182,7 @@ pub fn refused_apart(
     if rest.next_position == 0 {
         return true;
     }
-    bad_files(s, heap, ids, locations, files)
+    bad
 }
 
 // The same of a whole state.
@@ -184,5 +190,6 @@ pub fn refused(s: Settings, heap: u64, ids: &[u64], locations: &[u64], state: St
     ensures { λ r. ⌜ r ≡ conditionOne s heap (table (now (ids .entry)) (now (locations .entry))) state ⌝ }
 {
     let files = state.files;
-    refused_apart(s, heap, ids, locations, rest_of(state), files)
+    let bad = bad_files(s, heap, ids, locations, files);
+    refused_apart(s, heap, ids, locations, rest_of(state), bad)
 }

@@ -1,11 +1,11 @@
 use crate::show::answer;
-use crate::show::number;
-use crate::show::text;
 use crate::states::settings;
 use crate::states::store;
 use claims::ClaimAnswer;
 use rules::Claims;
 use rules::State;
+use test_host::number;
+use test_host::text;
 
 // The answer, and the four words of the claim record after it.
 fn show(r: ClaimAnswer) -> Claims {

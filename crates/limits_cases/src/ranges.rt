@@ -1,6 +1,6 @@
 use crate::show::refused;
-use crate::show::text;
 use rules::Settings;
+use test_host::text;
 
 // The column "Default".
 pub fn defaults() -> Settings {

@@ -1,16 +1,8 @@
 use as_numbers::answers::refusal_number;
-use libc::STDOUT_FILENO;
 use rules::Answer;
 use rules::CountsAnswer;
-
-pub fn text(s: &[u8]) {
-    io::write_all(STDOUT_FILENO, s);
-}
-
-pub fn number(n: u64) {
-    text(b" ");
-    io::print_decimal(STDOUT_FILENO, n);
-}
+use test_host::number;
+use test_host::text;
 
 // Whether 1 refuses.
 pub fn refused(b: bool) {
@@ -36,10 +28,7 @@ pub fn counted(a: CountsAnswer) {
             number(c.present);
             number(c.live);
         }
-        CountsAnswer::CountsRefused(r) => {
-            text(b" refused");
-            number(refusal_number(r));
-        }
+        CountsAnswer::CountsRefused(r) => test_host::refused(r),
     }
     text(b"\n");
 }

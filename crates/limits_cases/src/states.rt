@@ -1,9 +1,9 @@
 use crate::ranges::defaults;
 use crate::show::counted;
-use crate::show::text;
 use rules::Record;
 use rules::Settings;
 use rules::State;
+use test_host::text;
 ghost use Prim.Native.Nat.{_<_};
 
 // A store of two slots of 128 bytes: a table of two entries, a file of two entries in slot 1.

@@ -1,14 +1,12 @@
 // The listing: line P10's batch written to a fresh store, and a line for each of its files.
 use libc::STDOUT_FILENO;
-use rules::Claims;
 use rules::FileMap;
 use rules::Record;
 use rules::Settings;
 use rules::State;
-
-fn text(s: &[u8]) {
-    io::write_all(STDOUT_FILENO, s);
-}
+use test_host::no_claims;
+use test_host::no_state;
+use test_host::text;
 
 fn number(n: u64, end: &[u8]) {
     io::print_decimal(STDOUT_FILENO, n);
@@ -62,26 +60,6 @@ fn defaults() -> Settings {
         target_file_size: 2048,
         small_file_cleanup_threshold: 64,
         max_object_size: 1024,
-    }
-}
-
-// What a host has before its first reopening.
-fn no_state(settings: Settings) -> State {
-    State {
-        settings: settings,
-        heap_len: 0,
-        table_len: 0,
-        files: file_map::no_files(),
-        next_position: 0,
-    }
-}
-
-fn no_claims() -> Claims {
-    Claims {
-        a: 0,
-        b: 0,
-        c: 0,
-        d: 0,
     }
 }
 

@@ -4,6 +4,8 @@ use crate::show;
 use rules::Claims;
 use rules::Settings;
 use rules::State;
+use test_host::no_claims;
+use test_host::no_state;
 
 // What is changed by hand before the maintenance: generations of the first three files and the next position, where not 0; a heap byte;
 // of the second file the record's file_size and the trailer's checksum, where not 0; the first word of the claims.
@@ -44,27 +46,13 @@ pub fn settings(percent: u64, least: u64, target: u64, threshold: u64) -> Settin
 }
 
 fn claim_words(first: u64) -> Claims {
-    Claims {
-        a: first,
-        b: 0,
-        c: 0,
-        d: 0,
-    }
-}
-
-// What a host has before its first reopening.
-fn no_state(s: Settings) -> State {
-    State {
-        settings: s,
-        heap_len: 0,
-        table_len: 0,
-        files: file_map::no_files(),
-        next_position: 0,
-    }
+    let mut claims = no_claims();
+    claims.a = first;
+    claims
 }
 
 pub fn reopened(s: Settings, heap: &[u8], ids: &mut [u64], locations: &mut [u64]) -> State {
-    let r = recovery::reopen(s, no_state(s), claim_words(0), heap, ids, locations);
+    let r = recovery::reopen(s, no_state(s), no_claims(), heap, ids, locations);
     let state = r.state;
     state
 }
@@ -168,7 +156,7 @@ pub fn maintain(
     let answer = m.answer;
     let after = m.state;
     show::maintained(answer);
-    show::store(after, heap, ids, locations);
+    test_host::store(after, heap, ids, locations);
     show::counted(claims::counts(s, after, heap, ids, locations));
     after
 }

@@ -13,13 +13,13 @@ use rules::State;
 
 // All ids of a case are below 8.
 fn reads(s: Settings, state: State, heap: &[u8], ids: &[u64], locations: &[u64]) {
-    show::text(b"reads");
+    test_host::text(b"reads");
     let mut id: u64 = 1;
     while id < 8 {
         host::read(s, state, heap, ids, locations, id);
         id += 1;
     }
-    show::text(b"\n");
+    test_host::text(b"\n");
 }
 
 // Four batches on a fresh store, what is done by hand, the maintenance, then a reopening: what each left, and every read before and after.
@@ -34,23 +34,23 @@ fn case(s: Settings, hand: ByHand, a: &[u64], b: &[u64], c: &[u64], d: &[u64]) {
     state = host::write(s, state, &mut heap, &mut ids, &mut locations, d);
     host::heap_by_hand(&mut heap, hand);
     state = host::state_by_hand(state, hand);
-    show::text(b"before");
-    show::store(state, &heap, &ids, &locations);
+    test_host::text(b"before");
+    test_host::store(state, &heap, &ids, &locations);
     reads(s, state, &heap, &ids, &locations);
     state = host::maintain(s, state, hand, &mut heap, &mut ids, &mut locations);
     reads(s, state, &heap, &ids, &locations);
     state = host::reopened(s, &heap, &mut ids, &mut locations);
-    show::text(b"reopened");
-    show::store(state, &heap, &ids, &locations);
+    test_host::text(b"reopened");
+    test_host::store(state, &heap, &ids, &locations);
     reads(s, state, &heap, &ids, &locations);
 }
 
 // "3 live of 4 at 75: no candidate; 2 of 3 (66): a candidate."
 fn p6() {
     let s = settings(75, 1, 1024, 256);
-    show::text(b"P6 3 of 4\n");
+    test_host::text(b"P6 3 of 4\n");
     case(s, nothing(), &[1, 5, 2, 5, 3, 5, 4, 5], &[4, 6], &[], &[]);
-    show::text(b"P6 2 of 3\n");
+    test_host::text(b"P6 2 of 3\n");
     case(s, nothing(), &[1, 5, 2, 5, 3, 5], &[3, 6], &[], &[]);
 }
 
@@ -58,9 +58,9 @@ fn p6() {
 fn p7(generation: u64) {
     let mut hand = nothing();
     hand.first = generation;
-    show::text(b"P7");
-    show::number(generation);
-    show::text(b"\n");
+    test_host::text(b"P7");
+    test_host::number(generation);
+    test_host::text(b"\n");
     case(
         settings(75, 1, 1024, 256),
         hand,
@@ -73,7 +73,7 @@ fn p7(generation: u64) {
 
 // "lengths 0, 1, 60, 255, 256: shards 0, 1, 6, 8, 9."
 fn p8() {
-    show::text(b"P8\n");
+    test_host::text(b"P8\n");
     case(
         settings(100, 1, 1024, 256),
         nothing(),
@@ -86,7 +86,7 @@ fn p8() {
 
 // "target 100, ids 1, 2, 3 of 60 bytes each: files {3}, then {1, 2}."
 fn p9() {
-    show::text(b"P9\n");
+    test_host::text(b"P9\n");
     case(
         settings(100, 1, 100, 256),
         nothing(),
@@ -118,17 +118,17 @@ fn generations() -> ByHand {
 
 // One group, a delete in it; three groups; three that are too small; the first file claimed; two of a generation, the third alone.
 fn groups() {
-    show::text(b"one group\n");
+    test_host::text(b"one group\n");
     three_files(settings(75, 2, 1024, 256), nothing(), 5);
-    show::text(b"three groups\n");
+    test_host::text(b"three groups\n");
     three_files(settings(75, 1, 1024, 256), generations(), 5);
-    show::text(b"three skipped\n");
+    test_host::text(b"three skipped\n");
     three_files(settings(75, 2, 1024, 256), generations(), 5);
-    show::text(b"claimed\n");
+    test_host::text(b"claimed\n");
     let mut claimed = generations();
     claimed.claimed = 1;
     three_files(settings(75, 1, 1024, 256), claimed, 5);
-    show::text(b"one of two\n");
+    test_host::text(b"one of two\n");
     let mut two = nothing();
     two.third = 1;
     three_files(settings(75, 2, 1024, 256), two, 5);
@@ -136,7 +136,7 @@ fn groups() {
 
 // File count at the threshold, and one below it: every file is full.
 fn small_files() {
-    show::text(b"threshold 4\n");
+    test_host::text(b"threshold 4\n");
     case(
         settings(75, 2, 1024, 4),
         nothing(),
@@ -145,7 +145,7 @@ fn small_files() {
         &[3, 7],
         &[4, DELETE],
     );
-    show::text(b"threshold 5\n");
+    test_host::text(b"threshold 5\n");
     case(
         settings(75, 2, 1024, 5),
         nothing(),
@@ -154,7 +154,7 @@ fn small_files() {
         &[3, 7],
         &[4, DELETE],
     );
-    show::text(b"file size at the target\n");
+    test_host::text(b"file size at the target\n");
     case(
         settings(75, 2, 106, 4),
         nothing(),
@@ -167,20 +167,20 @@ fn small_files() {
 
 // The body's first byte of the second file, then of the first: 10 in generation 2, and in generation 1; a length (16); a trailer byte (10).
 fn damaged() {
-    show::text(b"10 in the second group\n");
+    test_host::text(b"10 in the second group\n");
     let mut hand = generations();
     hand.damaged = 1108;
     three_files(settings(75, 1, 1024, 256), hand, 5);
-    show::text(b"10 in the first group\n");
+    test_host::text(b"10 in the first group\n");
     hand.damaged = 84;
     three_files(settings(75, 1, 1024, 256), hand, 5);
-    show::text(b"length\n");
+    test_host::text(b"length\n");
     hand.damaged = 83;
     three_files(settings(75, 1, 1024, 256), hand, 5);
-    show::text(b"length, small\n");
+    test_host::text(b"length, small\n");
     hand.damaged = 76;
     three_files(settings(75, 1, 1024, 256), hand, 5);
-    show::text(b"id\n");
+    test_host::text(b"id\n");
     hand.damaged = 68;
     three_files(settings(75, 1, 1024, 256), hand, 5);
 }
@@ -188,19 +188,19 @@ fn damaged() {
 // The second file's trailer, in the second group: 19 bytes of it, as the record says (9); 20, so its checksum is wrong (10); then with a
 // checksum made good a count of 252 (11), and a delete entry whose position and lsn together reach 2^63 (20).
 fn trailers() {
-    show::text(b"9 in the second group\n");
+    test_host::text(b"9 in the second group\n");
     let mut hand = generations();
     hand.size = 70;
     three_files(settings(75, 1, 1024, 256), hand, 5);
-    show::text(b"trailer of 20 bytes\n");
+    test_host::text(b"trailer of 20 bytes\n");
     hand.size = 71;
     three_files(settings(75, 1, 1024, 256), hand, 5);
-    show::text(b"11 in the second group\n");
+    test_host::text(b"11 in the second group\n");
     hand.size = 0;
     hand.damaged = 1143;
     hand.sum = 2185209830;
     three_files(settings(75, 1, 1024, 256), hand, 5);
-    show::text(b"20 in the second group\n");
+    test_host::text(b"20 in the second group\n");
     hand.damaged = 1182;
     hand.sum = 958860330;
     three_files(settings(75, 1, 1024, 256), hand, 5);
@@ -208,7 +208,7 @@ fn trailers() {
 
 // Four objects of one shard in a slot of 1,024 bytes; five files for four empty slots; the last positions.
 fn refused() {
-    show::text(b"4\n");
+    test_host::text(b"4\n");
     case(
         settings(75, 2, 1048576, 1),
         nothing(),
@@ -217,7 +217,7 @@ fn refused() {
         &[],
         &[],
     );
-    show::text(b"5\n");
+    test_host::text(b"5\n");
     case(
         settings(100, 1, 1024, 256),
         nothing(),
@@ -226,20 +226,20 @@ fn refused() {
         &[7, 5],
         &[7, 6],
     );
-    show::text(b"5 in the third group\n");
+    test_host::text(b"5 in the third group\n");
     three_files(settings(75, 1, 1024, 256), generations(), 9);
-    show::text(b"7\n");
+    test_host::text(b"7\n");
     let mut hand = generations();
     hand.next = 4611686018427387854;
     three_files(settings(75, 1, 1024, 256), hand, 5);
-    show::text(b"7 in the second group\n");
+    test_host::text(b"7 in the second group\n");
     hand.next = 4611686018427387853;
     three_files(settings(75, 1, 1024, 256), hand, 5);
 }
 
 // Settings that are not the state's: nothing was reopened with slots of 100 bytes.
 fn limits() {
-    show::text(b"1\n");
+    test_host::text(b"1\n");
     let mut s = settings(75, 1, 1024, 256);
     s.slot_bytes = 100;
     case(s, nothing(), &[1, 5], &[], &[], &[]);

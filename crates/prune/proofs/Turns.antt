@@ -16,6 +16,7 @@ use Rattle.rules.specs.FileMap.{emptyRecord, isEmpty, recordAt, slotsWhere}
 use Rattle.rules.specs.Stores.{Store, made, storesOf}
 use Rattle.rules.specs.Prune.{isDead, emptiedFrom}
 use Rattle.rules.specs.PruneLaws.{emptying}
+use Rattle.prune.specs.Labels.{LabelsIn}
 
 -- ---- records: those before i are done
 module _ (claims : Claims) where
@@ -37,12 +38,17 @@ module _ (claims : Claims) where
   emptied-end i rs h =
       ap₂ (λ (done : List Record) (rest : List Record). done ++ emptiedFrom claims i rest) (take-all i rs h) (left-none rs i h) ∙ append-nil rs
 
+  -- before the first slot, or behind them all
+  pub emptied-start : (due : Bool) (rs : List Record) → length rs ≡ 256 → emptiedOn (pick due 0 256) rs ≡ pick due (emptiedFrom claims 0 rs) rs
+  emptied-start true rs h = refl
+  emptied-start false rs h = emptied-end 256 rs (omega arith)
+
 -- ---- stores: those from slot i on
 module _ (size : ℕ) (claims : Claims) where
   abbrev pub storesFrom : ℕ → List Record → List Store
   storesFrom i rs = emptying size (slotsWhere (isDead claims) i rs)
 
-  one-first : (i : ℕ) (r : Record) (rs : List Record) → storesFrom i (r ∷ rs) ≡ storesFrom i (r ∷ []) ++ storesFrom (suc i) rs
+  one-first : (i : ℕ) (r : Record) (rs : List Record) → storesFrom i (r ∷ rs) ≡ emptying size (pick (isDead claims i r) (i ∷ []) []) ++ storesFrom (suc i) rs
   unfolding slotsWhere
   one-first i r rs = go (isDead claims i r)
     where
@@ -51,12 +57,13 @@ module _ (size : ℕ) (claims : Claims) where
       go true = refl
       go false = refl
 
-  pub stores-next : (i : ℕ) (rs : List Record) → i < length rs
-      → storesFrom i (drop i rs) ≡ storesFrom i (recordAt rs i ∷ []) ++ storesFrom (i + 1) (drop (i + 1) rs)
-  stores-next i rs h =
+  -- one store for a dead file, none for a slot that stays
+  pub stores-next : (i : ℕ) (rs : List Record) (t : Bool) → t ≡ isDead claims i (recordAt rs i) → i < length rs
+      → storesFrom i (drop i rs) ≡ emptying size (pick t (i ∷ []) []) ++ storesFrom (i + 1) (drop (i + 1) rs)
+  stores-next i rs t e h =
       ap (storesFrom i) (left-next rs i emptyRecord h)
       ∙ one-first i (recordAt rs i) (drop (i + 1) rs)
-      ∙ ap (λ (k : ℕ). storesFrom i (recordAt rs i ∷ []) ++ storesFrom k (drop (i + 1) rs)) (sym (add-one i))
+      ∙ ap₂ (λ (u : Bool) (k : ℕ). emptying size (pick u (i ∷ []) []) ++ storesFrom k (drop (i + 1) rs)) (sym e) (sym (add-one i))
 
   pub stores-end : (i : ℕ) (rs : List Record) → length rs ≤ i → storesFrom i (drop i rs) ≡ []
   unfolding slotsWhere
@@ -73,20 +80,29 @@ module _ (size : ℕ) (claims : Claims) where
       go true h = omega arith
       go false h = omega arith
 
-  pub all-made : (rs : List Record) (heap : List ℕ) → length rs ≡ 256 → made (take 256 (storesFrom 0 rs)) heap ≡ made (storesFrom 0 rs) heap
-  all-made rs heap h = ap (λ (run : List Store). made run heap) (take-all 256 (storesFrom 0 rs) (omega (arith, stores-few 0 rs)))
+  pub stores-start : (due : Bool) (rs : List Record) → length rs ≡ 256 → storesFrom (pick due 0 256) (drop (pick due 0 256) rs) ≡ pick due (storesFrom 0 rs) []
+  stores-start true rs h = refl
+  stores-start false rs h = stores-end 256 rs (omega arith)
 
-  -- one store for a dead file, none for a slot that stays
-  pub one-store : (i : ℕ) (r : Record) → isDead claims i r ≡ true → storesFrom i (r ∷ []) ≡ storesOf (i * size) (leBytes 1 0)
-  unfolding slotsWhere storesOf leBytes
-  one-store i r e = rw e refl
+  pub all-made : (due : Bool) (rs : List Record) (heap : List ℕ) → length rs ≡ 256 → made (take 256 (pick due (storesFrom 0 rs) [])) heap ≡ made (pick due (storesFrom 0 rs) []) heap
+  all-made due rs heap h = ap (λ (run : List Store). made run heap) (take-all 256 (pick due (storesFrom 0 rs) []) (few due))
+    where
+      few : (t : Bool) → length (pick t (storesFrom 0 rs) []) ≤ 256
+      few true = omega (arith, stores-few 0 rs)
+      few false = omega arith
 
-  pub no-store : (i : ℕ) (r : Record) → isDead claims i r ≡ false → storesFrom i (r ∷ []) ≡ []
-  unfolding slotsWhere
-  no-store i r e = rw e refl
+-- what a dead file's slot takes
+pub one-store : (size i : ℕ) → emptying size (i ∷ []) ≡ storesOf (i * size) (leBytes 1 0)
+unfolding storesOf leBytes
+one-store size i = refl
 
 -- ---- labels: those of the slots from i on lie within the heap
-pub labels-next : (size m i : ℕ) (rs : List Record) (x : Record) → ((k : ℕ) → i ≤ k → isEmpty (recordAt rs k) ≡ false → k * size + 64 ≤ m)
-    → (k : ℕ) → i + 1 ≤ k → isEmpty (recordAt (set rs i x) k) ≡ false → k * size + 64 ≤ m
-labels-next size m i rs x low k h e =
-    low k (omega arith) (ap isEmpty (sym (getD-set-other rs i k x emptyRecord (λ q. omega arith))) ∙ e)
+pub labels-start : (size m : ℕ) (due : Bool) (rs : List Record) → (due ≡ true → LabelsIn size rs m)
+    → (k : ℕ) → pick due 0 256 ≤ k → k < 256 → isEmpty (recordAt rs k) ≡ false → k * size + 64 ≤ m
+labels-start size m true rs low k h q e = low refl k e
+labels-start size m false rs low k h q e = absurd (omega arith)
+
+pub labels-next : (size m i : ℕ) (rs : List Record) (x : Record) → ((k : ℕ) → i ≤ k → k < 256 → isEmpty (recordAt rs k) ≡ false → k * size + 64 ≤ m)
+    → (k : ℕ) → i + 1 ≤ k → k < 256 → isEmpty (recordAt (set rs i x) k) ≡ false → k * size + 64 ≤ m
+labels-next size m i rs x low k h q e =
+    low k (omega arith) q (ap isEmpty (sym (getD-set-other rs i k x emptyRecord (λ z. omega arith))) ∙ e)

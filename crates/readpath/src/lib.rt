@@ -1,5 +1,6 @@
 // Read (`src/readpath.rs`): where a body lies in the heap, then that part of it.
 use disk_location::DiskLocation;
+use limits::bad_files;
 use limits::refused_apart;
 use limits::rest_of;
 use rules::Held;
@@ -61,13 +62,15 @@ pub fn read_answer(
     ensures { λ r. ⌜ ((c : Claims) → r ≡ readOf (world settings state c (now (heap .entry)) (now (ids .entry)) (now (locations .entry))) id) ⌝ }
 {
     let files = state.files;
+    let lsns = file_map::lsns(files);
+    let bad = bad_files(settings, heap.len() as u64, ids, locations, files);
     if refused_apart(
         settings,
         heap.len() as u64,
         ids,
         locations,
         rest_of(state),
-        files,
+        bad,
     ) {
         return ReadAnswer::ReadRefused(Refusal::Limits);
     }
@@ -77,7 +80,7 @@ pub fn read_answer(
     if DiskLocation(location).is_delete() {
         return ReadAnswer::Nothing;
     }
-    let Slot::Is(slot) = file_map::file_for(files, location) else {
+    let Slot::Is(slot) = file_map::lsn_at(&lsns, location) else {
         return ReadAnswer::ReadRefused(Refusal::NotThere);
     };
     let i = slot as usize;

@@ -6,7 +6,7 @@ use native.Mathlib.Omega.{arith}
 use borrow.Author.Tests.{le-leb, lt-leb}
 use mathlib.Core.Logic.{_⊎_, inl, inr}
 use Rattle.numbers.specs.GroupLaws.{either-way}
-use Rattle.rules.specs.Base.{List, [], _∷_, _++_, map, ℕ, zero, suc, _+_, _-_, _^_, length, replicate, pick, each, larger, greatest}
+use Rattle.rules.specs.Base.{Bool, true, false, List, [], _∷_, _++_, map, ℕ, zero, suc, _+_, _-_, _^_, length, replicate, pick, each, larger, greatest}
 use Rattle.rules.specs.BaseLaws.{All, all-map}
 use Rattle.rules.specs.FileMap.{emptyRecord, isEmpty, withLive}
 use Rattle.rules.specs.FileMapLaws.{is-empty}
@@ -55,6 +55,31 @@ unfolding labelsOf recordsFrom
 records-counted size table vs a =
     map-append (counted table) (map labelOf vs) (replicate (256 - length vs) emptyRecord)
     ∙ ap₂ _++_ (views-counted size table vs a) (blank-counted table (256 - length vs))
+
+-- ---- a live count changes no position
+module _ (table : List Entry) where
+  greatest-counted : (f : Record → ℕ) → ((r : Record) → f (counted table r) ≡ f r) → (rs : List Record) → greatest f (map (counted table) rs) ≡ greatest f rs
+  unfolding greatest
+  greatest-counted f stays [] = refl
+  greatest-counted f stays (r ∷ rs) = ap₂ larger (stays r) (greatest-counted f stays rs)
+
+  lsn-stays : (r : Record) → maskedLsn (counted table r) ≡ maskedLsn r
+  lsn-stays r = go (isEmpty r)
+    where
+      go : (t : Bool) → maskedLsn (pick t r (withLive r (mappedInto table r))) ≡ maskedLsn r
+      go true = refl
+      go false = refl
+
+  size-stays : (r : Record) → sizeOf (counted table r) ≡ sizeOf r
+  size-stays r = go (isEmpty r)
+    where
+      go : (t : Bool) → sizeOf (pick t r (withLive r (mappedInto table r))) ≡ sizeOf r
+      go true = refl
+      go false = refl
+
+  pub next-counted : (rs : List Record) → nextFrom (map (counted table) rs) ≡ nextFrom rs
+  unfolding nextFrom
+  next-counted rs = ap₂ (λ (a b : ℕ). a + (b + 1)) (greatest-counted maskedLsn lsn-stays rs) (greatest-counted sizeOf size-stays rs)
 
 -- ---- the greatest
 larger-none : (n : ℕ) → larger 0 n ≡ n

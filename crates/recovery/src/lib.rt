@@ -76,7 +76,13 @@ fn rebuilt(
     let counted = with_live_counts(ids, locations, files);
     Reopened {
         answer: Answer::Done,
-        state: state_of(settings, heap_len, table_len, counted, next_position(files)),
+        state: state_of(
+            settings,
+            heap_len,
+            table_len,
+            counted,
+            next_position(counted),
+        ),
         claims: no_claims(),
     }
 }

@@ -8,8 +8,9 @@ pub mod slots;
 use rules::Answer;
 use rules::FileMap;
 
-// The first refusal and an empty file map, or the labels of all slots.
+// The first refusal and an empty file map, or the labels of all slots. The records stand first: behind an answer's few bytes they would be
+// copied once more.
 pub struct Survey {
-    pub answer: Answer,
     pub files: FileMap,
+    pub answer: Answer,
 }

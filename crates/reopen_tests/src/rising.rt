@@ -1,9 +1,9 @@
-use crate::slots::slot_at;
 use disk_location::RelativeDiskLocation;
 use file_map::is_empty;
 use rules::Entry;
 use rules::FileMap;
 use rules::Record;
+use slot_file::slot::slot_at;
 use slot_file::slot::trailer_part;
 ghost use mathlib.Core.Path.{_≡_};
 ghost use Prim.Native.Nat.{_+_, _*_, _≤_, _<_};

@@ -11,18 +11,8 @@ ghost use mathlib.Core.List.{[]};
 ghost use Prim.Native.Nat.{_+_, _*_, _≤_};
 ghost use lib.ListN.{length};
 ghost use Rattle.rules.specs.declared.Answer.the-variants.{Refused};
-ghost use Rattle.rules.specs.SlotFile.{slotBytes, viewsIn};
+ghost use Rattle.rules.specs.SlotFile.{viewsIn};
 ghost use Rattle.reopen_tests.specs.Labels.{refusalShown, labelShown, surveyBy, surveyed};
-
-// Slot k, a part of the lent heap.
-pub fn slot_at(heap: &[u8], size: usize, k: usize) -> &[u8]
-    requires { ⌜ k * size + size ≤ length (now heap) ⌝ }
-    ensures { λ r. ⌜ now r ≡ slotBytes size (now (heap .entry)) k ⌝ }
-{
-    let start = k * size;
-    let end = start + size;
-    &heap[start..end]
-}
 
 fn refusal(shown: SlotAnswer) -> Answer
     ensures { λ r. ⌜ r ≡ refusalShown shown ⌝ }
@@ -62,7 +52,7 @@ pub fn survey(heap: &[u8], size: usize, n: usize) -> Survey
     let mut files = no_files();
     let mut k: usize = 0;
     while k < n {
-        let shown = slot::check(slot_at(heap, size, k));
+        let shown = slot::check(slot::slot_at(heap, size, k));
         if let Answer::Refused(r) = refusal(shown) {
             return refused(r);
         }

@@ -28,7 +28,7 @@ unfolding valueFrom
 grows n [] = omega arith
 grows n (b ∷ bs) = omega (arith, grows (n * 10 + (b - 48)) bs)
 
-neither : (t : Bool) → (t && false) ≡ false
+pub neither : (t : Bool) → (t && false) ≡ false
 neither true = refl
 neither false = refl
 

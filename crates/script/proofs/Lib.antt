@@ -1,3 +1,6 @@
 pub mod Digits
 pub mod Turns
-pub mod Silence
+pub mod Cuts
+pub mod Told
+pub mod Taken
+pub mod Ends

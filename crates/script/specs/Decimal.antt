@@ -1,7 +1,7 @@
 -- "numbers in decimal", "a number past 2^64 - 1".
-use mathlib.Core.Bool.{Bool, true, false, _&&_}
+use mathlib.Core.Bool.{Bool, true, _&&_}
 use mathlib.Core.List.{List, [], _∷_}
-use Prim.Native.Nat.{ℕ, zero, suc, _+_, _-_, _*_, _^_}
+use Prim.Native.Nat.{ℕ, _+_, _-_, _*_, _^_}
 use lib.Dec.{leb, ltb}
 use Rattle.numbers.specs.Choice.{pick}
 use Rattle.script.specs.declared.words.Parsed.{Parsed}

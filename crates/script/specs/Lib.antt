@@ -1,5 +1,9 @@
 pub mod Words
 pub mod Decimal
 pub mod Hex
-pub mod Room
 pub mod HexLaws
+pub mod Names
+pub mod Shapes
+pub mod Asked
+pub mod AskedLaws
+pub mod Examples

@@ -1,25 +1,21 @@
 // The console's script: a line as a keyword, numbers and bytes; bytes as text.
 
 ghost use mathlib.Core.Path.{_≡_};
-ghost use mathlib.Core.Bool.{true};
-ghost use mathlib.Core.Logic.{_⊎_};
+ghost use mathlib.Core.Bool.{true, false};
 ghost use Prim.Native.Nat.{_≤_};
-ghost use lib.ListN.{length};
+ghost use lib.ListN.{length, drop};
 ghost use Rattle.numbers.specs.Choice.{pick};
+ghost use Rattle.numbers.specs.Parts.{front};
 ghost use Rattle.script.specs.declared.Keyword.the-variants.{Blank, Bad};
-ghost use Rattle.script.specs.Room.{Within};
-ghost use Rattle.script.specs.Words.{runOf, noWord};
+ghost use Rattle.script.specs.Shapes.{shapeOf};
+ghost use Rattle.script.specs.Words.{wordsOf};
+ghost use Rattle.script.specs.Asked.{noNumbers, bare, numbered, numbersIn, saysBytes, endedBy, askedIn, askedBy, orderFor};
 
 pub mod hex;
+pub mod names;
 pub mod words;
 
 use words::Parsed;
-
-// How many bytes a word of hex pairs gave.
-pub enum Decoded {
-    Bytes(usize),
-    NotBytes,
-}
 
 // A line's first word. Blank: a comment alone; Bad: a line that is no command, an empty one too.
 pub enum Keyword {
@@ -70,76 +66,8 @@ struct Numbers {
     next: usize,
 }
 
-// A word of at most eight bytes, read as one little-endian number.
-fn keyword_at(key: u64) -> Keyword {
-    match key {
-        // settings
-        0x73676e6974746573 => Keyword::Settings,
-        // heap
-        0x70616568 => Keyword::Heap,
-        // table
-        0x656c626174 => Keyword::Table,
-        // poke
-        0x656b6f70 => Keyword::Poke,
-        // entry
-        0x7972746e65 => Keyword::Entry,
-        // state
-        0x6574617473 => Keyword::State,
-        // record
-        0x64726f636572 => Keyword::Record,
-        // claims
-        0x736d69616c63 => Keyword::Claims,
-        // reopen
-        0x6e65706f6572 => Keyword::Reopen,
-        // write
-        0x6574697277 => Keyword::Write,
-        // claim
-        0x6d69616c63 => Keyword::Claim,
-        // release
-        0x657361656c6572 => Keyword::Release,
-        // prune
-        0x656e757270 => Keyword::Prune,
-        // read
-        0x64616572 => Keyword::Read,
-        // maintain
-        0x6e6961746e69616d => Keyword::Maintain,
-        // counts
-        0x73746e756f63 => Keyword::Counts,
-        // load
-        0x64616f6c => Keyword::Load,
-        // store
-        0x65726f7473 => Keyword::Store,
-        // cas
-        0x736163 => Keyword::Cas,
-        // max
-        0x78616d => Keyword::Max,
-        // list
-        0x7473696c => Keyword::List,
-        // dump
-        0x706d7564 => Keyword::Dump,
-        // help
-        0x706c6568 => Keyword::Help,
-        _ => Keyword::Bad,
-    }
-}
-
-// A last byte 0 would not change the number, so no word that ends with one is a keyword.
-pub fn keyword_of(word: &[u8]) -> Keyword {
-    let n = word.len();
-    if n == 0 {
-        return Keyword::Bad;
-    }
-    if 8 < n {
-        return Keyword::Bad;
-    }
-    if word[n - 1] == 0 {
-        return Keyword::Bad;
-    }
-    keyword_at(numbers::little_endian::get(word, n))
-}
-
 pub fn shape_of(keyword: Keyword) -> Shape
-    ensures { λ r. ⌜ r .numbers ≤ 9 ⌝ }
+    ensures { λ r. ⌜ (r ≡ shapeOf keyword) × (r .numbers ≤ 9) ⌝ }
 {
     match keyword {
         Keyword::Settings => Shape {
@@ -186,7 +114,7 @@ pub fn shape_of(keyword: Keyword) -> Shape
 }
 
 fn no_order(keyword: Keyword) -> Order
-    ensures { λ r. ⌜ (r .length ≡ 0) × (r .keyword ≡ keyword) ⌝ }
+    ensures { λ r. ⌜ r ≡ orderFor (bare keyword) ⌝ }
 {
     Order {
         keyword: keyword,
@@ -195,10 +123,10 @@ fn no_order(keyword: Keyword) -> Order
     }
 }
 
-// `n` numbers from `from` on, a word each.
+// `n` numbers from `from` on, a word each; none of them where one is missing or wrong.
 fn numbers_from(text: &[u8], from: usize, n: usize) -> Numbers
     requires { ⌜ (from ≤ length (now text)) × (n ≤ 9) ⌝ }
-    ensures { λ r. ⌜ r .next ≤ length (now (text .entry)) ⌝ }
+    ensures { λ r. ⌜ (r .next ≤ length (now (text .entry))) × (r .good ≡ numbered n (wordsOf (drop from (now (text .entry))))) × (r .values ≡ pick (r .good) (front (numbersIn n (wordsOf (drop from (now (text .entry))))) noNumbers) noNumbers) × (wordsOf (drop (r .next) (now (text .entry))) ≡ pick (r .good) (drop n (wordsOf (drop from (now (text .entry))))) (wordsOf (drop from (now (text .entry))))) ⌝ }
 {
     let mut values = [0u64; 9];
     let mut at = from;
@@ -210,8 +138,8 @@ fn numbers_from(text: &[u8], from: usize, n: usize) -> Numbers
         let Parsed::Value(v) = words::number(&text[start..end]) else {
             return Numbers {
                 good: false,
-                values: values,
-                next: at,
+                values: [0u64; 9],
+                next: from,
             };
         };
         values[k] = v;
@@ -225,50 +153,35 @@ fn numbers_from(text: &[u8], from: usize, n: usize) -> Numbers
     }
 }
 
-fn is_dash(word: &[u8]) -> bool {
-    if word.len() != 1 {
+// Hex pairs that fit the room, or `-` for none.
+fn says_bytes(word: &[u8], room: usize) -> bool
+    ensures { λ r. ⌜ r ≡ saysBytes room (now (word .entry)) ⌝ }
+{
+    if names::same(word, b"-") {
+        return true;
+    }
+    if room < word.len() / 2 {
         return false;
     }
-    word[0] == b'-'
-}
-
-// The bytes of a word of hex pairs, `-` for none, at the front of `bytes`.
-pub fn decode(word: &[u8], bytes: &mut [u8]) -> Decoded
-    ensures { λ r. ⌜ Within r (length (now (bytes .exit))) ⌝ }
-{
-    if is_dash(word) {
-        return Decoded::Bytes(0);
-    }
-    if word.len() == 0 {
-        return Decoded::NotBytes;
-    }
-    if !hex::is_hex(word) {
-        return Decoded::NotBytes;
-    }
-    let n = word.len() / 2;
-    if bytes.len() < n {
-        return Decoded::NotBytes;
-    }
-    hex::put_bytes(word, bytes);
-    Decoded::Bytes(n)
+    hex::is_hex(word)
 }
 
 // The order, unless another word follows.
-fn ended(keyword: Keyword, numbers: [u64; 9], count: usize, text: &[u8], from: usize) -> Order
+fn ended(keyword: Keyword, numbers: [u64; 9], text: &[u8], from: usize) -> Order
     requires { ⌜ from ≤ length (now text) ⌝ }
-    ensures { λ r. ⌜ r .length ≤ count ⌝ }
+    ensures { λ r. ⌜ r ≡ orderFor (endedBy 0 false keyword numbers (wordsOf (drop from (now (text .entry))))) ⌝ }
 {
-    let word = words::next_word(text, from);
-    if word.start != word.end {
+    if !words::no_more(text, from) {
         return no_order(Keyword::Bad);
     }
     Order {
         keyword: keyword,
         numbers: numbers,
-        length: count,
+        length: 0,
     }
 }
 
+// The order, where one word of bytes follows. It is written when nothing is left to refuse.
 fn with_bytes(
     keyword: Keyword,
     numbers: [u64; 9],
@@ -277,20 +190,32 @@ fn with_bytes(
     bytes: &mut [u8],
 ) -> Order
     requires { ⌜ from ≤ length (now text) ⌝ }
-    ensures { λ r. ⌜ r .length ≤ length (now (bytes .exit)) ⌝ }
+    ensures { λ r. ⌜ (r ≡ orderFor (endedBy (length (now (bytes .entry))) true keyword numbers (wordsOf (drop from (now (text .entry)))))) × (now (bytes .exit) ≡ front (endedBy (length (now (bytes .entry))) true keyword numbers (wordsOf (drop from (now (text .entry)))) .bytes) (now (bytes .entry))) ⌝ }
 {
     let word = words::next_word(text, from);
     let start = word.start;
     let end = word.end;
-    let Decoded::Bytes(n) = decode(&text[start..end], bytes) else {
+    if start == end {
         return no_order(Keyword::Bad);
-    };
-    ended(keyword, numbers, n, text, end)
+    }
+    if !says_bytes(&text[start..end], bytes.len()) {
+        return no_order(Keyword::Bad);
+    }
+    if !words::no_more(text, end) {
+        return no_order(Keyword::Bad);
+    }
+    hex::put_bytes(&text[start..end], bytes);
+    let digits = end - start;
+    Order {
+        keyword: keyword,
+        numbers: numbers,
+        length: digits / 2,
+    }
 }
 
 // A line without a word.
 fn wordless(comment: bool) -> Order
-    ensures { λ r. ⌜ (r .length ≡ 0) × (r .keyword ≡ pick comment Blank Bad) ⌝ }
+    ensures { λ r. ⌜ r ≡ orderFor (bare (pick comment Blank Bad)) ⌝ }
 {
     if comment {
         return no_order(Keyword::Blank);
@@ -300,7 +225,7 @@ fn wordless(comment: bool) -> Order
 
 // A line without its comment, if it has one.
 fn order_in(text: &[u8], comment: bool, bytes: &mut [u8]) -> Order
-    ensures { λ r. ⌜ (r .length ≤ length (now (bytes .exit))) × (runOf true (now (text .entry)) ≡ length (now (text .entry)) → r .keyword ≡ pick comment Blank Bad) ⌝ }
+    ensures { λ r. ⌜ (r ≡ orderFor (askedIn (length (now (bytes .entry))) comment (wordsOf (now (text .entry))))) × (now (bytes .exit) ≡ front (askedIn (length (now (bytes .entry))) comment (wordsOf (now (text .entry))) .bytes) (now (bytes .entry))) ⌝ }
 {
     let first = words::next_word(text, 0);
     let start = first.start;
@@ -308,7 +233,7 @@ fn order_in(text: &[u8], comment: bool, bytes: &mut [u8]) -> Order
     if start == end {
         return wordless(comment);
     }
-    let keyword = keyword_of(&text[start..end]);
+    let keyword = names::keyword_of(&text[start..end]);
     let shape = shape_of(keyword);
     let count = shape.numbers;
     let numbers = numbers_from(text, end, count);
@@ -320,12 +245,12 @@ fn order_in(text: &[u8], comment: bool, bytes: &mut [u8]) -> Order
     if shape.bytes {
         return with_bytes(keyword, values, text, next, bytes);
     }
-    ended(keyword, values, 0, text, next)
+    ended(keyword, values, text, next)
 }
 
 // What a line asks for. Its bytes, if it has any, come to stand at the front of `bytes`.
 pub fn order_of(line: &[u8], bytes: &mut [u8]) -> Order
-    ensures { λ r. ⌜ (r .length ≤ length (now (bytes .exit))) × (noWord (now (line .entry)) ≡ true → (r .keyword ≡ Blank) ⊎ (r .keyword ≡ Bad)) ⌝ }
+    ensures { λ r. ⌜ (r ≡ orderFor (askedBy (length (now (bytes .entry))) (now (line .entry)))) × (now (bytes .exit) ≡ front (askedBy (length (now (bytes .entry))) (now (line .entry)) .bytes) (now (bytes .entry))) × (r .length ≤ length (now (bytes .exit))) ⌝ }
 {
     let end = bytes::scan::find(line, 0, line.len(), b'#');
     order_in(&line[0..end], end < line.len(), bytes)

@@ -1,9 +1,8 @@
 // Words of a line, and the number that a word says.
 ghost use mathlib.Core.Path.{_≡_};
-ghost use mathlib.Core.Bool.{true};
 ghost use Prim.Native.Nat.{_+_, _≤_};
 ghost use lib.ListN.{length, drop};
-ghost use Rattle.script.specs.Words.{isBlank, runOf};
+ghost use Rattle.script.specs.Words.{isBlank, runOf, wordsOf, none, nextWord};
 ghost use Rattle.script.specs.Decimal.{numberOf, longerBy};
 
 // A decimal number of 64 bits, or none.
@@ -47,7 +46,7 @@ fn run_end(text: &[u8], from: usize, blank: bool) -> usize
 
 pub fn next_word(text: &[u8], from: usize) -> Word
     requires { ⌜ from ≤ length (now text) ⌝ }
-    ensures { λ r. ⌜ (from ≤ r .start) × (r .start ≤ r .end) × (r .end ≤ length (now (text .entry))) × (r .start ≡ from + runOf true (drop from (now (text .entry)))) ⌝ }
+    ensures { λ r. ⌜ (from ≤ r .start) × (r .start ≤ r .end) × (r .end ≤ length (now (text .entry))) × (r ≡ nextWord (now (text .entry)) from) ⌝ }
 {
     let start = run_end(text, from, true);
     let end = run_end(text, start, false);
@@ -55,6 +54,15 @@ pub fn next_word(text: &[u8], from: usize) -> Word
         start: start,
         end: end,
     }
+}
+
+// No word follows.
+pub fn no_more(text: &[u8], from: usize) -> bool
+    requires { ⌜ from ≤ length (now text) ⌝ }
+    ensures { λ r. ⌜ r ≡ none (wordsOf (drop from (now (text .entry)))) ⌝ }
+{
+    let word = next_word(text, from);
+    word.start == word.end
 }
 
 // One digit more behind n.

@@ -1,12 +1,11 @@
+use file_map::labelled;
 use numbers::Number;
 use numbers::groups;
 use rules::Label;
-use rules::Record;
 ghost use mathlib.Core.Path.{_≡_};
-ghost use Prim.Native.Nat.{_-_};
 ghost use lib.ListN.{take, drop};
 ghost use Rattle.rules.specs.Base.{zeros};
-ghost use Rattle.rules.specs.Label.{labelIn, fiveIn, outOfBounds};
+ghost use Rattle.rules.specs.Label.{labelIn, fiveIn};
 
 // "Zeros fill the 64 bytes."
 fn rest_zero(s: &[u8], from: usize) -> bool
@@ -42,14 +41,7 @@ fn five(s: &[u8]) -> Label
         return Label::Wrong;
     };
     if rest_zero(s, e) {
-        return Label::Five(Record {
-            lsn: lsn,
-            trailer_offset: offset,
-            file_size: size,
-            present_objects: present,
-            generation: generation,
-            live: 0,
-        });
+        return Label::Five(labelled(lsn, offset, size, present, generation));
     }
     Label::Wrong
 }
@@ -75,37 +67,4 @@ pub fn read(slot: &[u8]) -> Label
         return in_label(slot);
     }
     in_label(&slot[..64])
-}
-
-// What a slot has behind its label.
-fn room(slot_bytes: u64) -> u64
-    ensures { λ r. ⌜ r ≡ «slot_bytes» - 64 ⌝ }
-{
-    if slot_bytes < 64 {
-        return 0;
-    }
-    slot_bytes - 64
-}
-
-// 8's bounds; a sum is only held against what is left of its bound, so that it cannot wrap.
-pub fn out_of_bounds(slot_bytes: u64, r: Record) -> bool
-    ensures { λ x. ⌜ x ≡ outOfBounds «slot_bytes» r ⌝ }
-{
-    if room(slot_bytes) < r.file_size {
-        return true;
-    }
-    if r.file_size < r.trailer_offset {
-        return true;
-    }
-    let at = disk_location::masked(r.lsn);
-    if at == 0 {
-        return true;
-    }
-    if 9223372036854775808 <= r.lsn {
-        return true;
-    }
-    if 4611686018427387904 - at <= r.trailer_offset {
-        return true;
-    }
-    255 < r.generation
 }

@@ -1,17 +1,28 @@
 use crate::SlotAnswer;
 use crate::label;
+use file_map::out_of_bounds;
 use rules::Answer;
 use rules::Label;
 use rules::Record;
 use rules::Refusal;
 ghost use mathlib.Core.Path.{_≡_};
-ghost use Prim.Native.Nat.{_-_, _≤_};
+ghost use Prim.Native.Nat.{_+_, _*_, _-_, _≤_};
 ghost use lib.ListN.{length, drop};
 ghost use Rattle.rules.specs.declared.Label.the-variants.{Five};
 ghost use Rattle.rules.specs.Refusal.{decide};
-ghost use Rattle.rules.specs.SlotFile.{fileIn, objectPart, trailerPart, slotTests, viewBy, viewIn};
+ghost use Rattle.rules.specs.SlotFile.{slotBytes, fileIn, objectPart, trailerPart, slotTests, viewBy, viewIn};
 ghost use Rattle.slot_file.specs.Labels.{Inside};
 ghost use Rattle.slot_file.specs.Slots.{shownBy, entryTests};
+
+// Slot k, a part of the lent heap.
+pub fn slot_at(heap: &[u8], size: usize, k: usize) -> &[u8]
+    requires { ⌜ k * size + size ≤ length (now heap) ⌝ }
+    ensures { λ r. ⌜ now r ≡ slotBytes size (now (heap .entry)) k ⌝ }
+{
+    let start = k * size;
+    let end = start + size;
+    &heap[start..end]
+}
 
 // "a 64-byte label, then the file"
 fn behind_label(slot: &[u8]) -> &[u8]
@@ -75,7 +86,7 @@ fn check_trailer(bytes: &[u8], r: Record) -> Answer
 fn check_file(slot: &[u8], r: Record) -> Answer
     ensures { λ x. ⌜ x ≡ decide (slotTests r (now (slot .entry))) ⌝ }
 {
-    if label::out_of_bounds(slot.len() as u64, r) {
+    if out_of_bounds(slot.len() as u64, r) {
         return Answer::Refused(Refusal::LabelBytes);
     }
     check_trailer(trailer_part(slot, r), r)

@@ -38,14 +38,14 @@ fn put(heap: &mut [u8], start: usize, f: TwoEntries)
 }
 
 fn show_made(f: TwoEntries) {
-    show::text(b"file");
-    show::number(f.lsn);
-    show::number(f.count);
-    show::number(f.first.id);
-    show::number(f.first.location);
-    show::number(f.second.id);
-    show::number(f.second.location);
-    show::text(b"\n");
+    test_host::text(b"file");
+    test_host::number(f.lsn);
+    test_host::number(f.count);
+    test_host::number(f.first.id);
+    test_host::number(f.first.location);
+    test_host::number(f.second.id);
+    test_host::number(f.second.location);
+    test_host::text(b"\n");
 }
 
 pub fn made(lsn: u64, count: u64, first: Entry, second: Entry) -> TwoEntries {

@@ -1,9 +1,10 @@
 // The host of every case: two slots of 256 bytes, objects under 32 bytes, each call shown on a line.
 use crate::show;
 use recovery::Reopened;
-use rules::Claims;
 use rules::Settings;
 use rules::State;
+use test_host::no_claims;
+use test_host::no_state;
 
 fn settings() -> Settings {
     Settings {
@@ -16,29 +17,16 @@ fn settings() -> Settings {
     }
 }
 
-// What a host has before its first reopening.
-fn no_state() -> State {
-    State {
-        settings: settings(),
-        heap_len: 0,
-        table_len: 0,
-        files: file_map::no_files(),
-        next_position: 0,
-    }
-}
-
-fn no_claims() -> Claims {
-    Claims {
-        a: 0,
-        b: 0,
-        c: 0,
-        d: 0,
-    }
-}
-
 // A reopening that is not shown.
 pub fn opened(heap: &[u8], ids: &mut [u64], locations: &mut [u64]) -> Reopened {
-    recovery::reopen(settings(), no_state(), no_claims(), heap, ids, locations)
+    recovery::reopen(
+        settings(),
+        no_state(settings()),
+        no_claims(),
+        heap,
+        ids,
+        locations,
+    )
 }
 
 pub fn fresh(heap: &[u8], ids: &mut [u64], locations: &mut [u64]) -> State {
@@ -51,9 +39,9 @@ pub fn reopen(heap: &[u8], ids: &mut [u64], locations: &mut [u64]) -> State {
     let r = opened(heap, ids, locations);
     let answer = r.answer;
     let state = r.state;
-    show::text(b"reopen");
+    test_host::text(b"reopen");
     show::answer(answer);
-    show::store(state, heap, ids, locations);
+    test_host::store(state, heap, ids, locations);
     state
 }
 
@@ -67,18 +55,18 @@ pub fn write(
     let w = writepath::write(settings(), state, heap, ids, locations, batch);
     let answer = w.answer;
     let after = w.state;
-    show::text(b"write ");
+    test_host::text(b"write ");
     show::bytes(batch);
     show::answer(answer);
-    show::store(after, heap, ids, locations);
+    test_host::store(after, heap, ids, locations);
     after
 }
 
 pub fn read(state: State, heap: &[u8], ids: &[u64], locations: &[u64], id: u64) {
     let answer = readpath::read_answer(settings(), state, heap, ids, locations, id);
     let body = readpath::read(settings(), state, heap, ids, locations, id);
-    show::text(b"read");
-    show::number(id);
+    test_host::text(b"read");
+    test_host::number(id);
     show::read(answer, body);
-    show::text(b"\n");
+    test_host::text(b"\n");
 }

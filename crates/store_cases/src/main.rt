@@ -167,11 +167,11 @@ fn positions() {
 
 // One more than it was, then its complement.
 fn one_byte(at: usize) {
-    show::text(b"byte");
-    show::number(at as u64);
+    test_host::text(b"byte");
+    test_host::number(at as u64);
     heaps::damaged(at, false);
     heaps::damaged(at, true);
-    show::text(b"\n");
+    test_host::text(b"\n");
 }
 
 fn each_byte(start: usize, end: usize) {

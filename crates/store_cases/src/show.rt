@@ -1,21 +1,9 @@
-// What a call answered and what it left, on one line.
-use as_numbers::answers::refusal_number;
+// What a call answered.
 use libc::STDOUT_FILENO;
 use rules::Answer;
-use rules::FileMap;
 use rules::ReadAnswer;
-use rules::Record;
-use rules::Refusal;
-use rules::State;
-
-pub fn text(s: &[u8]) {
-    io::write_all(STDOUT_FILENO, s);
-}
-
-pub fn number(n: u64) {
-    text(b" ");
-    io::print_decimal(STDOUT_FILENO, n);
-}
+use test_host::refused;
+use test_host::text;
 
 fn byte(b: u8) {
     io::print_hex(STDOUT_FILENO, b as u64, 2);
@@ -37,11 +25,6 @@ pub fn bytes(s: &[u8]) {
     hex(s);
 }
 
-fn refused(r: Refusal) {
-    text(b" refused");
-    number(refusal_number(r));
-}
-
 pub fn answer(a: Answer) {
     match a {
         Answer::Done => text(b" ok"),
@@ -58,50 +41,4 @@ pub fn read(a: ReadAnswer, body: &[u8]) {
         ReadAnswer::Nothing => text(b" nothing"),
         ReadAnswer::ReadRefused(r) => refused(r),
     }
-}
-
-// An empty record shows nothing.
-fn file(slot: u64, r: Record) {
-    if file_map::is_empty(r) {
-        return;
-    }
-    text(b" file");
-    number(slot);
-    number(r.lsn);
-    number(r.trailer_offset);
-    number(r.file_size);
-    number(r.present_objects);
-    number(r.generation);
-    number(r.live);
-}
-
-fn files(m: FileMap) {
-    let mut slot: usize = 0;
-    while slot < 256 {
-        file(slot as u64, m.records[slot]);
-        slot += 1;
-    }
-}
-
-fn places(s: &[u64]) {
-    let mut i: usize = 0;
-    while i < s.len() {
-        number(s[i]);
-        i += 1;
-    }
-}
-
-// Next position, files, table, and the checksum of the whole heap.
-pub fn store(state: State, heap: &[u8], ids: &[u64], locations: &[u64]) {
-    text(b" next");
-    number(state.next_position);
-    let m = state.files;
-    files(m);
-    text(b" ids");
-    places(ids);
-    text(b" locations");
-    places(locations);
-    text(b" heap");
-    number(checksum::sum(heap) as u64);
-    text(b"\n");
 }

@@ -35,7 +35,7 @@ fn new_record(base: u64, count: u64, total: u64) -> Record
     ensures { λ r. ⌜ r ≡ fresh (base + 2 ^ 62) total (total + (12 + 16 * count)) count 0 ⌝ }
 {
     let lsn = disk_location::with_batch(base);
-    file_map::fresh(lsn, total, total + (12 + 16 * count), count, 0)
+    install::new_record(lsn, count, total, 0)
 }
 
 // The whole run of the file: it is no longer than the heap.
@@ -65,12 +65,20 @@ fn add_file(
     let new = new_record(state.next_position, count, total);
     let start = slot * settings.slot_bytes as usize;
     put_file(heap, start, batch, new, count, total);
-    let from = start + 64 + total as usize;
-    let end = from + (12 + 16 * count as usize);
     let files = state.files;
     let lsns = file_map::lsns(files);
     let mut lives = file_map::lives(files);
-    install::install(&lsns, &mut lives, ids, locations, &heap[from..end], new.lsn);
+    install::install(
+        &lsns,
+        &mut lives,
+        ids,
+        locations,
+        heap,
+        start,
+        count,
+        total,
+        new.lsn,
+    );
     install::with_file(state, &lives, slot, new)
 }
 

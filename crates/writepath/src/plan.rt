@@ -2,7 +2,12 @@
 
 use batch::Room;
 use batch::Step;
+use limits::Rest;
+use limits::bad_files;
+use limits::refused_apart;
+use limits::rest_of;
 use rules::Answer;
+use rules::FileMap;
 use rules::Held;
 use rules::Refusal;
 use rules::Settings;
@@ -17,6 +22,7 @@ ghost use Rattle.rules.specs.Layout.{usedEntries};
 ghost use Rattle.rules.specs.Write.{tooManyIds};
 ghost use Rattle.rules.specs.World.{world};
 ghost use Rattle.location_table.specs.Tables.{table, Formed};
+ghost use Rattle.limits.specs.Settled.{stateOf};
 ghost use Rattle.batch.specs.Reading.{opsIn};
 ghost use Rattle.writepath.specs.NewIds.{newIds, isNew, idsOf};
 ghost use Rattle.writepath.specs.Plans.{planOf, Parsed};
@@ -78,14 +84,15 @@ fn spent(base: u64, total: u64) -> bool
 // 4 to 7, for a batch that passed 1 to 3; an empty one passes.
 fn room(
     settings: Settings,
-    state: State,
+    rest: Rest,
+    files: FileMap,
     heap: &[u8],
     ids: &[u64],
     locations: &[u64],
     batch: &[u8],
 ) -> Plan
-    requires { ⌜ Parsed settings state (now heap) (table (now ids) (now locations)) (now batch) ⌝ }
-    ensures { λ r. ⌜ ((c : Claims) → r ≡ planOf (world settings state c (now (heap .entry)) (now (ids .entry)) (now (locations .entry))) (now (batch .entry))) ⌝ }
+    requires { ⌜ Parsed settings (stateOf rest files) (now heap) (table (now ids) (now locations)) (now batch) ⌝ }
+    ensures { λ r. ⌜ ((c : Claims) → r ≡ planOf (world settings (stateOf rest files) c (now (heap .entry)) (now (ids .entry)) (now (locations .entry))) (now (batch .entry))) ⌝ }
 {
     let Room::Fits(count, total) = batch::sizes(batch, settings.slot_bytes) else {
         return Plan::Refused(Refusal::SlotRoom);
@@ -94,7 +101,6 @@ fn room(
         return Plan::Nothing;
     }
     let n = heap.len() / settings.slot_bytes as usize;
-    let files = state.files;
     let slot = file_map::lowest_empty(files, n);
     if n <= slot {
         return Plan::Refused(Refusal::NoEmptySlot);
@@ -102,7 +108,7 @@ fn room(
     if too_many(ids, locations, batch) {
         return Plan::Refused(Refusal::TableRoom);
     }
-    if spent(state.next_position, total) {
+    if spent(rest.next_position, total) {
         return Plan::Refused(Refusal::PositionsSpent);
     }
     Plan::File(slot, count, total)
@@ -118,11 +124,14 @@ pub fn decided(
 ) -> Plan
     ensures { λ r. ⌜ ((c : Claims) → r ≡ planOf (world settings state c (now (heap .entry)) (now (ids .entry)) (now (locations .entry))) (now (batch .entry))) ⌝ }
 {
-    if limits::refused(settings, heap.len() as u64, ids, locations, state) {
+    let files = state.files;
+    let bad = bad_files(settings, heap.len() as u64, ids, locations, files);
+    let rest = rest_of(state);
+    if refused_apart(settings, heap.len() as u64, ids, locations, rest, bad) {
         return Plan::Refused(Refusal::Limits);
     }
     match batch::check(batch, settings.max_object_size) {
         Answer::Refused(r) => Plan::Refused(r),
-        Answer::Done => room(settings, state, heap, ids, locations, batch),
+        Answer::Done => room(settings, rest, files, heap, ids, locations, batch),
     }
 }

@@ -1,10 +1,5 @@
-use mathlib.Core.Path.{_≡_, sym, _∙_}
-use lib.ListN.{length}
 use borrow.Author.Needs.{needs}
-use Rattle.rules.specs.Ops.{entriesOf, settled}
-use Rattle.rules.specs.OpsLaws.{entries-of-length}
-use Rattle.trailer.specs.Written.{trailer-made}
-use Rattle.batch.specs.Reading.{opsIn}
+use Rattle.batch_file.specs.Summing.{trailer-of}
 use Rattle.batch_file.proofs.put_trailer.Statement.{statement}
 use Rattle.batch_file.proofs.put_trailer.Tie as tie
 
@@ -29,9 +24,7 @@ returns c =
     let first = second .before .before .before .before in
     let s = first .before .before in
     let start = s .before .before .before in
-    let es = entriesOf 0 (settled (opsIn (start .args .batch .now))) in
-    let count : start .args .count ≡ length es = start .pre .0 ∙ sym (entries-of-length 0 _) in
-    trailer-made (start .args .at) es (rw (s .sum .ensures, count) at (first .put-head .ensures)) (second .put-entries .ensures)
+    trailer-of (start .args .at) _ (start .pre .0) (s .sum .ensures) (first .put-head .ensures) (second .put-entries .ensures)
 
 pub put-trailer-spec : {M : Type 1} → statement M
 put-trailer-spec =

@@ -1,4 +1,4 @@
-use mathlib.Core.Path.{refl, sym, ap, _∙_}
+use mathlib.Core.Path.{_≡_, refl, sym, ap, _∙_}
 use borrow.Author.Needs.{needs}
 use lib.ListN.{length}
 use Rattle.claims.proofs.counts.Statement.{statement}
@@ -10,6 +10,19 @@ use Rattle.location_table.specs.Tables.{table}
 use Rattle.limits.specs.Settled.{passed-bounded}
 use Rattle.claims.proofs.counts.Tie as tie
 
+abbrev begun : tie.After-refused-apart → tie.Start
+begun p = p .before .before .before .before .before .before .before
+
+asked : (p : tie.After-refused-apart) → let a = begun p .args in
+    conditionOne (a .s) (length (a .heap .now)) (table (a .ids .now) (a .locations .now)) (a .state) ≡ p .refused-apart .result
+asked p =
+    let a = begun p .args in
+    let told = p .refused-apart .ensures .0 (a .state .files) (p .before .before .bad-files .ensures) in
+    sym (told ∙ ap (conditionOne (a .s) (length (a .heap .now)) (table (a .ids .now) (a .locations .now))) (p .before .rest-of .ensures))
+
+bad-files-requires : tie.Need-bad-files-requires
+bad-files-requires c κs = search needs
+
 rest-of-requires : tie.Need-rest-of-requires
 rest-of-requires c κs = search needs
 
@@ -18,33 +31,19 @@ refused-apart-requires c κs = search needs
 
 returns : tie.Need-returns
 unfolding countsCall decide
-returns c =
-    let p = c .before in
-    let a = p .before .before .before .before .before .before .args in
-    let one = ap (conditionOne (a .s) (length (a .heap .now)) (table (a .ids .now) (a .locations .now))) (p .before .rest-of .ensures) in
-    λ claims. rw (sym (p .refused-apart .ensures ∙ one) ∙ c .if1 .taken) refl
+returns c = λ claims. rw (asked (c .before) ∙ c .if1 .taken) refl
 
 counts-requires : tie.Need-counts-requires
 counts-requires c κs =
-    let z1 = c in
-    let p = z1 .before in
-    let a = p .before .before .before .before .before .before .args in
+    let a = begun (c .before) .args in
     let n = length (a .heap .now) in
     let b = table (a .ids .now) (a .locations .now) in
-    let clear = sym (p .refused-apart .ensures ∙ ap (conditionOne (a .s) n b) (p .before .rest-of .ensures)) ∙ z1 .if1 .left in
-    passed-bounded (a .s) n b (a .state) (passed (a .s) n b (a .state) clear)
+    passed-bounded (a .s) n b (a .state) (passed (a .s) n b (a .state) (asked (c .before) ∙ c .if1 .left))
 
 returns-2 : tie.Need-returns-2
 unfolding countsCall decide
-returns-2 c =
-    let z1 = c .before in
-    let p = z1 .before in
-    let a = p .before .before .before .before .before .before .args in
-    let n = length (a .heap .now) in
-    let b = table (a .ids .now) (a .locations .now) in
-    let clear = sym (p .refused-apart .ensures ∙ ap (conditionOne (a .s) n b) (p .before .rest-of .ensures)) ∙ z1 .if1 .left in
-    λ claims. rw (c .counts .ensures, clear) refl
+returns-2 c = λ claims. rw (c .counts .ensures, asked (c .before .before) ∙ c .before .if1 .left) refl
 
 pub counts-spec : {M : Type 1} → statement M
 counts-spec =
-    tie.close (tie.spec rest-of-requires refused-apart-requires returns counts-requires returns-2)
+    tie.close (tie.spec bad-files-requires rest-of-requires refused-apart-requires returns counts-requires returns-2)

@@ -1,124 +1,86 @@
-use mathlib.Core.Path.{refl, sym, ap, _∙_}
+use mathlib.Core.Path.{_≡_, refl, sym, _∙_}
+use mathlib.Core.Bool.{Bool, false}
 use borrow.Author.Needs.{needs}
 use borrow.Author.Tests.{le-leb, lt-leb}
+use lib.Dec.{leb}
 use lib.ListN.{length}
+use Rattle.rules.specs.declared.FileMap.{FileMap}
 use Rattle.rules.specs.Refusal.{decide}
 use Rattle.rules.specs.Settings.{slotsIn}
 use Rattle.rules.specs.Condition1.{conditionOne}
-use Rattle.rules.specs.Condition1Laws.{passed}
 use Rattle.location_table.specs.Tables.{table}
+use Rattle.limits.specs.Settled.{stateOf, badFiles}
 use Rattle.claims.proofs.decided.Statement.{statement}
 use Rattle.claims.proofs.decided.Tie as tie
 
-rest-of-requires : tie.Need-rest-of-requires
-rest-of-requires c κs = search needs
+-- ---- each test as it was left, for the records that `bad` and `empty` tell of
+abbrev begun : tie.After-refused-apart → tie.Start
+begun p = p .before .before .before .before
 
+abbrev one : tie.After-refused-apart → FileMap → Bool
+one p files =
+    let a = begun p .args in
+    conditionOne (a .s) (length (a .heap .now)) (table (a .ids .now) (a .locations .now)) (stateOf (a .rest) files)
+
+abbrev Told : tie.After-refused-apart → FileMap → Type 0
+Told p files =
+    let a = begun p .args in
+    a .bad ≡ badFiles (a .s) (length (a .heap .now)) (table (a .ids .now) (a .locations .now)) (files .records)
+
+asked : (p : tie.After-refused-apart) (files : FileMap) → Told p files → one p files ≡ p .refused-apart .result
+asked p files bad = sym (p .refused-apart .ensures .0 files bad)
+
+clear : (z : tie.Else1) (files : FileMap) → Told (z .before) files → one (z .before) files ≡ false
+clear z files bad = asked (z .before) files bad ∙ z .if1 .left
+
+abbrev first : tie.Else2 → tie.Else1
+first z = z .before .before
+
+below : (z : tie.Else2) → let a = begun (first z .before) .args in leb (slotsIn (a .s) (length (a .heap .now))) (a .slot) ≡ false
+below z = lt-leb _ _ (z .if2 .left)
+
+held : (z : tie.Else3) {none : Bool} → begun (first (z .before) .before) .args .empty ≡ none → none ≡ false
+held z empty = sym empty ∙ z .if3 .left
+
+-- ---- the call
 refused-apart-requires : tie.Need-refused-apart-requires
 refused-apart-requires c κs = search needs
 
 returns : tie.Need-returns
 unfolding decide
-returns c =
-    let p = c .before in
-    let a = p .before .before .before .before .before .before .args in
-    let one = ap (conditionOne (a .s) (length (a .heap .now)) (table (a .ids .now) (a .locations .now))) (p .before .rest-of .ensures) in
-    λ claims. rw (sym (p .refused-apart .ensures ∙ one) ∙ c .if1 .taken) refl
+returns c = λ files claims bad empty. rw (asked (c .before) files bad ∙ c .if1 .taken) refl
 
 div-if2 : tie.Need-div-if2
 div-if2 c =
-    let z1 = c .before in
-    let p = z1 .before in
-    let a = p .before .before .before .before .before .before .args in
-    let n = length (a .heap .now) in
-    let b = table (a .ids .now) (a .locations .now) in
-    let clear = sym (p .refused-apart .ensures ∙ ap (conditionOne (a .s) n b) (p .before .rest-of .ensures)) ∙ z1 .if1 .left in
-    let low = passed (a .s) n b (a .state) clear .limits .settings .slot-low in
+    let z = c .before in
+    let low = z .before .refused-apart .ensures .1 (z .if1 .left) .settings .slot-low in
     search needs
 
 returns-2 : tie.Need-returns-2
 unfolding decide
 returns-2 c =
-    let z1 = c .before .before in
-    let p = z1 .before in
-    let a = p .before .before .before .before .before .before .args in
-    let n = length (a .heap .now) in
-    let b = table (a .ids .now) (a .locations .now) in
-    let clear = sym (p .refused-apart .ensures ∙ ap (conditionOne (a .s) n b) (p .before .rest-of .ensures)) ∙ z1 .if1 .left in
-    λ claims. rw (clear, le-leb (slotsIn (a .s) n) (a .slot) (c .if2 .taken)) refl
-
-mul-is-empty : tie.Need-mul-is-empty
-mul-is-empty c =
-    let z1 = c .before .before in
-    let p = z1 .before in
-    let a = p .before .before .before .before .before .before .args in
-    let n = length (a .heap .now) in
-    let b = table (a .ids .now) (a .locations .now) in
-    let clear = sym (p .refused-apart .ensures ∙ ap (conditionOne (a .s) n b) (p .before .rest-of .ensures)) ∙ z1 .if1 .left in
-    let most = passed (a .s) n b (a .state) clear .limits .heap .most in
-    search needs
-
-element-copy-out-is-empty : tie.Need-element-copy-out-is-empty
-element-copy-out-is-empty c =
-    let z1 = c .before .before in
-    let p = z1 .before in
-    let a = p .before .before .before .before .before .before .args in
-    let n = length (a .heap .now) in
-    let b = table (a .ids .now) (a .locations .now) in
-    let clear = sym (p .refused-apart .ensures ∙ ap (conditionOne (a .s) n b) (p .before .rest-of .ensures)) ∙ z1 .if1 .left in
-    let most = passed (a .s) n b (a .state) clear .limits .heap .most in
-    search needs
-
-is-empty-requires : tie.Need-is-empty-requires
-is-empty-requires c κs = search needs
+    let z = c .before .before in
+    let a = begun (z .before) .args in
+    λ files claims bad empty. rw (clear z files bad, le-leb (slotsIn (a .s) (length (a .heap .now))) (a .slot) (c .if2 .taken)) refl
 
 returns-3 : tie.Need-returns-3
 unfolding decide
 returns-3 c =
-    let z2 = c .before .before .before in
-    let z1 = z2 .before .before in
-    let p = z1 .before in
-    let a = p .before .before .before .before .before .before .args in
-    let n = length (a .heap .now) in
-    let b = table (a .ids .now) (a .locations .now) in
-    let clear = sym (p .refused-apart .ensures ∙ ap (conditionOne (a .s) n b) (p .before .rest-of .ensures)) ∙ z1 .if1 .left in
-    λ claims. rw (clear, lt-leb (slotsIn (a .s) n) (a .slot) (z2 .if2 .left), sym (c .before .is-empty .ensures) ∙ c .if3 .taken) refl
+    let z = c .before in
+    λ files claims bad empty. rw (clear (first z) files bad, below z, sym empty ∙ c .if3 .taken) refl
 
 returns-4 : tie.Need-returns-4
 unfolding decide
 returns-4 c =
-    let z2 = c .before .before .before .before in
-    let z1 = z2 .before .before in
-    let p = z1 .before in
-    let a = p .before .before .before .before .before .before .args in
-    let n = length (a .heap .now) in
-    let b = table (a .ids .now) (a .locations .now) in
-    let clear = sym (p .refused-apart .ensures ∙ ap (conditionOne (a .s) n b) (p .before .rest-of .ensures)) ∙ z1 .if1 .left in
-    λ claims. rw (clear, lt-leb (slotsIn (a .s) n) (a .slot) (z2 .if2 .left), sym (c .before .before .is-empty .ensures) ∙ c .before .if3 .left, c .if4 .taken) refl
+    let z = c .before .before in
+    λ files claims bad empty. rw (clear (first z) files bad, below z, held (c .before) empty, c .if4 .taken) refl
 
 returns-5 : tie.Need-returns-5
 unfolding decide
 returns-5 c =
-    let z2 = c .before .before .before .before in
-    let z1 = z2 .before .before in
-    let p = z1 .before in
-    let a = p .before .before .before .before .before .before .args in
-    let n = length (a .heap .now) in
-    let b = table (a .ids .now) (a .locations .now) in
-    let clear = sym (p .refused-apart .ensures ∙ ap (conditionOne (a .s) n b) (p .before .rest-of .ensures)) ∙ z1 .if1 .left in
-    λ claims. rw (clear, lt-leb (slotsIn (a .s) n) (a .slot) (z2 .if2 .left), sym (c .before .before .is-empty .ensures) ∙ c .before .if3 .left, c .if4 .left) refl
+    let z = c .before .before in
+    λ files claims bad empty. rw (clear (first z) files bad, below z, held (c .before) empty, c .if4 .left) refl
 
 pub decided-spec : {M : Type 1} → statement M
 decided-spec =
-    tie.close
-    (tie.spec
-    rest-of-requires
-    refused-apart-requires
-    returns
-    div-if2
-    returns-2
-    mul-is-empty
-    element-copy-out-is-empty
-    is-empty-requires
-    returns-3
-    returns-4
-    returns-5)
+    tie.close (tie.spec refused-apart-requires returns div-if2 returns-2 returns-3 returns-4 returns-5)

@@ -1,14 +1,32 @@
-use mathlib.Core.Path.{refl, sym, ap, _∙_}
-use mathlib.Core.Bool.{Bool, not, _||_}
-use mathlib.Core.List.{[], _∷_}
+use mathlib.Core.Path.{_≡_, refl, ap, _∙_}
+use mathlib.Core.Bool.{not}
 use borrow.Author.Needs.{needs}
-use Rattle.rules.specs.Refusal.{_gives_, decide}
-use Rattle.rules.specs.declared.Refusal.the-variants.{Limits, Claim}
-use Rattle.rules.specs.Condition1.{refused1}
-use Rattle.rules.specs.Claims.{notAFile, releaseCall}
+use Rattle.rules.specs.Claims.{isClaimed, releaseCall}
 use Rattle.rules.specs.World.{world}
+use Rattle.claims.proofs.Asked.{answered, whole}
 use Rattle.claims.proofs.release.Statement.{statement}
 use Rattle.claims.proofs.release.Tie as tie
+
+abbrev begun : tie.After-decided → tie.Start
+begun d = d .before .before .before .before .before .before .before .before .before
+
+-- what is decided is the call's
+asked : (d : tie.After-decided) → let a = begun d .args in
+    answered (world (a .s) (a .state) (a .claims) (a .heap .now) (a .ids .now) (a .locations .now)) (a .slot) (not (isClaimed (a .claims) (a .slot))) ≡ d .decided .result
+asked d =
+    let a = begun d .args in
+    let k = d .before .before .before in
+    let told = d .decided .ensures (a .state .files) (a .claims) (k .before .bad-files .ensures) (k .empty-at .ensures) in
+    whole (a .s) _ (a .state) (a .claims) (a .heap .now) (a .ids .now) (a .locations .now) (a .slot) _ _ _ told (d .before .before .rest-of .ensures) (ap not (d .before .is-claimed .ensures))
+
+bad-files-requires : tie.Need-bad-files-requires
+bad-files-requires c κs = search needs
+
+empty-at-requires : tie.Need-empty-at-requires
+empty-at-requires c κs = search needs
+
+rest-of-requires : tie.Need-rest-of-requires
+rest-of-requires c κs = search needs
 
 is-claimed-requires : tie.Need-is-claimed-requires
 is-claimed-requires c κs = search needs
@@ -29,23 +47,15 @@ returns : tie.Need-returns
 unfolding releaseCall
 returns c =
     let x = c .before in
-    let d = x .before .before in
-    let a = d .before .before .before .before .before .args in
-    let w = world (a .s) (a .state) (a .claims) (a .heap .now) (a .ids .now) (a .locations .now) in
-    let asked = ap (λ (t : Bool). decide (refused1 w gives Limits ∷ (notAFile w (a .slot) || not t) gives Claim ∷ [])) (sym (d .before .is-claimed .ensures)) in
-    rw (asked ∙ sym (d .decided .ensures (a .claims)) ∙ x .refusal .given .1) refl
+    rw (asked (x .before .before) ∙ x .refusal .given .1) refl
 
 returns-2 : tie.Need-returns-2
 unfolding releaseCall
 returns-2 c =
     let x = c .before in
-    let d = x .before .before in
-    let a = d .before .before .before .before .before .args in
-    let w = world (a .s) (a .state) (a .claims) (a .heap .now) (a .ids .now) (a .locations .now) in
-    let asked = ap (λ (t : Bool). decide (refused1 w gives Limits ∷ (notAFile w (a .slot) || not t) gives Claim ∷ [])) (sym (d .before .is-claimed .ensures)) in
-    rw (c .without-claim .ensures, asked ∙ sym (d .decided .ensures (a .claims)) ∙ x .enum-told .given .1) refl
+    rw (c .without-claim .ensures, asked (x .before .before) ∙ x .enum-told .given .1) refl
 
 pub release-spec : {M : Type 1} → statement M
 release-spec =
     tie.close
-    (tie.spec is-claimed-requires decided-requires enum-known-refusal enum-told without-claim-requires returns returns-2)
+    (tie.spec bad-files-requires empty-at-requires rest-of-requires is-claimed-requires decided-requires enum-known-refusal enum-told without-claim-requires returns returns-2)

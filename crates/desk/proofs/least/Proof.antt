@@ -1,8 +1,6 @@
 use mathlib.Core.Path.{refl}
-use Prim.Native.Nat.{_+_, _≤_, _<_}
 use native.Mathlib.Omega.{arith}
 use borrow.Author.Tests.{lt-ltb, le-ltb}
-use borrow.Author.Needs.{needs}
 use Rattle.desk.proofs.least.Statement.{statement}
 use Rattle.desk.proofs.least.Tie as tie
 

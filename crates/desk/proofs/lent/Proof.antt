@@ -1,5 +1,5 @@
 use Rattle.desk.specs.Commands.{lentBy}
-use Rattle.desk.proofs.Lending.{lending-from}
+use Rattle.desk.proofs.Lending.{lending}
 use borrow.Author.Needs.{needs}
 use Rattle.desk.proofs.lent.Statement.{statement}
 use Rattle.desk.proofs.lent.Tie as tie
@@ -55,9 +55,12 @@ same-length-3 c = search needs
 returns : tie.Need-returns
 returns c =
     let w = c .before .before .before .before .before .before in
-    let a = w .before .before .before .before .before .before .before .before .before .before .before .args in
-    lending-from (lentBy (a .keyword) (a .n) (a .bytes .now)) (a .b) (a .heap .now) (a .ids .now) (a .locations .now) (w .before .before .before .before .before .before .least .result) (w .before .before .before .before .before .least2 .result) (w .before .before .before .before .least3 .result) (w .after-lent .result) _ _ _
-    (w .before .before .before .before .before .before .least .ensures .2) (w .before .before .before .before .before .least2 .ensures .2) (w .before .before .before .before .least3 .ensures .2) (w .after-lent .ensures)
+    let locations = w .before .before .before .before in
+    let ids = locations .before in
+    let heap = ids .before in
+    let a = heap .before .before .before .before .before .args in
+    lending (lentBy (a .keyword) (a .n) (a .bytes .now)) (a .b) (a .heap .now) (a .ids .now) (a .locations .now) (heap .least .result) (ids .least2 .result) (locations .least3 .result)
+    (w .after-lent .result) _ _ _ (heap .least .ensures .2) (ids .least2 .ensures .2) (locations .least3 .ensures .2) (w .after-lent .ensures)
 
 pub lent-spec : {M : Type 1} → statement M
 lent-spec =

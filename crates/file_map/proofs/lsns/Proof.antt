@@ -1,26 +1,26 @@
-use Prim.Native.Nat.{ℕ, _≤_, _-_}
-use mathlib.Core.Path.{_≡_, refl, ap, _∙_}
+use Prim.Native.Nat.{ℕ, _-_}
+use mathlib.Core.Path.{_≡_}
 use native.Mathlib.Omega.{arith}
 use borrow.Author.Needs.{needs}
-use lib.ListN.{length, set, length-set, replicate, length-replicate}
-use Rattle.file_map.proofs.lsns.Statement.{statement}
-use mathlib.Core.List.{List}
+use lib.ListN.{length, replicate, length-replicate}
 use Rattle.rules.specs.declared.Record.{Record}
-use Rattle.rules.specs.FileMap.{recordAt}
-use Rattle.file_map.proofs.Turns.{mapped-length, copied, copied-start, copied-next, copied-end}
+use Rattle.file_map.proofs.Turns.{mapped-length, Copying, copying-start, copying-next, copying-end}
+use Rattle.file_map.proofs.lsns.Statement.{statement}
 use Rattle.file_map.proofs.lsns.Tie as tie
 
 abbrev Inv-loop : tie.InvT-loop
-Inv-loop m r₀ i₀ r i = (i ≤ 256) × (length r ≡ 256) × (r ≡ copied (λ (r : Record). r .lsn) (m .records) i r₀)
+Inv-loop m r₀ i₀ r i = Copying (λ (r : Record). r .lsn) (m .records) r₀ i r
 
 abbrev μ-loop : tie.MeasureT-loop
 μ-loop m r₀ i₀ r i = 256 - i
 
+zeros : length (replicate {A = ℕ} 256 0) ≡ 256
+zeros = length-replicate {A = ℕ} 256 0
+
 loop-holds : tie.Need-loop-holds Inv-loop μ-loop
 loop-holds c =
-    let rs = c .args .t1 .records in
-    let l : length rs ≡ 256 = search (mapped-length, needs) in
-    (omega arith, refl, copied-start (λ (r : Record). r .lsn) rs (replicate 256 0))
+    let l : length (c .args .t1 .records) ≡ 256 = search (mapped-length, needs) in
+    copying-start (λ (r : Record). r .lsn) (c .args .t1 .records) (replicate 256 0) l zeros
 
 mul-r : tie.Need-mul-r Inv-loop μ-loop
 mul-r c = search needs
@@ -44,16 +44,13 @@ loop-again : tie.Need-loop-again Inv-loop μ-loop
 loop-again c =
     let rs = c .before .before .args .t1 .records in
     let l : length rs ≡ 256 = search (mapped-length, needs) in
-    let i = c .before .loop .i in
-    let z : length (replicate {A = ℕ} 256 0) ≡ 256 = length-replicate {A = ℕ} 256 0 in
-    (omega arith, simp length-set (omega arith), ap (λ (s : List ℕ). set s i (recordAt rs i .lsn)) (c .before .loop .inv .2) ∙ copied-next (λ (r : Record). r .lsn) rs i (replicate 256 0) (omega arith) (omega arith))
+    copying-next (λ (r : Record). r .lsn) rs (replicate 256 0) l zeros (c .before .loop .i) (c .before .loop .r) (c .before .loop .inv) (omega arith)
 
 returns : tie.Need-returns Inv-loop μ-loop
 returns c =
     let rs = c .before .before .args .t1 .records in
     let l : length rs ≡ 256 = search (mapped-length, needs) in
-    let z : length (replicate {A = ℕ} 256 0) ≡ 256 = length-replicate {A = ℕ} 256 0 in
-    c .before .loop .inv .2 ∙ copied-end (λ (r : Record). r .lsn) rs (c .before .loop .i) (replicate 256 0) (omega arith) (omega arith)
+    copying-end (λ (r : Record). r .lsn) rs (replicate 256 0) l zeros (c .before .loop .i) (c .before .loop .r) (c .before .loop .inv) (omega arith)
 
 pub lsns-spec : {M : Type 1} → statement M
 lsns-spec =

@@ -1,63 +1,108 @@
-use Prim.Native.Nat.{_+_, _-_, _^_}
-use mathlib.Core.Path.{refl, sym, _∙_}
+use Prim.Native.Nat.{_+_, _-_, _^_, _<_}
+use mathlib.Core.Path.{_≡_, refl, sym, _∙_}
+use mathlib.Core.Bool.{false}
 use native.Mathlib.Omega.{arith}
 use borrow.Author.Needs.{needs}
-use Rattle.file_map.proofs.out_of_bounds.Statement.{statement}
 use borrow.Author.Tests.{eq-eqb, ne-eqb, le-leb, lt-leb, lt-ltb, le-ltb}
+use lib.Dec.{eqb, leb, ltb}
+use Rattle.rules.specs.declared.Record.{Record}
 use Rattle.rules.specs.Label.{outOfBounds}
 use Rattle.disk_location.specs.Locations.{maskedOf}
+use Rattle.file_map.proofs.out_of_bounds.Statement.{statement}
 use Rattle.file_map.proofs.out_of_bounds.Tie as tie
 
-sub-if1 : tie.Need-sub-if1
-sub-if1 c = search needs
+-- ---- from each test to the one before it
+abbrev first : tie.Else2 → tie.Else1
+first z = z .before .before
+
+abbrev second : tie.Else3 → tie.Else2
+second z = z .before .before
+
+abbrev third : tie.Else4 → tie.Else3
+third z = z .before .before
+
+abbrev r : tie.Else1 → Record
+r z = z .before .before .before .args .r
+
+-- ---- each test as it was left
+size-held : (z : tie.Else1) → ltb (z .before .before .before .args .slot-bytes - 64) (r z .«file_size») ≡ false
+size-held z = le-ltb (z .before .before .before .args .slot-bytes - 64) (r z .«file_size») (omega (arith, z .before .before .room .ensures, z .if1 .left))
+
+offset-held : (z : tie.Else2) → ltb (r (first z) .«file_size») (r (first z) .«trailer_offset») ≡ false
+offset-held z = le-ltb _ _ (z .if2 .left)
+
+masked-held : (z : tie.Else3) → eqb (maskedOf (r (first (second z)) .lsn)) 0 ≡ false
+masked-held z = ne-eqb _ 0 (λ q. z .if3 .left (z .before .masked .ensures ∙ q))
+
+lsn-held : (z : tie.Else4) → leb (2 ^ 63) (r (first (second (third z))) .lsn) ≡ false
+lsn-held z = lt-leb (2 ^ 63) _ (z .if4 .left)
+
+-- below 2^63 the batch bit was the highest
+low : (z : tie.Else4) → third z .before .masked .result < 2 ^ 62
+unfolding maskedOf
+low z = omega (arith, third z .before .masked .ensures, z .if4 .left)
+
+-- ---- the call
+room-requires : tie.Need-room-requires
+room-requires c κs = search needs
 
 returns : tie.Need-returns
 unfolding outOfBounds
-returns c = rw (lt-ltb (c .before .before .args .slot-bytes - 64) (c .before .before .args .r .«file_size») (c .if1 .taken)) refl
+returns c =
+    let a = c .before .before .before .args in
+    rw (lt-ltb (a .slot-bytes - 64) (a .r .«file_size») (omega (arith, c .before .before .room .ensures, c .if1 .taken))) refl
 
 returns-2 : tie.Need-returns-2
 unfolding outOfBounds
-returns-2 c = rw (le-ltb (c .before .before .before .before .args .slot-bytes - 64) (c .before .before .before .before .args .r .«file_size») (c .before .before .if1 .left), lt-ltb (c .before .before .before .before .args .r .«file_size») (c .before .before .before .before .args .r .«trailer_offset») (c .if2 .taken)) refl
+returns-2 c =
+    let z = c .before .before in
+    rw (size-held z, lt-ltb (r z .«file_size») (r z .«trailer_offset») (c .if2 .taken)) refl
 
 masked-requires : tie.Need-masked-requires
 masked-requires c κs = search needs
 
 returns-3 : tie.Need-returns-3
 unfolding outOfBounds
-returns-3 c = rw (le-ltb (c .before .before .before .before .before .before .args .slot-bytes - 64) (c .before .before .before .before .before .before .args .r .«file_size») (c .before .before .before .before .if1 .left), le-ltb (c .before .before .before .before .before .before .args .r .«file_size») (c .before .before .before .before .before .before .args .r .«trailer_offset») (c .before .before .if2 .left), eq-eqb (maskedOf (c .before .before .before .before .before .before .args .r .lsn)) 0 (sym (c .before .masked .ensures) ∙ c .if3 .taken)) refl
+returns-3 c =
+    let z = c .before .before in
+    rw (size-held (first z), offset-held z, eq-eqb (maskedOf (r (first z) .lsn)) 0 (sym (c .before .masked .ensures) ∙ c .if3 .taken)) refl
 
 returns-4 : tie.Need-returns-4
 unfolding outOfBounds
-returns-4 c = rw (le-ltb (c .before .before .before .before .before .before .before .before .args .slot-bytes - 64) (c .before .before .before .before .before .before .before .before .args .r .«file_size») (c .before .before .before .before .before .before .if1 .left), le-ltb (c .before .before .before .before .before .before .before .before .args .r .«file_size») (c .before .before .before .before .before .before .before .before .args .r .«trailer_offset») (c .before .before .before .before .if2 .left), ne-eqb (maskedOf (c .before .before .before .before .before .before .before .before .args .r .lsn)) 0 (λ q. c .before .before .if3 .left (c .before .before .before .masked .ensures ∙ q)), le-leb (2 ^ 63) (c .before .before .before .before .before .before .before .before .args .r .lsn) (c .if4 .taken)) refl
+returns-4 c =
+    let z = c .before .before in
+    let w = second z in
+    rw (size-held (first w), offset-held w, masked-held z, le-leb (2 ^ 63) (r (first w) .lsn) (c .if4 .taken)) refl
 
-add-if5 : tie.Need-add-if5
-unfolding maskedOf
-add-if5 c =
-    let e = c .before .before .before .before .masked .ensures in
-    omega arith
+sub-if5 : tie.Need-sub-if5
+sub-if5 c = omega (arith, low c)
 
 returns-5 : tie.Need-returns-5
 unfolding outOfBounds
 returns-5 c =
-    let e = c .before .before .before .before .before .masked .ensures in
-    rw (le-ltb (c .before .before .before .before .before .before .before .before .before .before .args .slot-bytes - 64) (c .before .before .before .before .before .before .before .before .before .before .args .r .«file_size») (c .before .before .before .before .before .before .before .before .if1 .left), le-ltb (c .before .before .before .before .before .before .before .before .before .before .args .r .«file_size») (c .before .before .before .before .before .before .before .before .before .before .args .r .«trailer_offset») (c .before .before .before .before .before .before .if2 .left), ne-eqb (maskedOf (c .before .before .before .before .before .before .before .before .before .before .args .r .lsn)) 0 (λ q. c .before .before .before .before .if3 .left (c .before .before .before .before .before .masked .ensures ∙ q)), lt-leb (2 ^ 63) (c .before .before .before .before .before .before .before .before .before .before .args .r .lsn) (c .before .before .if4 .left), le-leb (2 ^ 62) ((maskedOf (c .before .before .before .before .before .before .before .before .before .before .args .r .lsn)) + c .before .before .before .before .before .before .before .before .before .before .args .r .«trailer_offset») (omega arith)) refl
+    let z = c .before .before in
+    let w = second (third z) in
+    let end = le-leb (2 ^ 62) (maskedOf (r (first w) .lsn) + r (first w) .«trailer_offset») (omega (arith, low z, third z .before .masked .ensures, c .if5 .taken)) in
+    rw (size-held (first w), offset-held w, masked-held (third z), lsn-held z, end) refl
 
 returns-6 : tie.Need-returns-6
 unfolding outOfBounds
 returns-6 c =
-    let e = c .before .before .before .before .before .before .masked .ensures in
-    rw (le-ltb (c .before .before .before .before .before .before .before .before .before .before .before .args .slot-bytes - 64) (c .before .before .before .before .before .before .before .before .before .before .before .args .r .«file_size») (c .before .before .before .before .before .before .before .before .before .if1 .left), le-ltb (c .before .before .before .before .before .before .before .before .before .before .before .args .r .«file_size») (c .before .before .before .before .before .before .before .before .before .before .before .args .r .«trailer_offset») (c .before .before .before .before .before .before .before .if2 .left), ne-eqb (maskedOf (c .before .before .before .before .before .before .before .before .before .before .before .args .r .lsn)) 0 (λ q. c .before .before .before .before .before .if3 .left (c .before .before .before .before .before .before .masked .ensures ∙ q)), lt-leb (2 ^ 63) (c .before .before .before .before .before .before .before .before .before .before .before .args .r .lsn) (c .before .before .before .if4 .left), lt-leb (2 ^ 62) ((maskedOf (c .before .before .before .before .before .before .before .before .before .before .before .args .r .lsn)) + c .before .before .before .before .before .before .before .before .before .before .before .args .r .«trailer_offset») (omega arith)) refl
+    let z = c .before .before .before in
+    let w = second (third z) in
+    let end = lt-leb (2 ^ 62) (maskedOf (r (first w) .lsn) + r (first w) .«trailer_offset») (omega (arith, low z, third z .before .masked .ensures, c .before .if5 .left)) in
+    rw (size-held (first w), offset-held w, masked-held (third z), lsn-held z, end) refl
 
 pub out-of-bounds-spec : {M : Type 1} → statement M
 out-of-bounds-spec =
     tie.close
     (tie.spec
-    sub-if1
+    room-requires
     returns
     returns-2
     masked-requires
     returns-3
     returns-4
-    add-if5
+    sub-if5
     returns-5
     returns-6)

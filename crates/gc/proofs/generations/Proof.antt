@@ -3,7 +3,7 @@ use mathlib.Core.Logic.{⊎-elim}
 use Prim.Native.Nat.{_-_}
 use native.Mathlib.Omega.{arith}
 use borrow.Author.Needs.{needs}
-use Rattle.gc.specs.Midway.{Midway, midway-start, midway-skip, midway-step, midway-end}
+use Rattle.gc.proofs.Midway.{Midway, midway-start, midway-skip, midway-step, midway-end}
 use Rattle.gc.proofs.generations.Statement.{statement}
 use Rattle.gc.proofs.generations.Tie as tie
 

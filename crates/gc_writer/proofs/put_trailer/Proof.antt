@@ -1,12 +1,7 @@
-use mathlib.Core.Path.{_≡_, sym, _∙_}
 use Prim.Native.Nat.{_+_, _*_}
 use native.Mathlib.Omega.{arith}
 use borrow.Author.Needs.{needs}
-use lib.ListN.{length}
-use Rattle.rules.specs.Ops.{entriesOf}
-use Rattle.rules.specs.OpsLaws.{entries-of-length}
-use Rattle.trailer.specs.Written.{trailer-made}
-use Rattle.gc_files.specs.Places.{filedOps}
+use Rattle.batch_file.specs.Summing.{trailer-of}
 use Rattle.gc_writer.specs.Elsewhere.{filed-elsewhere}
 use Rattle.gc_writer.specs.Writing.{free-walking, free-elsewhere, free-part, head-elsewhere}
 use Rattle.gc_writer.proofs.put_trailer.Statement.{statement}
@@ -47,9 +42,7 @@ returns c =
     let free = start .pre .0 in
     let away = head-elsewhere (a .at) (12 + 16 * a .count) (s .sum .result) (a .count) (omega arith) (first .put-head .ensures) in
     let same = filed-elsewhere away (a .piece) (a .ids .now) (a .places .now) (a .pieces .now) (free .apart) in
-    let es = entriesOf 0 (filedOps (a .piece) (a .heap .now) (a .ids .now) (a .places .now) (a .pieces .now)) in
-    let count : a .count ≡ length es = start .pre .1 .0 ∙ sym (entries-of-length 0 _) in
-    trailer-made (a .at) es (rw (s .sum .ensures, count) at (first .put-head .ensures)) (rw same at (second .put-entries .ensures))
+    trailer-of (a .at) _ (start .pre .1 .0) (s .sum .ensures) (first .put-head .ensures) (rw same at (second .put-entries .ensures))
 
 pub put-trailer-spec : {M : Type 1} → statement M
 put-trailer-spec =

@@ -2,22 +2,42 @@ use Prim.Native.Nat.{_≤_, _-_}
 use mathlib.Core.Path.{_≡_, refl, sym, _∙_}
 use native.Mathlib.Omega.{arith}
 use borrow.Author.Needs.{needs}
+use borrow.Author.Tests.{not-true, not-false}
 use lib.ListN.{length, drop}
 use Rattle.limits.proofs.bad_files.Statement.{statement}
+use Rattle.rules.specs.BaseLaws.{within-true}
 use Rattle.rules.specs.Condition1.{badFrom}
 use Rattle.location_table.specs.Tables.{table}
 use Rattle.file_map.proofs.Turns.{mapped-length}
+use Rattle.limits.specs.Settled.{badFiles, bad-files}
 use Rattle.limits.proofs.Turns.{bad-here, bad-next, bad-end}
 use Rattle.limits.proofs.bad_files.Tie as tie
 
 abbrev Inv-loop : tie.InvT-loop
-Inv-loop s heap ids locations files i₀ i = (i ≤ 256) × (badFrom s heap (table ids locations) 0 (files .records) ≡ badFrom s heap (table ids locations) i (drop i (files .records)))
+Inv-loop s heap ids locations files i₀ i =
+    (i ≤ 256)
+    × (128 ≤ s .«slot_bytes»)
+    × (s .«slot_bytes» ≤ 1048576)
+    × (badFiles s heap (table ids locations) (files .records) ≡ badFrom s heap (table ids locations) i (drop i (files .records)))
 
 abbrev μ-loop : tie.MeasureT-loop
 μ-loop s heap ids locations files i₀ i = 256 - i
 
+all-records : (start : tie.Start Inv-loop μ-loop) → length (start .args .t5 .records) ≡ 256
+all-records start = search (mapped-length, needs)
+
+within-requires : tie.Need-within-requires Inv-loop μ-loop
+within-requires c κs = search needs
+
+returns : tie.Need-returns Inv-loop μ-loop
+unfolding badFiles
+returns c = rw (sym (c .before .within .ensures) ∙ not-true _ (c .if1 .taken)) refl
+
 loop-holds : tie.Need-loop-holds Inv-loop μ-loop
-loop-holds c = (omega arith, refl)
+loop-holds c =
+    let a = c .before .before .before .before .args in
+    let w = within-true 128 1048576 (a .s .«slot_bytes») (sym (c .before .within .ensures) ∙ not-false _ (c .if1 .left)) in
+    (omega arith, w .0, w .1, bad-files (a .s) (a .heap) (table (a .ids .now) (a .locations .now)) (a .t5 .records) (w .0) (w .1))
 
 mul-bad-record : tie.Need-mul-bad-record Inv-loop μ-loop
 mul-bad-record c = search needs
@@ -28,15 +48,16 @@ element-copy-out-bad-record c = search needs
 bad-record-requires : tie.Need-bad-record-requires Inv-loop μ-loop
 bad-record-requires c κs = search needs
 
-returns : tie.Need-returns Inv-loop μ-loop
-returns c =
-    let s = c .before .before .before .before .before .before .before .args .s in
-    let heap = c .before .before .before .before .before .before .before .args .heap in
-    let b = table (c .before .before .before .before .before .before .before .args .ids .now) (c .before .before .before .before .before .before .before .args .locations .now) in
-    let rs = c .before .before .before .before .before .before .before .args .t5 .records in
-    let l : length rs ≡ 256 = search (mapped-length, needs) in
-    let i = c .before .before .before .before .loop .i in
-    sym (c .before .before .before .before .loop .inv .1 ∙ bad-here s heap b rs i (omega arith) (sym (c .before .bad-record .ensures) ∙ c .if1 .taken))
+returns-2 : tie.Need-returns-2 Inv-loop μ-loop
+returns-2 c =
+    let at-loop = c .before .before .before .before in
+    let start = at-loop .before .before .before .before .before in
+    let a = start .args in
+    let b = table (a .ids .now) (a .locations .now) in
+    let rs = a .t5 .records in
+    let all = all-records start in
+    let i = at-loop .loop .i in
+    sym (at-loop .loop .inv .3 ∙ bad-here (a .s) (a .heap) b rs i (omega arith) (sym (c .before .bad-record .ensures) ∙ c .if2 .taken))
 
 add-i : tie.Need-add-i Inv-loop μ-loop
 add-i c = search needs
@@ -46,23 +67,25 @@ loop-less c = search needs
 
 loop-again : tie.Need-loop-again Inv-loop μ-loop
 loop-again c =
-    let s = c .before .before .before .before .before .before .before .args .s in
-    let heap = c .before .before .before .before .before .before .before .args .heap in
-    let b = table (c .before .before .before .before .before .before .before .args .ids .now) (c .before .before .before .before .before .before .before .args .locations .now) in
-    let rs = c .before .before .before .before .before .before .before .args .t5 .records in
-    let l : length rs ≡ 256 = search (mapped-length, needs) in
-    let i = c .before .before .before .before .loop .i in
-    (omega arith, c .before .before .before .before .loop .inv .1 ∙ bad-next s heap b rs i (omega arith) (sym (c .before .bad-record .ensures) ∙ c .if1 .left))
+    let at-loop = c .before .before .before .before in
+    let start = at-loop .before .before .before .before .before in
+    let a = start .args in
+    let b = table (a .ids .now) (a .locations .now) in
+    let rs = a .t5 .records in
+    let all = all-records start in
+    let i = at-loop .loop .i in
+    let inv = at-loop .loop .inv in
+    (omega arith, inv .1, inv .2, inv .3 ∙ bad-next (a .s) (a .heap) b rs i (omega arith) (sym (c .before .bad-record .ensures) ∙ c .if2 .left))
 
-returns-2 : tie.Need-returns-2 Inv-loop μ-loop
-returns-2 c =
-    let s = c .before .before .before .before .args .s in
-    let heap = c .before .before .before .before .args .heap in
-    let b = table (c .before .before .before .before .args .ids .now) (c .before .before .before .before .args .locations .now) in
-    let rs = c .before .before .before .before .args .t5 .records in
-    let l : length rs ≡ 256 = search (mapped-length, needs) in
-    let i = c .before .loop .i in
-    sym (c .before .loop .inv .1 ∙ bad-end s heap b rs i (omega arith))
+returns-3 : tie.Need-returns-3 Inv-loop μ-loop
+returns-3 c =
+    let at-loop = c .before in
+    let start = at-loop .before .before .before .before .before in
+    let a = start .args in
+    let rs = a .t5 .records in
+    let all = all-records start in
+    let i = at-loop .loop .i in
+    sym (at-loop .loop .inv .3 ∙ bad-end (a .s) (a .heap) (table (a .ids .now) (a .locations .now)) rs i (omega arith))
 
 pub bad-files-spec : {M : Type 1} → statement M
 bad-files-spec =
@@ -70,12 +93,14 @@ bad-files-spec =
     (tie.spec
     Inv-loop
     μ-loop
+    within-requires
+    returns
     loop-holds
     mul-bad-record
     element-copy-out-bad-record
     bad-record-requires
-    returns
+    returns-2
     add-i
     loop-less
     loop-again
-    returns-2)
+    returns-3)

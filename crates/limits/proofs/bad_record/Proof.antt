@@ -1,22 +1,41 @@
 use Prim.Native.Nat.{_/_}
-use mathlib.Core.Path.{refl, sym, _∙_}
+use mathlib.Core.Path.{_≡_, refl, sym, _∙_}
+use mathlib.Core.Bool.{false}
 use borrow.Author.Needs.{needs}
+use lib.Dec.{leb}
 use Rattle.limits.proofs.bad_record.Statement.{statement}
 use borrow.Author.Tests.{le-leb, lt-leb, lt-ltb, le-ltb}
+use Rattle.rules.specs.FileMap.{isEmpty}
+use Rattle.rules.specs.Label.{outOfBounds}
 use Rattle.rules.specs.Condition1.{badRecord}
 use Rattle.limits.proofs.bad_record.Tie as tie
 
+-- ---- each test as it was left
+abbrev begun : tie.Else1 → tie.Start
+begun z = z .before .before .before .before
+
+abbrev first : tie.Else2 → tie.Else1
+first z = z .before .before
+
+abbrev second : tie.Else3 → tie.Else2
+second z = z .before .before
+
+some : (z : tie.Else1) → isEmpty (begun z .args .r) ≡ false
+some z = sym (z .before .is-empty .ensures) ∙ z .if1 .left
+
+below : (z : tie.Else2) → let a = begun (first z) .args in leb (a .heap / a .s .«slot_bytes») (a .slot) ≡ false
+below z = lt-leb _ _ (z .if2 .left)
+
+bounded : (z : tie.Else3) → let a = begun (first (second z)) .args in outOfBounds (a .s .«slot_bytes») (a .r) ≡ false
+bounded z = sym (z .before .out-of-bounds .ensures) ∙ z .if3 .left
+
+-- ---- the call
 is-empty-requires : tie.Need-is-empty-requires
 is-empty-requires c κs = search needs
 
 returns : tie.Need-returns
 unfolding badRecord
-returns c =
-    let s = c .before .before .before .before .args .s in
-    let heap = c .before .before .before .before .args .heap in
-    let r = c .before .before .before .before .args .r in
-    let slot = c .before .before .before .before .args .slot in
-    rw (sym (c .before .is-empty .ensures) ∙ c .if1 .taken) refl
+returns c = rw (sym (c .before .is-empty .ensures) ∙ c .if1 .taken) refl
 
 div-if2 : tie.Need-div-if2
 div-if2 c = search needs
@@ -24,11 +43,9 @@ div-if2 c = search needs
 returns-2 : tie.Need-returns-2
 unfolding badRecord
 returns-2 c =
-    let s = c .before .before .before .before .before .before .args .s in
-    let heap = c .before .before .before .before .before .before .args .heap in
-    let r = c .before .before .before .before .before .before .args .r in
-    let slot = c .before .before .before .before .before .before .args .slot in
-    rw (sym (c .before .before .before .is-empty .ensures) ∙ c .before .before .if1 .left, le-leb (heap / s .«slot_bytes») slot (c .if2 .taken)) refl
+    let z = c .before .before in
+    let a = begun z .args in
+    rw (some z, le-leb (a .heap / a .s .«slot_bytes») (a .slot) (c .if2 .taken)) refl
 
 out-of-bounds-requires : tie.Need-out-of-bounds-requires
 out-of-bounds-requires c κs = search needs
@@ -36,29 +53,24 @@ out-of-bounds-requires c κs = search needs
 returns-3 : tie.Need-returns-3
 unfolding badRecord
 returns-3 c =
-    let s = c .before .before .before .before .before .before .before .before .args .s in
-    let heap = c .before .before .before .before .before .before .before .before .args .heap in
-    let r = c .before .before .before .before .before .before .before .before .args .r in
-    let slot = c .before .before .before .before .before .before .before .before .args .slot in
-    rw (sym (c .before .before .before .before .before .is-empty .ensures) ∙ c .before .before .before .before .if1 .left, lt-leb (heap / s .«slot_bytes») slot (c .before .before .if2 .left), sym (c .before .out-of-bounds .ensures) ∙ c .if3 .taken) refl
+    let z = c .before .before in
+    rw (some (first z), below z, sym (c .before .out-of-bounds .ensures) ∙ c .if3 .taken) refl
 
 returns-4 : tie.Need-returns-4
 unfolding badRecord
 returns-4 c =
-    let s = c .before .before .before .before .before .before .before .before .before .before .args .s in
-    let heap = c .before .before .before .before .before .before .before .before .before .before .args .heap in
-    let r = c .before .before .before .before .before .before .before .before .before .before .args .r in
-    let slot = c .before .before .before .before .before .before .before .before .before .before .args .slot in
-    rw (sym (c .before .before .before .before .before .before .before .is-empty .ensures) ∙ c .before .before .before .before .before .before .if1 .left, lt-leb (heap / s .«slot_bytes») slot (c .before .before .before .before .if2 .left), sym (c .before .before .before .out-of-bounds .ensures) ∙ c .before .before .if3 .left, lt-ltb (r .«file_size») (r .«present_objects») (c .if4 .taken)) refl
+    let z = c .before .before in
+    let w = second z in
+    let r = begun (first w) .args .r in
+    rw (some (first w), below w, bounded z, lt-ltb (r .«file_size») (r .«present_objects») (c .if4 .taken)) refl
 
 returns-5 : tie.Need-returns-5
 unfolding badRecord
 returns-5 c =
-    let s = c .before .before .before .before .before .before .before .before .before .before .before .args .s in
-    let heap = c .before .before .before .before .before .before .before .before .before .before .before .args .heap in
-    let r = c .before .before .before .before .before .before .before .before .before .before .before .args .r in
-    let slot = c .before .before .before .before .before .before .before .before .before .before .before .args .slot in
-    rw (sym (c .before .before .before .before .before .before .before .before .is-empty .ensures) ∙ c .before .before .before .before .before .before .before .if1 .left, lt-leb (heap / s .«slot_bytes») slot (c .before .before .before .before .before .if2 .left), sym (c .before .before .before .before .out-of-bounds .ensures) ∙ c .before .before .before .if3 .left, le-ltb (r .«file_size») (r .«present_objects») (c .before .if4 .left)) refl
+    let z = c .before .before .before in
+    let w = second z in
+    let r = begun (first w) .args .r in
+    rw (some (first w), below w, bounded z, le-ltb (r .«file_size») (r .«present_objects») (c .before .if4 .left)) refl
 
 pub bad-record-spec : {M : Type 1} → statement M
 bad-record-spec =

@@ -5,6 +5,9 @@ use Rattle.location_table.specs.Tables.{table}
 use Rattle.limits.proofs.refused.Statement.{statement}
 use Rattle.limits.proofs.refused.Tie as tie
 
+bad-files-requires : tie.Need-bad-files-requires
+bad-files-requires c κs = search needs
+
 rest-of-requires : tie.Need-rest-of-requires
 rest-of-requires c κs = search needs
 
@@ -13,8 +16,9 @@ refused-apart-requires c κs = search needs
 
 returns : tie.Need-returns
 returns c =
-    let a = c .before .before .before .before .before .args in
-    c .refused-apart .ensures ∙ ap (conditionOne (a .s) (a .heap) (table (a .ids .now) (a .locations .now))) (c .before .rest-of .ensures)
+    let f = c .before .before in
+    let a = f .before .before .before .before .args in
+    c .refused-apart .ensures .0 (a .state .files) (f .bad-files .ensures) ∙ ap (conditionOne (a .s) (a .heap) (table (a .ids .now) (a .locations .now))) (c .before .rest-of .ensures)
 
 pub refused-spec : {M : Type 1} → statement M
-refused-spec = tie.close (tie.spec rest-of-requires refused-apart-requires returns)
+refused-spec = tie.close (tie.spec bad-files-requires rest-of-requires refused-apart-requires returns)

@@ -1,20 +1,54 @@
-use mathlib.Core.Path.{refl, sym, ap, _∙_}
-use mathlib.Core.Bool.{not}
+use mathlib.Core.Path.{_≡_, refl, sym, ap, _∙_}
+use mathlib.Core.Bool.{true, false, not, true≢false}
 use borrow.Author.Needs.{needs}
 use borrow.Author.Tests.{not-true, not-false, eq-eqb, ne-eqb}
-use Rattle.rules.specs.Condition1.{conditionOne}
-use Rattle.rules.specs.Condition1Laws.{in-limits}
+use Rattle.rules.specs.declared.FileMap.{FileMap}
+use Rattle.rules.specs.Layout.{Buffers, inForm}
+use Rattle.rules.specs.Condition1.{conditionOne, outOfRange, notTheStates}
+use Rattle.rules.specs.Condition1Laws.{InLimits, in-limits}
 use Rattle.location_table.specs.Tables.{table}
-use Rattle.limits.specs.Settled.{the-states}
+use Rattle.limits.specs.Settled.{stateOf, the-states, bad-files}
 use Rattle.limits.proofs.refused_apart.Statement.{statement}
 use Rattle.limits.proofs.refused_apart.Tie as tie
 
+-- ---- each test as it was left
+abbrev begun : tie.Else1 → tie.Start
+begun z = z .before .before .before .before
+
+abbrev buffers : tie.Else1 → Buffers
+buffers z = table (begun z .args .ids .now) (begun z .args .locations .now)
+
+abbrev first : tie.Else2 → tie.Else1
+first z = z .before .before
+
+abbrev second : tie.Else3 → tie.Else2
+second z = z .before .before
+
+in-range : (z : tie.Else1) → outOfRange (begun z .args .s) (begun z .args .heap) (buffers z) ≡ false
+in-range z = sym (z .before .out-of-range .ensures) ∙ z .if1 .left
+
+limited : (z : tie.Else1) → InLimits (begun z .args .s) (begun z .args .heap) (buffers z)
+limited z = in-limits (begun z .args .s) (begun z .args .heap) (buffers z) (in-range z)
+
+settled : (z : tie.Else2) (files : FileMap) → let a = begun (first z) .args in notTheStates (a .s) (a .heap) (buffers (first z)) (stateOf (a .rest) files) ≡ false
+settled z files =
+    let a = begun (first z) .args in
+    the-states (a .s) (a .heap) (buffers (first z)) (a .rest) files ∙ ap not (sym (z .before .the-states .ensures) ∙ not-false _ (z .if2 .left))
+
+formed : (z : tie.Else3) → inForm (buffers (first (second z))) ≡ true
+formed z = sym (z .before .in-form .ensures) ∙ not-false _ (z .if3 .left)
+
+-- a call that is refused owes no limits
+refused : {A : Type 0} → true ≡ false → A
+refused e = absurd (true≢false e)
+
+-- ---- the call
 out-of-range-requires : tie.Need-out-of-range-requires
 out-of-range-requires c κs = search needs
 
 returns : tie.Need-returns
 unfolding conditionOne
-returns c = rw (sym (c .before .out-of-range .ensures) ∙ c .if1 .taken) refl
+returns c = (λ files bad. rw (sym (c .before .out-of-range .ensures) ∙ c .if1 .taken) refl, refused)
 
 the-states-requires : tie.Need-the-states-requires
 the-states-requires c κs = search needs
@@ -22,68 +56,37 @@ the-states-requires c κs = search needs
 returns-2 : tie.Need-returns-2
 unfolding conditionOne
 returns-2 c =
-    let z1 = c .before .before in
-    let a = z1 .before .before .before .before .args in
-    let b = table (a .ids .now) (a .locations .now) in
-    rw (
-      sym (z1 .before .out-of-range .ensures) ∙ z1 .if1 .left,
-      the-states (a .s) (a .heap) b (a .rest) (a .files) ∙ ap not (sym (c .before .the-states .ensures) ∙ not-true _ (c .if2 .taken)),
-    ) refl
+    let z = c .before .before in
+    let a = begun z .args in
+    let other = sym (c .before .the-states .ensures) ∙ not-true _ (c .if2 .taken) in
+    (λ files bad. rw (in-range z, the-states (a .s) (a .heap) (buffers z) (a .rest) files ∙ ap not other) refl, refused)
 
 in-form-requires : tie.Need-in-form-requires
-in-form-requires c κs =
-    let z1 = c .before .before in
-    let a = z1 .before .before .before .before .args in
-    in-limits (a .s) (a .heap) (table (a .ids .now) (a .locations .now)) (sym (z1 .before .out-of-range .ensures) ∙ z1 .if1 .left) .table .equal
+in-form-requires c κs = limited (first c) .table .equal
 
 returns-3 : tie.Need-returns-3
 unfolding conditionOne
 returns-3 c =
-    let z2 = c .before .before in
-    let z1 = z2 .before .before in
-    let a = z1 .before .before .before .before .args in
-    let b = table (a .ids .now) (a .locations .now) in
-    rw (
-      sym (z1 .before .out-of-range .ensures) ∙ z1 .if1 .left,
-      the-states (a .s) (a .heap) b (a .rest) (a .files) ∙ ap not (sym (z2 .before .the-states .ensures) ∙ not-false _ (z2 .if2 .left)),
-      sym (c .before .in-form .ensures) ∙ not-true _ (c .if3 .taken),
-    ) refl
+    let z = c .before .before in
+    (λ files bad. rw (in-range (first z), settled z files, sym (c .before .in-form .ensures) ∙ not-true _ (c .if3 .taken)) refl, refused)
 
 returns-4 : tie.Need-returns-4
 unfolding conditionOne
 returns-4 c =
-    let z3 = c .before .before in
-    let z2 = z3 .before .before in
-    let z1 = z2 .before .before in
-    let a = z1 .before .before .before .before .args in
-    let b = table (a .ids .now) (a .locations .now) in
-    rw (
-      sym (z1 .before .out-of-range .ensures) ∙ z1 .if1 .left,
-      the-states (a .s) (a .heap) b (a .rest) (a .files) ∙ ap not (sym (z2 .before .the-states .ensures) ∙ not-false _ (z2 .if2 .left)),
-      sym (z3 .before .in-form .ensures) ∙ not-false _ (z3 .if3 .left),
-      eq-eqb (a .rest .«next_position») 0 (c .if4 .taken),
-    ) refl
-
-bad-files-requires : tie.Need-bad-files-requires
-bad-files-requires c κs =
-    let z1 = c .before .before .before .before .before .before in
-    let a = z1 .before .before .before .before .args in
-    in-limits (a .s) (a .heap) (table (a .ids .now) (a .locations .now)) (sym (z1 .before .out-of-range .ensures) ∙ z1 .if1 .left) .settings
+    let z = c .before .before in
+    let w = second z in
+    let none = eq-eqb (begun (first w) .args .rest .«next_position») 0 (c .if4 .taken) in
+    (λ files bad. rw (in-range (first w), settled w files, formed z, none) refl, refused)
 
 returns-5 : tie.Need-returns-5
 unfolding conditionOne
 returns-5 c =
-    let z3 = c .before .before .before in
-    let z2 = z3 .before .before in
-    let z1 = z2 .before .before in
-    let a = z1 .before .before .before .before .args in
-    let b = table (a .ids .now) (a .locations .now) in
-    rw (
-      sym (z1 .before .out-of-range .ensures) ∙ z1 .if1 .left,
-      the-states (a .s) (a .heap) b (a .rest) (a .files) ∙ ap not (sym (z2 .before .the-states .ensures) ∙ not-false _ (z2 .if2 .left)),
-      sym (z3 .before .in-form .ensures) ∙ not-false _ (z3 .if3 .left),
-      ne-eqb (a .rest .«next_position») 0 (c .before .if4 .left),
-    ) (c .bad-files .ensures)
+    let z = c .before .before in
+    let w = second z in
+    let a = begun (first w) .args in
+    let size = limited (first w) .settings in
+    let some = ne-eqb (a .rest .«next_position») 0 (c .if4 .left) in
+    (λ files bad. rw (in-range (first w), settled w files, formed z, some) (bad ∙ bad-files (a .s) (a .heap) (buffers (first w)) (files .records) (size .slot-low) (size .slot-high)), λ _. limited (first w))
 
 pub refused-apart-spec : {M : Type 1} → statement M
 refused-apart-spec =
@@ -96,5 +99,4 @@ refused-apart-spec =
     in-form-requires
     returns-3
     returns-4
-    bad-files-requires
     returns-5)

@@ -1,20 +1,29 @@
-use mathlib.Core.Path.{_≡_, sym, ap, _∙_}
-use mathlib.Core.List.{[]}
+use mathlib.Core.Path.{_≡_, sym, ap, ap₂, _∙_}
 use borrow.Author.Needs.{needs}
+use borrow.Author.Tests.{not-true}
 use lib.ListN.{length}
+use Rattle.rules.specs.declared.Answer.{Answer}
 use Rattle.rules.specs.Condition1.{conditionOne}
 use Rattle.rules.specs.Condition1Laws.{passed}
-use Rattle.rules.specs.World.{world, accepted, leaving}
+use Rattle.rules.specs.World.{World, world, leaving, answerGiven}
 use Rattle.location_table.specs.Tables.{table}
-use Rattle.file_map.proofs.Turns.{mapped-length}
 use Rattle.prune.specs.Labels.{passed-labels}
-use Rattle.prune.specs.CallLaws.{pruned-parts, prune-refused, prune-accepted}
-use Rattle.prune.proofs.Turns.{all-made}
+use Rattle.prune.specs.CallLaws.{prune-decided}
 use Rattle.prune.proofs.prune.Statement.{statement}
 use Rattle.prune.proofs.prune.Tie as tie
 
-all-records : (start : tie.Start) → length (start .args .state .files .records) ≡ 256
-all-records start = search (mapped-length, needs)
+-- ---- what 1 says
+abbrev begun : tie.After-refused-apart → tie.Start
+begun p = p .before .before .before .before .before .before .before
+
+one : (p : tie.After-refused-apart) → let a = begun p .args in p .refused-apart .result ≡ conditionOne (a .settings) (length (a .heap .now)) (table (a .ids .now) (a .locations .now)) (a .state)
+one p =
+    let a = begun p .args in
+    p .refused-apart .ensures .0 (a .state .files) (p .before .before .bad-files .ensures) ∙ ap (conditionOne (a .settings) (length (a .heap .now)) (table (a .ids .now) (a .locations .now))) (p .before .rest-of .ensures)
+
+-- ---- the call
+bad-files-requires : tie.Need-bad-files-requires
+bad-files-requires c κs = search needs
 
 rest-of-requires : tie.Need-rest-of-requires
 rest-of-requires c κs = search needs
@@ -22,37 +31,29 @@ rest-of-requires c κs = search needs
 refused-apart-requires : tie.Need-refused-apart-requires
 refused-apart-requires c κs = search needs
 
-returns : tie.Need-returns
-returns c =
+pruned-requires : tie.Need-pruned-requires
+pruned-requires c κs =
     let p = c .before in
-    let a = p .before .before .before .before .before .before .args in
-    let one = ap (conditionOne (a .settings) (length (a .heap .now)) (table (a .ids .now) (a .locations .now))) (p .before .rest-of .ensures) in
-    prune-refused (world (a .settings) (a .state) (a .claims) (a .heap .now) (a .ids .now) (a .locations .now)) (sym (p .refused-apart .ensures ∙ one) ∙ c .if1 .taken)
-
-prune-stores-requires : tie.Need-prune-stores-requires
-prune-stores-requires c κs =
-    let z = c .before in
-    let p = z .before in
-    let a = p .before .before .before .before .before .before .args in
+    let a = begun p .args in
     let n = length (a .heap .now) in
     let b = table (a .ids .now) (a .locations .now) in
-    let one = ap (conditionOne (a .settings) n b) (p .before .rest-of .ensures) in
-    passed-labels (a .settings) n b (a .state) (passed (a .settings) n b (a .state) (sym (p .refused-apart .ensures ∙ one) ∙ z .if1 .left))
+    λ e. passed-labels (a .settings) n b (a .state) (passed (a .settings) n b (a .state) (sym (one p) ∙ not-true _ e))
+
+answer-requires : tie.Need-answer-requires
+answer-requires c κs = search needs
 
 same-length : tie.Need-same-length
 same-length c = search needs
 
-returns-2 : tie.Need-returns-2
-returns-2 c =
-    let w = c .before .before in
-    let z = w .before .before in
-    let p = z .before in
-    let start = p .before .before .before .before .before .before in
-    let a = start .args in
-    let one = ap (conditionOne (a .settings) (length (a .heap .now)) (table (a .ids .now) (a .locations .now))) (p .before .rest-of .ensures) in
-    ap (leaving (accepted [])) (pruned-parts (a .settings) (a .state) (a .claims) (a .heap .now) (a .ids .now) (a .locations .now) _ _ (w .prune-stores .ensures .0) (w .prune-stores .ensures .1 ∙ all-made (a .settings .«slot_bytes») (a .claims) (a .state .files .records) (a .heap .now) (all-records start)))
-    ∙ prune-accepted (world (a .settings) (a .state) (a .claims) (a .heap .now) (a .ids .now) (a .locations .now)) (sym (p .refused-apart .ensures ∙ one) ∙ z .if1 .left)
+returns : tie.Need-returns
+returns c =
+    let q = c .before .before .before in
+    let p = q .before .before in
+    let a = begun p .args in
+    ap₂ (λ (x : Answer) (w : World). leaving (answerGiven x) w) (c .answer .ensures) (q .pruned .ensures (a .ids .now) (a .locations .now))
+    ∙ prune-decided (world (a .settings) (a .state) (a .claims) (a .heap .now) (a .ids .now) (a .locations .now)) (p .refused-apart .result) (one p)
 
 pub prune-spec : {M : Type 1} → statement M
 prune-spec =
-    tie.close (tie.spec rest-of-requires refused-apart-requires returns prune-stores-requires same-length returns-2)
+    tie.close
+    (tie.spec bad-files-requires rest-of-requires refused-apart-requires pruned-requires answer-requires same-length returns)

@@ -1,4 +1,4 @@
-use mathlib.Core.Path.{sym, ap, _∙_}
+use mathlib.Core.Path.{_≡_, sym, ap, _∙_}
 use mathlib.Core.List.{List}
 use Prim.Native.Nat.{ℕ, _+_, _*_}
 use borrow.Author.Needs.{needs}
@@ -10,6 +10,20 @@ use Rattle.readpath.specs.Reads.{inHeap}
 use Rattle.readpath.specs.ReadLaws.{file-length, body-in}
 use Rattle.readpath.proofs.object_at.Statement.{statement}
 use Rattle.readpath.proofs.object_at.Tie as tie
+
+abbrev begun : tie.After-read → tie.Start
+begun w = w .before .before .before
+
+abbrev file : tie.After-read → List ℕ
+file w =
+    let a = begun w .args in
+    fileIn (a .r) (slotBytes (a .slot-bytes) (a .heap .now) (a .slot))
+
+-- what was read is the file's
+told : (w : tie.After-read) → let a = begun w .args in bodyOf (a .id) (storedAt (a .position) (drop (a .position) (file w))) ≡ w .read .result
+told w =
+    let a = begun w .args in
+    sym (ap (λ (f : List ℕ). bodyOf (a .id) (storedAt (a .position) (drop (a .position) f))) (w .before .file-part .ensures)) ∙ sym (w .read .ensures)
 
 file-part-requires : tie.Need-file-part-requires
 file-part-requires c κs = search needs
@@ -30,16 +44,13 @@ add-t15 : tie.Need-add-t15
 add-t15 c =
     let x = c .before in
     let w = x .before .before in
-    let v = w .before in
-    let start = v .before .before in
-    let a = start .args in
-    let file = fileIn (a .r) (slotBytes (a .slot-bytes) (a .heap .now) (a .slot)) in
-    let told = sym (ap (λ (f : List ℕ). bodyOf (a .id) (storedAt (a .position) (drop (a .position) f))) (v .file-part .ensures)) ∙ sym (w .read .ensures) ∙ x .start .given .1 in
-    let b = body-in (a .id) (a .position) file _ _ told in
+    let a = begun w .args in
+    let lies = begun w .pre in
+    let b = body-in (a .id) (a .position) (file w) _ _ (told w ∙ x .start .given .1) in
     let low = b .body in
-    let fit = start .pre .file in
-    let slot = start .pre .slot in
-    let all = file-length (a .slot-bytes) (a .r) (a .slot) (a .heap .now) (start .pre) in
+    let fit = lies .file in
+    let slot = lies .slot in
+    let all = file-length (a .slot-bytes) (a .r) (a .slot) (a .heap .now) lies in
     search needs
 
 enum-known-refusal : tie.Need-enum-known-refusal
@@ -47,25 +58,15 @@ enum-known-refusal c = search needs
 
 returns : tie.Need-returns
 returns c =
-    let x = c .before in
-    let w = x .before .before in
-    let v = w .before in
-    let start = v .before .before in
-    let a = start .args in
-    let file = fileIn (a .r) (slotBytes (a .slot-bytes) (a .heap .now) (a .slot)) in
-    let told = sym (ap (λ (f : List ℕ). bodyOf (a .id) (storedAt (a .position) (drop (a .position) f))) (v .file-part .ensures)) ∙ sym (w .read .ensures) ∙ x .start .given .1 in
-    ap (inHeap (a .slot * a .slot-bytes + 64)) (sym told)
+    let w = c .before .before .before in
+    let a = begun w .args in
+    ap (inHeap (a .slot * a .slot-bytes + 64)) (sym (told w ∙ c .before .start .given .1))
 
 returns-2 : tie.Need-returns-2
 returns-2 c =
-    let x = c .before in
-    let w = x .before .before in
-    let v = w .before in
-    let start = v .before .before in
-    let a = start .args in
-    let file = fileIn (a .r) (slotBytes (a .slot-bytes) (a .heap .now) (a .slot)) in
-    let told = sym (ap (λ (f : List ℕ). bodyOf (a .id) (storedAt (a .position) (drop (a .position) f))) (v .file-part .ensures)) ∙ sym (w .read .ensures) ∙ x .refusal .given .1 in
-    ap (inHeap (a .slot * a .slot-bytes + 64)) (sym told)
+    let w = c .before .before .before in
+    let a = begun w .args in
+    ap (inHeap (a .slot * a .slot-bytes + 64)) (sym (told w ∙ c .before .refusal .given .1))
 
 pub object-at-spec : {M : Type 1} → statement M
 object-at-spec =

@@ -1,21 +1,26 @@
 use mathlib.Core.Path.{_≡_, sym, ap, _∙_}
-use mathlib.Core.Bool.{Bool, false}
+use mathlib.Core.Bool.{Bool}
+use mathlib.Core.List.{List}
 use Prim.Native.Nat.{ℕ, _+_, _-_, _*_}
 use native.Mathlib.Omega.{arith}
 use borrow.Author.Needs.{needs}
 use lib.ListN.{length, drop}
 use Rattle.numbers.specs.Choice.{pick}
 use Rattle.disk_location.specs.Locations.{positionOf}
+use Rattle.rules.specs.declared.Claims.{Claims}
+use Rattle.rules.specs.declared.ReadAnswer.{ReadAnswer}
 use Rattle.rules.specs.declared.ReadAnswer.the-variants.{Nothing}
 use Rattle.rules.specs.Condition1.{conditionOne}
 use Rattle.rules.specs.Condition1Laws.{Passed, passed}
 use Rattle.rules.specs.FileMap.{recordAt, fileFor}
 use Rattle.rules.specs.FileMapLaws.{IsFile, file-at, not-empty}
 use Rattle.rules.specs.Object.{storedAt}
-use Rattle.rules.specs.Read.{objectIn, readFile, readHeld}
+use Rattle.rules.specs.Read.{objectIn, readFile, readHeld, readOf}
 use Rattle.rules.specs.SlotFile.{slotBytes, fileIn}
-use Rattle.rules.specs.World.{world, recordsOf}
+use Rattle.rules.specs.World.{World, world, recordsOf}
 use Rattle.location_table.specs.Tables.{table}
+use Rattle.file_map.specs.Lists.{lsnAt}
+use Rattle.file_map.specs.ListLaws.{file-for-lsns}
 use Rattle.limits.specs.Settled.{passed-formed}
 use Rattle.slot_file.specs.Objects.{bodyOf}
 use Rattle.readpath.specs.Reads.{Lies, inHeap}
@@ -24,40 +29,96 @@ use Rattle.readpath.proofs.read_answer.Statement.{statement}
 use Rattle.readpath.proofs.read_answer.Tie as tie
 
 -- ---- what is known where 1 does not refuse
-abbrev begun : tie.Else1 → tie.Start
-begun z = z .before .before .before .before .before .before .before
+abbrev begun : tie.After-refused-apart → tie.Start
+begun p = p .before .before .before .before .before .before .before .before
 
-clear : (z : tie.Else1) → let a = begun z .args in conditionOne (a .settings) (length (a .heap .now)) (table (a .ids .now) (a .locations .now)) (a .state) ≡ false
-clear z =
-    let a = begun z .args in
-    let one = ap (conditionOne (a .settings) (length (a .heap .now)) (table (a .ids .now) (a .locations .now))) (z .before .before .rest-of .ensures) in
-    sym (z .before .refused-apart .ensures ∙ one) ∙ z .if1 .left
+asked : (p : tie.After-refused-apart) → let a = begun p .args in
+    conditionOne (a .settings) (length (a .heap .now)) (table (a .ids .now) (a .locations .now)) (a .state) ≡ p .refused-apart .result
+asked p =
+    let a = begun p .args in
+    let told = p .refused-apart .ensures .0 (a .state .files) (p .before .before .bad-files .ensures) in
+    sym (told ∙ ap (conditionOne (a .settings) (length (a .heap .now)) (table (a .ids .now) (a .locations .now))) (p .before .rest-of .ensures))
 
-through : (z : tie.Else1) → let a = begun z .args in Passed (a .settings) (length (a .heap .now)) (table (a .ids .now) (a .locations .now)) (a .state)
+through : (z : tie.Else1) → let a = begun (z .before) .args in Passed (a .settings) (length (a .heap .now)) (table (a .ids .now) (a .locations .now)) (a .state)
 through z =
-    let a = begun z .args in
-    passed (a .settings) (length (a .heap .now)) (table (a .ids .now) (a .locations .now)) (a .state) (clear z)
+    let a = begun (z .before) .args in
+    passed (a .settings) (length (a .heap .now)) (table (a .ids .now) (a .locations .now)) (a .state) (asked (z .before) ∙ z .if1 .left)
+
+-- ---- the answer, step by step
+abbrev given : tie.After-refused-apart → Claims → World
+given p claims =
+    let a = begun p .args in
+    world (a .settings) (a .state) claims (a .heap .now) (a .ids .now) (a .locations .now)
+
+abbrev sought : tie.After-location → tie.After-refused-apart
+sought x = x .before .before .before .before
+
+-- what the table holds decides
+loaded : (li : tie.After-load-in) (claims : Claims) → let p = li .before .before in
+    readOf (given p claims) (begun p .args .id) ≡ readHeld (given p claims) (begun p .args .id) (li .load-in .result)
+loaded li claims =
+    let p = li .before .before in
+    let w = given p claims in
+    let id = begun p .args .id in
+    read-held w id (asked p ∙ li .before .if1 .left) ∙ ap (readHeld w id) (sym (li .load-in .ensures))
+
+-- then a delete's mark
+abbrev unless : tie.After-location → Claims → Bool → ReadAnswer
+unless x claims delete =
+    let w = given (sought x) claims in
+    let l = x .location .given .0 .0 in
+    pick delete Nothing (readFile w (begun (sought x) .args .id) l (fileFor (recordsOf w) l))
+
+located : (d : tie.After-is-delete) (claims : Claims) → let x = d .before .before in
+    readOf (given (sought x) claims) (begun (sought x) .args .id) ≡ unless x claims (d .is-delete .result)
+located d claims =
+    let x = d .before .before in
+    loaded (x .before .before) claims
+    ∙ ap (readHeld (given (sought x) claims) (begun (sought x) .args .id)) (x .location .given .1)
+    ∙ ap (unless x claims) (sym (d .is-delete .ensures))
+
+-- then the file
+abbrev met : tie.After-lsn-at → tie.After-location
+met f = f .before .before .before .before .before
+
+placed : (f : tie.After-lsn-at) → f .lsn-at .result ≡ fileFor (begun (sought (met f)) .args .state .files .records) (met f .location .given .0 .0)
+placed f =
+    let p = sought (met f) in
+    let l = met f .location .given .0 .0 in
+    f .lsn-at .ensures ∙ ap (λ (ns : List ℕ). lsnAt ns l) (p .before .before .before .lsns .ensures) ∙ sym (file-for-lsns (begun p .args .state .files .records) l)
+
+filed : (f : tie.After-lsn-at) (claims : Claims) → let x = met f in
+    let w = given (sought x) claims in
+    readOf w (begun (sought x) .args .id) ≡ readFile w (begun (sought x) .args .id) (x .location .given .0 .0) (f .lsn-at .result)
+filed f claims =
+    let x = met f in
+    located (f .before .before .before) claims
+    ∙ ap (unless x claims) (f .before .before .if2 .left)
+    ∙ ap (readFile (given (sought x) claims) (begun (sought x) .args .id) (x .location .given .0 .0)) (sym (placed f))
 
 -- ---- and where a file is found
-abbrev within : tie.After-slot → tie.Else1
-within x = x .before .before .before .before .before .before .before .before .before
+abbrev at : tie.After-slot → tie.After-location
+at s = met (s .before .before)
 
-abbrev sought : tie.After-slot → ℕ
-sought x = x .before .before .before .before .before .before .location .given .0 .0
+found : (s : tie.After-slot) → IsFile (begun (sought (at s)) .args .state .files .records) (at s .location .given .0 .0) (s .slot .given .0 .0)
+found s =
+    file-at (begun (sought (at s)) .args .state .files .records) (at s .location .given .0 .0) (s .slot .given .0 .0) (sym (placed (s .before .before)) ∙ s .slot .given .1)
 
-found : (x : tie.After-slot) → IsFile (begun (within x) .args .state .files .records) (sought x) (x .slot .given .0 .0)
-found x =
-    file-at (begun (within x) .args .state .files .records) (sought x) (x .slot .given .0 .0) (sym (x .before .before .file-for .ensures) ∙ x .slot .given .1)
-
-lies : (x : tie.After-slot)
-    → let a = begun (within x) .args in
-    Lies (a .settings .«slot_bytes») (recordAt (a .state .files .records) (x .slot .given .0 .0)) (x .slot .given .0 .0) (length (a .heap .now))
-lies x =
-    let a = begun (within x) .args in
-    let k = x .slot .given .0 .0 in
-    passed-lie (a .settings) (length (a .heap .now)) (table (a .ids .now) (a .locations .now)) (a .state) (through (within x)) k (not-empty (recordAt (a .state .files .records) k) (found x .used))
+lies : (s : tie.After-slot)
+    → let a = begun (sought (at s)) .args in
+    Lies (a .settings .«slot_bytes») (recordAt (a .state .files .records) (s .slot .given .0 .0)) (s .slot .given .0 .0) (length (a .heap .now))
+lies s =
+    let a = begun (sought (at s)) .args in
+    let k = s .slot .given .0 .0 in
+    passed-lie (a .settings) (length (a .heap .now)) (table (a .ids .now) (a .locations .now)) (a .state) (through (at s .before .before .before)) k (not-empty (recordAt (a .state .files .records) k) (found s .used))
 
 -- ---- the call
+lsns-requires : tie.Need-lsns-requires
+lsns-requires c κs = search needs
+
+bad-files-requires : tie.Need-bad-files-requires
+bad-files-requires c κs = search needs
+
 rest-of-requires : tie.Need-rest-of-requires
 rest-of-requires c κs = search needs
 
@@ -65,15 +126,11 @@ refused-apart-requires : tie.Need-refused-apart-requires
 refused-apart-requires c κs = search needs
 
 returns : tie.Need-returns
-returns c =
-    let p = c .before in
-    let a = p .before .before .before .before .before .before .args in
-    let one = ap (conditionOne (a .settings) (length (a .heap .now)) (table (a .ids .now) (a .locations .now))) (p .before .rest-of .ensures) in
-    λ claims. sym (read-refused (world (a .settings) (a .state) claims (a .heap .now) (a .ids .now) (a .locations .now)) (a .id) (sym (p .refused-apart .ensures ∙ one) ∙ c .if1 .taken))
+returns c = λ claims. sym (read-refused (given (c .before) claims) (begun (c .before) .args .id) (asked (c .before) ∙ c .if1 .taken))
 
 load-in-requires : tie.Need-load-in-requires
 load-in-requires c κs =
-    let a = begun c .args in
+    let a = begun (c .before) .args in
     passed-formed (a .settings) (length (a .heap .now)) (table (a .ids .now) (a .locations .now)) (a .state) (through c)
 
 enum-known-location : tie.Need-enum-known-location
@@ -85,31 +142,20 @@ enum-told c = search needs
 returns-2 : tie.Need-returns-2
 returns-2 c =
     let li = c .before .before in
-    let z = li .before in
-    let a = begun z .args in
-    λ claims.
-    let w = world (a .settings) (a .state) claims (a .heap .now) (a .ids .now) (a .locations .now) in
-    sym (read-held w (a .id) (clear z) ∙ ap (readHeld w (a .id)) (sym (li .load-in .ensures) ∙ c .enum-told .given .1))
+    let p = li .before .before in
+    λ claims. sym (loaded li claims ∙ ap (readHeld (given p claims) (begun p .args .id)) (c .enum-told .given .1))
 
 is-delete-requires : tie.Need-is-delete-requires
 is-delete-requires c κs = search needs
 
 returns-3 : tie.Need-returns-3
-returns-3 c =
-    let x = c .before .before .before in
-    let li = x .before .before in
-    let z = li .before in
-    let a = begun z .args in
-    let l = x .location .given .0 .0 in
-    λ claims.
-    let w = world (a .settings) (a .state) claims (a .heap .now) (a .ids .now) (a .locations .now) in
-    sym
-    (read-held w (a .id) (clear z)
-    ∙ ap (readHeld w (a .id)) (sym (li .load-in .ensures) ∙ x .location .given .1)
-    ∙ ap (λ (t : Bool). pick t Nothing (readFile w (a .id) l (fileFor (recordsOf w) l))) (sym (c .before .is-delete .ensures) ∙ c .if2 .taken))
+returns-3 c = λ claims. sym (located (c .before) claims ∙ ap (unless (c .before .before .before) claims) (c .if2 .taken))
 
-file-for-requires : tie.Need-file-for-requires
-file-for-requires c κs = search needs
+slice-aggregate-lsn-at : tie.Need-slice-aggregate-lsn-at
+slice-aggregate-lsn-at c = search needs
+
+lsn-at-requires : tie.Need-lsn-at-requires
+lsn-at-requires c κs = search needs
 
 enum-known-slot : tie.Need-enum-known-slot
 enum-known-slot c = search needs
@@ -120,18 +166,8 @@ enum-told-2 c = search needs
 returns-4 : tie.Need-returns-4
 returns-4 c =
     let f = c .before .before in
-    let x = f .before .before .before .before in
-    let li = x .before .before in
-    let z = li .before in
-    let a = begun z .args in
-    let l = x .location .given .0 .0 in
-    λ claims.
-    let w = world (a .settings) (a .state) claims (a .heap .now) (a .ids .now) (a .locations .now) in
-    sym
-    (read-held w (a .id) (clear z)
-    ∙ ap (readHeld w (a .id)) (sym (li .load-in .ensures) ∙ x .location .given .1)
-    ∙ ap (λ (t : Bool). pick t Nothing (readFile w (a .id) l (fileFor (recordsOf w) l))) (sym (f .before .before .is-delete .ensures) ∙ f .before .if2 .left)
-    ∙ ap (readFile w (a .id) l) (sym (f .file-for .ensures) ∙ c .enum-told2 .given .1))
+    let x = met f in
+    λ claims. sym (filed f claims ∙ ap (readFile (given (sought x) claims) (begun (sought x) .args .id) (x .location .given .0 .0)) (c .enum-told2 .given .1))
 
 mul-r : tie.Need-mul-r
 mul-r c =
@@ -158,31 +194,26 @@ object-at-requires c κs = lies (c .before .before .before .before)
 returns-5 : tie.Need-returns-5
 returns-5 c =
     let s = c .before .before .before .before .before in
-    let f = s .before .before in
-    let x = f .before .before .before .before in
-    let li = x .before .before in
-    let z = li .before in
-    let a = begun z .args in
-    let l = x .location .given .0 .0 in
+    let p = sought (at s) in
+    let a = begun p .args in
+    let l = at s .location .given .0 .0 in
     let k = s .slot .given .0 .0 in
     let r = recordAt (a .state .files .records) k in
     let size = a .settings .«slot_bytes» in
     let file = fileIn r (slotBytes size (a .heap .now) k) in
     λ claims.
-    let w = world (a .settings) (a .state) claims (a .heap .now) (a .ids .now) (a .locations .now) in
+    let w = given p claims in
     c .object-at .ensures
     ∙ ap (λ (p : ℕ). inHeap (k * size + 64) (bodyOf (a .id) (storedAt (p - r .lsn) (drop (p - r .lsn) file)))) (c .before .before .position .ensures)
     ∙ sym (read-object w (a .id) k (objectIn w k (positionOf l - r .lsn)))
-    ∙ sym
-    (read-held w (a .id) (clear z)
-    ∙ ap (readHeld w (a .id)) (sym (li .load-in .ensures) ∙ x .location .given .1)
-    ∙ ap (λ (t : Bool). pick t Nothing (readFile w (a .id) l (fileFor (recordsOf w) l))) (sym (f .before .before .is-delete .ensures) ∙ f .before .if2 .left)
-    ∙ ap (readFile w (a .id) l) (sym (f .file-for .ensures) ∙ s .slot .given .1))
+    ∙ sym (filed (s .before .before) claims ∙ ap (readFile w (a .id) l) (s .slot .given .1))
 
 pub read-answer-spec : {M : Type 1} → statement M
 read-answer-spec =
     tie.close
     (tie.spec
+    lsns-requires
+    bad-files-requires
     rest-of-requires
     refused-apart-requires
     returns
@@ -192,7 +223,8 @@ read-answer-spec =
     returns-2
     is-delete-requires
     returns-3
-    file-for-requires
+    slice-aggregate-lsn-at
+    lsn-at-requires
     enum-known-slot
     enum-told-2
     returns-4

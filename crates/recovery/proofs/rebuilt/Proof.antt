@@ -1,13 +1,13 @@
 use mathlib.Core.Path.{refl, sym, ap, subst, _∙_}
 use mathlib.Core.List.{List, map}
-use Prim.Native.Nat.{_^_, _<_}
+use Prim.Native.Nat.{ℕ, _^_, _<_}
 use borrow.Author.Tests.{not-true, not-false}
 use Rattle.rules.specs.SlotFile.{viewsIn}
 use Rattle.rules.specs.Reopen.{filesIn, tableOf}
 use Rattle.location_table.specs.Tables.{table}
 use Rattle.reopen_tests.specs.Shown.{sound-views}
-use Rattle.rebuild.specs.Records.{counted, nextFrom, records-counted, next-labels, next-low}
-use Rattle.recovery.specs.Types.{Record, Entry, TableRoom}
+use Rattle.rebuild.specs.Records.{counted, nextFrom, records-counted, next-counted, next-labels, next-low}
+use Rattle.recovery.specs.Types.{Entry, TableRoom}
 use Rattle.recovery.specs.Steps.{blank-formed, gives-up, past-full, past-room}
 use Rattle.recovery.proofs.Handing.{no-room, has-room, room-formed, room-used}
 use borrow.Author.Needs.{needs}
@@ -52,7 +52,8 @@ next-position-requires c κs =
     let a = start .args in
     let views = viewsIn (a .n) (a .size) (a .heap .now) in
     let sound = sound-views (a .n) (a .size) (a .heap .now) _ (start .pre .0) in
-    subst (λ (rs : List Record). nextFrom rs < 2 ^ 63) (sym (start .pre .0 .labels)) (next-low (a .size) views (start .pre .1) sound)
+    let same = ap nextFrom (c .with-live-counts .ensures) ∙ next-counted _ (a .files .records) ∙ ap nextFrom (start .pre .0 .labels) in
+    subst (λ (n : ℕ). n < 2 ^ 63) (sym same) (next-low (a .size) views (start .pre .1) sound)
 
 state-of-requires : tie.Need-state-of-requires
 state-of-requires c κs = search needs
@@ -81,7 +82,9 @@ returns-2 c =
     c .before .before .before .with-live-counts .ensures
     ∙ ap (λ (es : List Entry). map (counted es) (a .files .records)) (room-used b (start .pre .2) views _ _ (c .before .before .before .before .before .before .before .before .before .before .before .fill .ensures) (a .size) sound room)
     ∙ ap (map (counted mapped)) (start .pre .0 .labels) ∙ records-counted (a .size) mapped views sound in
-    let next = c .before .before .next-position .ensures ∙ ap nextFrom (start .pre .0 .labels) ∙ sym (next-labels views) in
+    let next =
+    c .before .before .next-position .ensures ∙ ap nextFrom (c .before .before .before .with-live-counts .ensures)
+    ∙ next-counted _ (a .files .records) ∙ ap nextFrom (start .pre .0 .labels) ∙ sym (next-labels views) in
     past-room (a .settings) heap (a .ids .now) (a .locations .now) _ _ views (in-table .0) _ _ _ _ (c .before .state-of .ensures) (c .no-claims .ensures) records next (in-table .1)
 
 pub rebuilt-spec : {M : Type 1} → statement M

@@ -1,4 +1,10 @@
-use native.Mathlib.Omega.{arith}
+use mathlib.Core.Path.{sym, _∙_}
+use mathlib.Core.Bool.{true, false}
+use borrow.Author.Tests.{not-true, not-false}
+use Rattle.numbers.specs.Choice.{pick}
+use Rattle.script.specs.declared.Keyword.the-variants.{Blank, Bad}
+use Rattle.script.proofs.Cuts.{word-none, word-some}
+use Rattle.script.proofs.Ends.{given-bare, given-same, plain-given, asked-none, asked-wrong, asked-on}
 use borrow.Author.Needs.{needs}
 use Rattle.script.proofs.order_in.Statement.{statement}
 use Rattle.script.proofs.order_in.Tie as tie
@@ -10,7 +16,11 @@ wordless-requires : tie.Need-wordless-requires
 wordless-requires c κs = search needs
 
 returns : tie.Need-returns
-returns c = (omega (arith, c .wordless .ensures .0), λ _. c .wordless .ensures .1)
+returns c =
+    let w = c .before .before in
+    let a = w .before .before .before .args in
+    let none-there = word-none (a .text .now) 0 (w .next-word .result) (w .next-word .ensures .3) (c .before .if1 .taken) in
+    given-bare _ (pick (a .comment) Blank Bad) _ _ (asked-none _ (a .comment) _ none-there) (c .wordless .ensures)
 
 sub-keyword-of : tie.Need-sub-keyword-of
 sub-keyword-of c = search needs
@@ -35,8 +45,13 @@ no-order-requires c κs = search needs
 
 returns-2 : tie.Need-returns-2
 returns-2 c =
-    let word = c .before .before .before .before .before .before .before .before in
-    (omega (arith, c .no-order .ensures .0), λ h. absurd (omega (arith, h, word .next-word .ensures .3)))
+    let n = c .before .before .before in
+    let s = n .before in
+    let k = s .before in
+    let w = k .before .before .before in
+    let a = w .before .before .before .args in
+    let there = word-some (a .text .now) 0 (w .next-word .result) (w .next-word .ensures .3) (k .before .before .if1 .left) in
+    given-bare _ Bad _ _ (asked-wrong _ (a .comment) _ _ _ (k .keyword-of .result) (s .shape-of .result) there (k .keyword-of .ensures) (s .shape-of .ensures .0) (sym (n .numbers-from .ensures .1) ∙ not-true _ (c .before .if2 .taken))) (c .no-order .ensures)
 
 with-bytes-requires : tie.Need-with-bytes-requires
 with-bytes-requires c κs = search needs
@@ -46,17 +61,31 @@ same-length c = search needs
 
 returns-3 : tie.Need-returns-3
 returns-3 c =
-    let word = c .before .before .before .before .before .before .before .before .before .before .before .before .before .next-word .ensures in
-    let done = c .before .before in
-    (omega (arith, done .with-bytes .ensures), λ h. absurd (c .before .before .before .before .before .before .before .before .before .before .before .before .if1 .left (omega (arith, h, word .1, word .2, word .3))))
+    let b = c .before .before in
+    let e = b .before .before .before .before in
+    let n = e .before .before in
+    let s = n .before in
+    let k = s .before in
+    let w = k .before .before .before in
+    let a = w .before .before .before .args in
+    let there = word-some (a .text .now) 0 (w .next-word .result) (w .next-word .ensures .3) (k .before .before .if1 .left) in
+    let good = not-false _ (e .if2 .left) in
+    given-same _ _ _ _ _ (asked-on _ (a .comment) _ _ _ (k .keyword-of .result) (s .shape-of .result) there (k .keyword-of .ensures) (s .shape-of .ensures .0) _ true _ _ good (n .numbers-from .ensures .1) (n .numbers-from .ensures .2) (n .numbers-from .ensures .3) (b .before .before .if3 .taken)) (b .with-bytes .ensures)
 
 ended-requires : tie.Need-ended-requires
 ended-requires c κs = search needs
 
 returns-4 : tie.Need-returns-4
 returns-4 c =
-    let word = c .before .before .before .before .before .before .before .before .before .before in
-    (omega (arith, c .ended .ensures), λ h. absurd (omega (arith, h, word .next-word .ensures .3)))
+    let e = c .before .before .before in
+    let n = e .before .before in
+    let s = n .before in
+    let k = s .before in
+    let w = k .before .before .before in
+    let a = w .before .before .before .args in
+    let there = word-some (a .text .now) 0 (w .next-word .result) (w .next-word .ensures .3) (k .before .before .if1 .left) in
+    let good = not-false _ (e .if2 .left) in
+    given-same _ _ _ _ _ (asked-on _ (a .comment) _ _ _ (k .keyword-of .result) (s .shape-of .result) there (k .keyword-of .ensures) (s .shape-of .ensures .0) _ false _ _ good (n .numbers-from .ensures .1) (n .numbers-from .ensures .2) (n .numbers-from .ensures .3) (c .before .if3 .left)) (plain-given _ _ _ _ _ _ (c .ended .ensures))
 
 pub order-in-spec : {M : Type 1} → statement M
 order-in-spec =

@@ -1,6 +1,6 @@
-use lib.Dec.{ltb}
+use mathlib.Core.Path.{refl}
 use lib.ListN.{length}
-use Rattle.script.proofs.Silence.{blank-before, either}
+use Rattle.script.proofs.Ends.{given-same, asked-whole, given-within}
 use borrow.Author.Needs.{needs}
 use Rattle.script.proofs.order_of.Statement.{statement}
 use Rattle.script.proofs.order_of.Tie as tie
@@ -28,7 +28,9 @@ returns c =
     let w = c .before .before in
     let f = w .before .before .before in
     let a = f .before .before .before .args in
-    (w .order-in .ensures .0, λ h. either (ltb (f .find .result) (length (a .line .now))) _ (w .order-in .ensures .1 (blank-before (a .line .now) (f .find .result) (f .find .ensures .0) h)))
+    let room = length (a .bytes .now) in
+    let given = given-same _ _ (a .bytes .now) _ _ (asked-whole room (a .line .now) (f .find .result) (f .find .ensures .0)) (w .order-in .ensures) in
+    (given .0, given .1, given-within room (a .line .now) (a .bytes .now) _ _ refl given)
 
 pub order-of-spec : {M : Type 1} → statement M
 order-of-spec =

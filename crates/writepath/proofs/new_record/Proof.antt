@@ -9,25 +9,16 @@ use Rattle.writepath.proofs.new_record.Tie as tie
 with-batch-requires : tie.Need-with-batch-requires
 with-batch-requires c κs = search needs
 
-mul-fresh : tie.Need-mul-fresh
-mul-fresh c = search needs
-
-add-fresh : tie.Need-add-fresh
-add-fresh c = search needs
-
-add-fresh-2 : tie.Need-add-fresh-2
-add-fresh-2 c = search needs
-
-fresh-requires : tie.Need-fresh-requires
-fresh-requires c κs = search needs
+new-record-requires : tie.Need-new-record-requires
+new-record-requires c κs = search needs
 
 returns : tie.Need-returns
 returns c =
     let b = c .before in
     let a = b .before .args in
-    c .fresh .ensures
+    c .new-record .ensures
     ∙ ap (λ (lsn : ℕ). fresh lsn (a .total) (a .total + (12 + 16 * a .count)) (a .count) 0) (b .with-batch .ensures ∙ batch-plain (a .base) (b .before .pre .0))
 
 pub new-record-spec : {M : Type 1} → statement M
 new-record-spec =
-    tie.close (tie.spec with-batch-requires mul-fresh add-fresh add-fresh-2 fresh-requires returns)
+    tie.close (tie.spec with-batch-requires new-record-requires returns)

@@ -1,35 +1,18 @@
-use Rattle.as_numbers.specs.ClaimWords.{claims-put}
-use native.Mathlib.Omega.{arith}
+use mathlib.Core.Path.{refl}
 use borrow.Author.Needs.{needs}
-use lib.ListN.{length-set}
+use Rattle.as_numbers.specs.ClaimWords.{claimsIn}
 use Rattle.as_numbers.proofs.claim_words.put_claims.Statement.{statement}
 use Rattle.as_numbers.proofs.claim_words.put_claims.Tie as tie
 
-slice-write-words : tie.Need-slice-write-words
-slice-write-words c = search needs
-
-slice-write-words-2 : tie.Need-slice-write-words-2
-slice-write-words-2 c = simp length-set (omega arith)
-
-slice-write-words-3 : tie.Need-slice-write-words-3
-slice-write-words-3 c = simp length-set (omega arith)
-
-slice-write-words-4 : tie.Need-slice-write-words-4
-slice-write-words-4 c = simp length-set (omega arith)
+put-four-requires : tie.Need-put-four-requires
+put-four-requires c κs = search needs
 
 same-length : tie.Need-same-length
 same-length c = search needs
 
 returns : tie.Need-returns
-returns c = claims-put (c .args .words .now) (c .args .c) (c .pre)
+unfolding claimsIn
+returns c = rw (c .before .before .put-four .ensures) refl
 
 pub put-claims-spec : {M : Type 1} → statement M
-put-claims-spec =
-    tie.close
-    (tie.spec
-    slice-write-words
-    slice-write-words-2
-    slice-write-words-3
-    slice-write-words-4
-    same-length
-    returns)
+put-claims-spec = tie.close (tie.spec put-four-requires same-length returns)

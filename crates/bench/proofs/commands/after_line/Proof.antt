@@ -1,5 +1,7 @@
-use mathlib.Core.Path.{ap}
+use mathlib.Core.Path.{ap, _∙_}
+use lib.ListN.{length}
 use Rattle.desk.specs.Desk.{Outcome}
+use Rattle.bench.proofs.Answers.{ran-order}
 use borrow.Author.Needs.{needs}
 use Rattle.bench.proofs.commands.after_line.Statement.{statement}
 use Rattle.bench.proofs.commands.after_line.Tie as tie
@@ -40,7 +42,10 @@ same-length-4 c = search needs
 returns : tie.Need-returns
 returns c =
     let w = c .before .before .before .before .before .before .before .before .before .before .before in
-    record { keyword = _; numbers = _; bytes = _; done = ap (λ (o : Outcome). o .desk) (w .after-order .ensures); wordless = w .before .before .before .before .before .before .before .before .before .order-of .ensures .1 }
+    let o = w .before .before .before .before .before .before .before .before .before in
+    let a = o .before .before .before .before .before .before .before .args in
+    let asked = o .order-of .ensures in
+    (ap (λ (x : Outcome). x .desk) (w .after-order .ensures) ∙ ran-order (length (a .decoded .now)) (a .line .now) (a .decoded .now) _ _ _ (asked .0) (asked .1), asked .1)
 
 pub after-line-spec : {M : Type 1} → statement M
 after-line-spec =

@@ -1,5 +1,5 @@
 use mathlib.Core.Path.{refl, ap}
-use lib.ListN.{take}
+use lib.ListN.{length, take}
 use borrow.Author.Tests.{not-true, not-false}
 use Rattle.bench.specs.declared.lines.Reading.{Reading}
 use Rattle.desk.specs.Desk.{desk}
@@ -11,7 +11,7 @@ use Rattle.bench.proofs.lines.answered.Tie as tie
 returns : tie.Need-returns
 returns c =
     let a = c .before .before .before .before .before .before .before .args in
-    (refl, waits (a .s .whole) (a .s .long) (a .s) (take (a .s .held) (a .line .now)) (desk (a .s .bench) (a .heap .now) (a .ids .now) (a .locations .now)) (not-true (a .s .whole) (c .if1 .taken)))
+    (refl, waits (length (a .decoded .now)) (a .s .whole) (a .s .long) (a .s) (take (a .s .held) (a .line .now)) (desk (a .s .bench) (a .heap .now) (a .ids .now) (a .locations .now)) (not-true (a .s .whole) (c .if1 .taken)))
 
 next-line-requires : tie.Need-next-line-requires
 next-line-requires c κs = search needs
@@ -23,7 +23,7 @@ returns-2 : tie.Need-returns-2
 returns-2 c =
     let t = c .before .before in
     let a = t .before .before .before .before .before .before .before .before .args in
-    (ap (λ (x : Reading). x .taken) (t .next-line .ensures), too-long (a .s .whole) (a .s .long) (a .s) _ (take (a .s .held) (a .line .now)) (a .heap .now) (a .ids .now) (a .locations .now) (not-false (a .s .whole) (t .before .if1 .left)) (c .before .if2 .taken) (t .next-line .ensures))
+    (ap (λ (x : Reading). x .taken) (t .next-line .ensures), too-long (length (a .decoded .now)) (a .s .whole) (a .s .long) (a .s) _ (take (a .s .held) (a .line .now)) (a .heap .now) (a .ids .now) (a .locations .now) (not-false (a .s .whole) (t .before .if1 .left)) (c .before .if2 .taken) (t .next-line .ensures))
 
 least-requires : tie.Need-least-requires
 least-requires c κs = search needs
@@ -57,7 +57,7 @@ returns-3 c =
     let w = c .before .before .before .before .before .before .before .before in
     let t = w .before .before .before .before .before .before .before .before .before in
     let a = t .before .before .before .before .before .before .before .before .args in
-    (ap (λ (x : Reading). x .taken) (t .next-line .ensures), runs (a .s .whole) (a .s .long) (a .s) (t .next-line .result) (take (a .s .held) (a .line .now)) _ _ (not-false (a .s .whole) (t .before .if1 .left)) (w .before .before .before .before .before .before .before .before .if2 .left) (t .next-line .ensures) (ran-held (a .s .held) (w .before .before .before .before .before .before .before .least .result) (a .line .now) _ _ (w .before .before .before .before .before .before .before .least .ensures .2) (w .after-line .ensures)))
+    (ap (λ (x : Reading). x .taken) (t .next-line .ensures), runs (length (a .decoded .now)) (a .s .whole) (a .s .long) (a .s) (t .next-line .result) (take (a .s .held) (a .line .now)) _ _ (not-false (a .s .whole) (t .before .if1 .left)) (w .before .before .before .before .before .before .before .before .if2 .left) (t .next-line .ensures) (ran-held (length (a .decoded .now)) (a .s .held) (w .before .before .before .before .before .before .before .least .result) (a .line .now) _ _ (w .before .before .before .before .before .before .before .least .ensures .2) (w .after-line .ensures .0)))
 
 pub answered-spec : {M : Type 1} → statement M
 answered-spec =

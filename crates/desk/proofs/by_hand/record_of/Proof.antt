@@ -1,4 +1,4 @@
-use mathlib.Core.Path.{refl, ap, _∙_}
+use mathlib.Core.Path.{ap, _∙_}
 use Rattle.desk.specs.Types.{Record}
 use Rattle.rules.specs.FileMap.{withLive}
 use Rattle.desk.specs.Commands.{nth}

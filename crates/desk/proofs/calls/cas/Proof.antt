@@ -1,6 +1,5 @@
-use mathlib.Core.Path.{ap}
-use Rattle.rules.specs.TableCalls.{TableAfter}
-use Rattle.desk.specs.Desk.{desk, compared, worldOf, answered, besides}
+use Rattle.desk.specs.Desk.{compared}
+use Rattle.desk.proofs.Tables.{tabled}
 use borrow.Author.Needs.{needs}
 use Rattle.desk.proofs.calls.cas.Statement.{statement}
 use Rattle.desk.proofs.calls.cas.Tie as tie
@@ -18,7 +17,7 @@ returns : tie.Need-returns
 returns c =
     let w = c .before .before .before .before in
     let a = w .before .before .before .before .before .args in
-    λ heap. ap (λ (t : TableAfter). answered compared (a .b) (besides (worldOf (desk (a .b) heap (a .ids .now) (a .locations .now))) t)) (w .compare-and-store .ensures)
+    λ heap. tabled compared (a .b) heap (a .ids .now) (a .locations .now) (w .compare-and-store .ensures)
 
 pub cas-spec : {M : Type 1} → statement M
 cas-spec = tie.close (tie.spec compare-and-store-requires same-length same-length-2 returns)

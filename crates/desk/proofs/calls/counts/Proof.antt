@@ -9,9 +9,8 @@ counts-requires c κs = search needs
 
 returns : tie.Need-returns
 returns c =
-    let w = c in
-    let a = w .before .before .before .before .before .before .args in
-    ap (answered counted (a .b)) (w .counts .ensures (a .b .claims))
+    let a = c .before .before .before .before .args in
+    ap (answered counted (a .b)) (c .counts .ensures (a .b .claims))
 
 pub counts-spec : {M : Type 1} → statement M
 counts-spec = tie.close (tie.spec counts-requires returns)

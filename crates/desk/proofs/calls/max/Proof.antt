@@ -1,6 +1,5 @@
-use mathlib.Core.Path.{ap}
-use Rattle.rules.specs.TableCalls.{TableAfter}
-use Rattle.desk.specs.Desk.{desk, raised, worldOf, answered, besides}
+use Rattle.desk.specs.Desk.{raised}
+use Rattle.desk.proofs.Tables.{tabled}
 use borrow.Author.Needs.{needs}
 use Rattle.desk.proofs.calls.max.Statement.{statement}
 use Rattle.desk.proofs.calls.max.Tie as tie
@@ -18,7 +17,7 @@ returns : tie.Need-returns
 returns c =
     let w = c .before .before .before .before in
     let a = w .before .before .before .before .before .args in
-    λ heap. ap (λ (t : TableAfter). answered raised (a .b) (besides (worldOf (desk (a .b) heap (a .ids .now) (a .locations .now))) t)) (w .store-if-greater .ensures)
+    λ heap. tabled raised (a .b) heap (a .ids .now) (a .locations .now) (w .store-if-greater .ensures)
 
 pub max-spec : {M : Type 1} → statement M
 max-spec = tie.close (tie.spec store-if-greater-requires same-length same-length-2 returns)

@@ -1,21 +1,15 @@
-use Prim.Native.Nat.{_^_}
-use Rattle.rules.specs.Ops.{shardFor, sizeOf}
-use Rattle.gc_split.specs.Tally.{tally}
 use mathlib.Core.Path.{refl, sym, ap, ap₂, _∙_}
-use borrow.Author.Tests.{eq-eqb, ne-eqb}
-use lib.Seq.{set-getD}
-use Rattle.batch.specs.SizeLaws.{size-bound}
-use Rattle.gc_split.specs.Tally.{Tally, taking, pieceOf}
-use Rattle.gc_split.specs.PieceLaws.{shard-most}
-use Rattle.gc_split.specs.BoundLaws.{take-within}
-use Rattle.gc_files.specs.Places.{movingAt, opAt, entryTaken, entryPiece}
-use Rattle.gc_files.specs.PlaceLaws.{moving-told}
-use Prim.Native.Nat.{ℕ, _≤_, _<_, _-_}
-use mathlib.Core.Path.{_≡_}
+use Prim.Native.Nat.{ℕ, _<_}
 use native.Mathlib.Omega.{arith}
+use borrow.Author.Tests.{eq-eqb, ne-eqb}
 use borrow.Author.Needs.{needs}
 use lib.ListN.{getD, set}
-use borrow.Author.Needs.{needs}
+use lib.Seq.{set-getD}
+use Rattle.gc_split.specs.Tally.{Tally, tally, taking, pieceOf}
+use Rattle.gc_split.specs.PieceLaws.{shard-most}
+use Rattle.gc_split.specs.BoundLaws.{take-within}
+use Rattle.gc_files.specs.Places.{opAt, entryTaken, entryPiece}
+use Rattle.gc_files.specs.PlaceLaws.{moving-told, measured}
 use Rattle.gc_files.proofs.split.split_entry.Statement.{statement}
 use Rattle.gc_files.proofs.split.split_entry.Tie as tie
 
@@ -41,42 +35,27 @@ size-of-requires c κs =
 
 join-requires : tie.Need-join-requires
 join-requires c κs =
-    let moved = c .before .before .before .before .before .before in
+    let z = c .before .before .before .before in
+    let moved = z .before .before in
     let start = moved .before .before .before .before .before .before .before .before in
-    let some : 0 < start .args .place = omega (arith, moved .before .if1 .left) in
-    let told = moving-told (start .args .heap .now) (start .args .id) (start .args .place) some (start .pre .0) in
-    let shard = c .before .before .before .before .before .shard-of .ensures in
-    let size = c .before .before .before .before .size-of .ensures in
-    let short = told .short in
-    let most = shard-most (opAt (start .args .heap .now) (start .args .id) (start .args .place) .content) in
-    let few = size-bound (movingAt (start .args .heap .now) (start .args .id) (start .args .place)) in (
-      rw (rw (moved .moving-at .ensures) at shard ∙ sym (told .shard)) most,
-      rw (rw (moved .moving-at .ensures) at size) (omega arith),
-      start .pre .1 .1 .0,
-      start .pre .1 .1 .1,
-    )
+    let a = start .args in
+    let found = measured (a .heap .now) (a .id) (a .place) (moved .before .if1 .left) (start .pre .0) (moved .moving-at .ensures) (z .before .shard-of .ensures) (z .size-of .ensures) in
+    (rw (found .shard) (shard-most (opAt (a .heap .now) (a .id) (a .place) .content)), omega (arith, found .most), start .pre .1 .1 .0, start .pre .1 .1 .1)
 
 piece-in-requires : tie.Need-piece-in-requires
 piece-in-requires c κs =
-    let moved = c .before .before .before .before .before .before .before .before .before .before .before .before .before .before .before .before in
-    let start = moved .before .before .before .before .before .before .before .before in
-    let some : 0 < start .args .place = omega (arith, moved .before .if1 .left) in
-    let told = moving-told (start .args .heap .now) (start .args .id) (start .args .place) some (start .pre .0) in
-    let heap = start .args .heap .now in
-    let content = opAt heap (start .args .id) (start .args .place) .content in
-    let t = tally (start .args .sizes .now) (start .args .counts .now) (start .args .rounds .now) (start .args .cuts .now) (start .args .totals) in
-    let within = start .pre .1 .1 .1 in
-    let moving = moved .moving-at .ensures in
     let call = c .before .before .before .before .before .before .before .before .before in
-    let shard : call .before .before .before .before .before .before .shard-of .result ≡ shardFor content = rw moving at (call .before .before .before .before .before .before .shard-of .ensures) ∙ sym (told .shard) in
-    let size : call .before .before .before .before .before .size-of .result ≡ sizeOf content = rw moving at (call .before .before .before .before .before .size-of .ensures) ∙ sym (told .size) in
-    let few = size-bound (movingAt heap (start .args .id) (start .args .place)) in
-    let short : call .before .before .before .before .before .size-of .result ≤ 2 ^ 21 = omega (arith, size, told .size, told .short) in
-    let after = take-within (start .args .target) (start .args .slot-bytes) (call .before .before .before .before .before .before .shard-of .result) (call .before .before .before .before .before .size-of .result) t within (start .pre .1 .1 .0) short in
+    let z = call .before .before .before .before .before in
+    let moved = z .before .before in
+    let start = moved .before .before .before .before .before .before .before .before in
+    let a = start .args in
+    let found = measured (a .heap .now) (a .id) (a .place) (moved .before .if1 .left) (start .pre .0) (moved .moving-at .ensures) (z .before .shard-of .ensures) (z .size-of .ensures) in
+    let t = tally (a .sizes .now) (a .counts .now) (a .rounds .now) (a .cuts .now) (a .totals) in
+    let after = take-within (a .target) (a .slot-bytes) (z .before .shard-of .result) (z .size-of .result) t (start .pre .1 .1 .1) (start .pre .1 .1 .0) (found .most) in
     let kept = rw (← call .join .ensures) at after in (
-      rw shard (shard-most content),
+      rw (found .shard) (shard-most (opAt (a .heap .now) (a .id) (a .place) .content)),
       kept .roundShards,
-      omega (arith, kept .rounds (call .before .before .before .before .before .before .shard-of .result), kept .entries),
+      omega (arith, kept .rounds (z .before .shard-of .result), kept .entries),
     )
 
 cast-pieces : tie.Need-cast-pieces
@@ -112,21 +91,16 @@ same-length-5 c = search needs
 returns-2 : tie.Need-returns-2
 unfolding entryTaken entryPiece
 returns-2 c =
-    let moved = c .before .before .before .before .before .before .before .before .before .before .before .before .before .before .before .before .before in
-    let start = moved .before .before .before .before .before .before .before .before in
-    let some : 0 < start .args .place = omega (arith, moved .before .if1 .left) in
-    let told = moving-told (start .args .heap .now) (start .args .id) (start .args .place) some (start .pre .0) in
-    let heap = start .args .heap .now in
-    let content = opAt heap (start .args .id) (start .args .place) .content in
-    let t = tally (start .args .sizes .now) (start .args .counts .now) (start .args .rounds .now) (start .args .cuts .now) (start .args .totals) in
-    let within = start .pre .1 .1 .1 in
-    let moving = moved .moving-at .ensures in
     let call = c .before .before .before .before .before .before .before .before .before .before in
-    let shard : call .before .before .before .before .before .before .shard-of .result ≡ shardFor content = rw moving at (call .before .before .before .before .before .before .shard-of .ensures) ∙ sym (told .shard) in
-    let size : call .before .before .before .before .before .size-of .result ≡ sizeOf content = rw moving at (call .before .before .before .before .before .size-of .ensures) ∙ sym (told .size) in
-    let joined = call .join .ensures ∙ ap₂ (λ (n z : ℕ). taking (start .args .target) (start .args .slot-bytes) n z t) shard size in
-    let number = c .piece-in .ensures .0 ∙ ap₂ (λ (n : ℕ) (u : Tally). pieceOf n (getD (u .rounds) n 0)) shard joined in
-    rw (ne-eqb (start .args .place) 0 (moved .before .if1 .left)) (joined, ap (set (start .args .pieces .now) (start .args .i)) number)
+    let z = call .before .before .before .before .before in
+    let moved = z .before .before in
+    let start = moved .before .before .before .before .before .before .before .before in
+    let a = start .args in
+    let found = measured (a .heap .now) (a .id) (a .place) (moved .before .if1 .left) (start .pre .0) (moved .moving-at .ensures) (z .before .shard-of .ensures) (z .size-of .ensures) in
+    let t = tally (a .sizes .now) (a .counts .now) (a .rounds .now) (a .cuts .now) (a .totals) in
+    let joined = call .join .ensures ∙ ap₂ (λ (n k : ℕ). taking (a .target) (a .slot-bytes) n k t) (found .shard) (found .size) in
+    let number = c .piece-in .ensures .0 ∙ ap₂ (λ (n : ℕ) (u : Tally). pieceOf n (getD (u .rounds) n 0)) (found .shard) joined in
+    rw (ne-eqb (a .place) 0 (moved .before .if1 .left)) (joined, ap (set (a .pieces .now) (a .i)) number)
 
 pub split-entry-spec : {M : Type 1} → statement M
 split-entry-spec =

@@ -8,33 +8,25 @@ use lib.Seq.{drop-drop}
 use Rattle.rules.specs.Object.{storedAt, badChecksum}
 use Rattle.slot_file.specs.declared.Header.{Header}
 use Rattle.numbers.specs.LittleEndian.{leValue}
-use Prim.Native.Nat.{ℕ, _+_, _-_}
+use Prim.Native.Nat.{ℕ, _+_, _-_, _≤_}
 use native.Mathlib.Omega.{arith}
 use borrow.Author.Needs.{needs}
 use Rattle.slot_file.proofs.object.bad_checksum.Statement.{statement}
 use Rattle.slot_file.proofs.object.bad_checksum.Tie as tie
 
-add-start : tie.Need-add-start
+-- the object lies within the bytes
+fits : (x : tie.After-shared-slice-known) → let a = x .before .args in a .position + 20 + a .h .size ≤ length (a .bytes .now)
 unfolding storedAt
-add-start c =
-    let start = c .before in
-    let s = start .args .bytes .now in
-    let h = start .args .h in
-    let at = start .args .position in
-    let room : h .room ≡ length (drop at s) = ap (λ (x : Header). x .room) (start .pre .0) in
-    let fit = start .pre .1 in
-    omega (arith, length-drop at s)
+fits x =
+    let a = x .before .args in
+    let room : a .h .room ≡ length (drop (a .position) (a .bytes .now)) = ap (λ (h : Header). h .room) (x .before .pre .0) in
+    omega (arith, x .before .pre .1, length-drop (a .position) (a .bytes .now))
+
+add-start : tie.Need-add-start
+add-start c = omega (arith, fits c)
 
 add-end : tie.Need-add-end
-unfolding storedAt
-add-end c =
-    let start = c .before in
-    let s = start .args .bytes .now in
-    let h = start .args .h in
-    let at = start .args .position in
-    let room : h .room ≡ length (drop at s) = ap (λ (x : Header). x .room) (start .pre .0) in
-    let fit = start .pre .1 in
-    omega (arith, length-drop at s)
+add-end c = omega (arith, fits c)
 
 sub-object-sum : tie.Need-sub-object-sum
 sub-object-sum c = search needs
@@ -43,15 +35,7 @@ part-object-sum-start : tie.Need-part-object-sum-start
 part-object-sum-start c = search needs
 
 part-object-sum-end : tie.Need-part-object-sum-end
-unfolding storedAt
-part-object-sum-end c =
-    let start = c .before in
-    let s = start .args .bytes .now in
-    let h = start .args .h in
-    let at = start .args .position in
-    let room : h .room ≡ length (drop at s) = ap (λ (x : Header). x .room) (start .pre .0) in
-    let fit = start .pre .1 in
-    omega (arith, length-drop at s)
+part-object-sum-end c = omega (arith, fits c)
 
 object-sum-requires : tie.Need-object-sum-requires
 object-sum-requires c κs = search needs

@@ -1,6 +1,8 @@
-use mathlib.Core.Path.{refl, sym, _∙_}
+use mathlib.Core.Path.{_≡_, refl, sym, _∙_}
 use borrow.Author.Tests.{eq-eqb, ne-eqb}
-use Rattle.rules.specs.Trailer.{countIn}
+use Rattle.rules.specs.declared.Answer.the-variants.{Done}
+use Rattle.rules.specs.Refusal.{decide}
+use Rattle.rules.specs.Trailer.{trailerTests, countIn}
 use Rattle.trailer.specs.Entries.{clear-fits}
 use Rattle.slot_file.specs.Slots.{entry-refused, entry-clear}
 use native.Mathlib.Omega.{arith}
@@ -8,6 +10,14 @@ use borrow.Author.Needs.{needs}
 use Rattle.slot_file.proofs.slot.check_trailer.Statement.{statement}
 use Rattle.slot_file.proofs.slot.check_trailer.Tie as tie
 
+-- ---- 9, 10 and 11 are clear
+abbrev begun : tie.After-enum-told → tie.Start
+begun k = k .before .before .before .before
+
+clear : (k : tie.After-enum-told) → decide (trailerTests (begun k .args .bytes .now)) ≡ Done
+clear k = sym (k .before .before .check .ensures) ∙ k .enum-told .given .1
+
+-- ---- the call
 check-requires : tie.Need-check-requires
 check-requires c κs = search needs
 
@@ -18,41 +28,26 @@ enum-told : tie.Need-enum-told
 enum-told c = search needs
 
 some-over-requires : tie.Need-some-over-requires
-some-over-requires c κs =
-    let k = c in
-    let told = k .enum-told .given .1 in
-    let clear = sym (k .before .before .check .ensures) ∙ told in
-    let a = k .before .before .before .before .args in
-    let t = a .bytes .now in
-    clear-fits t clear
+some-over-requires c κs = clear-fits (begun c .args .bytes .now) (clear c)
 
 returns : tie.Need-returns
 returns c =
     let k = c .before .before in
-    let told = k .enum-told .given .1 in
-    let clear = sym (k .before .before .check .ensures) ∙ told in
-    let a = k .before .before .before .before .args in
-    let t = a .bytes .now in
-    sym (entry-clear (a .r) t clear ∙ rw (← c .before .some-over .ensures, c .if1 .taken) refl)
+    let a = begun k .args in
+    sym (entry-clear (a .r) (a .bytes .now) (clear k) ∙ rw (← c .before .some-over .ensures, c .if1 .taken) refl)
 
 count-requires : tie.Need-count-requires
 count-requires c κs =
     let k = c .before .before in
-    let told = k .enum-told .given .1 in
-    let clear = sym (k .before .before .check .ensures) ∙ told in
-    let a = k .before .before .before .before .args in
-    let t = a .bytes .now in
-    omega (arith, clear-fits t clear)
+    omega (arith, clear-fits (begun k .args .bytes .now) (clear k))
 
 returns-2 : tie.Need-returns-2
 returns-2 c =
     let n = c .before .before in
     let k = n .before .before .before in
-    let told = k .enum-told .given .1 in
-    let clear = sym (k .before .before .check .ensures) ∙ told in
-    let a = k .before .before .before .before .args in
+    let a = begun k .args in
     let t = a .bytes .now in
-    sym (entry-clear (a .r) t clear
+    sym (entry-clear (a .r) t (clear k)
     ∙ rw (← n .before .before .some-over .ensures, n .before .if1 .left, ne-eqb (a .r .«present_objects») (countIn t) (λ e. c .if2 .taken (e ∙ sym (n .count .ensures)))) refl)
 
 returns-3 : tie.Need-returns-3
@@ -66,11 +61,9 @@ returns-4 : tie.Need-returns-4
 returns-4 c =
     let n = c .before .before in
     let k = n .before .before .before in
-    let told = k .enum-told .given .1 in
-    let clear = sym (k .before .before .check .ensures) ∙ told in
-    let a = k .before .before .before .before .args in
+    let a = begun k .args in
     let t = a .bytes .now in
-    sym (entry-clear (a .r) t clear
+    sym (entry-clear (a .r) t (clear k)
     ∙ rw (← n .before .before .some-over .ensures, n .before .if1 .left, eq-eqb (a .r .«present_objects») (countIn t) (c .if2 .left ∙ n .count .ensures)) refl)
 
 pub check-trailer-spec : {M : Type 1} → statement M

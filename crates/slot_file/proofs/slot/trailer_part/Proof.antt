@@ -2,28 +2,26 @@ use mathlib.Core.Path.{ap, _∙_}
 use lib.ListN.{drop, length-drop, length}
 use lib.Seq.{take-all}
 use Rattle.slot_file.specs.Slots.{file-length}
-use Prim.Native.Nat.{_-_}
+use Prim.Native.Nat.{_-_, _≤_}
 use native.Mathlib.Omega.{arith}
 use borrow.Author.Needs.{needs}
 use Rattle.slot_file.proofs.slot.trailer_part.Statement.{statement}
 use Rattle.slot_file.proofs.slot.trailer_part.Tie as tie
 
+-- the object bytes lie in the file
+fits : (f : tie.After-file-part) → f .before .before .args .r .«trailer_offset» ≤ length (f .file-part .result .now)
+fits f =
+    let start = f .before .before in
+    omega (arith, ap length (f .file-part .ensures) ∙ file-length (start .args .r) (start .args .slot .now) (start .pre .file), start .pre .objects)
+
 file-part-requires : tie.Need-file-part-requires
 file-part-requires c κs = search needs
 
 sub-result : tie.Need-sub-result
-sub-result c =
-    let f = c in
-    let start = f .before .before in
-    let size = ap length (f .file-part .ensures) ∙ file-length (start .args .r) (start .args .slot .now) (start .pre .file) in
-    omega (arith, start .pre .objects)
+sub-result c = omega (arith, fits c)
 
 part-result-start : tie.Need-part-result-start
-part-result-start c =
-    let f = c in
-    let start = f .before .before in
-    let size = ap length (f .file-part .ensures) ∙ file-length (start .args .r) (start .args .slot .now) (start .pre .file) in
-    omega (arith, start .pre .objects)
+part-result-start c = omega (arith, fits c)
 
 part-result-end : tie.Need-part-result-end
 part-result-end c = search needs

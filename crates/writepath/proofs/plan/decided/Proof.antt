@@ -1,18 +1,38 @@
-use mathlib.Core.Path.{sym, _∙_}
+use mathlib.Core.Path.{_≡_, sym, ap, _∙_}
 use borrow.Author.Needs.{needs}
+use lib.ListN.{length}
+use Rattle.rules.specs.declared.State.{State}
+use Rattle.rules.specs.Condition1.{conditionOne}
 use Rattle.rules.specs.World.{world}
+use Rattle.location_table.specs.Tables.{table}
+use Rattle.writepath.specs.Plans.{planOf}
 use Rattle.writepath.specs.PlanLaws.{plan-1, plan-batch}
 use Rattle.writepath.proofs.plan.decided.Statement.{statement}
 use Rattle.writepath.proofs.plan.decided.Tie as tie
 
-refused-requires : tie.Need-refused-requires
-refused-requires c κs = search needs
+-- ---- what 1 says
+abbrev begun : tie.After-refused-apart → tie.Start
+begun p = p .before .before .before .before .before .before .before .before
+
+one : (p : tie.After-refused-apart) → let a = begun p .args in p .refused-apart .result ≡ conditionOne (a .settings) (length (a .heap .now)) (table (a .ids .now) (a .locations .now)) (a .state)
+one p =
+    let a = begun p .args in
+    p .refused-apart .ensures .0 (a .state .files) (p .before .before .bad-files .ensures) ∙ ap (conditionOne (a .settings) (length (a .heap .now)) (table (a .ids .now) (a .locations .now))) (p .before .rest-of .ensures)
+
+-- ---- the call
+bad-files-requires : tie.Need-bad-files-requires
+bad-files-requires c κs = search needs
+
+rest-of-requires : tie.Need-rest-of-requires
+rest-of-requires c κs = search needs
+
+refused-apart-requires : tie.Need-refused-apart-requires
+refused-apart-requires c κs = search needs
 
 returns : tie.Need-returns
 returns c =
-    let f = c .before in
-    let a = f .before .before .before .before .before .args in
-    λ w. plan-1 (world (a .settings) (a .state) w (a .heap .now) (a .ids .now) (a .locations .now)) (a .batch .now) (sym (f .refused .ensures) ∙ c .if1 .taken)
+    let a = begun (c .before) .args in
+    λ w. plan-1 (world (a .settings) (a .state) w (a .heap .now) (a .ids .now) (a .locations .now)) (a .batch .now) (sym (one (c .before)) ∙ c .if1 .taken)
 
 check-requires : tie.Need-check-requires
 check-requires c κs = search needs
@@ -26,24 +46,31 @@ enum-told c = search needs
 room-requires : tie.Need-room-requires
 room-requires c κs =
     let t = c .before .before in
-    record { passed = sym (t .before .before .refused .ensures) ∙ t .before .if1 .left; parsed = sym (t .check .ensures) ∙ c .enum-told .given .1 }
+    let p = t .before .before in
+    let a = begun p .args in
+    record { passed = sym (p .refused-apart .ensures .0 (a .state .files) (p .before .before .bad-files .ensures)) ∙ t .before .if1 .left; parsed = sym (t .check .ensures) ∙ c .enum-told .given .1 }
 
 returns-2 : tie.Need-returns-2
 returns-2 c =
     let r = c .before in
     let t = r .before .before in
-    let f = t .before .before in
-    let a = f .before .before .before .before .before .args in
-    λ w. plan-batch (world (a .settings) (a .state) w (a .heap .now) (a .ids .now) (a .locations .now)) (a .batch .now) (sym (f .refused .ensures) ∙ t .before .if1 .left) _ (sym (t .check .ensures) ∙ r .r .given .1)
+    let p = t .before .before in
+    let a = begun p .args in
+    λ w. plan-batch (world (a .settings) (a .state) w (a .heap .now) (a .ids .now) (a .locations .now)) (a .batch .now) (sym (one p) ∙ t .before .if1 .left) _ (sym (t .check .ensures) ∙ r .r .given .1)
 
 returns-3 : tie.Need-returns-3
-returns-3 c = search needs
+returns-3 c =
+    let p = c .before .before .before .before .before in
+    let a = begun p .args in
+    λ w. c .room .ensures w ∙ ap (λ (t : State). planOf (world (a .settings) t w (a .heap .now) (a .ids .now) (a .locations .now)) (a .batch .now)) (p .before .rest-of .ensures)
 
 pub decided-spec : {M : Type 1} → statement M
 decided-spec =
     tie.close
     (tie.spec
-    refused-requires
+    bad-files-requires
+    rest-of-requires
+    refused-apart-requires
     returns
     check-requires
     enum-known-r

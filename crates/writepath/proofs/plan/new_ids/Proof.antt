@@ -52,7 +52,7 @@ returns c =
     let l = n .before in
     let a = l .before .before .before .before .before .args in
     let t = usedEntries (table (a .ids .now) (a .locations .now)) in
-    let none = stepped-end (a .batch .now) _ _ (n .next .ensures .0) (c .enum-told .given .1) in
+    let none = stepped-end (a .batch .now) (n .next .ensures .0) (c .enum-told .given .1) in
     (omega (arith, l .loop .inv .0, ap (λ (os : List Op). newIds t (idsOf os)) none, new-end t), omega (arith, l .loop .inv .1))
 
 is-new-requires : tie.Need-is-new-requires Inv-loop μ-loop
@@ -64,20 +64,15 @@ add-count c =
     let n = o .before .before in
     let l = n .before in
     let a = l .before .before .before .before .before .args in
-    let s = a .batch .now in
-    let e = stepped s _ _ _ _ (n .next .ensures) (o .o .given .1) in
+    let e = stepped (n .next .ensures) (o .o .given .1) in
     let t = usedEntries (table (a .ids .now) (a .locations .now)) in
-    omega (arith, c .is-new .ensures, new-one (lookup t (o .o .given .0 .0 .id)), ap length (e .0), l .loop .inv .1, l .before .before .before .before .before .good)
+    omega (arith, c .is-new .ensures, new-one (lookup t (o .o .given .0 .0 .id)), ap length (e .next), l .loop .inv .1, l .before .before .before .before .before .good)
 
 loop-less : tie.Need-loop-less Inv-loop μ-loop
 loop-less c =
     let o = c .before .before in
-    let n = o .before .before in
-    let l = n .before in
-    let a = l .before .before .before .before .before .args in
-    let s = a .batch .now in
-    let e = stepped s _ _ _ _ (n .next .ensures) (o .o .given .1) in
-    omega (arith, ap length (e .0))
+    let e = stepped (o .before .before .next .ensures) (o .o .given .1) in
+    omega (arith, ap length (e .next))
 
 loop-again : tie.Need-loop-again Inv-loop μ-loop
 loop-again c =
@@ -85,14 +80,13 @@ loop-again c =
     let n = o .before .before in
     let l = n .before in
     let a = l .before .before .before .before .before .args in
-    let s = a .batch .now in
-    let e = stepped s _ _ _ _ (n .next .ensures) (o .o .given .1) in
+    let e = stepped (n .next .ensures) (o .o .given .1) in
     let op = o .o .given .0 .0 in
     let t = usedEntries (table (a .ids .now) (a .locations .now)) in
-    let more = ap (λ (os : List Op). newIds t (idsOf os)) (e .0) in
-    let next = new-next t (op .id) (idsOf (left s (o .o .given .0 .1 .0))) in (
+    let more = ap (λ (os : List Op). newIds t (idsOf os)) (e .next) in
+    let next = new-next t (op .id) (idsOf (left (a .batch .now) (o .o .given .0 .1 .0))) in (
       omega (arith, c .is-new .ensures, more, next, l .loop .inv .0),
-      omega (arith, c .is-new .ensures, new-one (lookup t (op .id)), ap length (e .0), l .loop .inv .1),
+      omega (arith, c .is-new .ensures, new-one (lookup t (op .id)), ap length (e .next), l .loop .inv .1),
     )
 
 pub new-ids-spec : {M : Type 1} → statement M

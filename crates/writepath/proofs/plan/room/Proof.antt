@@ -1,20 +1,72 @@
-use mathlib.Core.Path.{sym, ap, _∙_}
+use mathlib.Core.Path.{_≡_, sym, ap, _∙_}
+use mathlib.Core.List.{List}
 use Prim.Native.Nat.{ℕ, _<_}
 use native.Mathlib.Omega.{arith}
 use borrow.Author.Needs.{needs}
-use Rattle.rules.specs.Condition1Laws.{passed}
-use Rattle.rules.specs.Ops.{settled}
+use lib.ListN.{length}
+use Rattle.rules.specs.declared.Claims.{Claims}
+use Rattle.rules.specs.declared.State.{State}
+use Rattle.rules.specs.Condition1Laws.{Passed, passed}
+use Rattle.rules.specs.Install.{newSlot}
+use Rattle.rules.specs.Ops.{Op, settled}
 use Rattle.rules.specs.OpsLaws.{file-length}
-use Rattle.rules.specs.World.{world}
+use Rattle.rules.specs.World.{World, world, slotsOf}
 use Rattle.location_table.specs.Tables.{table}
-use Rattle.limits.specs.Settled.{passed-formed}
+use Rattle.limits.specs.Settled.{stateOf, passed-formed}
 use Rattle.batch.specs.Reading.{opsIn}
+use Rattle.batch.specs.Sizes.{sizesOf}
 use Rattle.batch.specs.SizeLaws.{fits-told}
+use Rattle.batch.specs.declared.Room.the-variants.{Fits}
 use Rattle.writepath.specs.PlanLaws.{plan-none, plan-4, plan-5, plan-6, plan-7, plan-file}
 use Rattle.writepath.specs.declared.plan.Plan.the-variants.{File}
 use Rattle.writepath.proofs.plan.room.Statement.{statement}
 use Rattle.writepath.proofs.plan.room.Tie as tie
 
+-- ---- the call, as each place has it
+abbrev begun : tie.After-sizes → tie.Start
+begun z = z .before .before .before .before .before
+
+abbrev counted : tie.Else1 → tie.After-count
+counted e = e .before .before
+
+abbrev free : tie.Else2 → tie.Else1
+free e = e .before .before
+
+abbrev mapped : tie.Else3 → tie.Else2
+mapped e = e .before .before
+
+abbrev sized : tie.After-count → tie.After-sizes
+sized k = k .before .before
+
+abbrev given : tie.After-sizes → State
+given z = let a = begun z .args in stateOf (a .rest) (a .files)
+
+abbrev seen : tie.After-sizes → Claims → World
+seen z claims = let a = begun z .args in world (a .settings) (given z) claims (a .heap .now) (a .ids .now) (a .locations .now)
+
+abbrev ops : tie.After-sizes → List Op
+ops z = settled (opsIn (begun z .args .batch .now))
+
+abbrev count : tie.After-count → ℕ
+count k = k .count .given .0 .0
+
+abbrev total : tie.After-count → ℕ
+total k = k .count .given .0 .1 .0
+
+-- ---- what is known there
+clear : (z : tie.After-sizes) → let a = begun z .args in Passed (a .settings) (length (a .heap .now)) (table (a .ids .now) (a .locations .now)) (given z)
+clear z = let a = begun z .args in passed (a .settings) (length (a .heap .now)) (table (a .ids .now) (a .locations .now)) (given z) (begun z .pre .passed)
+
+fits : (k : tie.After-count) → sizesOf (begun (sized k) .args .settings .«slot_bytes») (ops (sized k)) ≡ Fits (count k) (total k)
+fits k = sym (sized k .sizes .ensures) ∙ k .count .given .1
+
+some : (e : tie.Else1) → 0 < count (counted e)
+some e = omega (arith, e .if1 .left)
+
+room-left : (e : tie.Else2) (claims : Claims) → let w = seen (sized (counted (free e))) claims in newSlot w < slotsOf w
+room-left e claims = omega (arith, e .if2 .left, e .before .lowest-empty .ensures)
+
+-- ---- the call
 sizes-requires : tie.Need-sizes-requires
 sizes-requires c κs = search needs
 
@@ -27,145 +79,67 @@ enum-told c = search needs
 returns : tie.Need-returns
 returns c =
     let z = c .before .before in
-    let start = z .before .before .before .before .before in
-    let a = start .args in
-    let b = table (a .ids .now) (a .locations .now) in
-    let p = start .pre in
-    λ w. plan-4 (world (a .settings) (a .state) w (a .heap .now) (a .ids .now) (a .locations .now)) (a .batch .now) (p .passed) (p .parsed) (sym (z .sizes .ensures) ∙ c .enum-told .given .1)
+    let start = begun z in
+    λ w. plan-4 (seen z w) (start .args .batch .now) (start .pre .passed) (start .pre .parsed) (sym (z .sizes .ensures) ∙ c .enum-told .given .1)
 
 returns-2 : tie.Need-returns-2
 returns-2 c =
     let k = c .before .before in
-    let z = k .before .before in
-    let start = z .before .before .before .before .before in
-    let a = start .args in
-    let b = table (a .ids .now) (a .locations .now) in
-    let p = start .pre in
-    let count = k .count .given .0 .0 in
-    let total = k .count .given .0 .1 .0 in
-    let fit = sym (z .sizes .ensures) ∙ k .count .given .1 in
-    let told = fits-told _ (settled (opsIn (a .batch .now))) count total fit in
-    λ w. plan-none (world (a .settings) (a .state) w (a .heap .now) (a .ids .now) (a .locations .now)) (a .batch .now) (p .passed) (p .parsed) (sym (told .1) ∙ c .if1 .taken)
+    let start = begun (sized k) in
+    λ w. plan-none (seen (sized k) w) (start .args .batch .now) (start .pre .passed) (start .pre .parsed) (sym (fits-told _ (ops (sized k)) (count k) (total k) (fits k) .1) ∙ c .if1 .taken)
 
 div-n : tie.Need-div-n
-div-n c =
-    let k = c .before .before in
-    let z = k .before .before in
-    let start = z .before .before .before .before .before in
-    let a = start .args in
-    let b = table (a .ids .now) (a .locations .now) in
-    let p = start .pre in
-    let count = k .count .given .0 .0 in
-    let total = k .count .given .0 .1 .0 in
-    let fit = sym (z .sizes .ensures) ∙ k .count .given .1 in
-    let low = passed (a .settings) _ b (a .state) (p .passed) .limits .settings .slot-low in
-    omega arith
+div-n c = let low = clear (sized (counted c)) .limits .settings .slot-low in omega arith
 
 lowest-empty-requires : tie.Need-lowest-empty-requires
-lowest-empty-requires c κs =
-    let k = c .before .before .before in
-    let z = k .before .before in
-    let start = z .before .before .before .before .before in
-    let a = start .args in
-    let b = table (a .ids .now) (a .locations .now) in
-    let p = start .pre in
-    let count = k .count .given .0 .0 in
-    let total = k .count .given .0 .1 .0 in
-    let fit = sym (z .sizes .ensures) ∙ k .count .given .1 in
-    passed (a .settings) _ b (a .state) (p .passed) .limits .heap .most
+lowest-empty-requires c κs = clear (sized (counted c)) .limits .heap .most
 
 returns-3 : tie.Need-returns-3
 returns-3 c =
-    let k = c .before .before .before .before .before in
-    let z = k .before .before in
-    let start = z .before .before .before .before .before in
-    let a = start .args in
-    let b = table (a .ids .now) (a .locations .now) in
-    let p = start .pre in
-    let count = k .count .given .0 .0 in
-    let total = k .count .given .0 .1 .0 in
-    let fit = sym (z .sizes .ensures) ∙ k .count .given .1 in
-    let some : 0 < count = omega (arith, c .before .before .before .if1 .left) in
-    λ w. plan-5 (world (a .settings) (a .state) w (a .heap .now) (a .ids .now) (a .locations .now)) (a .batch .now) (p .passed) (p .parsed) count total fit some (omega (arith, c .if2 .taken, c .before .lowest-empty .ensures))
+    let e = c .before .before in
+    let k = counted e in
+    let start = begun (sized k) in
+    λ w. plan-5 (seen (sized k) w) (start .args .batch .now) (start .pre .passed) (start .pre .parsed) (count k) (total k) (fits k) (some e) (omega (arith, c .if2 .taken, c .before .lowest-empty .ensures))
 
 too-many-requires : tie.Need-too-many-requires
 too-many-requires c κs =
-    let k = c .before .before .before .before .before in
-    let z = k .before .before in
-    let start = z .before .before .before .before .before in
-    let a = start .args in
-    let b = table (a .ids .now) (a .locations .now) in
-    let p = start .pre in
-    let count = k .count .given .0 .0 in
-    let total = k .count .given .0 .1 .0 in
-    let fit = sym (z .sizes .ensures) ∙ k .count .given .1 in
-    passed-formed (a .settings) _ b (a .state) (passed (a .settings) _ b (a .state) (p .passed))
+    let z = sized (counted (free c)) in
+    let a = begun z .args in
+    passed-formed (a .settings) _ (table (a .ids .now) (a .locations .now)) (given z) (clear z)
 
 returns-4 : tie.Need-returns-4
 returns-4 c =
-    let k = c .before .before .before .before .before .before .before in
-    let z = k .before .before in
-    let start = z .before .before .before .before .before in
-    let a = start .args in
-    let b = table (a .ids .now) (a .locations .now) in
-    let p = start .pre in
-    let count = k .count .given .0 .0 in
-    let total = k .count .given .0 .1 .0 in
-    let fit = sym (z .sizes .ensures) ∙ k .count .given .1 in
     let e2 = c .before .before in
-    let some : 0 < count = omega (arith, e2 .before .before .before .if1 .left) in
-    λ w. plan-6 (world (a .settings) (a .state) w (a .heap .now) (a .ids .now) (a .locations .now)) (a .batch .now) (p .passed) (p .parsed) count total fit some (omega (arith, e2 .if2 .left, e2 .before .lowest-empty .ensures)) (sym (c .before .too-many .ensures) ∙ c .if3 .taken)
+    let k = counted (free e2) in
+    let start = begun (sized k) in
+    λ w. plan-6 (seen (sized k) w) (start .args .batch .now) (start .pre .passed) (start .pre .parsed) (count k) (total k) (fits k) (some (free e2)) (room-left e2 w) (sym (c .before .too-many .ensures) ∙ c .if3 .taken)
 
 spent-requires : tie.Need-spent-requires
 spent-requires c κs =
-    let k = c .before .before .before .before .before .before .before in
-    let z = k .before .before in
-    let start = z .before .before .before .before .before in
-    let a = start .args in
-    let b = table (a .ids .now) (a .locations .now) in
-    let p = start .pre in
-    let count = k .count .given .0 .0 in
-    let total = k .count .given .0 .1 .0 in
-    let fit = sym (z .sizes .ensures) ∙ k .count .given .1 in
-    let high = passed (a .settings) _ b (a .state) (p .passed) .limits .settings .slot-high in
-    let ops = settled (opsIn (a .batch .now)) in
-    let told = fits-told _ ops count total fit in
-    omega (arith, told .0, told .2, file-length ops)
+    let k = counted (free (mapped c)) in
+    let high = clear (sized k) .limits .settings .slot-high in
+    let told = fits-told _ (ops (sized k)) (count k) (total k) (fits k) in
+    omega (arith, told .0, told .2, file-length (ops (sized k)))
 
 returns-5 : tie.Need-returns-5
 returns-5 c =
-    let k = c .before .before .before .before .before .before .before .before .before in
-    let z = k .before .before in
-    let start = z .before .before .before .before .before in
-    let a = start .args in
-    let b = table (a .ids .now) (a .locations .now) in
-    let p = start .pre in
-    let count = k .count .given .0 .0 in
-    let total = k .count .given .0 .1 .0 in
-    let fit = sym (z .sizes .ensures) ∙ k .count .given .1 in
     let e3 = c .before .before in
-    let e2 = e3 .before .before in
-    let some : 0 < count = omega (arith, e2 .before .before .before .if1 .left) in
-    λ w. plan-7 (world (a .settings) (a .state) w (a .heap .now) (a .ids .now) (a .locations .now)) (a .batch .now) (p .passed) (p .parsed) count total fit some (omega (arith, e2 .if2 .left, e2 .before .lowest-empty .ensures)) (sym (e3 .before .too-many .ensures) ∙ e3 .if3 .left)
+    let e2 = mapped e3 in
+    let k = counted (free e2) in
+    let start = begun (sized k) in
+    λ w.
+    plan-7 (seen (sized k) w) (start .args .batch .now) (start .pre .passed) (start .pre .parsed) (count k) (total k) (fits k) (some (free e2)) (room-left e2 w) (sym (e3 .before .too-many .ensures) ∙ e3 .if3 .left)
     (sym (c .before .spent .ensures) ∙ c .if4 .taken)
 
 returns-6 : tie.Need-returns-6
 returns-6 c =
-    let k = c .before .before .before .before .before .before .before .before .before in
-    let z = k .before .before in
-    let start = z .before .before .before .before .before in
-    let a = start .args in
-    let b = table (a .ids .now) (a .locations .now) in
-    let p = start .pre in
-    let count = k .count .given .0 .0 in
-    let total = k .count .given .0 .1 .0 in
-    let fit = sym (z .sizes .ensures) ∙ k .count .given .1 in
     let e3 = c .before .before in
-    let e2 = e3 .before .before in
-    let some : 0 < count = omega (arith, e2 .before .before .before .if1 .left) in
+    let e2 = mapped e3 in
+    let k = counted (free e2) in
+    let start = begun (sized k) in
     λ w.
-    ap (λ (n : ℕ). File n count total) (e2 .before .lowest-empty .ensures)
-    ∙ plan-file (world (a .settings) (a .state) w (a .heap .now) (a .ids .now) (a .locations .now)) (a .batch .now) (p .passed) (p .parsed) count total fit some (omega (arith, e2 .if2 .left, e2 .before .lowest-empty .ensures)) (sym (e3 .before .too-many .ensures) ∙ e3 .if3 .left)
+    ap (λ (n : ℕ). File n (count k) (total k)) (e2 .before .lowest-empty .ensures)
+    ∙ plan-file (seen (sized k) w) (start .args .batch .now) (start .pre .passed) (start .pre .parsed) (count k) (total k) (fits k) (some (free e2)) (room-left e2 w) (sym (e3 .before .too-many .ensures) ∙ e3 .if3 .left)
     (sym (c .before .spent .ensures) ∙ c .if4 .left)
 
 pub room-spec : {M : Type 1} → statement M
