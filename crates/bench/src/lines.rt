@@ -4,8 +4,10 @@ use desk::least;
 use libc::STDIN_FILENO;
 ghost use mathlib.Core.Path.{_≡_};
 ghost use mathlib.Core.List.{List};
-ghost use Prim.Native.Nat.{ℕ, _≤_, _<_};
+ghost use Prim.Native.Nat.{ℕ, _-_, _≤_, _<_};
 ghost use lib.ListN.{length, take};
+ghost use lib.Dec.{eqb};
+ghost use Rattle.numbers.specs.Choice.{pick};
 ghost use Rattle.desk.specs.Desk.{desk};
 ghost use Rattle.desk.specs.Commands.{freshBench};
 ghost use Rattle.bench.specs.Lines.{nextLine, Answered};
@@ -155,7 +157,7 @@ fn finished(
 // number that no run uses up.
 fn turns_left(turns: u64, got: usize) -> u64
     requires { ⌜ 0 < turns ⌝ }
-    ensures { λ r. ⌜ r < turns ⌝ }
+    ensures { λ r. ⌜ (r < turns) × (r ≡ pick (eqb got 0) 0 (turns - 1)) ⌝ }
 {
     if got == 0 { 0 } else { turns - 1 }
 }

@@ -29,7 +29,7 @@ use Rattle.rules.specs.Install.{roomTests, emptyOf, positionTests}
 use Rattle.rules.specs.Ops.{Op}
 use Rattle.rules.specs.World.{World}
 use Rattle.rules.specs.Maintenance.{movedTests, deleteTests, deletesOf, fileTests, groupTests}
-use Rattle.gc_group.specs.Source.{Source, sourceOf, fileAt, bytesAt}
+use Rattle.gc_group.specs.Source.{Source, sourceIn, fileAt, bytesAt}
 
 -- one entry of a trailer: "delete entries: sum too great (20), id unmapped (18)"
 unfoldable pub entryTests : ℕ → List Entry → Entry → List Test
@@ -42,7 +42,7 @@ groupChecks limit s slots = each (λ (k : ℕ). fileTests limit (s .table) (file
 -- they come first of all that a group is tested for
 pub group-tests : (w : World) (slots : List ℕ) (files : List (List Op))
     → groupTests w slots files
-    ≡ groupChecks (w .settings .«max_object_size») (sourceOf w) slots
+    ≡ groupChecks (w .settings .«max_object_size») (sourceIn w) slots
     ++ (roomTests (w .settings .«slot_bytes») (emptyOf w) files ++ positionTests (w .state .«next_position») files)
 unfolding groupTests groupChecks
 group-tests w slots files = refl

@@ -28,7 +28,7 @@ use Rattle.rules.specs.Maintenance.{objectsFound, deletesOf, deletesFound, foun
 use Rattle.rules.specs.TableLaws.{Rising, rise, lookup-here, lookup-next, mapped-to}
 use Rattle.rules.specs.World.{World, mappings}
 use Rattle.location_table.specs.EntryLaws.{rising-lt}
-use Rattle.gc_group.specs.Source.{Source, sourceOf, fileAt, bytesAt}
+use Rattle.gc_group.specs.Source.{Source, sourceIn, fileAt, bytesAt}
 use Rattle.gc_group.specs.Checks.{each-keep}
 use Rattle.gc_group.specs.Marks.{foundFile, foundAt, idsOf, among, current, objectId, deleteId, marked, marksFrom, marksOf, contentAt, markedOps, marksSet}
 
@@ -323,9 +323,9 @@ marked-settled s slots n r h = ops-ext 0 0 _ _ (marked-rising s 0 (s .table) (ma
         ∙ sym (settled-last (each (foundAt s) slots) x)
 
 -- of a call's world
-pub marked-found : (w : World) (slots : List ℕ) (n : ℕ) → Rising 0 (mappings w) → length (mappings w) ≤ n → markedOps (sourceOf w) (mappings w) (marksOf (sourceOf w) n slots) ≡ found w slots
+pub marked-found : (w : World) (slots : List ℕ) (n : ℕ) → Rising 0 (mappings w) → length (mappings w) ≤ n → markedOps (sourceIn w) (mappings w) (marksOf (sourceIn w) n slots) ≡ found w slots
 unfolding found
-marked-found w slots n r h = marked-settled (sourceOf w) slots n r h
+marked-found w slots n r h = marked-settled (sourceIn w) slots n r h
 
 -- ---- how many
 -- marks behind the table are not counted, and none is set there
@@ -360,10 +360,10 @@ marked-count s (e ∷ es) (m ∷ ms) = go (eqb m 0) (marked-count s es ms)
     go false ih = omega (arith, ih)
 
 -- the count of ids moved
-pub found-count : (w : World) (slots : List ℕ) (n : ℕ) → Rising 0 (mappings w) → length (mappings w) ≤ n → marksSet (marksOf (sourceOf w) n slots) ≡ length (found w slots)
+pub found-count : (w : World) (slots : List ℕ) (n : ℕ) → Rising 0 (mappings w) → length (mappings w) ≤ n → marksSet (marksOf (sourceIn w) n slots) ≡ length (found w slots)
 unfolding marksOf
 found-count w slots n r h =
-    let s = sourceOf w in
+    let s = sourceIn w in
     let none : marksSet (drop (length (s .table)) (marksFrom s slots (replicate n 0))) ≡ 0 = ap marksSet (from-past s slots (replicate n 0)) ∙ blank-past (length (s .table)) n in
     let same : length (markedOps s (s .table) (marksFrom s slots (replicate n 0))) ≡ length (found w slots) = ap length (marked-found w slots n r h) in
     omega (arith, marked-count s (s .table) (marksFrom s slots (replicate n 0)), none, same)

@@ -39,8 +39,8 @@ abbrev pub source : ℕ → List ℕ → List Record → List Entry → Source
 source size heap records table = record { size = size; heap = heap; records = records; table = table }
 
 -- a call's world as it stands
-abbrev pub sourceOf : World → Source
-sourceOf w = source (w .settings .«slot_bytes») (w .heap) (recordsOf w) (mappings w)
+abbrev pub sourceIn : World → Source
+sourceIn w = source (w .settings .«slot_bytes») (w .heap) (recordsOf w) (mappings w)
 
 -- slot k's record and bytes
 abbrev pub fileAt : Source → ℕ → Record

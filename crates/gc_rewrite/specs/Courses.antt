@@ -9,7 +9,7 @@ use Rattle.rules.specs.Ops.{Op, settled}
 use Rattle.rules.specs.Install.{installedAll, emptyOf}
 use Rattle.rules.specs.Maintenance.{going, stopped, Course, filesOf, found, groupTests, rewriteGroup}
 use Rattle.rules.specs.World.{World}
-use Rattle.gc_group.specs.Source.{sourceOf}
+use Rattle.gc_group.specs.Source.{sourceIn}
 use Rattle.gc_group.specs.Checks.{groupChecks, group-tests}
 use Rattle.gc_group.specs.Marks.{foundAt}
 use Rattle.gc_split.specs.Tally.{tallyOf, closedOf}
@@ -40,21 +40,21 @@ rewritten generation ops moved w = rewriting generation ops moved w (decide (fil
 module _ (generation : ℕ) (slots : List ℕ) (moved : ℕ) (w : World) where
   -- its tests, in the order that they are made
   tests : groupTests w slots (filesOf (w .settings .«target_file_size») (found w slots))
-      ≡ groupChecks (w .settings .«max_object_size») (sourceOf w) slots ++ filesTests (found w slots) w
+      ≡ groupChecks (w .settings .«max_object_size») (sourceIn w) slots ++ filesTests (found w slots) w
   tests =
       group-tests w slots (filesOf (w .settings .«target_file_size») (found w slots))
-      ∙ ap (λ (ts : List Test). groupChecks (w .settings .«max_object_size») (sourceOf w) slots ++ ts)
+      ∙ ap (λ (ts : List Test). groupChecks (w .settings .«max_object_size») (sourceIn w) slots ++ ts)
       (tests-told (w .settings .«target_file_size») (w .settings .«slot_bytes») (emptyOf w) (w .state .«next_position») (found w slots))
 
   -- a check refuses
-  pub group-refused : (r : Refusal) → decide (groupChecks (w .settings .«max_object_size») (sourceOf w) slots) ≡ Refused r
+  pub group-refused : (r : Refusal) → decide (groupChecks (w .settings .«max_object_size») (sourceIn w) slots) ≡ Refused r
       → courseGiven generation (Refused r) moved w ≡ rewriteGroup generation slots moved w
   unfolding rewriteGroup
   group-refused r e = sym (after-refused _ r _ _ (ap decide tests ∙ decide-early _ _ r e))
 
   -- none does: 4, 5 and 7 of the operations that are found
-  pub group-clear : decide (groupChecks (w .settings .«max_object_size») (sourceOf w) slots) ≡ Done
-      → (ops : List Op) → ops ≡ settled (each (foundAt (sourceOf w)) slots) → rewritten generation ops moved w ≡ rewriteGroup generation slots moved w
+  pub group-clear : decide (groupChecks (w .settings .«max_object_size») (sourceIn w) slots) ≡ Done
+      → (ops : List Op) → ops ≡ settled (each (foundAt (sourceIn w)) slots) → rewritten generation ops moved w ≡ rewriteGroup generation slots moved w
   unfolding rewriteGroup rewritten found
   group-clear e ops d =
       ap (λ (os : List Op). rewritten generation os moved w) d

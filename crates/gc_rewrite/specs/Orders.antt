@@ -12,7 +12,7 @@ use Rattle.rules.specs.Base.{Bool, true, false, List, [], _∷_, _++_, ℕ, zer
 use Rattle.rules.specs.BaseLaws.{All, same?, zero-or-more, replicate-at}
 use Rattle.rules.specs.Ops.{Op, sizeOf, shardFor}
 use Rattle.batch.specs.SizeLaws.{size-bound}
-use Rattle.gc_split.specs.Tally.{Tally, pieceOf, closing, cutting, entering, taking, tallyFrom, tallyOf, emptyTally, closedOf, restOf, restsFrom, orderOf, Within}
+use Rattle.gc_split.specs.Tally.{Tally, pieceNo, closing, cutting, entering, taking, tallyFrom, tallyOf, emptyTally, closedOf, restOf, restsFrom, orderOf, Within}
 use Rattle.gc_split.specs.BoundLaws.{cut-within, take-within, empty-within}
 use Rattle.gc_split.specs.PieceLaws.{shard-most, take-cuts}
 use Rattle.gc_split.specs.OrderLaws.{fragments-among, order-counted}
@@ -76,12 +76,12 @@ take-small target slotSize n size t low w k = go (ltb target (getD (t .sizes) n 
       sizes = set (t .sizes) n 0;
       counts = set (t .counts) n 0;
       rounds = set (t .rounds) n (getD (t .rounds) n 0 + 1);
-      cuts = set (t .cuts) (t .totals .files) (pieceOf n (getD (t .rounds) n 0));
+      cuts = set (t .cuts) (t .totals .files) (pieceNo n (getD (t .rounds) n 0));
       totals = closing slotSize (getD (t .sizes) n 0) (getD (t .counts) n 0) (t .totals);
     }
 
     go : (b : Bool) → getD (pick b cut t .cuts) k 0 < 2 ^ 32
-    go true = set-small (t .cuts) (t .totals .files) (pieceOf n (getD (t .rounds) n 0)) k (omega (arith, w .within .rounds n, w .within .entries)) (w .cuts k)
+    go true = set-small (t .cuts) (t .totals .files) (pieceNo n (getD (t .rounds) n 0)) k (omega (arith, w .within .rounds n, w .within .entries)) (w .cuts k)
     go false = w .cuts k
 
 -- an entry more
@@ -121,7 +121,7 @@ rests-small n [] rs h g k = omega arith
 rests-small n (c ∷ cs) [] h g k = omega arith
 rests-small n (c ∷ cs) (r ∷ rs) h g k = go (eqb c 0) k (rests-small (suc n) cs rs (omega arith) (λ j. g (suc j)))
   where
-    go : (b : Bool) (j : ℕ) → Words (restsFrom (suc n) cs rs) → getD (pick b [] (pieceOf n r ∷ []) ++ restsFrom (suc n) cs rs) j 0 < 2 ^ 32
+    go : (b : Bool) (j : ℕ) → Words (restsFrom (suc n) cs rs) → getD (pick b [] (pieceNo n r ∷ []) ++ restsFrom (suc n) cs rs) j 0 < 2 ^ 32
     go true j ih = ih j
     go false zero ih = omega (arith, g 0)
     go false (suc j) ih = ih j

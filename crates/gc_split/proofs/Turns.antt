@@ -11,7 +11,7 @@ use Rattle.numbers.specs.Parts.{front, putAt, put-front, put-put, put-none, put
 use Rattle.rules.specs.Base.{Bool, true, false}
 use Rattle.rules.specs.TurnLaws.{left-next, left-none}
 use Rattle.gc_split.specs.declared.Totals.{Totals}
-use Rattle.gc_split.specs.Tally.{closing, closingRests, restOf, restsFrom, pieceOf}
+use Rattle.gc_split.specs.Tally.{closing, closingRests, restOf, restsFrom, pieceNo}
 
 module _ (slotSize : ℕ) (cs zs : List ℕ) (n : ℕ) (t : Totals) where
   pub closing-next : n < length cs → n < length zs
@@ -33,11 +33,11 @@ closing-bounds slotSize size count t false = (omega arith, omega arith)
 
 module _ (cs rs : List ℕ) (n : ℕ) where
   pub rests-next : n < length cs → n < length rs
-      → restsFrom n (drop n cs) (drop n rs) ≡ restOf (getD cs n 0) (pieceOf n (getD rs n 0)) ++ restsFrom (n + 1) (drop (n + 1) cs) (drop (n + 1) rs)
+      → restsFrom n (drop n cs) (drop n rs) ≡ restOf (getD cs n 0) (pieceNo n (getD rs n 0)) ++ restsFrom (n + 1) (drop (n + 1) cs) (drop (n + 1) rs)
   unfolding restsFrom
   rests-next h g =
       ap₂ (λ (xs ys : List ℕ). restsFrom n xs ys) (left-next cs n 0 h) (left-next rs n 0 g)
-      ∙ ap (λ (m : ℕ). restOf (getD cs n 0) (pieceOf n (getD rs n 0)) ++ restsFrom m (drop (n + 1) cs) (drop (n + 1) rs)) (sym (add-one n))
+      ∙ ap (λ (m : ℕ). restOf (getD cs n 0) (pieceNo n (getD rs n 0)) ++ restsFrom m (drop (n + 1) cs) (drop (n + 1) rs)) (sym (add-one n))
 
   pub rests-end : length cs ≤ n → restsFrom n (drop n cs) (drop n rs) ≡ []
   unfolding restsFrom
@@ -63,14 +63,14 @@ pub placing-start : (cs rs s : List ℕ) → Placing (front (restsFrom 0 cs rs) 
 placing-start cs rs s = record { places = put-front s (restsFrom 0 cs rs); count = omega arith; low = omega arith; fits = refl }
 
 pub placing-turn : (all old cs rs s s′ : List ℕ) (left left′ n : ℕ) → n < length cs → n < length rs → n < length s → Placing all old cs rs s left n
-    → left′ ≡ left + length (restOf (getD cs n 0) (pieceOf n (getD rs n 0))) → s′ ≡ putAt s left (restOf (getD cs n 0) (pieceOf n (getD rs n 0)))
+    → left′ ≡ left + length (restOf (getD cs n 0) (pieceNo n (getD rs n 0))) → s′ ≡ putAt s left (restOf (getD cs n 0) (pieceNo n (getD rs n 0)))
     → Placing all old cs rs s′ left′ (n + 1)
 placing-turn all old cs rs s s′ left left′ n h g k p more put =
-    let here = restOf (getD cs n 0) (pieceOf n (getD rs n 0)) in
+    let here = restOf (getD cs n 0) (pieceNo n (getD rs n 0)) in
     let rest = restsFrom (n + 1) (drop (n + 1) cs) (drop (n + 1) rs) in
     let next = rests-next cs rs n h g in
     let low = p .low in
-    let one = rest-length (getD cs n 0) (pieceOf n (getD rs n 0)) in
+    let one = rest-length (getD cs n 0) (pieceNo n (getD rs n 0)) in
     let room : left ≤ length s = omega arith in
     let fit : left + length here ≤ length s = omega arith in
     record {

@@ -16,7 +16,7 @@ use Rattle.rules.specs.Maintenance.{Shard, noEntries, Split, cutOff, joining, s
 use Rattle.numbers.specs.GroupLaws.{either-way}
 use Rattle.disk_location.specs.Locations.{digitsIn}
 use Rattle.gc_split.specs.TotalLaws.{shardCount, Told, size-at, either-has, cut-told, join-told, split-told, empty-told}
-use Rattle.gc_split.specs.Tally.{Tally, pieceOf, closing, cutting, entering, taking, tallyFrom, tallyOf, emptyTally, restOf, restsFrom, orderOf, piecesFrom, piecesOf, pieceIn, inPiece}
+use Rattle.gc_split.specs.Tally.{Tally, pieceNo, closing, cutting, entering, taking, tallyFrom, tallyOf, emptyTally, restOf, restsFrom, orderOf, piecesFrom, piecesOf, pieceIn, inPiece}
 
 -- ---- 65 shards
 digits-most : (k x : ℕ) → digitsIn k x ≤ k
@@ -54,10 +54,10 @@ rounds-rise rs n m = go (same? m n) (either-way n (length rs))
     go (inl e) (inr h) = rw (set-out rs n (getD rs n 0 + 1) h) (omega arith)
 
 -- a piece's number tells shard and round
-piece-shard : (n r : ℕ) → n < 65 → pieceOf n r % 65 ≡ n
+piece-shard : (n r : ℕ) → n < 65 → pieceNo n r % 65 ≡ n
 piece-shard n r h = omega arith
 
-piece-round : (n r : ℕ) → n < 65 → pieceOf n r / 65 ≡ r
+piece-round : (n r : ℕ) → n < 65 → pieceNo n r / 65 ≡ r
 piece-round n r h = omega arith
 
 -- what a cut makes of a split, and of its tally
@@ -69,7 +69,7 @@ cutTally slotSize n t = record {
   sizes = set (t .sizes) n 0;
   counts = set (t .counts) n 0;
   rounds = set (t .rounds) n (getD (t .rounds) n 0 + 1);
-  cuts = set (t .cuts) (t .totals .files) (pieceOf n (getD (t .rounds) n 0));
+  cuts = set (t .cuts) (t .totals .files) (pieceNo n (getD (t .rounds) n 0));
   totals = closing slotSize (getD (t .sizes) n 0) (getD (t .counts) n 0) (t .totals);
 }
 
@@ -98,7 +98,7 @@ cut-made has slotSize n s t low room p = record {
     round = getD (t .rounds) n 0
 
     piece : ℕ
-    piece = pieceOf n (getD (t .rounds) n 0)
+    piece = pieceNo n (getD (t .rounds) n 0)
 
     rounds : List ℕ
     rounds = set (t .rounds) n (getD (t .rounds) n 0 + 1)
@@ -112,11 +112,11 @@ cut-made has slotSize n s t low room p = record {
     here : piece / 65 < getD rounds (piece % 65) 0
     here = rw (piece-shard n round low, piece-round n round low, now) (omega arith)
 
-    shard : (m : ℕ) → m < 65 → (m ≡ n) ⊎ (m ≡ n → ⊥) → getD (set (s .shards) n noEntries) m noEntries .ops ≡ has (pieceOf m (getD rounds m 0))
+    shard : (m : ℕ) → m < 65 → (m ≡ n) ⊎ (m ≡ n → ⊥) → getD (set (s .shards) n noEntries) m noEntries .ops ≡ has (pieceNo m (getD rounds m 0))
     shard m small (inl e) =
-        let later : getD (t .rounds) (pieceOf n (round + 1) % 65) 0 < pieceOf n (round + 1) / 65 =
+        let later : getD (t .rounds) (pieceNo n (round + 1) % 65) 0 < pieceNo n (round + 1) / 65 =
         rw (piece-shard n (round + 1) low, piece-round n (round + 1) low) (omega arith) in
-        rw (e, getD-set-same (s .shards) n noEntries noEntries (omega (arith, p .long .0)), now) (sym (p .fresh (pieceOf n (round + 1)) later))
+        rw (e, getD-set-same (s .shards) n noEntries noEntries (omega (arith, p .long .0)), now) (sym (p .fresh (pieceNo n (round + 1)) later))
     shard m small (inr d) =
         rw (getD-set-other (s .shards) n m noEntries noEntries d, getD-set-other (t .rounds) n m (round + 1) 0 d) (p .shards m small)
 
@@ -187,7 +187,7 @@ unfolding taking entering cutting
 take-cuts target slotSize n size t = go (ltb target (getD (t .sizes) n 0))
   where
     go : (b : Bool) → length (pick b (cutTally slotSize n t) t .cuts) ≡ length (t .cuts)
-    go true = length-set (t .cuts) (t .totals .files) (pieceOf n (getD (t .rounds) n 0))
+    go true = length-set (t .cuts) (t .totals .files) (pieceNo n (getD (t .rounds) n 0))
     go false = refl
 
 -- cut off before or not, an entry joins
@@ -240,16 +240,16 @@ split-made has target slotSize k (o ∷ os) s t told p room =
 -- ---- the files that come out
 -- what is left of the shards from i on
 rests-made : (has : ℕ → List Op) (i : ℕ) (ss : List Shard) (rs : List ℕ) → length ss ≡ length rs
-    → ((k : ℕ) → k < length ss → getD ss k noEntries .ops ≡ has (pieceOf (i + k) (getD rs k 0)))
+    → ((k : ℕ) → k < length ss → getD ss k noEntries .ops ≡ has (pieceNo (i + k) (getD rs k 0)))
     → keep hasEntries (map (λ (s : Shard). s .ops) ss) ≡ map has (restsFrom i (map shardCount ss) rs)
 unfolding keep restsFrom restOf
 rests-made has i [] rs e h = refl
 rests-made has i (s ∷ ss) [] e h = absurd (omega (arith, e))
 rests-made has i (s ∷ ss) (r ∷ rs) e h =
-    let first : s .ops ≡ has (pieceOf i r) = h 0 (omega arith) ∙ ap (λ (k : ℕ). has (pieceOf k r)) (add-zero i) in
+    let first : s .ops ≡ has (pieceNo i r) = h 0 (omega arith) ∙ ap (λ (k : ℕ). has (pieceNo k r)) (add-zero i) in
     go (s .ops) first
     (rests-made has (suc i) ss rs (omega (arith, e))
-    (λ k small. let there : i + suc k ≡ suc i + k = omega arith in h (suc k) (omega arith) ∙ ap (λ (m : ℕ). has (pieceOf m (getD rs k 0))) there))
+    (λ k small. let there : i + suc k ≡ suc i + k = omega arith in h (suc k) (omega arith) ∙ ap (λ (m : ℕ). has (pieceNo m (getD rs k 0))) there))
   where
     rest : List ℕ
     rest = restsFrom (suc i) (map shardCount ss) rs
@@ -257,7 +257,7 @@ rests-made has i (s ∷ ss) (r ∷ rs) e h =
     left : List (List Op)
     left = keep hasEntries (map (λ (s : Shard). s .ops) ss)
 
-    go : (f : List Op) → f ≡ has (pieceOf i r) → left ≡ map has rest → pick (hasEntries f) (f ∷ left) left ≡ map has (pick (eqb (length f) 0) [] (pieceOf i r ∷ []) ++ rest)
+    go : (f : List Op) → f ≡ has (pieceNo i r) → left ≡ map has rest → pick (hasEntries f) (f ∷ left) left ≡ map has (pick (eqb (length f) 0) [] (pieceNo i r ∷ []) ++ rest)
     go [] e ih = ih
     go (o ∷ os) e ih = rw (ne-eqb (suc (length os)) 0 (λ z. omega arith)) (ap₂ (λ (f : List Op) (fs : List (List Op)). f ∷ fs) e ih)
 

@@ -24,8 +24,8 @@ tally sizes counts rounds cuts totals = record { sizes = sizes; counts = counts;
 
 -- ---- entry by entry
 -- the number of what is in shard n after so many cuts
-abbrev pub pieceOf : ℕ → ℕ → ℕ
-pieceOf n round = 65 * round + n
+abbrev pub pieceNo : ℕ → ℕ → ℕ
+pieceNo n round = 65 * round + n
 
 -- a file more, of that many object bytes and entries: "64 + file_size > S", "sum of (T + 1)"
 unfoldable pub closing : ℕ → ℕ → ℕ → Totals → Totals
@@ -44,7 +44,7 @@ cutting target slotSize n t =
       sizes = set (t .sizes) n 0;
       counts = set (t .counts) n 0;
       rounds = set (t .rounds) n (getD (t .rounds) n 0 + 1);
-      cuts = set (t .cuts) (t .totals .files) (pieceOf n (getD (t .rounds) n 0));
+      cuts = set (t .cuts) (t .totals .files) (pieceNo n (getD (t .rounds) n 0));
       totals = closing slotSize (getD (t .sizes) n 0) (getD (t .counts) n 0) (t .totals);
     })
     t
@@ -94,7 +94,7 @@ restOf count piece = pick (eqb count 0) [] (piece ∷ [])
 unfoldable pub restsFrom : ℕ → List ℕ → List ℕ → List ℕ
 restsFrom n [] rs = []
 restsFrom n (c ∷ cs) [] = []
-restsFrom n (c ∷ cs) (r ∷ rs) = restOf c (pieceOf n r) ++ restsFrom (suc n) cs rs
+restsFrom n (c ∷ cs) (r ∷ rs) = restOf c (pieceNo n r) ++ restsFrom (suc n) cs rs
 
 -- the files' numbers in order: ".. then fragments as cut"
 unfoldable pub orderOf : Tally → List ℕ
@@ -116,7 +116,7 @@ totalsFor slotSize entries files = record {
 -- ---- which operation is in which file
 -- the number of the piece that an entry of shard n is in, right after it joined
 abbrev pub pieceIn : ℕ → Tally → ℕ
-pieceIn n t = pieceOf n (getD (t .rounds) n 0)
+pieceIn n t = pieceNo n (getD (t .rounds) n 0)
 
 -- of each operation
 unfoldable pub piecesFrom : ℕ → ℕ → List Op → Tally → List ℕ

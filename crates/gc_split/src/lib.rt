@@ -13,7 +13,7 @@ ghost use Rattle.numbers.specs.Choice.{pick};
 ghost use Rattle.numbers.specs.Parts.{front, putAt};
 ghost use Rattle.rules.specs.Refusal.{decide};
 ghost use Rattle.gc_split.specs.TotalLaws.{totalsTests};
-ghost use Rattle.gc_split.specs.Tally.{tally, pieceOf, closing, cutting, taking, closingRests, restOf, restsFrom, Within, Closable, Numbered};
+ghost use Rattle.gc_split.specs.Tally.{tally, pieceNo, closing, cutting, taking, closingRests, restOf, restsFrom, Within, Closable, Numbered};
 
 // Where positions end: 2^62.
 const POSITIONS: u64 = 1 << 62;
@@ -60,7 +60,7 @@ fn closed(t: Totals, slot_bytes: u64, size: u64, count: u64) -> Totals
 // The number of what is in a shard after so many cuts.
 fn piece(shard: usize, round: u64) -> u64
     requires { ⌜ (shard < 65) × (round ≤ 65536) ⌝ }
-    ensures { λ r. ⌜ r ≡ pieceOf shard round ⌝ }
+    ensures { λ r. ⌜ r ≡ pieceNo shard round ⌝ }
 {
     65 * round + shard as u64
 }
@@ -139,7 +139,7 @@ pub fn join(
 // The piece that an entry is in, right after it joined the shard.
 pub fn piece_in(rounds: &[u64], shard: usize) -> u64
     requires { ⌜ (shard < 65) × (length (now rounds) ≡ 65) × (getD (now rounds) shard 0 ≤ 65536) ⌝ }
-    ensures { λ r. ⌜ (r ≡ pieceOf shard (getD (now (rounds .entry)) shard 0)) × (r < 2 ^ 32) ⌝ }
+    ensures { λ r. ⌜ (r ≡ pieceNo shard (getD (now (rounds .entry)) shard 0)) × (r < 2 ^ 32) ⌝ }
 {
     piece(shard, rounds[shard])
 }

@@ -5,7 +5,7 @@ use borrow.Author.Tests.{eq-eqb, ne-eqb}
 use borrow.Author.Needs.{needs}
 use lib.ListN.{getD, set}
 use lib.Seq.{set-getD}
-use Rattle.gc_split.specs.Tally.{Tally, tally, taking, pieceOf}
+use Rattle.gc_split.specs.Tally.{Tally, tally, taking, pieceNo}
 use Rattle.gc_split.specs.PieceLaws.{shard-most}
 use Rattle.gc_split.specs.BoundLaws.{take-within}
 use Rattle.gc_files.specs.Places.{opAt, entryTaken, entryPiece}
@@ -99,7 +99,7 @@ returns-2 c =
     let found = measured (a .heap .now) (a .id) (a .place) (moved .before .if1 .left) (start .pre .0) (moved .moving-at .ensures) (z .before .shard-of .ensures) (z .size-of .ensures) in
     let t = tally (a .sizes .now) (a .counts .now) (a .rounds .now) (a .cuts .now) (a .totals) in
     let joined = call .join .ensures ∙ ap₂ (λ (n k : ℕ). taking (a .target) (a .slot-bytes) n k t) (found .shard) (found .size) in
-    let number = c .piece-in .ensures .0 ∙ ap₂ (λ (n : ℕ) (u : Tally). pieceOf n (getD (u .rounds) n 0)) (found .shard) joined in
+    let number = c .piece-in .ensures .0 ∙ ap₂ (λ (n : ℕ) (u : Tally). pieceNo n (getD (u .rounds) n 0)) (found .shard) joined in
     rw (ne-eqb (a .place) 0 (moved .before .if1 .left)) (joined, ap (set (a .pieces .now) (a .i)) number)
 
 pub split-entry-spec : {M : Type 1} → statement M
