@@ -99,6 +99,7 @@ def directed():
     high = Made(one(BATCH_BIT + 5), two(BATCH_BIT - 50))
     unlisted = (1, 21, body + trailer((2, 0)), 1, 0)
     flipped = (23, 21, object_bytes(2, b'B')[:20] + b'C' + trailer((3, 0)), 1, 0)
+    deleted = lambda ident, raw: (1, 21, body + trailer((ident, raw)), 1, 0)
     half = Made(one(), (23, 21, object_bytes(2, b'B') + bytes(20), 1, 0))
     first = 2 * (BATCH_BIT + 1)  # raw location of a fresh store's first object
     greatest = 'store 1 18446744073709551615'
@@ -140,6 +141,8 @@ def directed():
         case(8, 'header past T in maintenance', Made((1, 1, b'\0' + trailer((1, 1)), 1, 0)), ['maintain'], 'refused 16 1 0',
              ['maintain'], 'err InvalidData'),
         case(9, 'unmapped object in maintenance', Made(unlisted), ['maintain'], 'refused 18 1 0', ['maintain'], 'panic gc.rs:89'),
+        case(9, '.. and delete, of a trailer changed after the open', Made(one()), [nothing.poke(0, deleted(5, 1)), 'maintain'], 'refused 18 1 0',
+             [Made.raw(deleted(5, 1)), 'maintain'], 'panic gc.rs:148'),
         case(10, 'another stored id', Made(unlisted), ['read 2'], 'refused 17', ['read 2'], 'panic readpath.rs:65'),
         case(11, 'length of 2^63', Made((1, 20, bytes(19) + b'\x80' + listed, 1, 0)), ['read 1'], 'refused 16', ['read 1'], FAILS),
         case(12, 'near 2^62', high, ['write 01010142'], 'refused 7', ['write 1=42'], f'ok {BATCH_BIT + 22}'),
@@ -189,6 +192,9 @@ def directed():
         case(25, '14: equal lsns', Made(one(), two(1, 1)), ['reopen'], 'refused 14', [], 'panic recovery.rs:102'),
         case(26, '15', Made((1, 21, body + trailer((1, 0), (1, 0)), 2, 0)), ['reopen'], 'refused 15', [], 'panic recovery.rs:73'),
         case(27, 'P2: absolute raw 0', nothing, ['store 1 0'], 'refused 20', ['absolute 0 0'], 'panic disk_location.rs:62'),
+        case(27, 'sum of 2^63, of a trailer changed after the open', Made(one()), [nothing.poke(0, deleted(1, 2 ** 64 - 1)), 'maintain'], 'refused 20 1 0',
+             [Made.raw(deleted(1, 2 ** 64 - 1)), 'maintain'], 'panic disk_location.rs:4'),
+        case(27, 'sum of 2^64', Made((2 ** 64 - 1, 21, body + trailer((1, 2)), 1, 0)), ['reopen'], 'refused 8', [], 'panic disk_location.rs:41'),
         case(28, 'compare-and-store, unmapped', nothing, ['cas 1 2 3'], 'refused 18', ['cas 1 2 3'], 'panic location_table.rs:37'),
         case(28, 'store-if-greater, equal', nothing, ['store 1 2', 'max 1 2'], 'refused 19', ['store 1 2', 'max 1 2'], 'panic location_table.rs:53'),
         case(29, 'no file to read', nothing, ['store 7 10', 'read 7'], 'refused 18', ['store 7 10', 'read 7'], 'panic file_map.rs:125'),
