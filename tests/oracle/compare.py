@@ -2,7 +2,7 @@
 """Compares the port with the original Rust by running both on the same scenarios.
 
     compare.py [--model | --console PATH] [--rust PATH | --stored FILE] [--seed S] [--from K] [--count N] [--seconds T] [--small] [--store FILE]
-               [--tally FILE]
+               [--number FILE]
 
 After every call: each id's read, the answer, the growth of the next position, counts, each file's numbers, live count and claim;
 after reopenings and rewrites also each file as a set of entries. At a scenario's end the heap that the port wrote is renamed to the
@@ -487,7 +487,7 @@ def main():
     parser.add_argument('--count', type=int, default=100)
     parser.add_argument('--seconds', type=float, default=1e9, help='begin no round after so long')
     parser.add_argument('--small', action='store_true')
-    parser.add_argument('--tally', help='add to this file how many calls were compared: beside the original, or with stored answers')
+    parser.add_argument('--number', help='write the number of calls into this file')
     options = parser.parse_args()
     port = Model() if options.model else Port(options.console)
     rust = Stored(options.stored) if options.stored else Rust(options.rust)
@@ -514,11 +514,11 @@ def main():
     calls = sum(comparison.calls.values()) - not_made
     print(f"{port.name} and {against}: {cases} smallest inputs, {done} scenarios and {carried} on the original's files, {done + carried} heaps of the port "
           f'opened by the original, {calls} calls alike and {not_made} made by the port alone, seed {options.seed}, {time.time() - began:.0f} s')
-    if options.tally:
-        with open(options.tally, 'a') as tally:
-            print('stored' if options.stored else 'beside', calls, file=tally)
     print('  calls: ' + ', '.join(f'{n} {w}' for w, n in sorted(comparison.calls.items())))
     print('  known: ' + ', '.join(f'{w} {n}' for w, n in sorted(comparison.known.items())))
+    if options.number:
+        with open(options.number, 'w') as out:
+            out.write(f'{calls}\n')
 
 
 if __name__ == '__main__':
