@@ -2,6 +2,7 @@
 """Compares the port with the original Rust by running both on the same scenarios.
 
     compare.py [--model | --console PATH] [--rust PATH | --stored FILE] [--seed S] [--from K] [--count N] [--seconds T] [--small] [--store FILE]
+               [--number FILE]
 
 After every call: each id's read, the answer, the growth of the next position, counts, each file's numbers, live count and claim;
 after reopenings and rewrites also each file as a set of entries. At a scenario's end the heap that the port wrote is renamed to the
@@ -14,8 +15,8 @@ import time
 import zlib
 
 from model import BATCH_BIT, HEADER, LABEL, Console, batch_operations, label_numbers, le, masked, shard, trailer_entries, Refused
-from known import GROUP_FAILURES, KNOWN, NOT_MADE, READ_FAILURES, TABLE_FAILURES, directed
-from port import Difference, Model, Port, Rust, Stored, store_answers
+from known import FAILS, GROUP_FAILURES, KNOWN, NOT_MADE, READ_FAILURES, TABLE_FAILURES, directed
+from port import Difference, Ended, Model, Port, Rust, Stored, store_answers
 from scenarios import from_files, scenario
 
 File = collections.namedtuple('File', 'lsn trailer_offset file_size present generation live claimed')
@@ -450,15 +451,27 @@ def compare(port, comparison, source, numbers):
     return len(jobs), len(carried)
 
 
+def last_answer(rust, commands):
+    """the original's answer to the last of the commands; `ended` where its process did at that one"""
+    for command in commands[:-1]:
+        rust.ask(command)
+    try:
+        return rust.ask(commands[-1])[0]
+    except Ended:
+        rust.again(commands[-1])
+        return 'ended'
+
+
 def compare_directed(port, rust):
     """the smallest inputs of known.py: each side says what the list has"""
     cases = directed()
-    for k, (name, lines, port_says, commands, rust_says) in enumerate(cases):
+    for k, (row, name, lines, port_says, commands, rust_says) in enumerate(cases):
         rust.begin(f'smallest input {k}')
-        got = port.run(lines)[-1][0], [rust.ask(command)[0] for command in commands][-1]
-        rust_so = got[1] == rust_says or rust_says == 'panic' and got[1].startswith('panic')  # in the standard library: no place
-        if got[0] != port_says or not rust_so:
-            raise Difference(f'smallest input {name}\n    port: {got[0]}, wanted {port_says}\n    Rust: {got[1]}, wanted {rust_says}\n\n' + '\n'.join(lines))
+        said, answer = port.run(lines)[-1][0], last_answer(rust, commands)
+        failed = FAILS in rust_says and answer.split()[0] in ('err', 'panic', 'ended')
+        if said != port_says or answer not in rust_says and not failed:
+            raise Difference(f'smallest input {name}, row {row}\n    port: {said}, wanted {port_says}\n    Rust: {answer}, '
+                             f'wanted {" or ".join(rust_says)}\n\n' + '\n'.join(lines + [''] + commands))
     return len(cases)
 
 
@@ -474,6 +487,7 @@ def main():
     parser.add_argument('--count', type=int, default=100)
     parser.add_argument('--seconds', type=float, default=1e9, help='begin no round after so long')
     parser.add_argument('--small', action='store_true')
+    parser.add_argument('--number', help='write the number of calls into this file')
     options = parser.parse_args()
     port = Model() if options.model else Port(options.console)
     rust = Stored(options.stored) if options.stored else Rust(options.rust)
@@ -502,6 +516,9 @@ def main():
           f'opened by the original, {calls} calls alike and {not_made} made by the port alone, seed {options.seed}, {time.time() - began:.0f} s')
     print('  calls: ' + ', '.join(f'{n} {w}' for w, n in sorted(comparison.calls.items())))
     print('  known: ' + ', '.join(f'{w} {n}' for w, n in sorted(comparison.known.items())))
+    if options.number:
+        with open(options.number, 'w') as out:
+            out.write(f'{calls}\n')
 
 
 if __name__ == '__main__':

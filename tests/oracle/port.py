@@ -91,8 +91,14 @@ class Rust:
     def line(self, command):
         line = self.process.stdout.readline()
         if not line:
-            raise SystemExit(f'the original ended at: {command}')
+            raise Ended(f'the original ended at: {command}')
         return line.rstrip('\n')
+
+    def again(self, command):
+        """a new process, for one that ended at command; that is its answer"""
+        self.current.append((command, ['ended']))
+        self.process.wait()
+        self.process = subprocess.Popen(self.process.args, text=True, stdin=subprocess.PIPE, stdout=subprocess.PIPE)
 
     def close(self):
         self.process.stdin.close()
@@ -146,6 +152,10 @@ def store_answers(path, scenarios, transcripts):
                 said = ['same'] if last.get(command) == answer else answer
                 out.write('\n'.join([question(command)] + said) + '\n')
                 last[command] = answer
+
+
+class Ended(SystemExit):
+    """the original's process ended"""
 
 
 class Difference(Exception):

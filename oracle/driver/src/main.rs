@@ -59,6 +59,9 @@ impl Driver {
             "target_file_size" => c.target_file_size = value as usize,
             "small_file_cleanup_threshold" => c.small_file_cleanup_threshold = value as usize,
             "max_object_size" => c.max_object_size = value as usize,
+            "partition_function" => {
+                c.partition_function = if value == 0 { Config::default().partition_function } else { marble::default_partition_function }
+            }
             _ => return format!("unknown setting {name}"),
         }
         "ok".into()
