@@ -43,11 +43,11 @@
    - A reopening refused with any number but 1 leaves an empty store that a write would use, from slot 0 on, over files that are
      still in the heap. Do not write before an accepted reopening: copy the heap away first.
 
-   When power fails. Promised, and proved of the rules (docs/requests/P8.md): after any of the single-byte stores of any call, a reopening
-   with the same settings and table length is accepted and gives every read as before the call, or every read as after it. It is as after
-   it only where all of a write's stores have landed; the last is the first byte of the label. Prune and maintenance change no read.
-   Presumed: these calls alone have written the heap, since every slot of it began with a byte 0; stores land in the order in which the
-   calls make them, which a compiler, a cache or a flash driver could change; and a byte is stored whole or not at all.
+   When power fails. Promised, and proved of the rules (docs/requests/P8.md): power gone after any number of the single-byte stores of any
+   call, a reopening with the same settings and table length is accepted and gives every read as before the call, or every read as after
+   it. It is as after it only where all of a write's stores have landed; the last is the first byte of the label. Prune and maintenance
+   change no read. Presumed: these calls alone have written the heap, since every slot of it began with a byte 0; stores land in the order
+   in which the calls make them, which a compiler, memcpy, a cache or a flash driver could change; a byte is stored whole or not at all.
 
    Processor and libraries. The archive is code for x86-64 (System V calling convention, position independent, SSE2 and nothing newer), so
    size_t has 64 bits. It needs memcpy and memset from the host, and nothing else: no allocation, no input or output, no data of its own.
@@ -241,7 +241,8 @@ MARBLE_MUST_USE uint64_t marble_release(marble_settings settings, const marble_s
 
 /* "Prune": every unclaimed file with live 0: first label byte set to 0, record emptied. No other heap byte changes. 1. */
 MARBLE_MUST_USE uint64_t marble_prune(marble_settings settings, marble_state *state, const marble_claims *claims, uint8_t *heap,
-                                      size_t heap_len, const uint64_t *ids, size_t ids_len, const uint64_t *locations, size_t locations_len);
+                                      size_t heap_len, const uint64_t *ids, size_t ids_len, const uint64_t *locations,
+                                      size_t locations_len);
 
 /* "Maintenance": live objects and deletes of mostly dead or small files are gathered into new ones, group by group, then a prune. moved is
    the count of ids moved, generation 0. A refusal (3, 4, 5, 7, 9, 10, 11, 16, 18, 20) stops the call and keeps finished groups:
