@@ -1,4 +1,4 @@
-/* marble.h: Tumrezask for a host in C. A store of numbered objects in a lent buffer, by the rules of document 01.
+/* marble.h: Tumrezask for a host in C or C++. A store of numbered objects in a lent buffer, by the rules of document 01.
 
    Example, whole; it compiles as it stands:
 
@@ -11,15 +11,20 @@
 
    int main(void) {
        const marble_settings s = MARBLE_DEFAULTS;
-       const uint8_t batch[] = {7, 1, 5, 'h', 'e', 'l', 'l', 'o', 9, 0};  // put 7 "hello", delete 9
+       uint8_t batch[MARBLE_BATCH_LENGTH_MAX(1, 5, 1)];  // one put, its 5 bytes, one delete
+       size_t len = 0;
        uint64_t offset, size;
-       if (marble_reopen(s, &state, &claims, heap, sizeof heap, ids, 256, locations, 256) != 0)
-           return 1;                          // do not write now: rescue the heap first
-       if (marble_write(s, &state, heap, sizeof heap, ids, 256, locations, 256, batch, sizeof batch) != 0)
-           return 2;
-       if (marble_read(s, &state, heap, sizeof heap, ids, 256, locations, 256, 7, &offset, &size) != 0)
-           return 3;
-       return offset != 0 && size == 5 && heap[offset] == 'h' ? 0 : 4;
+       if (marble_version() != MARBLE_VERSION)
+           return 1;                          // the archive is another than this header's
+       if (marble_reopen(s, &state, &claims, heap, sizeof heap, ids, 256, locations, 256) != MARBLE_OK)
+           return 2;                          // do not write now: rescue the heap first
+       if (!marble_batch_put(batch, sizeof batch, &len, 7, "hello", 5) || !marble_batch_delete(batch, sizeof batch, &len, 9))
+           return 3;                          // the batch is full
+       if (marble_write(s, &state, heap, sizeof heap, ids, 256, locations, 256, batch, len) != MARBLE_OK)
+           return 4;
+       if (marble_read(s, &state, heap, sizeof heap, ids, 256, locations, 256, 7, &offset, &size) != MARBLE_OK)
+           return 5;
+       return offset != 0 && size == 5 && heap[offset] == 'h' ? 0 : 6;
    }
 
    End of the example.
@@ -30,11 +35,23 @@
    What the host must do:
    - Lend buffers that do not overlap, u64 buffers aligned for uint64_t; out-parameters and state are real places, never NULL.
      A length counts elements: bytes of the heap and the batch, uint64_t of the table. ids and locations have the same length.
+     A batch does not lie in the heap either, not even behind its files: the file is written while the batch is read. A body that a
+     read found is put again through a batch buffer, into which marble_batch_put copies it.
    - Keep heap, table and state unchanged between calls (the four table calls are there for the table), and one caller at a time.
    - Give every call the settings and lengths of the accepted reopening. Others are refused with 1.
    - After power comes back, heap alone is enough: zero the rest and reopen.
    - A reopening refused with any number but 1 leaves an empty store that a write would use, from slot 0 on, over files that are
-     still in the heap. Do not write before an accepted reopening: copy the heap away first. */
+     still in the heap. Do not write before an accepted reopening: copy the heap away first.
+
+   When power fails. Promised, and proved of the rules (docs/requests/P8.md): power gone after any number of the single-byte stores of any
+   call, a reopening with the same settings and table length is accepted and gives every read as before the call, or every read as after
+   it. It is as after it only where all of a write's stores have landed; the last is the first byte of the label. Prune and maintenance
+   change no read. Presumed: these calls alone have written the heap, since every slot of it began with a byte 0; stores land in the order
+   in which the calls make them, which a compiler, memcpy, a cache or a flash driver could change; a byte is stored whole or not at all.
+
+   Processor and libraries. The archive is code for x86-64 (System V calling convention, position independent, SSE2 and nothing newer), so
+   size_t has 64 bits. It needs memcpy and memset from the host, and nothing else: no allocation, no input or output, no data of its own.
+   Stack: MARBLE_STACK_.. below, for each call. */
 #ifndef MARBLE_H
 #define MARBLE_H
 
@@ -44,6 +61,11 @@
 #ifdef __cplusplus
 extern "C" {
 #endif
+
+/* ---- version: the header's. marble_version() is the archive's; a host stops where they differ. A new major number: a host must change. */
+#define MARBLE_VERSION_MAJOR 1
+#define MARBLE_VERSION_MINOR 0
+#define MARBLE_VERSION (MARBLE_VERSION_MAJOR * 1000 + MARBLE_VERSION_MINOR)
 
 /* ---- limits: the column "Range" */
 #define MARBLE_SLOT_BYTES_MIN 128
@@ -67,29 +89,65 @@ extern "C" {
 /* ---- the column "Port's default": marble_settings s = MARBLE_DEFAULTS; */
 #define MARBLE_DEFAULTS {4096, 75, 2, 2048, 64, 1024}
 
+/* ---- sizes. An argument is a number of things or of bytes; bodies are the bytes of all bodies together. */
+/* A buffer of so many bytes takes every batch of these puts and deletes: id 10 bytes at most, tag 1, length 3 at most, as every body that a
+   write accepts is shorter than MARBLE_MAX_OBJECT_SIZE_MAX. */
+#define MARBLE_BATCH_LENGTH_MAX(puts, bodies, deletes) (14 * (size_t)(puts) + (size_t)(bodies) + 11 * (size_t)(deletes))
+/* file_size of a file: trailer 12, an entry 16, for each put and each delete; an object 20 and its body, for each put. Of operations on
+   one id the last alone counts. */
+#define MARBLE_FILE_SIZE(puts, bodies, deletes) (12 + 36 * (uint64_t)(puts) + (uint64_t)(bodies) + 16 * (uint64_t)(deletes))
+/* What it takes of its slot, with the label. A write is refused with 4 where this is over slot_bytes. */
+#define MARBLE_SLOT_NEED(puts, bodies, deletes) (MARBLE_LABEL_BYTES + MARBLE_FILE_SIZE(puts, bodies, deletes))
+
+/* ---- a raw location: twice the position, plus 1 for a delete. Bit 62 of a position is the batch bit: set in a file that a write made,
+   clear in a rewritten one. */
+#define MARBLE_LOCATION_POSITION(raw) ((uint64_t)(raw) >> 1)
+#define MARBLE_LOCATION_IS_DELETE(raw) ((uint64_t)(raw) & 1)
+
+/* ---- stack: bytes below the caller that each call was never seen to pass in the tests (tests/c fails where one does). Measured on x86-64,
+   not proved; what interrupts take comes on top. */
+#define MARBLE_STACK_REOPEN 38912
+#define MARBLE_STACK_WRITE 45056
+#define MARBLE_STACK_READ 16384
+#define MARBLE_STACK_CLAIM 13312
+#define MARBLE_STACK_RELEASE 13312
+#define MARBLE_STACK_PRUNE 25600
+#define MARBLE_STACK_MAINTAIN 589824
+#define MARBLE_STACK_COUNTS 25600
+#define MARBLE_STACK_TABLE 128 /* each of the four table calls */
+
 /* ---- answers: success, and the refusal numbers */
-#define MARBLE_OK 0                    /* accepted; nothing found is a success too */
-#define MARBLE_LIMITS 1                /* settings, lengths, table or state out of their ranges, or not those of the state */
-#define MARBLE_BATCH_BYTES 2           /* batch bytes malformed */
-#define MARBLE_OBJECT_SIZE 3           /* a put of max_object_size or more */
-#define MARBLE_SLOT_ROOM 4             /* 64 + file_size > slot_bytes */
-#define MARBLE_NO_EMPTY_SLOT 5         /* fewer empty slots than new files */
-#define MARBLE_TABLE_ROOM 6            /* more distinct ids than table entries */
-#define MARBLE_POSITIONS_SPENT 7       /* positions would pass 2^62 */
-#define MARBLE_LABEL 8                 /* label */
-#define MARBLE_TRAILER_SHORT 9         /* trailer under 20 bytes */
-#define MARBLE_CHECKSUM 10             /* checksum */
-#define MARBLE_ENTRY_COUNT 11          /* more entries than the trailer has room for */
-#define MARBLE_ENTRY_POSITION 12       /* entry position over trailer_offset */
-#define MARBLE_PRESENT_COUNT 13        /* present_objects is not the count */
-#define MARBLE_OVERLAP 14              /* overlapping files */
-#define MARBLE_NOT_RISING 15           /* repeated id not rising */
-#define MARBLE_CUT_SHORT 16            /* bytes cut short */
-#define MARBLE_OTHER_ID 17             /* stored id is another */
-#define MARBLE_NOT_THERE 18            /* no file at or below, or id unmapped */
-#define MARBLE_EQUAL_LOCATION 19       /* equal location */
-#define MARBLE_LOCATION 20             /* raw location 0 */
-#define MARBLE_CLAIM 21                /* claim or release of a slot that cannot be */
+#define MARBLE_OK 0                      /* accepted; nothing found is a success too */
+#define MARBLE_E_LIMITS 1                /* settings, lengths, table or state out of their ranges, or not those of the state */
+#define MARBLE_E_BATCH_BYTES 2           /* batch bytes malformed */
+#define MARBLE_E_OBJECT_SIZE 3           /* a put of max_object_size or more */
+#define MARBLE_E_SLOT_ROOM 4             /* 64 + file_size > slot_bytes */
+#define MARBLE_E_NO_EMPTY_SLOT 5         /* fewer empty slots than new files */
+#define MARBLE_E_TABLE_ROOM 6            /* more distinct ids than table entries */
+#define MARBLE_E_POSITIONS_SPENT 7       /* positions would pass 2^62 */
+#define MARBLE_E_LABEL 8                 /* label */
+#define MARBLE_E_TRAILER_SHORT 9         /* trailer under 20 bytes */
+#define MARBLE_E_CHECKSUM 10             /* checksum */
+#define MARBLE_E_ENTRY_COUNT 11          /* more entries than the trailer has room for */
+#define MARBLE_E_ENTRY_POSITION 12       /* entry position over trailer_offset */
+#define MARBLE_E_PRESENT_COUNT 13        /* present_objects is not the count */
+#define MARBLE_E_OVERLAP 14              /* overlapping files */
+#define MARBLE_E_NOT_RISING 15           /* repeated id not rising */
+#define MARBLE_E_CUT_SHORT 16            /* bytes cut short */
+#define MARBLE_E_OTHER_ID 17             /* stored id is another */
+#define MARBLE_E_NOT_THERE 18            /* no file at or below, or id unmapped */
+#define MARBLE_E_EQUAL_LOCATION 19       /* equal location */
+#define MARBLE_E_LOCATION 20             /* a table call: raw location 0 given; maintenance: a delete's position + lsn is 2^63 or more */
+#define MARBLE_E_CLAIM 21                /* claim or release of a slot that cannot be */
+
+/* ---- an answer that nobody looks at is a warning, where the compiler can */
+#if defined(__GNUC__)
+#define MARBLE_MUST_USE __attribute__((warn_unused_result))
+#elif (defined(__cplusplus) && __cplusplus >= 201703L) || (defined(__STDC_VERSION__) && __STDC_VERSION__ >= 202311L)
+#define MARBLE_MUST_USE [[nodiscard]]
+#else
+#define MARBLE_MUST_USE
+#endif
 
 /* ---- what is lent */
 typedef struct marble_settings {
@@ -132,58 +190,129 @@ typedef struct marble_totals {
     uint64_t live;
 } marble_totals;
 
+/* ---- the archive's sizes, held against the host's compiler */
+#if defined(__cplusplus)
+#define MARBLE_HOLDS(name, what) static_assert(what, #name)
+#elif defined(__STDC_VERSION__) && __STDC_VERSION__ >= 201112L
+#define MARBLE_HOLDS(name, what) _Static_assert(what, #name)
+#else
+#define MARBLE_HOLDS(name, what) typedef char marble_holds_##name[(what) ? 1 : -1]
+#endif
+MARBLE_HOLDS(lengths_of_64_bits, sizeof(size_t) == 8 && sizeof(void *) == 8);
+MARBLE_HOLDS(settings_of_six_words, sizeof(marble_settings) == 48);
+MARBLE_HOLDS(record_of_six_words, sizeof(marble_record) == 48);
+MARBLE_HOLDS(state_of_1545_words, sizeof(marble_state) == 12360);
+MARBLE_HOLDS(records_from_word_8, offsetof(marble_state, records) == 64);
+MARBLE_HOLDS(next_position_last, offsetof(marble_state, next_position) == 12352);
+MARBLE_HOLDS(claims_of_four_words, sizeof(marble_claims) == 32);
+MARBLE_HOLDS(totals_of_four_words, sizeof(marble_totals) == 32);
+#undef MARBLE_HOLDS
+
+/* MARBLE_VERSION of the archive. */
+uint64_t marble_version(void);
+
 /* ---- the store */
 /* "Reopen": records and table from the heap alone, which is only read; a file's live count is the ids mapped into it. 1, then 8 to 13
    slot by slot, then 14, 15, 6. Refused with any number but 1: both table buffers zeroed, no records, no claims, next position 1. */
-uint64_t marble_reopen(marble_settings settings, marble_state *state, marble_claims *claims, const uint8_t *heap, size_t heap_len,
-                       uint64_t *ids, size_t ids_len, uint64_t *locations, size_t locations_len);
+MARBLE_MUST_USE uint64_t marble_reopen(marble_settings settings, marble_state *state, marble_claims *claims, const uint8_t *heap,
+                                       size_t heap_len, uint64_t *ids, size_t ids_len, uint64_t *locations, size_t locations_len);
 
 /* "Write": a batch whole or not at all, decided 1 to 7 in order. Batch bytes: id in seven-bit groups, then 0 (delete) or 1 (put) with the
-   length in groups and the body; the last operation on an id counts. An empty batch succeeds and changes nothing. */
-uint64_t marble_write(marble_settings settings, marble_state *state, uint8_t *heap, size_t heap_len, uint64_t *ids, size_t ids_len,
-                      uint64_t *locations, size_t locations_len, const uint8_t *batch, size_t batch_len);
+   length in groups and the body; the last operation on an id counts. An empty batch succeeds and changes nothing. marble_batch_put and
+   marble_batch_delete make them. */
+MARBLE_MUST_USE uint64_t marble_write(marble_settings settings, marble_state *state, uint8_t *heap, size_t heap_len, uint64_t *ids,
+                                      size_t ids_len, uint64_t *locations, size_t locations_len, const uint8_t *batch, size_t batch_len);
 
 /* "Read": the object is size bytes from heap + offset on, until the next call that changes the heap. Unmapped or deleted: offset 0,
    which no object has. 1, 18, 16, 10, 17; refused: offset and size 0. */
-uint64_t marble_read(marble_settings settings, const marble_state *state, const uint8_t *heap, size_t heap_len, const uint64_t *ids,
-                     size_t ids_len, const uint64_t *locations, size_t locations_len, uint64_t id, uint64_t *offset, uint64_t *size);
+MARBLE_MUST_USE uint64_t marble_read(marble_settings settings, const marble_state *state, const uint8_t *heap, size_t heap_len,
+                                     const uint64_t *ids, size_t ids_len, const uint64_t *locations, size_t locations_len, uint64_t id,
+                                     uint64_t *offset, uint64_t *size);
 
 /* "Claim": the slot's file is left alone by prune and maintenance. 21 for a slot out of range, an empty one or a claimed one. */
-uint64_t marble_claim(marble_settings settings, const marble_state *state, marble_claims *claims, const uint8_t *heap, size_t heap_len,
-                      const uint64_t *ids, size_t ids_len, const uint64_t *locations, size_t locations_len, uint64_t slot);
+MARBLE_MUST_USE uint64_t marble_claim(marble_settings settings, const marble_state *state, marble_claims *claims, const uint8_t *heap,
+                                      size_t heap_len, const uint64_t *ids, size_t ids_len, const uint64_t *locations,
+                                      size_t locations_len, uint64_t slot);
 
 /* "Release": 21 for a slot out of range, an empty one or an unclaimed one. */
-uint64_t marble_release(marble_settings settings, const marble_state *state, marble_claims *claims, const uint8_t *heap, size_t heap_len,
-                        const uint64_t *ids, size_t ids_len, const uint64_t *locations, size_t locations_len, uint64_t slot);
+MARBLE_MUST_USE uint64_t marble_release(marble_settings settings, const marble_state *state, marble_claims *claims, const uint8_t *heap,
+                                        size_t heap_len, const uint64_t *ids, size_t ids_len, const uint64_t *locations,
+                                        size_t locations_len, uint64_t slot);
 
 /* "Prune": every unclaimed file with live 0: first label byte set to 0, record emptied. No other heap byte changes. 1. */
-uint64_t marble_prune(marble_settings settings, marble_state *state, const marble_claims *claims, uint8_t *heap, size_t heap_len,
-                      const uint64_t *ids, size_t ids_len, const uint64_t *locations, size_t locations_len);
+MARBLE_MUST_USE uint64_t marble_prune(marble_settings settings, marble_state *state, const marble_claims *claims, uint8_t *heap,
+                                      size_t heap_len, const uint64_t *ids, size_t ids_len, const uint64_t *locations,
+                                      size_t locations_len);
 
 /* "Maintenance": live objects and deletes of mostly dead or small files are gathered into new ones, group by group, then a prune. moved is
    the count of ids moved, generation 0. A refusal (3, 4, 5, 7, 9, 10, 11, 16, 18, 20) stops the call and keeps finished groups:
-   generation is where, moved is the count so far, and nothing is pruned. 1: both 0. The claim record stays. */
-uint64_t marble_maintain(marble_settings settings, marble_state *state, const marble_claims *claims, uint8_t *heap, size_t heap_len,
-                         uint64_t *ids, size_t ids_len, uint64_t *locations, size_t locations_len, uint64_t *generation, uint64_t *moved);
+   generation is where, moved is the count so far, and nothing is pruned. 1: both 0. The claim record stays. 20 is a delete's position in
+   a damaged trailer that is 2^63 or more with the file's lsn added; a reopening refuses such a file with 12. */
+MARBLE_MUST_USE uint64_t marble_maintain(marble_settings settings, marble_state *state, const marble_claims *claims, uint8_t *heap,
+                                         size_t heap_len, uint64_t *ids, size_t ids_len, uint64_t *locations, size_t locations_len,
+                                         uint64_t *generation, uint64_t *moved);
 
 /* "Counts": files, bytes, present, live, summed over files. Refused with 1: four zeros. */
-uint64_t marble_counts(marble_settings settings, const marble_state *state, const uint8_t *heap, size_t heap_len, const uint64_t *ids,
-                       size_t ids_len, const uint64_t *locations, size_t locations_len, marble_totals *counts);
+MARBLE_MUST_USE uint64_t marble_counts(marble_settings settings, const marble_state *state, const uint8_t *heap, size_t heap_len,
+                                       const uint64_t *ids, size_t ids_len, const uint64_t *locations, size_t locations_len,
+                                       marble_totals *counts);
 
 /* ---- the table alone: raw locations by id. A held location is never 0. Order: 1, 20 (a given raw 0), 18, 19, 6. */
 /* "Load": the location, or 0 for an unmapped id. 1. */
-uint64_t marble_load(const uint64_t *ids, size_t ids_len, const uint64_t *locations, size_t locations_len, uint64_t id, uint64_t *location);
+MARBLE_MUST_USE uint64_t marble_load(const uint64_t *ids, size_t ids_len, const uint64_t *locations, size_t locations_len, uint64_t id,
+                                     uint64_t *location);
 
 /* "Store". 1, 20, 6. */
-uint64_t marble_store(uint64_t *ids, size_t ids_len, uint64_t *locations, size_t locations_len, uint64_t id, uint64_t location);
+MARBLE_MUST_USE uint64_t marble_store(uint64_t *ids, size_t ids_len, uint64_t *locations, size_t locations_len, uint64_t id,
+                                      uint64_t location);
 
 /* "Compare-and-store": stored, and current 0; or it differs, nothing is stored, and current is the location held. 1, 20, 18. */
-uint64_t marble_compare_and_store(uint64_t *ids, size_t ids_len, uint64_t *locations, size_t locations_len, uint64_t id, uint64_t old,
-                                  uint64_t location, uint64_t *current);
+MARBLE_MUST_USE uint64_t marble_compare_and_store(uint64_t *ids, size_t ids_len, uint64_t *locations, size_t locations_len, uint64_t id,
+                                                  uint64_t old, uint64_t location, uint64_t *current);
 
 /* "Store-if-greater": held is the location before or 0; a lower one is not stored. 1, 20, 19 (equal), 6. */
-uint64_t marble_store_if_greater(uint64_t *ids, size_t ids_len, uint64_t *locations, size_t locations_len, uint64_t id,
-                                 uint64_t location, uint64_t *held);
+MARBLE_MUST_USE uint64_t marble_store_if_greater(uint64_t *ids, size_t ids_len, uint64_t *locations, size_t locations_len, uint64_t id,
+                                                 uint64_t location, uint64_t *held);
+
+/* ---- a batch made: operations put behind each other into a buffer of room bytes, of which *len are used, 0 at first. The host's compiler
+   compiles these four; they are tested, not proved. */
+/* A number in seven-bit groups, from to on: how many bytes, 10 at most. */
+static inline size_t marble_groups(uint8_t *to, uint64_t n) {
+    size_t count = 0;
+    for (; n > 127; n >>= 7) to[count++] = (uint8_t)(n | 128);
+    to[count++] = (uint8_t)n;
+    return count;
+}
+
+/* An operation's head, then its body, behind *len. The bytes added; 0 where they do not fit, and then nothing changes. */
+static inline size_t marble_appended(uint8_t *batch, size_t room, size_t *len, const uint8_t *head, size_t head_len, const uint8_t *body,
+                                     size_t body_len) {
+    size_t i;
+    if (*len > room || head_len > room - *len || body_len > room - *len - head_len) return 0;
+    for (i = 0; i < head_len; i++) batch[*len + i] = head[i];
+    for (i = 0; i < body_len; i++) batch[*len + head_len + i] = body[i];
+    *len += head_len + body_len;
+    return head_len + body_len;
+}
+
+/* A put of an id: at most 14 + size bytes where the size can be accepted. body may be NULL where size is 0, and lie in the heap, but not in
+   the batch. The bytes added; 0 where they do not fit: nothing changes, and the batch holds the operations before it. */
+MARBLE_MUST_USE static inline size_t marble_batch_put(uint8_t *batch, size_t room, size_t *len, uint64_t id, const void *body,
+                                                      size_t size) {
+    uint8_t head[21];
+    size_t count = marble_groups(head, id);
+    head[count++] = 1;
+    count += marble_groups(head + count, size);
+    return marble_appended(batch, room, len, head, count, (const uint8_t *)body, size);
+}
+
+/* A delete of an id, at most 11 bytes. As above. */
+MARBLE_MUST_USE static inline size_t marble_batch_delete(uint8_t *batch, size_t room, size_t *len, uint64_t id) {
+    uint8_t head[11];
+    size_t count = marble_groups(head, id);
+    head[count++] = 0;
+    return marble_appended(batch, room, len, head, count, head, 0);
+}
 
 #ifdef __cplusplus
 }

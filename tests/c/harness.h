@@ -89,6 +89,7 @@ void costs_told(void);
 uint64_t copies_made(void);
 
 /* ---- the tests */
+void header(void);
 void lines(void);
 void life(void);
 void maintenance(void);

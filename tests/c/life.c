@@ -4,8 +4,8 @@
 static void whole_life(void) {
     const uint8_t batch[] = {1, 1, 3, 'a', 'a', 'a', 2, 1, 0, 3, 1, 2, 'c', 'c', 2, 1, 4, 'b', 'b', 'b', 'b'};
     fresh(defaults(), 8, 16);
-    expect("not reopened: write", put(1, 3, 'a'), MARBLE_LIMITS);
-    expect("not reopened: read", read_id(1), MARBLE_LIMITS);
+    expect("not reopened: write", put(1, 3, 'a'), MARBLE_E_LIMITS);
+    expect("not reopened: read", read_id(1), MARBLE_E_LIMITS);
     expect("reopen", reopen(), MARBLE_OK);
     expect("an empty batch", write_batch(NULL, 0), MARBLE_OK);
     expect("a batch of three ids", write_batch(batch, sizeof batch), MARBLE_OK);
@@ -75,26 +75,26 @@ static void table_calls(void) {
     expect("held before", out[0], 60);
     expect("load", load(9), MARBLE_OK);
     expect("the greatest", out[0], 60);
-    expect("full", store_if_greater(5, 40), MARBLE_TABLE_ROOM);
-    expect("full", store_at(5, 40), MARBLE_TABLE_ROOM);
+    expect("full", store_if_greater(5, 40), MARBLE_E_TABLE_ROOM);
+    expect("full", store_at(5, 40), MARBLE_E_TABLE_ROOM);
 }
 
 /* Every call with no buffers at all, lengths that differ, other settings, a table out of form: 1, and nothing changes. */
 static void every_call(void) {
-    expect("write", put(1, 1, 'x'), MARBLE_LIMITS);
-    expect("read", read_id(1), MARBLE_LIMITS);
-    expect("claim", claim(0), MARBLE_LIMITS);
-    expect("release", release(0), MARBLE_LIMITS);
-    expect("prune", prune(), MARBLE_LIMITS);
-    expect("maintain", maintain(), MARBLE_LIMITS);
-    expect("counts", counts(), MARBLE_LIMITS);
+    expect("write", put(1, 1, 'x'), MARBLE_E_LIMITS);
+    expect("read", read_id(1), MARBLE_E_LIMITS);
+    expect("claim", claim(0), MARBLE_E_LIMITS);
+    expect("release", release(0), MARBLE_E_LIMITS);
+    expect("prune", prune(), MARBLE_E_LIMITS);
+    expect("maintain", maintain(), MARBLE_E_LIMITS);
+    expect("counts", counts(), MARBLE_E_LIMITS);
 }
 
 static void every_table_call(void) {
-    expect("load", load(1), MARBLE_LIMITS);
-    expect("store", store_at(1, 2), MARBLE_LIMITS);
-    expect("compare", compare_and_store(1, 2, 4), MARBLE_LIMITS);
-    expect("greater", store_if_greater(1, 2), MARBLE_LIMITS);
+    expect("load", load(1), MARBLE_E_LIMITS);
+    expect("store", store_at(1, 2), MARBLE_E_LIMITS);
+    expect("compare", compare_and_store(1, 2, 4), MARBLE_E_LIMITS);
+    expect("greater", store_if_greater(1, 2), MARBLE_E_LIMITS);
 }
 
 static void bad_hosts(void) {
@@ -103,28 +103,28 @@ static void bad_hosts(void) {
     store good = w;
     w.heap = NULL, w.heap_len = 0;
     every_call();
-    expect("no heap", reopen(), MARBLE_LIMITS);
+    expect("no heap", reopen(), MARBLE_E_LIMITS);
     w = good;
     w.ids = w.locations = NULL, w.ids_len = w.locations_len = 0;
     every_call();
     every_table_call();
-    expect("no table", reopen(), MARBLE_LIMITS);
+    expect("no table", reopen(), MARBLE_E_LIMITS);
     w = good;
     w.ids_len = 7;
     every_call();
     every_table_call();
-    expect("lengths that differ", reopen(), MARBLE_LIMITS);
+    expect("lengths that differ", reopen(), MARBLE_E_LIMITS);
     w = good;
     w.heap_len -= 1;
     every_call();
-    expect("no whole slots", reopen(), MARBLE_LIMITS);
+    expect("no whole slots", reopen(), MARBLE_E_LIMITS);
     w = good;
     w.s.max_object_size += 1;
     every_call();
     w = good;
     w.s.slot_bytes = UINT64_MAX;
     every_call();
-    expect("settings out of range", reopen(), MARBLE_LIMITS);
+    expect("settings out of range", reopen(), MARBLE_E_LIMITS);
     w = good;
     w.locations[1] = 2;
     every_call();

@@ -20,7 +20,7 @@ static void p1(void) {
 /* P2 absolute position 0, object: 20; position 0, delete: raw 1. */
 static void p2(void) {
     fresh(defaults(), 2, 8);
-    expect("P2 object at 0", store_at(4, 0), MARBLE_LOCATION);
+    expect("P2 object at 0", store_at(4, 0), MARBLE_E_LOCATION);
     expect("P2 delete at 0", store_at(4, 1), MARBLE_OK);
     expect("P2 load", load(4), MARBLE_OK);
     expect("P2 raw 1", out[0], 1);
@@ -35,7 +35,7 @@ static void p3(void) {
     expect("P3 raw", out[0], UINT64_MAX);
     fresh(defaults(), 2, 8);
     file_in(0, sound(1ull << 63, 0, NULL, 0, &e, 1));
-    expect("P3 2^63", reopen(), MARBLE_LABEL);
+    expect("P3 2^63", reopen(), MARBLE_E_LABEL);
 }
 
 /* P4 groups: 300 is AC 02; 80 00 is refused. */
@@ -45,7 +45,7 @@ static void p4(void) {
     expect("P4 reopen", reopen(), MARBLE_OK);
     expect("P4 write", write_batch(batch, sizeof batch), MARBLE_OK);
     holds(300, 1, 'q');
-    expect("P4 not the shortest", write_batch(longer, sizeof longer), MARBLE_BATCH_BYTES);
+    expect("P4 not the shortest", write_batch(longer, sizeof longer), MARBLE_E_BATCH_BYTES);
 }
 
 /* P5 masked 205 without the bit is later than masked 101 with it. */

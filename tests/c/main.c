@@ -1,10 +1,7 @@
 #include "harness.h"
 
-_Static_assert(sizeof(marble_settings) == 48 && sizeof(marble_record) == 48, "six numbers");
-_Static_assert(sizeof(marble_state) == 1545 * 8, "the state's words");
-_Static_assert(sizeof(marble_claims) == 32 && sizeof(marble_totals) == 32, "four numbers");
-
 int main(void) {
+    header();
     lines();
     life();
     maintenance();

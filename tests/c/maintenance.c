@@ -153,21 +153,36 @@ static void gathered(void) {
 static void stops(void) {
     opened(alone(), 2, 16);
     of_which_replaced(3, 1);
-    expect("no empty slot", maintain(), MARBLE_NO_EMPTY_SLOT);
+    expect("no empty slot", maintain(), MARBLE_E_NO_EMPTY_SLOT);
     expect("generation", out[0], 1);
     expect("moved so far", out[1], 0);
     opened(alone(), 8, 16);
     of_which_replaced(3, 1);
     w.heap[MARBLE_LABEL_BYTES + 20] ^= 1;
-    expect("a bit of a body", maintain(), MARBLE_CHECKSUM);
+    expect("a bit of a body", maintain(), MARBLE_E_CHECKSUM);
     expect("generation", out[0], 1);
     w.heap[MARBLE_LABEL_BYTES + 20] ^= 1;
     w.state->next_position = BATCH_BIT;
-    expect("positions end", maintain(), MARBLE_POSITIONS_SPENT);
+    expect("positions end", maintain(), MARBLE_E_POSITIONS_SPENT);
     expect("generation", out[0], 1);
     w.state->next_position = 0;
-    expect("refused with 1", maintain(), MARBLE_LIMITS);
+    expect("refused with 1", maintain(), MARBLE_E_LIMITS);
     expect("0 and 0", out[0] | out[1], 0);
+}
+
+/* an object and a delete in a file, the object replaced; then the delete's entry is damaged, its checksum right */
+static void stops_at_a_position(void) {
+    const uint8_t batch[] = {1, 1, 1, 'a', 2, 0};
+    opened(alone(), 8, 16);
+    expect("write", write_batch(batch, sizeof batch), MARBLE_OK);
+    expect("replaced", put(1, 1, 'b'), MARBLE_OK);
+    uint8_t *trailer = w.heap + MARBLE_LABEL_BYTES + w.state->records[0].trailer_offset;
+    le(trailer + 12 + 16 + 8, 8, UINT64_MAX);
+    le(trailer, 4, crc(trailer + 4, 8 + 2 * 16));
+    expect("a delete past 2^63", maintain(), MARBLE_E_LOCATION);
+    expect("generation", out[0], 1);
+    expect("moved so far", out[1], 0);
+    expect("a reopening says 12", reopen(), MARBLE_E_ENTRY_POSITION);
 }
 
 /* Copies of the file map go by groups and by files that come out, not by slots, entries or objects. */
@@ -230,5 +245,6 @@ void maintenance(void) {
     p9();
     gathered();
     stops();
+    stops_at_a_position();
     costs();
 }

@@ -18,19 +18,19 @@ static void of_writes(void) {
     const uint8_t cut[] = {1, 1, 5, 'a'}, two[] = {1, 0, 2, 0};
     opened(defaults(), 1, 1);
     w.s.target_file_size = 0;
-    refused("settings out of range", put(1, 1, 'a'), MARBLE_LIMITS);
+    refused("settings out of range", put(1, 1, 'a'), MARBLE_E_LIMITS);
     w.s = defaults();
-    refused("a body cut short", write_batch(cut, sizeof cut), MARBLE_BATCH_BYTES);
-    refused("max_object_size", put(1, 1024, 'a'), MARBLE_OBJECT_SIZE);
-    refused("two ids, one entry", write_batch(two, sizeof two), MARBLE_TABLE_ROOM);
+    refused("a body cut short", write_batch(cut, sizeof cut), MARBLE_E_BATCH_BYTES);
+    refused("max_object_size", put(1, 1024, 'a'), MARBLE_E_OBJECT_SIZE);
+    refused("two ids, one entry", write_batch(two, sizeof two), MARBLE_E_TABLE_ROOM);
     expect("one byte less", put(1, 1023, 'a'), MARBLE_OK);
-    refused("one slot", put(1, 1, 'a'), MARBLE_NO_EMPTY_SLOT);
+    refused("one slot", put(1, 1, 'a'), MARBLE_E_NO_EMPTY_SLOT);
     opened(small(128), 1, 1);
-    refused("17 bytes in 128", put(1, 17, 'a'), MARBLE_SLOT_ROOM);
+    refused("17 bytes in 128", put(1, 17, 'a'), MARBLE_E_SLOT_ROOM);
     expect("16 fit", put(1, 16, 'a'), MARBLE_OK);
     opened(defaults(), 1, 1);
     w.state->next_position = BATCH_BIT - 21;
-    refused("positions end at 2^62", put(1, 1, 'a'), MARBLE_POSITIONS_SPENT);
+    refused("positions end at 2^62", put(1, 1, 'a'), MARBLE_E_POSITIONS_SPENT);
     w.state->next_position -= 1;
     expect("the last position", put(1, 1, 'a'), MARBLE_OK);
 }
@@ -56,38 +56,38 @@ static void of_reopenings(void) {
     f = good, f.lsn = 0;
     damaged("lsn 0 is an empty slot: its first byte", f, MARBLE_OK);
     f = good, f.lsn = BATCH_BIT;
-    damaged("masked lsn 0", f, MARBLE_LABEL);
+    damaged("masked lsn 0", f, MARBLE_E_LABEL);
     f = good, f.generation = 256;
-    damaged("generation 256", f, MARBLE_LABEL);
+    damaged("generation 256", f, MARBLE_E_LABEL);
     f = good, f.file_size = f.trailer_offset + 19, f.count = f.stored = 0;
-    damaged("a trailer of 19 bytes", f, MARBLE_TRAILER_SHORT);
+    damaged("a trailer of 19 bytes", f, MARBLE_E_TRAILER_SHORT);
     f = good, f.count = 2;
-    damaged("two entries, room for one", f, MARBLE_ENTRY_COUNT);
+    damaged("two entries, room for one", f, MARBLE_E_ENTRY_COUNT);
     f = good, f.entries = &past;
-    damaged("position 22 of 21", f, MARBLE_ENTRY_POSITION);
+    damaged("position 22 of 21", f, MARBLE_E_ENTRY_POSITION);
     f = good, f.present = 2;
-    damaged("present 2, count 1", f, MARBLE_PRESENT_COUNT);
-    damaged("one position twice", sound(BATCH_BIT + 1, 0, bytes, 21, twice, 2), MARBLE_NOT_RISING);
+    damaged("present 2, count 1", f, MARBLE_E_PRESENT_COUNT);
+    damaged("one position twice", sound(BATCH_BIT + 1, 0, bytes, 21, twice, 2), MARBLE_E_NOT_RISING);
 
     fresh(defaults(), 2, 8);
     file_in(1, good);
     w.heap[4096 + 64 + 21 + 12] ^= 1;
-    refused("a bit of the trailer", reopen(), MARBLE_CHECKSUM);
+    refused("a bit of the trailer", reopen(), MARBLE_E_CHECKSUM);
     fresh(defaults(), 2, 8);
     file_in(0, good);
     file_in(1, good);
-    refused("one file in two slots", reopen(), MARBLE_OVERLAP);
+    refused("one file in two slots", reopen(), MARBLE_E_OVERLAP);
     const entry two[] = {{1, 0}, {2, 43}};
     fresh(defaults(), 2, 1);
     file_in(0, sound(BATCH_BIT + 1, 0, bytes, 21, two, 2));
-    refused("two ids, one entry", reopen(), MARBLE_TABLE_ROOM);
+    refused("two ids, one entry", reopen(), MARBLE_E_TABLE_ROOM);
 
     /* decision D4: a write after a refused reopening takes slot 0 */
     fresh(defaults(), 2, 8);
     file_in(0, good);
     f = good, f.lsn += 100, f.present = 2;
     file_in(1, f);
-    refused("the second file is wrong", reopen(), MARBLE_PRESENT_COUNT);
+    refused("the second file is wrong", reopen(), MARBLE_E_PRESENT_COUNT);
     expect("a write all the same", put(1, 1, 'y'), MARBLE_OK);
     expect("slot 0 is written over", w.heap[64 + 20], 'y');
 }
@@ -96,45 +96,45 @@ static void of_reads(void) {
     opened(defaults(), 2, 8);
     expect("write", put(1, 4, 'x'), MARBLE_OK);
     expect("location below every file", store_at(2, 2), MARBLE_OK);
-    refused("no file at or below", read_id(2), MARBLE_NOT_THERE);
+    refused("no file at or below", read_id(2), MARBLE_E_NOT_THERE);
     holds(1, 4, 'x');
     uint8_t *o = w.heap + MARBLE_LABEL_BYTES;
     o[20] ^= 1;
-    refused("a bit of the body", read_id(1), MARBLE_CHECKSUM);
+    refused("a bit of the body", read_id(1), MARBLE_E_CHECKSUM);
     o[20] ^= 1;
     le(o + 12, 8, 1u << 20);
-    refused("a length past the file", read_id(1), MARBLE_CUT_SHORT);
+    refused("a length past the file", read_id(1), MARBLE_E_CUT_SHORT);
     object(o, 7, o + 20, 4);
-    refused("another id", read_id(1), MARBLE_OTHER_ID);
+    refused("another id", read_id(1), MARBLE_E_OTHER_ID);
     object(o, 1, o + 20, 4);
     holds(1, 4, 'x');
 }
 
 static void of_claims(void) {
     opened(small(256), 100, 8);
-    refused("an empty slot", claim(0), MARBLE_CLAIM);
+    refused("an empty slot", claim(0), MARBLE_E_CLAIM);
     expect("write", put(1, 4, 'x'), MARBLE_OK);
-    refused("out of range", claim(100), MARBLE_CLAIM);
-    refused("far out of range", claim(UINT64_MAX), MARBLE_CLAIM);
-    refused("not claimed", release(0), MARBLE_CLAIM);
+    refused("out of range", claim(100), MARBLE_E_CLAIM);
+    refused("far out of range", claim(UINT64_MAX), MARBLE_E_CLAIM);
+    refused("not claimed", release(0), MARBLE_E_CLAIM);
     expect("claim", claim(0), MARBLE_OK);
-    refused("claimed", claim(0), MARBLE_CLAIM);
+    refused("claimed", claim(0), MARBLE_E_CLAIM);
     expect("release", release(0), MARBLE_OK);
-    refused("released", release(0), MARBLE_CLAIM);
-    refused("an empty slot", release(99), MARBLE_CLAIM);
+    refused("released", release(0), MARBLE_E_CLAIM);
+    refused("an empty slot", release(99), MARBLE_E_CLAIM);
 }
 
 static void of_the_table(void) {
     fresh(defaults(), 1, 1);
-    refused("raw 0", store_at(1, 0), MARBLE_LOCATION);
-    refused("raw 0", compare_and_store(1, 0, 4), MARBLE_LOCATION);
-    refused("raw 0", compare_and_store(1, 4, 0), MARBLE_LOCATION);
-    refused("raw 0", store_if_greater(1, 0), MARBLE_LOCATION);
-    refused("unmapped", compare_and_store(1, 2, 4), MARBLE_NOT_THERE);
+    refused("raw 0", store_at(1, 0), MARBLE_E_LOCATION);
+    refused("raw 0", compare_and_store(1, 0, 4), MARBLE_E_LOCATION);
+    refused("raw 0", compare_and_store(1, 4, 0), MARBLE_E_LOCATION);
+    refused("raw 0", store_if_greater(1, 0), MARBLE_E_LOCATION);
+    refused("unmapped", compare_and_store(1, 2, 4), MARBLE_E_NOT_THERE);
     expect("store", store_at(1, 2), MARBLE_OK);
-    refused("equal", store_if_greater(1, 2), MARBLE_EQUAL_LOCATION);
-    refused("full", store_at(2, 2), MARBLE_TABLE_ROOM);
-    refused("full", store_if_greater(2, 2), MARBLE_TABLE_ROOM);
+    refused("equal", store_if_greater(1, 2), MARBLE_E_EQUAL_LOCATION);
+    refused("full", store_at(2, 2), MARBLE_E_TABLE_ROOM);
+    refused("full", store_if_greater(2, 2), MARBLE_E_TABLE_ROOM);
 }
 
 void refusals(void) {

@@ -90,8 +90,11 @@ marble_settings small(uint64_t slot_bytes) {
 #define DEPTH (4096 * 1024)
 enum { REOPEN, WRITE, READ, CLAIM, RELEASE, PRUNE, MAINTAIN, COUNTS, LOAD, STORE, COMPARE, GREATER, CALLS };
 static const char *const names[CALLS] = {"reopen", "write", "read", "claim", "release", "prune", "maintain", "counts", "load", "store", "compare_and_store", "store_if_greater"};
-/* README has these figures; a call that needs more fails here */
-static const size_t allowed[CALLS] = {38912, 45056, 16384, 13312, 13312, 25600, 589824, 25600, 128, 128, 128, 128};
+/* a call that needs more than the header says fails here */
+static const size_t allowed[CALLS] = {
+    MARBLE_STACK_REOPEN, MARBLE_STACK_WRITE,    MARBLE_STACK_READ,   MARBLE_STACK_CLAIM, MARBLE_STACK_RELEASE, MARBLE_STACK_PRUNE,
+    MARBLE_STACK_MAINTAIN, MARBLE_STACK_COUNTS, MARBLE_STACK_TABLE, MARBLE_STACK_TABLE, MARBLE_STACK_TABLE,   MARBLE_STACK_TABLE,
+};
 static size_t used[CALLS];
 
 /* ---- copies of the file map: the archive's memcpy is this one, so each is counted in a run. Handing it in and out is a loop over words
@@ -130,7 +133,7 @@ uint64_t copies_made(void) { return last_copied; }
 void costs_told(void) {
     for (int k = 0; k < CALLS; k++) {
         printf("marble_%s: stack %llu of %llu, copies of the file map %llu of %llu\n", names[k], (unsigned long long)used[k], (unsigned long long)allowed[k], (unsigned long long)copied[k], (unsigned long long)copies_allowed[k]);
-        if (used[k] > allowed[k]) printf("tests/c: marble_%s needs more stack than README says\n", names[k]);
+        if (used[k] > allowed[k]) printf("tests/c: marble_%s needs more stack than the header says\n", names[k]);
         if (copied[k] > copies_allowed[k]) printf("tests/c: marble_%s copies the file map more often than README says\n", names[k]);
         expect("stack within the figure", used[k] <= allowed[k], 1);
         expect("copies within the figure", copied[k] <= copies_allowed[k], 1);
@@ -180,12 +183,12 @@ uint64_t reopen(void) {
     stack_below(REOPEN, 1);
     uint64_t n = marble_reopen(w.s, w.state, w.claims, w.heap, w.heap_len, w.ids, w.ids_len, w.locations, w.locations_len);
     stack_below(REOPEN, 0);
-    behind(REOPEN, n == MARBLE_LIMITS ? ALL : HEAP);
-    if (n != MARBLE_LIMITS) {
+    behind(REOPEN, n == MARBLE_E_LIMITS ? ALL : HEAP);
+    if (n != MARBLE_E_LIMITS) {
         const marble_claims none = {{0, 0, 0, 0}};
         same("reopen", "no claims", w.claims, &none, sizeof none);
     }
-    if (n != MARBLE_LIMITS && n != MARBLE_OK) {
+    if (n != MARBLE_E_LIMITS && n != MARBLE_OK) {
         uint64_t left = 0;
         for (size_t i = 0; i < w.ids_len; i++) left |= w.ids[i] | w.locations[i];
         for (size_t i = 0; i < MARBLE_SLOTS_MAX; i++) {
@@ -253,7 +256,7 @@ uint64_t maintain(void) {
     stack_below(MAINTAIN, 1);
     uint64_t n = marble_maintain(w.s, w.state, w.claims, w.heap, w.heap_len, w.ids, w.ids_len, w.locations, w.locations_len, OUT(0), OUT(1));
     stack_below(MAINTAIN, 0);
-    behind(MAINTAIN, n == MARBLE_LIMITS ? ALL : CLAIMS);
+    behind(MAINTAIN, n == MARBLE_E_LIMITS ? ALL : CLAIMS);
     return n;
 }
 

@@ -30,6 +30,15 @@ ghost use Rattle.as_numbers.specs.ClaimWords.{claimsIn};
 ghost use Rattle.as_numbers.specs.Numbered.{numbered};
 ghost use Rattle.as_numbers.specs.Shown.{given, shown, stopAfter, shownTable};
 ghost use Rattle.as_numbers.specs.StateWords.{stateIn};
+ghost use Rattle.marble_c.specs.Version.{version};
+
+// The version of this interface, which a host holds against its header's.
+#[no_mangle]
+pub extern "C" fn marble_version() -> u64
+    ensures { λ r. ⌜ r ≡ version ⌝ }
+{
+    1000
+}
 
 // ---- the store
 // "Reopen"

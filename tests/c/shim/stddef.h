@@ -1,3 +1,4 @@
 /* The kit's compiler brings no headers: what marble.h takes from this one. */
 typedef __SIZE_TYPE__ size_t;
 #define NULL ((void *)0)
+#define offsetof(type, member) __builtin_offsetof(type, member)
