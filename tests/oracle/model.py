@@ -104,14 +104,14 @@ def object_sum(ident, body):
 
 def file_bytes(entries):
     """entries: (id, body or None for a delete), ids ascending. Gives bytes, T and (id, raw relative location)"""
-    objects, places = b'', []
+    objects, places = bytearray(), []
     for ident, body in entries:
         places.append((ident, raw_location(len(objects), body is None)))  # D1: a delete has the object bytes before it
         if body is not None:
             objects += object_bytes(ident, body)
     listed = len(places).to_bytes(8, 'little')
     listed += b''.join(i.to_bytes(8, 'little') + r.to_bytes(8, 'little') for i, r in places)
-    return objects + zlib.crc32(listed).to_bytes(4, 'little') + listed, len(objects), places
+    return bytes(objects) + zlib.crc32(listed).to_bytes(4, 'little') + listed, len(objects), places
 
 
 def trailer_entries(trailer):
@@ -492,10 +492,13 @@ def hex_bytes(word):
 
 
 class Console:
+    """what the console answers; wide: with the room that host.c has"""
     MAX_LINE, MAX_HEAP, MAX_TABLE = 131200, 1048576, 65536
 
-    def __init__(self):
+    def __init__(self, wide=False):
         self.store = Store()
+        if wide:
+            self.MAX_LINE, self.MAX_HEAP = 1 << 23, 1 << 28
 
     def line(self, text):
         """the answer's lines; none for a comment and for help, whose lines are for people"""
