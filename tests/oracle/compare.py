@@ -18,7 +18,7 @@ import zlib
 
 from foreseen import replacing, rewriting
 from known import GROUP_FAILURES, KNOWN, NOT_MADE, READ_FAILURES, TABLE_FAILURES, WRITE_DIFFERS, directed
-from limits import OFTEN, SELDOM, limit
+from limits import OFTEN, RARELY, SELDOM, limit
 from model import BATCH_BIT, HEADER, LABEL, Console, batch_operations, label_numbers, le, masked, trailer_entries, Refused
 from port import Difference, Model, Port, Rust, Stored, store_answers
 from scenarios import from_files, scenario
@@ -35,10 +35,13 @@ def contents(trailer_offset, data):
     """the file as a set of entries: (id, body), body None for a delete, ('cut', ..) for an object that is not whole"""
     entries = set()
     for ident, relative in trailer_entries(data[trailer_offset:]):
+        if relative % 2:
+            entries.add((ident, None))
+            continue
         at = relative // 2
         length = le(data, at + 12)
         whole = at + HEADER + length <= len(data)
-        entries.add((ident, None if relative % 2 else data[at:at + HEADER + length] if whole else ('cut', at)))
+        entries.add((ident, data[at:at + HEADER + length] if whole else ('cut', at)))
     return frozenset(entries)
 
 
@@ -291,6 +294,10 @@ class Comparison:
                 if step.differs:
                     self.met(step.differs)
                     must(view.answer == 'ok' and got.startswith(WRITE_DIFFERS[step.differs]), 'write', view.answer, got)
+                    read = dict(zip(self.ids, view.reads))
+                    for ident, body in last.items():
+                        wanted = 'nothing' if body is None else f'ok {body.hex() or "-"}'
+                        must(read[ident] == wanted, f'read {ident} after the write of {wanted}', read[ident], 'known to differ')
                     return
                 if too_long:
                     must(got == 'err Unsupported', 'write', view.answer, got)
@@ -375,7 +382,7 @@ class Comparison:
 
     def alike(self, step, view, entries=False):
         self.reads(view)
-        if step.mixed:
+        if step.mixed and not step.rewrite:  # a rewrite gives other locations (row 3), and both go on from the port's heap
             self.tables(view)
         must(view.counts == self.one('counts'), 'counts', view.counts, 'another')
         rust = self.rust_files()
@@ -383,11 +390,10 @@ class Comparison:
         must(mine == theirs, 'files', mine, theirs)
         if entries:
             by_lsn = self.rust_contents()
-            key = lambda c: (c[0], sorted(map(repr, c[1])))
-            mine = sorted(((shape(f), contents(f.trailer_offset, step.bytes_of(k, f))) for k, f in view.files.items()), key=key)
-            theirs = sorted(((shape(f), by_lsn[f.lsn]) for f in rust), key=key)
-            must(mine == theirs, 'files as sets of entries', mine, theirs)
-            self.met('delete position', sum(i[1] is None for _, c in mine for i in c))
+            mine = collections.Counter((shape(f), contents(f.trailer_offset, step.bytes_of(k, f))) for k, f in view.files.items())
+            theirs = collections.Counter((shape(f), by_lsn[f.lsn]) for f in rust)
+            must(mine == theirs, 'files as sets of entries', mine - theirs, theirs - mine)
+            self.met('delete position', sum(i[1] is None for _, c in mine.elements() for i in c))
 
     def reads(self, view):
         got = self.one('read ' + ' '.join(map(str, self.ids))).split(',')
@@ -413,8 +419,8 @@ def ids_of(steps):
 
 
 def sample(ids):
-    """of many ids so many that each is read after every call: the least, the greatest, the one that no scenario mentions, some others"""
-    return ids if len(ids) <= 60 else sorted({ids[0], ids[-1], 77777} | set(random.Random(len(ids)).sample(ids, 20)))
+    """of many ids so many that each can be read after every call: the least, the greatest, the one that no scenario mentions, some others"""
+    return ids if len(ids) <= 60 else sorted({ids[0], ids[-1], 77777} | set(random.Random(len(ids)).sample(ids, 5 if len(ids) > 1000 else 20)))
 
 
 class Job:
@@ -477,8 +483,8 @@ class Generated:
         return self.kept(f'{kind} {number}', f'{kind} {number}', limit(self.seed, kind, number))
 
     def carried(self, job, files, settings, table):
-        """None where there is nothing to carry, or more than 256 slots take"""
-        lines = from_files(self.seed, job.number, files, settings, table)
+        """None where there is nothing to carry, more than 256 slots take, or more ids than the model moves in seconds"""
+        lines = from_files(self.seed, job.number, files, settings, table) if len(job.all_ids) < 20000 else None
         return lines and self.kept(f'{job.name}r', job.number, lines)
 
     def kept(self, name, number, lines):
@@ -554,10 +560,12 @@ def rounds(source, start, count):
         yield [source.first(k) for k in range(at, min(at + ROUND, start + count))]
 
 
-def rounds_to_the_limits(source):
-    """without end: scenarios of the usual kind, and among them those at document 01's limits, the large ones by themselves"""
+def rounds_to_the_limits(source, turn):
+    """without end: scenarios of the usual kind, and among them those at document 01's limits, the large ones by themselves: all of them with the
+    first seed, with another three at a time"""
     for k in itertools.count():
-        for kind in SELDOM if k % 20 == 0 else []:
+        large = SELDOM + (RARELY if k % 60 == 0 else [])
+        for kind in (large if turn == 0 else random.Random(f'{source.seed} {k}').sample(large, 3)) if k % 20 == 0 else []:
             yield [source.limit(kind.__name__, k)]
         often = [source.limit(kind.__name__, len(OFTEN) * k + j) for j, kind in enumerate(OFTEN)]
         yield [source.first(n) for n in range(ROUND * k, ROUND * (k + 1))] + often
@@ -599,7 +607,7 @@ def main():
         for turn, seed in enumerate(seeds):
             source = Kept(rust) if options.stored else Generated(seed, options.small)
             if options.calls:
-                jobs = rounds_to_the_limits(source)
+                jobs = rounds_to_the_limits(source, turn)
             else:
                 jobs = itertools.chain([[source.limit(kind, 0)] for kind in options.limit], rounds(source, options.start, options.count))
             share = options.calls and options.calls * (turn + 1) / len(seeds)

@@ -41,6 +41,8 @@ def replacing(store, batch):
         if ident in table:
             if table[ident] >= relative + 2 * lsn:
                 return 'greater location kept'
+            if table[ident] >= 2 * lsn:
+                return 'live one lost by the new file'
             lost[store.found(table[ident])] += 1
     if None in lost:
         return 'no file to lose a live one'

@@ -54,13 +54,11 @@ def two_slots(r):
 
 
 def all_shards(r):
-    """one maintenance that rewrites every shard from 0 to 20, bodies to the slot's end, of max_object_size - 1"""
-    bodies = [(k + 1, r.randbytes(1 << k >> 1)) for k in range(16)] + [(30, None)]
-    lines = store(settings(MIB, longest=MIB - ALONE + 1), 28, 100) + ['reopen', put(*r.sample(bodies, len(bodies)))]
-    for k in range(16, 21):
-        length = MIB - ALONE if k == 20 else r.choice([1 << k - 1, (1 << k) - 1])
-        lines.append(put((k + 1, r.randbytes(length))))
-    return lines + [put((99, r.randbytes(MIB - ALONE + 1))), 'maintain', 'reopen', put((21, None)), 'maintain', 'reopen']
+    """one maintenance that rewrites every shard from 0 to 20, a body to the slot's end, of max_object_size - 1"""
+    length = MIB - ALONE
+    bodies = [(k + 1, r.randbytes(r.choice([1 << k, (1 << k + 1) - 1]) >> 1)) for k in range(19)] + [(20, r.randbytes(1 << 18)), (30, None)]
+    lines = store(settings(MIB, longest=length + 1), 24, 100) + ['reopen', put(*r.sample(bodies, len(bodies))), put((21, r.randbytes(length)))]
+    return lines + [put((99, r.randbytes(length + 1))), 'maintain', put((21, None)), 'maintain']
 
 
 def full_heap(r):
@@ -132,15 +130,18 @@ def three_groups(r):
 
 
 def many_ids(r):
-    """over 40,000 ids, written in batches as long as a line of the console"""
-    slot_bytes, each = MIB // 8, 8187
-    ids = r.sample(range(1 << 14, 1 << 21), 5 * each + 3500)
-    lines = store(settings(slot_bytes, 100), 8, 65536) + ['reopen']
-    for k in range(5):
-        lines.append(put(*((i, None) for i in ids[k * each:(k + 1) * each])))
-    lines.append(put(*((i, r.randbytes(1)) for i in ids[5 * each:])))
-    lines += [f'claim {slot}' for slot in range(1, 5)] + ['maintain']
-    return lines + [put(*((i, None) for i in r.sample(ids, each))), 'maintain', 'reopen', put((ids[3], b'x'))]
+    """over 40,000 ids in 200 files and more; of each new generation one file becomes sparse and is rewritten"""
+    each, left, files = 206, r.sample(range(1, 1 << 21), 256 * 206), []
+    for slot in r.sample(range(256), 200):
+        mine = sorted(left.pop() for _ in range(each))
+        putting = set(r.sample(mine, r.randint(0, 30)))
+        files.append((slot, [(i, b'x' if i in putting else None) for i in mine], r.choice([0, 1, 2, 255]), r.choice([0, BATCH_BIT])))
+    lines = store(settings(4096, 75, threshold=256), 256, 65536) + poked(4096, files) + ['reopen']
+    for kind in ([0], [1], [2, 255]):
+        entries = r.choice([entries for _, entries, generation, _ in files if generation in kind])
+        batch = [(i, r.randbytes(1)) for i, _ in r.sample(entries, 60)] + [(left.pop(), None) for _ in range(40)]
+        lines.append(put(*r.sample(batch, len(batch))))
+    return lines + ['maintain']
 
 
 def full_table(r):
@@ -152,7 +153,7 @@ def full_table(r):
         lines.append(f'{r.choice(["store", "max"])} {r.randrange(1 << 40, 1 << 41) * 8 + k} {r.randrange(1, 1 << 63)}')
     for call in ('store {0} {1}', 'max {0} {1}', 'store {2} {1}', 'cas {2} {1} 9', 'max {2} 18446744073709551615', 'load {2}', 'load {0}'):
         lines.append(call.format(1 << 50, r.randrange(1, 1 << 63), r.choice(ids)))
-    return lines + ['prune', 'reopen']
+    return lines + ['prune']
 
 
 def table_calls_among_writes(r):
@@ -191,8 +192,9 @@ def table_calls_among_writes(r):
 
 
 OFTEN = [three_groups] + 3 * [table_calls_among_writes]
-SELDOM = [one_slot, two_slots, all_shards, full_heap, least_254, least_255, least_256, many_files, many_ids, full_table]
-KINDS = {kind.__name__: kind for kind in OFTEN + SELDOM}
+SELDOM = [one_slot, two_slots, all_shards, full_heap, least_254, least_255, least_256, many_files]
+RARELY = [many_ids, full_table]
+KINDS = {kind.__name__: kind for kind in OFTEN + SELDOM + RARELY}
 
 
 def limit(seed, kind, number):
