@@ -1,7 +1,8 @@
 #!/usr/bin/env python3
 """Compares the port with the original Rust by running both on the same scenarios.
 
-    compare.py [--model | --console PATH] [--rust PATH | --stored FILE] [--seed S] [--from K] [--count N] [--seconds T] [--small] [--store FILE]
+    compare.py [--model | --console PATH --host PATH] [--rust PATH | --stored FILE] [--seed S].. [--calls N] [--number FILE]
+    compare.py .. [--seed S] [--limit KIND].. [--from K] [--count N] [--small] [--store FILE]
 
 After every call: each id's read, the answer, the growth of the next position, counts, each file's numbers, live count and claim;
 after reopenings and rewrites also each file as a set of entries. At a scenario's end the heap that the port wrote is renamed to the
@@ -547,7 +548,7 @@ def compare_directed(port, rust):
 ROUND = 25
 # a run of so many calls must get so far with its first seed
 MUST_REACH = {
-    'S': 1048576, 'N': 256, 'table': 65536, 'ids': 65536, 'files': 256, 'file_size': 1048512, 'percent of the heap in use': 100, 'generation': 255,
+    'S': 1048576, 'N': 256, 'heap': 24 * 1048576, 'table': 65536, 'ids': 65536, 'files': 256, 'file_size': 1048512, 'percent of the heap in use': 100, 'generation': 255,
     'body read': 1048464, 'max_object_size - 1 written': 1048464, 'max_object_size - 1 rewritten': 1048464, 'shards in one maintenance': 21,
     'groups in one maintenance': 3, 'files in a rewritten group': 255, 'min_compaction_files met': 256, 'threshold met': 256,
     'table calls among writes': 100,
@@ -565,7 +566,7 @@ def rounds_to_the_limits(source, turn):
     first seed, with another three at a time"""
     for k in itertools.count():
         large = SELDOM + (RARELY if k % 60 == 0 else [])
-        for kind in (large if turn == 0 else random.Random(f'{source.seed} {k}').sample(large, 3)) if k % 20 == 0 else []:
+        for kind in (large if turn == 0 else random.Random(f'{source.seed} {k}').sample(SELDOM, 3)) if k % 20 == 0 else []:
             yield [source.limit(kind.__name__, k)]
         often = [source.limit(kind.__name__, len(OFTEN) * k + j) for j, kind in enumerate(OFTEN)]
         yield [source.first(n) for n in range(ROUND * k, ROUND * (k + 1))] + often

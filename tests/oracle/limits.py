@@ -58,7 +58,7 @@ def all_shards(r):
     length = MIB - ALONE
     bodies = [(k + 1, r.randbytes(r.choice([1 << k, (1 << k + 1) - 1]) >> 1)) for k in range(19)] + [(20, r.randbytes(1 << 18)), (30, None)]
     lines = store(settings(MIB, longest=length + 1), 24, 100) + ['reopen', put(*r.sample(bodies, len(bodies))), put((21, r.randbytes(length)))]
-    return lines + [put((99, r.randbytes(length + 1))), 'maintain', put((21, None)), 'maintain']
+    return lines + [put((99, r.randbytes(length + 1))), 'maintain']
 
 
 def full_heap(r):

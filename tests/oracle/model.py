@@ -175,7 +175,7 @@ class Store:
         return len(self.heap) // self.given.slot_bytes
 
     def files(self):
-        return [(k, r) for k, r in enumerate(self.records) if r != EMPTY]
+        return [(k, r) for k, r in enumerate(self.records) if r is not EMPTY and r != EMPTY]
 
     def claimed(self, slot):
         return self.claims >> slot & 1 == 1
@@ -621,7 +621,7 @@ class Console:
         s = self.store
         lines = [f'next {s.next}']
         lines += ['record %d %d %d %d %d %d %d' % (k, *r) for k, r in s.files()]
-        lines += [f'claimed {k}' for k in range(MAX_RECORDS) if s.claimed(k)]
+        lines += [f'claimed {k}' for k in range(MAX_RECORDS if s.claims else 0) if s.claimed(k)]
         lines += [f'entry {k} {i} {r}' for k, (i, r) in enumerate(zip(s.ids, s.locations)) if (i, r) != (0, 0)]
         return lines + [f'heap {zlib.crc32(s.heap)}', 'end']
 
