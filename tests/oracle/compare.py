@@ -1,8 +1,8 @@
 #!/usr/bin/env python3
 """Compares the port with the original Rust by running both on the same scenarios.
 
-    compare.py [--model | --console PATH] [--rust PATH | --stored FILE] [--seed S] [--from K] [--count N] [--seconds T] [--small] [--store FILE]
-               [--number FILE]
+    compare.py [--model | --console PATH --host PATH] [--rust PATH | --stored FILE] [--seed S].. [--calls N] [--number FILE]
+    compare.py .. [--seed S] [--limit KIND].. [--from K] [--count N] [--small] [--store FILE]
 
 After every call: each id's read, the answer, the growth of the next position, counts, each file's numbers, live count and claim;
 after reopenings and rewrites also each file as a set of entries. At a scenario's end the heap that the port wrote is renamed to the
@@ -11,11 +11,16 @@ put into slots, reopened and read by the port. A difference that is not in known
 checksum, and every answer of it, that checksum among them, must be the model's."""
 import argparse
 import collections
+import itertools
+import os
+import random
 import time
 import zlib
 
-from model import BATCH_BIT, HEADER, LABEL, Console, batch_operations, label_numbers, le, masked, shard, trailer_entries, Refused
-from known import FAILS, GROUP_FAILURES, KNOWN, NOT_MADE, READ_FAILURES, TABLE_FAILURES, directed
+from foreseen import replacing, rewriting
+from known import FAILS, GROUP_FAILURES, KNOWN, NOT_MADE, READ_FAILURES, TABLE_FAILURES, WRITE_DIFFERS, directed
+from limits import OFTEN, RARELY, SELDOM, limit
+from model import BATCH_BIT, HEADER, LABEL, Console, batch_operations, label_numbers, le, masked, trailer_entries, Refused
 from port import Difference, Ended, Model, Port, Rust, Stored, store_answers
 from scenarios import from_files, scenario
 
@@ -31,21 +36,27 @@ def contents(trailer_offset, data):
     """the file as a set of entries: (id, body), body None for a delete, ('cut', ..) for an object that is not whole"""
     entries = set()
     for ident, relative in trailer_entries(data[trailer_offset:]):
+        if relative % 2:
+            entries.add((ident, None))
+            continue
         at = relative // 2
         length = le(data, at + 12)
         whole = at + HEADER + length <= len(data)
-        entries.add((ident, None if relative % 2 else data[at:at + HEADER + length] if whole else ('cut', at)))
+        entries.add((ident, data[at:at + HEADER + length] if whole else ('cut', at)))
     return frozenset(entries)
 
 
 # ---- the port's side: a script, and what the port answers to it -----------------------------------
 
 class Step:
-    """one line of a scenario, with the model's bytes behind it"""
+    """one line of a scenario, with the model's bytes behind it. rewrite: of a maintenance; differs: a known difference of a write; mixed: in a
+    scenario with table calls among writes"""
 
-    def __init__(self, line, store, imported, cut):
-        self.line, self.imported, self.cut = line, imported, cut
-        self.heap, self.given = bytes(store.heap), store.given
+    def __init__(self, line, store, imported=False, rewrite=None, differs=None, mixed=False):
+        self.line, self.imported, self.rewrite, self.differs, self.mixed = line, imported, rewrite, differs, mixed
+        self.given, self.heap_len, self.heap_sum = store.given, len(store.heap), zlib.crc32(store.heap)
+        self.table_len = len(store.ids)
+        self.heap = bytes(store.heap) if line.split()[0] in LOOKED_AT else None
 
     def label_files(self):
         """(label's numbers, bytes) of each slot that is not empty"""
@@ -60,37 +71,34 @@ class Step:
         return self.heap[at:at + file.file_size]
 
 
-def can_be_cut(store):
-    """could a shard of this maintenance be cut, its entries taken in some order?"""
-    table = store.table()
-    for group in store.candidates().values():
-        sizes = collections.defaultdict(list)
-        try:
-            for slot in group:
-                for body in store.survivors(slot, table).values():
-                    sizes[shard(body)].append(0 if body is None else HEADER + len(body))
-        except Refused:
-            continue
-        if any(sum(s) - min(s) > store.given.target for s in sizes.values()):
-            return True
-    return False
+CALLS = ('reopen', 'write', 'claim', 'release', 'prune', 'maintain')
+TABLE_CALLS = ('load', 'store', 'cas', 'max')
+LOOKED_AT = ('reopen', 'claim', 'release', 'prune', 'maintain')  # after these the files' bytes are compared
 
 
-def plan(lines):
+def plan(lines, wide):
     """the scenario's steps. Where the two sides cannot stay alike, and at the end, a reopening is put in for which the original takes over
     the port's heap"""
-    console, steps, by_hand = Console(), [], False
+    console, steps, by_hand = Console(wide), [], False
+    words = {line.split()[0] for line in lines}
+    mixed = 'write' in words and not words.isdisjoint(TABLE_CALLS)
     for line in lines:
-        word, store = line.split()[0], console.store
-        cut = word == 'maintain' and can_be_cut(store)
+        word, store, rewrite, differs = line.split()[0], console.store, None, None
+        if word == 'maintain':
+            rewrite = rewriting(store)
+        elif word == 'write' and mixed:
+            differs = replacing(store, bytes.fromhex(line.split()[1].replace('-', '')))
         answer = console.line(line)[0]
+        if answer == 'bad line':
+            raise Difference(f'not a line of the console: {line[:200]}')
         by_hand = by_hand or word in ('heap', 'poke')
-        steps.append(Step(line, store, word == 'reopen' and by_hand, cut))
+        differs = differs if answer == 'ok' else None
+        steps.append(Step(line, store, word == 'reopen' and by_hand, rewrite, differs, mixed))
         if word == 'reopen':
             by_hand = False
             if answer != 'ok':
                 raise Difference(f'reopening outside the domain: {answer}')
-        if word == 'maintain' and (cut or answer.startswith('refused')):
+        if differs or rewrite and (rewrite.cut or mixed or answer.startswith('refused')):
             steps.append(taken_over(console))
     return steps + [taken_over(console)]
 
@@ -99,11 +107,7 @@ def taken_over(console):
     answer = console.line('reopen')
     if answer != ['ok']:
         raise Difference(f"the port's own heap is not reopened: {answer}")
-    return Step('reopen', console.store, True, False)
-
-
-CALLS = ('reopen', 'write', 'claim', 'release', 'prune', 'maintain')
-TABLE_CALLS = ('load', 'store', 'cas', 'max')
+    return Step('reopen', console.store, imported=True)
 
 
 def script(steps, ids):
@@ -155,7 +159,7 @@ def views(steps, answers, ids):
 
 def must(same, what, port, rust):
     if not same:
-        raise Difference(f'{what}\n    port: {port}\n    Rust: {rust}')
+        raise Difference(f'{what}\n    port: {str(port)[:5000]}\n    Rust: {str(rust)[:5000]}')
 
 
 class Comparison:
@@ -164,6 +168,17 @@ class Comparison:
         self.left = []
         self.known = collections.Counter()
         self.calls = collections.Counter()
+        self.reached = collections.defaultdict(int)
+        self.shards = set()
+
+    def alike_calls(self):
+        return sum(self.calls.values()) - self.port_alone()
+
+    def port_alone(self):
+        return sum(self.known[name] for name in NOT_MADE)
+
+    def reach(self, name, value):
+        self.reached[name] = max(self.reached[name], value)
 
     def met(self, name, times=1):
         """a known difference"""
@@ -189,9 +204,9 @@ class Comparison:
             data[lsn] = contents(trailer_offset, bytes.fromhex(body))
         return data
 
-    def run(self, steps, port_views, ids):
+    def run(self, steps, port_views, ids, all_ids):
         """leaves in self.left the files (name, bytes) that the original had before it took over the port's heap at the end"""
-        self.ids = ids
+        self.ids, self.all_ids = ids, all_ids
         self.port_next = self.rust_next = 0
         self.one('wipe')
         for k, (step, view) in enumerate(zip(steps, port_views)):
@@ -206,11 +221,35 @@ class Comparison:
         """one step, on the original's side"""
         word, *words = step.line.split()
         if word in TABLE_CALLS:
-            self.table_call(step.line, view)
+            self.table_call(step, view)
         elif view is not None:
-            must(view.heap_sum == zlib.crc32(step.heap), "the heap's bytes are not the model's", view.heap_sum, zlib.crc32(step.heap))
+            must(view.heap_sum == step.heap_sum, "the heap's bytes are not the model's", view.heap_sum, step.heap_sum)
             self.calls[word] += 1
             getattr(self, word)(step, view, *words)
+            self.measure(step, view)
+
+    def measure(self, step, view):
+        """how far the step went"""
+        used = sum(LABEL + f.file_size for f in view.files.values())
+        for name, value in (('S', step.given.slot_bytes), ('N', step.heap_len // step.given.slot_bytes), ('table', step.table_len),
+                            ('files', len(view.files)), ('ids', len(view.entries)), ('heap', step.heap_len),
+                            ('percent of the heap in use', used * 100 // step.heap_len),
+                            ('file_size', max((f.file_size for f in view.files.values()), default=0)),
+                            ('generation', max((f.generation for f in view.files.values()), default=0)),
+                            ('body read', max(len(r) // 2 - 1 for r in view.reads))):
+            self.reach(name, value)
+        if step.rewrite and view.answer.startswith('ok') and step.rewrite.groups:
+            rewrite, given = step.rewrite, step.given
+            self.shards |= rewrite.shards
+            self.reach('shards in one maintenance', len(rewrite.shards))
+            self.reach('groups in one maintenance', len(rewrite.groups))
+            self.reach('min_compaction_files met', given.min_files)
+            if rewrite.shards:
+                self.reach('files in a rewritten group', max(rewrite.groups))
+            if rewrite.small:
+                self.reach('threshold met', given.threshold)
+            if rewrite.longest == given.max_object - 1:
+                self.reach('max_object_size - 1 rewritten', rewrite.longest)
 
     # one method for each call
 
@@ -230,8 +269,7 @@ class Comparison:
         if step.imported:
             must(view.next == rust_next, 'next position', view.next, rust_next)
             must(sorted(view.files.values()) == rust, 'records', sorted(view.files.values()), rust)
-            loads = ['ok %d' % view.entries[i] if i in view.entries else 'nothing' for i in self.ids]
-            must(loads == self.one('loads ' + ' '.join(map(str, self.ids))).split(','), 'table', loads, 'another')
+            self.tables(view)
         elif {f.lsn for f in rust} == {f.lsn for f in view.files.values()}:
             must(view.next == rust_next, 'next position', view.next, rust_next)
         else:
@@ -254,11 +292,21 @@ class Comparison:
                 self.met('put of exactly max_object_size' if exactly else 'oversize put overridden')
             else:
                 got = self.one(' '.join(['write'] + words))
+                if step.differs:
+                    self.met(step.differs)
+                    must(view.answer == 'ok' and got.startswith(WRITE_DIFFERS[step.differs]), 'write', view.answer, got)
+                    read = dict(zip(self.ids, view.reads))
+                    for ident, body in last.items():
+                        wanted = 'nothing' if body is None else f'ok {body.hex() or "-"}'
+                        must(read[ident] == wanted, f'read {ident} after the write of {wanted}', read[ident], 'known to differ')
+                    return
                 if too_long:
                     must(got == 'err Unsupported', 'write', view.answer, got)
                 else:
                     must(view.answer == 'ok' and got.startswith('ok '), 'write', view.answer, got)
                     self.grown(view, int(got.split()[1]))
+                    if any(b is not None and len(b) == longest - 1 for b in last.values()):
+                        self.reach('max_object_size - 1 written', longest - 1)
         self.alike(step, view)
 
     def maintain(self, step, view):
@@ -273,8 +321,12 @@ class Comparison:
             must(number == '16' or got in GROUP_FAILURES, 'maintain', view.answer, got)
             self.reads(view)
             return
+        if step.rewrite.sunk:
+            self.met('live count at 0')
+            must(got in WRITE_DIFFERS['live count at 0'], 'maintain', view.answer, got)
+            return
         must(got.startswith('ok ') and got.split()[1] == view.answer.split()[1], 'count moved', view.answer, got)
-        if step.cut:
+        if step.rewrite.cut:
             self.met('cut')
             self.reads(view)
         else:
@@ -309,13 +361,14 @@ class Comparison:
     def same(self, step, slot, file, other, mine):
         return contents(file.trailer_offset, step.bytes_of(slot, file)) == contents(mine.trailer_offset, step.bytes_of(other, mine))
 
-    def table_call(self, line, answer):
+    def table_call(self, step, answer):
         self.calls['table call'] += 1
         if answer in ('refused 6', 'refused 20'):
             self.met('limits')
             return
-        got = self.one(line)
-        must(answer == got or got in TABLE_FAILURES.get(answer, ()), line, answer, got)
+        got = self.one(step.line)
+        must(answer == got or got in TABLE_FAILURES.get(answer, ()), step.line, answer, got)
+        self.reached['table calls among writes'] += step.mixed
 
     # what must be alike
 
@@ -324,19 +377,24 @@ class Comparison:
              view.next - self.port_next, rust_next - self.rust_next)
         self.port_next, self.rust_next = view.next, rust_next
 
+    def tables(self, view):
+        loads = ['ok %d' % view.entries[i] if i in view.entries else 'nothing' for i in self.all_ids]
+        must(loads == self.one('loads ' + ' '.join(map(str, self.all_ids))).split(','), 'table', loads, 'another')
+
     def alike(self, step, view, entries=False):
         self.reads(view)
+        if step.mixed and not step.rewrite:  # a rewrite gives other locations (row 3), and both go on from the port's heap
+            self.tables(view)
         must(view.counts == self.one('counts'), 'counts', view.counts, 'another')
         rust = self.rust_files()
         mine, theirs = sorted(map(shape, view.files.values())), sorted(map(shape, rust))
         must(mine == theirs, 'files', mine, theirs)
         if entries:
             by_lsn = self.rust_contents()
-            key = lambda c: (c[0], sorted(map(repr, c[1])))
-            mine = sorted(((shape(f), contents(f.trailer_offset, step.bytes_of(k, f))) for k, f in view.files.items()), key=key)
-            theirs = sorted(((shape(f), by_lsn[f.lsn]) for f in rust), key=key)
-            must(mine == theirs, 'files as sets of entries', mine, theirs)
-            self.met('delete position', sum(i[1] is None for _, c in mine for i in c))
+            mine = collections.Counter((shape(f), contents(f.trailer_offset, step.bytes_of(k, f))) for k, f in view.files.items())
+            theirs = collections.Counter((shape(f), by_lsn[f.lsn]) for f in rust)
+            must(mine == theirs, 'files as sets of entries', mine - theirs, theirs - mine)
+            self.met('delete position', sum(i[1] is None for _, c in mine.elements() for i in c))
 
     def reads(self, view):
         got = self.one('read ' + ' '.join(map(str, self.ids))).split(',')
@@ -361,25 +419,42 @@ def ids_of(steps):
     return sorted(found)
 
 
+def sample(ids):
+    """of many ids so many that each can be read after every call: the least, the greatest, the one that no scenario mentions, some others"""
+    return ids if len(ids) <= 60 else sorted({ids[0], ids[-1], 77777} | set(random.Random(len(ids)).sample(ids, 5 if len(ids) > 1000 else 20)))
+
+
 class Job:
-    """a scenario, planned"""
+    """a scenario, planned. wide: with more room than the console has"""
 
     def __init__(self, name, lines):
         self.name, self.lines = name, lines
-        self.steps = plan(lines)
-        self.ids = ids_of(self.steps)
+        heaps = [int(line.split()[1]) for line in lines if line.startswith('heap ')]
+        self.wide = max(heaps) > Console.MAX_HEAP or max(map(len, lines)) > Console.MAX_LINE
+        self.steps = plan(lines, self.wide)
+        self.all_ids = ids_of(self.steps)
+        self.ids = sample(self.all_ids)
         self.script = script(self.steps, self.ids)
 
 
-def run_port(port, jobs):
-    """each job's answers: one process for all"""
-    answers = iter(port.run([line for job in jobs for line in job.script]))
-    for job in jobs:
-        job.answers = [next(answers) for _ in job.script]
-        if not isinstance(port, Model):
-            for line, said, wanted in zip(job.script, job.answers, Model().run(job.script)):
-                if said != wanted:
-                    raise Difference(f'scenario {job.name}: {line[:200]}\n    port: {said}\n    model: {wanted}')
+class Ports:
+    """the console, and the C library behind host.c for what the console has no room for; or the model for both"""
+
+    def __init__(self, console=None, host=None):
+        self.model = console is None
+        self.name = 'model' if self.model else 'console' if host is None else 'console and C library'
+        self.console, self.host = (Model(), Model(wide=True)) if self.model else (Port(console), Port(host) if host else None)
+
+    def run(self, jobs):
+        """each job's answers: one process for all that the console takes"""
+        narrow = [job for job in jobs if not job.wide]
+        answers = iter(self.console.run([line for job in narrow for line in job.script]))
+        for job in jobs:
+            job.answers = self.host.run(job.script) if job.wide else [next(answers) for _ in job.script]
+            if not self.model:
+                for line, said, wanted in zip(job.script, job.answers, Model(job.wide).run(job.script)):
+                    if said != wanted:
+                        raise Difference(f'scenario {job.name}: {line[:200]}\n    port: {str(said)[:2000]}\n    model: {str(wanted)[:2000]}')
 
 
 def compare_jobs(comparison, jobs):
@@ -389,9 +464,9 @@ def compare_jobs(comparison, jobs):
         comparison.rust.begin(job.name)
         job_views = views(job.steps, job.answers, job.ids)
         try:
-            comparison.run(job.steps, job_views, job.ids)
+            comparison.run(job.steps, job_views, job.ids, job.all_ids)
         except Difference as d:
-            raise Difference(f'scenario {job.name}, {d}\n\n' + '\n'.join(job.lines))
+            raise Difference(f'scenario {job.name}, {d}\n\n' + '\n'.join(line[:1000] for line in job.lines))
         left[job.name] = comparison.left, [v for v in job_views if isinstance(v, PortView)][-1].reads
     return left
 
@@ -399,19 +474,25 @@ def compare_jobs(comparison, jobs):
 class Generated:
     """scenarios from a seed, and from the files that the original left of one"""
 
-    def __init__(self, seed, small):
+    def __init__(self, seed, small=False):
         self.seed, self.small, self.scenarios = seed, small, {}
 
     def first(self, number):
-        return self.kept(f'{number:03}', scenario(self.seed, number, self.small))
+        return self.kept(f'{number:03}', number, scenario(self.seed, number, self.small))
 
-    def carried(self, number, files, settings, table):
-        """None where there is nothing to carry, or more than 256 slots take"""
-        return self.kept(f'{number:03}r', from_files(self.seed, number, files, settings, table)) if 0 < len(files) <= 170 else None
+    def limit(self, kind, number):
+        return self.kept(f'{kind} {number}', f'{kind} {number}', limit(self.seed, kind, number))
 
-    def kept(self, name, lines):
+    def carried(self, job, files, settings, table):
+        """None where there is nothing to carry, more than 256 slots take, or more ids than the model moves in seconds"""
+        lines = from_files(self.seed, job.number, files, settings, table) if len(job.all_ids) < 20000 else None
+        return lines and self.kept(f'{job.name}r', job.number, lines)
+
+    def kept(self, name, number, lines):
         self.scenarios[name] = lines
-        return Job(name, lines)
+        job = Job(name, lines)
+        job.number = number
+        return job
 
 
 class Kept:
@@ -423,29 +504,28 @@ class Kept:
     def first(self, number):
         return Job(f'{number:03}', self.scenarios[f'{number:03}'])
 
-    def carried(self, number, files, settings, table):
-        name = f'{number:03}r'
+    def carried(self, job, files, settings, table):
+        name = f'{job.name}r'
         return Job(name, self.scenarios[name]) if name in self.scenarios else None
 
 
-def compare(port, comparison, source, numbers):
+def compare(ports, comparison, source, jobs):
     """one round: scenarios, then the original's files of each carried to the port. Gives how many of both"""
-    jobs = [source.first(k) for k in numbers]
-    run_port(port, jobs)
+    ports.run(jobs)
     left = compare_jobs(comparison, jobs)
     carried = []
-    for k, job in zip(numbers, jobs):
+    for job in jobs:
         files, reads = left[job.name]
         settings = [line for line in job.lines if line.startswith('settings')][-1]
-        again = source.carried(k, files, settings, 4 + len(job.ids))
+        again = source.carried(job, files, settings, min(65536, 4 + len(job.all_ids)))
         if again:
             again.want = dict(zip(job.ids, reads))
             carried.append(again)
-    run_port(port, carried)
+    ports.run(carried)
     for job in carried:
         first = next(v for v in views(job.steps, job.answers, job.ids) if isinstance(v, PortView))
         for ident, got in zip(job.ids, first.reads):
-            if got != job.want[ident]:
+            if got != job.want.get(ident, got):
                 raise Difference(f"scenario {job.name}: read {ident} of the original's own files\n    before: {job.want[ident]}\n    port: {got}")
     compare_jobs(comparison, carried)
     return len(jobs), len(carried)
@@ -475,45 +555,97 @@ def compare_directed(port, rust):
     return len(cases)
 
 
+# ---- which scenarios, and how far they must go ---------------------------------------------------
+
+ROUND = 25
+# a run of so many calls must get so far with its first seed
+MUST_REACH = {
+    'S': 1048576, 'N': 256, 'heap': 24 * 1048576, 'table': 65536, 'ids': 65536, 'files': 256, 'file_size': 1048512, 'percent of the heap in use': 100, 'generation': 255,
+    'body read': 1048464, 'max_object_size - 1 written': 1048464, 'max_object_size - 1 rewritten': 1048464, 'shards in one maintenance': 21,
+    'groups in one maintenance': 3, 'files in a rewritten group': 255, 'min_compaction_files met': 256, 'threshold met': 256,
+    'table calls among writes': 100,
+}
+
+
+def rounds(source, start, count):
+    """so many scenarios of the usual kind"""
+    for at in range(start, start + count, ROUND):
+        yield [source.first(k) for k in range(at, min(at + ROUND, start + count))]
+
+
+def rounds_to_the_limits(source, turn):
+    """without end: scenarios of the usual kind, and among them those at document 01's limits, the large ones by themselves: all of them with the
+    first seed, with another three at a time"""
+    for k in itertools.count():
+        large = SELDOM + (RARELY if k % 60 == 0 else [])
+        for kind in (large if turn == 0 else random.Random(f'{source.seed} {k}').sample(SELDOM, 3)) if k % 20 == 0 else []:
+            yield [source.limit(kind.__name__, k)]
+        often = [source.limit(kind.__name__, len(OFTEN) * k + j) for j, kind in enumerate(OFTEN)]
+        yield [source.first(n) for n in range(ROUND * k, ROUND * (k + 1))] + often
+
+
+def say_how_far(comparison, seed, asked):
+    """the tally, and a failure where a limit was not reached"""
+    far = comparison.reached
+    print(f'  seed {seed} reached: ' + ', '.join(f'{name} {far[name]}' for name in MUST_REACH) + f', shards rewritten {sorted(comparison.shards)}')
+    short = [f'{name} {far[name]} of {least}' for name, least in MUST_REACH.items() if far[name] < least]
+    if asked and short:
+        raise Difference('limits not reached: ' + ', '.join(short))
+
+
 def main():
     parser = argparse.ArgumentParser()
     parser.add_argument('--model', action='store_true', help="the model in the port's place")
-    parser.add_argument('--console', default='target/bin/console')
+    parser.add_argument('--console', default='target/tests/console')
+    parser.add_argument('--host', help='host.c, built: for scenarios that the console has no room for')
     parser.add_argument('--rust', default='oracle/target/release/oracle')
     parser.add_argument('--stored', help='replay the answers of this file instead of running the original')
     parser.add_argument('--store', help="write the original's answers into this file")
-    parser.add_argument('--seed', default='1')
+    parser.add_argument('--seed', action='append', help='more than one share the calls')
+    parser.add_argument('--calls', type=int, help='to the limits, and until so many calls were compared')
+    parser.add_argument('--limit', action='append', default=[], help='one scenario of this kind at the limits')
     parser.add_argument('--from', dest='start', type=int, default=0)
-    parser.add_argument('--count', type=int, default=100)
-    parser.add_argument('--seconds', type=float, default=1e9, help='begin no round after so long')
+    parser.add_argument('--count', type=int, default=100, help='without --calls: so many scenarios of the usual kind')
     parser.add_argument('--small', action='store_true')
     parser.add_argument('--number', help='write the number of calls into this file')
     options = parser.parse_args()
-    port = Model() if options.model else Port(options.console)
-    rust = Stored(options.stored) if options.stored else Rust(options.rust)
+    ports = Ports() if options.model else Ports(options.console, options.host)
+    rust = Stored(options.stored) if options.stored else Rust(options.rust, keep=options.store is not None)
+    seeds = ['of the stored answers'] if options.stored else options.seed or ['1']
     if options.stored:
-        options.seed, options.count = 'of the stored answers', sum(name.isdigit() for name in rust.scenarios)
-    source = Kept(rust) if options.stored else Generated(options.seed, options.small)
-    began, comparison, done, carried = time.time(), Comparison(rust), 0, 0
+        options.count = sum(name.isdigit() for name in rust.scenarios)
+    began, comparison, done, carried, seed = time.time(), Comparison(rust), 0, 0, ''
     try:
-        cases = compare_directed(port, rust)
-        for at in range(options.start, options.start + options.count, 25):
-            if time.time() - began > options.seconds:
-                break
-            numbers = range(at, min(at + 25, options.start + options.count))
-            n, c = compare(port, comparison, source, numbers)
-            done, carried = done + n, carried + c
+        cases = compare_directed(ports.console, rust)
+        for turn, seed in enumerate(seeds):
+            source = Kept(rust) if options.stored else Generated(seed, options.small)
+            if options.calls:
+                jobs = rounds_to_the_limits(source, turn)
+            else:
+                jobs = itertools.chain([[source.limit(kind, 0)] for kind in options.limit], rounds(source, options.start, options.count))
+            share = options.calls and options.calls * (turn + 1) / len(seeds)
+            while not share or comparison.alike_calls() < share:
+                round_of = next(jobs, None)
+                if round_of is None:
+                    break
+                n, c = compare(ports, comparison, source, round_of)
+                done, carried = done + n, carried + c
+            if options.calls:
+                say_how_far(comparison, seed, turn == 0)
     except Difference as d:
-        raise SystemExit(f'DIFFERENCE (seed {options.seed}) {d}')
+        raise SystemExit(f'DIFFERENCE (seed {seed}) {d}')
     finally:
         rust.close()
     if options.store:
         store_answers(options.store, source.scenarios, rust.transcripts)
     against = 'stored answers of the original' if options.stored else 'original'
-    not_made = sum(comparison.known[name] for name in NOT_MADE)
-    calls = sum(comparison.calls.values()) - not_made
-    print(f"{port.name} and {against}: {cases} smallest inputs, {done} scenarios and {carried} on the original's files, {done + carried} heaps of the port "
-          f'opened by the original, {calls} calls alike and {not_made} made by the port alone, seed {options.seed}, {time.time() - began:.0f} s')
+    calls = comparison.alike_calls()
+    if calls < (options.calls or 1):
+        raise SystemExit(f'only {calls} calls were compared')
+    spent = os.times()
+    print(f"{ports.name} and {against}: {cases} smallest inputs, {done} scenarios and {carried} on the original's files, {done + carried} heaps of the port "
+          f'opened by the original, {calls} calls alike and {comparison.port_alone()} made by the port alone, seed {" and ".join(seeds)}, '
+          f'{time.time() - began:.0f} s, {sum(spent[:4]):.0f} s of processor time')
     print('  calls: ' + ', '.join(f'{n} {w}' for w, n in sorted(comparison.calls.items())))
     print('  known: ' + ', '.join(f'{w} {n}' for w, n in sorted(comparison.known.items())))
     if options.number:

@@ -25,6 +25,11 @@ KNOWN = {
     'damaged file in maintenance': "which of several faults is met first differs (descending location there, ascending slot here): any "
                                    "failure there will do, then both go on from the port's heap",
     '16 in maintenance': "a header or body past T: the original reads on into the trailer (gc.rs:69, gc.rs:97) and may succeed",
+    # of a table that its own calls changed; after each both sides go on from the port's heap
+    'greater location kept': "row 16: writepath.rs:300 stores a new location only over a lower one; an equal one is a panic",
+    'live one lost by the new file': "row 17: the file is found before the new one is added, file_map.rs:300 asserts that it is not the new one",
+    'live count at 0': "row 17: 0 stays 0, file_map.rs:308 asserts",
+    'no file to lose a live one': "row 29: none does, file_map.rs:298 unwraps",
 }
 
 # of these the call is not made on the original's side
@@ -40,6 +45,12 @@ READ_FAILURES = {
 TABLE_FAILURES = {
     'refused 18': {'panic location_table.rs:37'},
     'refused 19': {'panic location_table.rs:53'},
+}
+WRITE_DIFFERS = {
+    'greater location kept': ('ok ', 'panic location_table.rs:53'),
+    'live one lost by the new file': ('panic file_map.rs:300',),
+    'live count at 0': ('panic file_map.rs:308',),
+    'no file to lose a live one': ('panic file_map.rs:298',),
 }
 GROUP_FAILURES = ('err InvalidData', 'err UnexpectedEof', 'panic gc.rs:89', 'panic gc.rs:148')
 

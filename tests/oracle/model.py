@@ -4,8 +4,11 @@
 Reads the console's script on standard input and prints its answers. Nothing here is taken from crates/;
 where the paper leaves a choice, the reading D1..D15 of docs/DECISIONS.md is named at the line."""
 import re
+import struct
 import sys
 import zlib
+from collections import Counter
+from operator import itemgetter, lt
 
 U64 = 1 << 64
 BATCH_BIT = 1 << 62
@@ -104,14 +107,14 @@ def object_sum(ident, body):
 
 def file_bytes(entries):
     """entries: (id, body or None for a delete), ids ascending. Gives bytes, T and (id, raw relative location)"""
-    objects, places = b'', []
+    objects, places = bytearray(), []
     for ident, body in entries:
         places.append((ident, raw_location(len(objects), body is None)))  # D1: a delete has the object bytes before it
         if body is not None:
             objects += object_bytes(ident, body)
     listed = len(places).to_bytes(8, 'little')
     listed += b''.join(i.to_bytes(8, 'little') + r.to_bytes(8, 'little') for i, r in places)
-    return objects + zlib.crc32(listed).to_bytes(4, 'little') + listed, len(objects), places
+    return bytes(objects) + zlib.crc32(listed).to_bytes(4, 'little') + listed, len(objects), places
 
 
 def trailer_entries(trailer):
@@ -120,7 +123,7 @@ def trailer_entries(trailer):
     refuse_if(zlib.crc32(trailer[4:]) != le(trailer, 0, 4), 10)
     count = le(trailer, 4)
     refuse_if(12 + 16 * count > len(trailer), 11)
-    return [(le(trailer, 12 + 16 * k), le(trailer, 20 + 16 * k)) for k in range(count)]
+    return list(struct.iter_unpack('<QQ', trailer[12:12 + 16 * count]))
 
 
 def batch_operations(batch):
@@ -172,7 +175,7 @@ class Store:
         return len(self.heap) // self.given.slot_bytes
 
     def files(self):
-        return [(k, r) for k, r in enumerate(self.records) if r != EMPTY]
+        return [(k, r) for k, r in enumerate(self.records) if r is not EMPTY and r != EMPTY]
 
     def claimed(self, slot):
         return self.claims >> slot & 1 == 1
@@ -182,7 +185,7 @@ class Store:
         return bytes(self.heap[at + start:at + end])
 
     def table(self):
-        return {i: r for i, r in zip(self.ids, self.locations) if r != 0}
+        return dict(filter(itemgetter(1), zip(self.ids, self.locations)))
 
     def set_table(self, table):
         pairs = sorted(table.items())
@@ -210,7 +213,7 @@ class Store:
 
     def table_in_form(self):
         used = self.locations.index(0) if 0 in self.locations else len(self.locations)
-        rising = all(self.ids[k] < self.ids[k + 1] for k in range(used - 1))
+        rising = all(map(lt, self.ids[:used - 1], self.ids[1:used]))
         return rising and not any(self.ids[used:]) and not any(self.locations[used:])
 
     def record_wrong(self, slot, record):
@@ -407,9 +410,9 @@ class Store:
                 here = (masked(numbers[0]) + relative // 2, relative + 2 * numbers[0], slot)
                 best[ident] = max(best.get(ident, here), here)
         refuse_if(len(best) > len(self.ids), 6)
-        records = [EMPTY] * MAX_RECORDS
+        records, live = [EMPTY] * MAX_RECORDS, Counter(b[2] for b in best.values())
         for slot, (numbers, _) in found.items():
-            records[slot] = numbers + (sum(b[2] == slot for b in best.values()),)
+            records[slot] = numbers + (live[slot],)
         heads = [n for n, _ in found.values()]
         next_position = max(masked(n[0]) for n in heads) + max(n[2] for n in heads) + 1 if heads else 1
         return records, {i: b[1] for i, b in best.items()}, next_position
@@ -492,10 +495,13 @@ def hex_bytes(word):
 
 
 class Console:
+    """what the console answers; wide: with the room that host.c has"""
     MAX_LINE, MAX_HEAP, MAX_TABLE = 131200, 1048576, 65536
 
-    def __init__(self):
+    def __init__(self, wide=False):
         self.store = Store()
+        if wide:
+            self.MAX_LINE, self.MAX_HEAP = 1 << 23, 1 << 28
 
     def line(self, text):
         """the answer's lines; none for a comment and for help, whose lines are for people"""
@@ -615,7 +621,7 @@ class Console:
         s = self.store
         lines = [f'next {s.next}']
         lines += ['record %d %d %d %d %d %d %d' % (k, *r) for k, r in s.files()]
-        lines += [f'claimed {k}' for k in range(MAX_RECORDS) if s.claimed(k)]
+        lines += [f'claimed {k}' for k in range(MAX_RECORDS if s.claims else 0) if s.claimed(k)]
         lines += [f'entry {k} {i} {r}' for k, (i, r) in enumerate(zip(s.ids, s.locations)) if (i, r) != (0, 0)]
         return lines + [f'heap {zlib.crc32(s.heap)}', 'end']
 

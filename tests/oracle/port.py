@@ -11,11 +11,14 @@ BLOCK_END = {'dump': 'end', 'list': 'ids '}
 
 
 class Model:
-    """the model in the console's place"""
+    """the model in the console's place, or in host.c's"""
     name = 'model'
 
+    def __init__(self, wide=False):
+        self.wide = wide
+
     def run(self, lines):
-        console = Console()
+        console = Console(self.wide)
         return [console.line(line) for line in lines]
 
 
@@ -66,14 +69,14 @@ def console_command(path):
 
 
 class Rust:
-    """the original, one process; keeps all that was said, by the names given to begin"""
+    """the original, one process; where it is to be stored, keeps all that was said, by the names given to begin"""
 
-    def __init__(self, path):
+    def __init__(self, path, keep=False):
         memory = '/dev/shm' if os.access('/dev/shm', os.W_OK) else None
         self.folder = tempfile.TemporaryDirectory(dir=memory)
         self.process = subprocess.Popen([path, os.path.join(self.folder.name, 'store')], text=True,
                                         stdin=subprocess.PIPE, stdout=subprocess.PIPE)
-        self.transcripts, self.current = {}, []
+        self.transcripts, self.current, self.keep = {}, [], keep
 
     def begin(self, name):
         self.current = self.transcripts[name] = []
@@ -85,7 +88,8 @@ class Rust:
         answer = [self.line(command)]
         while command in ('files', 'records') and answer[-1] not in ('end', 'closed'):
             answer.append(self.line(command))
-        self.current.append((command, answer))
+        if self.keep:
+            self.current.append((command, answer))
         return answer
 
     def line(self, command):

@@ -6,7 +6,7 @@ import random
 import sys
 import zlib
 
-from model import BATCH_BIT, HEADER, LABEL, file_bytes, label_bytes, object_bytes, raw_location, to_groups
+from model import BATCH_BIT, HEADER, LABEL, MAX_RECORDS, file_bytes, label_bytes, object_bytes, raw_location, to_groups
 
 STRANGE_IDS = [0, 127, 128, 16383, 16384, 2 ** 32, 2 ** 63, 2 ** 64 - 1]
 
@@ -151,6 +151,11 @@ class Maker:
         return lines
 
 
+def pokes(at, data, most=65000):
+    """in pieces that a line of the console takes"""
+    return [f'poke {at + k} {data[k:k + most].hex()}' for k in range(0, len(data), most)]
+
+
 def scenario(seed, number, small=False):
     maker = Maker(seed, number, small)
     kind = number % 6
@@ -158,16 +163,18 @@ def scenario(seed, number, small=False):
 
 
 def from_files(seed, number, files, settings, table):
-    """a scenario on files that the original wrote: (name, bytes); labels made from names, slots shuffled"""
+    """a scenario on files that the original wrote: (name, bytes); labels made from names, slots shuffled. Not where they are too many"""
     r = random.Random(f'{seed} {number} files')
     words = settings.split()
     slot_bytes = max([128] + [LABEL + len(data) for _, data in files])
-    slots = max(4, len(files) + len(files) // 2)
+    slots = min(MAX_RECORDS, max(4, len(files) + len(files) // 2))
+    if not 0 < len(files) <= slots:
+        return None
     lines = [' '.join([words[0], str(slot_bytes)] + words[2:]), 'claims 0 0 0 0', f'heap {slots * slot_bytes}', f'table {table} {table}']
     for slot, (name, data) in zip(r.sample(range(slots), len(files)), files):
         lsn, trailer_offset, present, generation = (int(part, 16) for part in name.split('-'))
         label = label_bytes((lsn, trailer_offset, len(data), present, generation))
-        lines.append(f'poke {slot * slot_bytes} {(label + data).hex()}')
+        lines += pokes(slot * slot_bytes, label + data)
     return lines + ['reopen', 'maintain', 'reopen']
 
 

@@ -11,9 +11,9 @@ import argparse
 import os
 import zlib
 
-from compare import CALLS, TABLE_CALLS, Comparison, Generated, compare
+from compare import CALLS, TABLE_CALLS, Comparison, Generated, Ports, compare
 from known import READ_FAILURES, TABLE_FAILURES
-from port import Model, Rust
+from port import Rust
 
 ORACLE = os.path.join(os.path.dirname(__file__), '..', '..', 'oracle', 'target', 'release', 'oracle')
 # text and CRC-32 as published: the check value, RFC 1321's test texts, 32 bytes of zeros and of ones
@@ -39,9 +39,9 @@ class Recorder(Comparison):
         self.asked[command.split()[0]] = answer[0]
         return answer
 
-    def run(self, steps, port_views, ids):
+    def run(self, steps, port_views, ids, all_ids):
         self.ended = False
-        super().run(steps, port_views, ids)
+        super().run(steps, port_views, ids, all_ids)
 
     def take(self, step, view):
         self.asked = {}
@@ -87,7 +87,8 @@ def main():
     options = parser.parse_args()
     rust = Rust(ORACLE)
     recorder = Recorder(rust)
-    done, carried = compare(Model(), recorder, Generated(options.seed, True), range(options.count))
+    source = Generated(options.seed, small=True)
+    done, carried = compare(Ports(), recorder, source, [source.first(k) for k in range(options.count)])
     rust.close()
     title = f'# made from the original by tests/oracle/vectors.py, seed {options.seed}: {done} scenarios and {carried} on its files'
     made = [(title, title)] + list(checksums()) + recorder.list

@@ -8,7 +8,8 @@ use std::sync::Mutex;
 static PANIC: Mutex<String> = Mutex::new(String::new());
 
 fn hex(bytes: &[u8]) -> String {
-    if bytes.is_empty() { "-".into() } else { bytes.iter().map(|b| format!("{b:02x}")).collect() }
+    let digit = |n: u8| char::from(b"0123456789abcdef"[usize::from(n)]);
+    if bytes.is_empty() { "-".into() } else { bytes.iter().flat_map(|b| [digit(b >> 4), digit(b & 15)]).collect() }
 }
 
 fn unhex(word: &str) -> Vec<u8> {

@@ -1,0 +1,169 @@
+/* The C library behind the console's script, for heaps and lines that the console has no room for. It reads what compare.py writes: each
+   line is right. tests/oracle/host builds it. */
+#include "marble.h"
+
+int printf(const char *, ...);
+int putchar(int);
+void *calloc(size_t, size_t);
+void free(void *);
+void *memset(void *, int, size_t);
+int strcmp(const char *, const char *);
+char *strtok(char *, const char *);
+unsigned long long strtoull(const char *, char **, int);
+long getline(char **, size_t *, void *);
+extern void *stdin;
+
+static marble_settings s;
+static marble_state state;
+static marble_claims claims;
+static uint8_t *heap, *bytes;
+static uint64_t *ids, *locations;
+static size_t heap_len, table_len, bytes_len;
+
+#define TABLE ids, table_len, locations, table_len
+#define LENT heap, heap_len, TABLE
+
+static uint64_t number(void) { return strtoull(strtok(0, " "), 0, 10); }
+
+static uint8_t digit(char c) { return (uint8_t)(c <= '9' ? c - '0' : c - 'a' + 10); }
+
+/* the next word's bytes, in place */
+static void hex(void) {
+    char *word = strtok(0, " ");
+    bytes = (uint8_t *)word;
+    for (bytes_len = 0; word[0] != '-' && word[2 * bytes_len] != 0; bytes_len++)
+        bytes[bytes_len] = (uint8_t)(digit(word[2 * bytes_len]) << 4 | digit(word[2 * bytes_len + 1]));
+}
+
+/* CRC-32 of the heap, a byte at a time */
+static uint32_t heap_sum(void) {
+    static uint32_t table[256];
+    uint32_t sum = 0xffffffff;
+    for (uint32_t k = 0; table[255] == 0 && k < 256; k++) {
+        table[k] = k;
+        for (int bit = 0; bit < 8; bit++) table[k] = table[k] >> 1 ^ (table[k] & 1 ? 0xedb88320 : 0);
+    }
+    for (size_t k = 0; k < heap_len; k++) sum = sum >> 8 ^ table[(sum ^ heap[k]) & 255];
+    return ~sum;
+}
+
+static void dump(void) {
+    printf("next %llu\n", (unsigned long long)state.next_position);
+    for (unsigned k = 0; k < 256; k++) {
+        const marble_record *f = &state.records[k];
+        if (f->lsn | f->trailer_offset | f->file_size | f->present_objects | f->generation | f->live)
+            printf("record %u %llu %llu %llu %llu %llu %llu\n", k, (unsigned long long)f->lsn, (unsigned long long)f->trailer_offset,
+                   (unsigned long long)f->file_size, (unsigned long long)f->present_objects, (unsigned long long)f->generation,
+                   (unsigned long long)f->live);
+    }
+    for (unsigned k = 0; k < 256; k++)
+        if (claims.word[k / 64] >> k % 64 & 1) printf("claimed %u\n", k);
+    for (size_t k = 0; k < table_len; k++)
+        if (ids[k] | locations[k]) printf("entry %zu %llu %llu\n", k, (unsigned long long)ids[k], (unsigned long long)locations[k]);
+    printf("heap %u\nend\n", heap_sum());
+}
+
+static void said(uint64_t refusal) {
+    if (refusal == 0) printf("ok\n");
+    else printf("refused %llu\n", (unsigned long long)refusal);
+}
+
+/* ok with a number, a word for 0, or refused */
+static void found(uint64_t refusal, const char *words, const char *none, uint64_t value) {
+    if (refusal != 0 || value == 0) {
+        if (refusal != 0) said(refusal);
+        else printf("%s\n", none);
+    } else {
+        printf("%s %llu\n", words, (unsigned long long)value);
+    }
+}
+
+static void read(uint64_t id) {
+    uint64_t offset, size, refusal = marble_read(s, &state, LENT, id, &offset, &size);
+    if (refusal != 0 || offset == 0) {
+        if (refusal != 0) said(refusal);
+        else printf("nothing\n");
+        return;
+    }
+    printf(size == 0 ? "ok -" : "ok ");
+    for (uint64_t k = 0; k < size; k++) {
+        putchar("0123456789abcdef"[heap[offset + k] >> 4]);
+        putchar("0123456789abcdef"[heap[offset + k] & 15]);
+    }
+    printf("\n");
+}
+
+static int is(const char *word, const char *other) { return strcmp(word, other) == 0; }
+
+static void line(const char *word) {
+    uint64_t a, b, c, refusal;
+    marble_totals t;
+    if (is(word, "settings")) {
+        s.slot_bytes = number(), s.file_compaction_percent = number(), s.min_compaction_files = number();
+        s.target_file_size = number(), s.small_file_cleanup_threshold = number(), s.max_object_size = number();
+        said(0);
+    } else if (is(word, "claims")) {
+        for (int k = 0; k < 4; k++) claims.word[k] = number();
+        said(0);
+    } else if (is(word, "heap")) {
+        free(heap);
+        heap = calloc(heap_len = number(), 1);
+        said(0);
+    } else if (is(word, "table")) {
+        free(ids), free(locations);
+        ids = calloc(table_len = number(), 8), locations = calloc(table_len, 8);
+        said(0);
+    } else if (is(word, "poke")) {
+        a = number(), hex();
+        for (size_t k = 0; k < bytes_len; k++) heap[a + k] = bytes[k];
+        said(0);
+    } else if (is(word, "dump")) {
+        dump();
+    } else if (is(word, "reopen")) {
+        said(marble_reopen(s, &state, &claims, LENT));
+    } else if (is(word, "write")) {
+        hex();
+        said(marble_write(s, &state, LENT, bytes, bytes_len));
+    } else if (is(word, "read")) {
+        read(number());
+    } else if (is(word, "claim")) {
+        said(marble_claim(s, &state, &claims, LENT, number()));
+    } else if (is(word, "release")) {
+        said(marble_release(s, &state, &claims, LENT, number()));
+    } else if (is(word, "prune")) {
+        said(marble_prune(s, &state, &claims, LENT));
+    } else if (is(word, "maintain")) {
+        refusal = marble_maintain(s, &state, &claims, LENT, &a, &b);
+        if (refusal == 0) printf("ok %llu\n", (unsigned long long)b);
+        else printf("refused %llu %llu %llu\n", (unsigned long long)refusal, (unsigned long long)a, (unsigned long long)b);
+    } else if (is(word, "counts")) {
+        refusal = marble_counts(s, &state, LENT, &t);
+        if (refusal != 0) said(refusal);
+        else printf("ok %llu %llu %llu %llu\n", (unsigned long long)t.files, (unsigned long long)t.bytes, (unsigned long long)t.present, (unsigned long long)t.live);
+    } else if (is(word, "load")) {
+        a = number(), refusal = marble_load(TABLE, a, &b);
+        found(refusal, "ok", "nothing", b);
+    } else if (is(word, "store")) {
+        a = number(), b = number();
+        said(marble_store(TABLE, a, b));
+    } else if (is(word, "cas")) {
+        a = number(), b = number(), c = number(), refusal = marble_compare_and_store(TABLE, a, b, c, &a);
+        found(refusal, "differs", "ok", a);
+    } else if (is(word, "max")) {
+        a = number(), b = number(), refusal = marble_store_if_greater(TABLE, a, b, &c);
+        found(refusal, "ok", "ok nothing", c);
+    } else {
+        printf("bad line\n");
+    }
+}
+
+int main(void) {
+    static char *text;
+    static size_t room;
+    long length;
+    while ((length = getline(&text, &room, stdin)) > 0) {
+        text[length - 1] = 0;
+        line(strtok(text, " "));
+    }
+    return 0;
+}
