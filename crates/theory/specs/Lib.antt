@@ -11,6 +11,7 @@ pub mod Losing
 -- the invariant on views, and what a file added or removed does to it
 pub mod Picture
 pub mod Sound
+pub mod Whole
 pub mod Installed
 pub mod Emptied
 -- G: what an accepted reopening means
@@ -29,6 +30,7 @@ pub mod Moving
 pub mod Shards
 pub mod Rewriting
 pub mod Maintaining
+pub mod Small
 -- demand 3, and that stores accept writes
 pub mod History
 pub mod Accepting

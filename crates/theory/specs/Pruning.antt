@@ -79,7 +79,8 @@ module _ (w : World) (told : ℕ → Said) (s : SoundWorld w told) where
           ∙ pick-same (isDead (w .claims) k (recordAt (recordsOf w) k)) emptyRecord
           ∙ ap (pick (isDead (w .claims) k (recordAt (recordsOf w) k)) emptyRecord) (sym (List·getD-eq-default (recordsOf w) emptyRecord {n = k} l))
 
-  each-slot : (k : ℕ) → KeptOrEmptied (pictureOf w) (pictureOf (pruned w)) k
+  -- each slot is as it was, or its dead file is gone
+  pub each-slot : (k : ℕ) → KeptOrEmptied (pictureOf w) (pictureOf (pruned w)) k
   each-slot k = go (isDead (w .claims) k (recordAt (recordsOf w) k)) refl (ltb k (slotsOf w)) refl
     where
       go : (b : Bool) → isDead (w .claims) k (recordAt (recordsOf w) k) ≡ b → (c : Bool) → ltb k (slotsOf w) ≡ c → KeptOrEmptied (pictureOf w) (pictureOf (pruned w)) k

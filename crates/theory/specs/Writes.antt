@@ -24,7 +24,7 @@ use Rattle.theory.specs.Writing.{engine, heard, fits-write, sound-write}
 use Rattle.theory.specs.Reading.{Reads, sound-read}
 use Rattle.theory.specs.Again.{reopen-accepted}
 use Rattle.theory.specs.Fresh.{Blank}
-use Rattle.theory.specs.History.{Call, write, maintain, prune, claim, release, reopen, called, hears, lived, born, sound-called, sound-history}
+use Rattle.theory.specs.History.{Call, write, maintain, prune, claim, release, reopen, called, hears, Life, lived, Starts, sound-called, sound-lived, born, born-starts}
 
 -- what a read gives a host: nothing, the bytes of a part of the heap, or a refusal
 pub data Got : Type 0 where
@@ -112,11 +112,14 @@ write-means w history s batch e =
       same-records = ap (λ (a : After). recordsOf (a .world)) again;
     }
 
--- LAW: so it is on every store of demand 3
+-- LAW: so on any store of the invariant, whatever calls were made
+pub lived-write : (l : Life) → Starts l → (calls : List Call) (batch : List ℕ) → writeCall (lived l calls .world) batch .answer ≡ accepted [] → Wrote (lived l calls .world) batch
+lived-write l s calls batch e = write-means (lived l calls .world) (lived l calls .history) (sound-lived l s calls) batch e
+
+-- LAW: and on every store of demand 3 that began with no file
 pub any-write : (w : World) → outOfRange (w .settings) (length (w .heap)) (w .table) ≡ false → Blank w
     → (calls : List Call) (batch : List ℕ) → writeCall (lived (born w) calls .world) batch .answer ≡ accepted [] → Wrote (lived (born w) calls .world) batch
-any-write w range blank calls batch e =
-    write-means (lived (born w) calls .world) (lived (born w) calls .history) (sound-history w range blank calls) batch e
+any-write w range blank = lived-write (born w) (born-starts w range blank)
 
 -- ---- the other calls
 -- a call that brings no put and no delete
@@ -144,11 +147,14 @@ reads-stay w history s c q id =
     (subst (λ (h : List Op). SoundWorld (called w c .world) (engine h)) (hears-nothing w history c q) (sound-called w history c s)) id
     ∙ sym (got-last w history s id)
 
--- LAW: so it is on every store of demand 3
+-- LAW: so on any store of the invariant, whatever calls were made
+pub lived-reads-stay : (l : Life) → Starts l → (calls : List Call) (c : Call) → Quiet c → (id : ℕ) → got (called (lived l calls .world) c .world) id ≡ got (lived l calls .world) id
+lived-reads-stay l s calls c = reads-stay (lived l calls .world) (lived l calls .history) (sound-lived l s calls) c
+
+-- LAW: and on every store of demand 3 that began with no file
 pub any-reads-stay : (w : World) → outOfRange (w .settings) (length (w .heap)) (w .table) ≡ false → Blank w
     → (calls : List Call) (c : Call) → Quiet c → (id : ℕ) → got (called (lived (born w) calls .world) c .world) id ≡ got (lived (born w) calls .world) id
-any-reads-stay w range blank calls c =
-    reads-stay (lived (born w) calls .world) (lived (born w) calls .history) (sound-history w range blank calls) c
+any-reads-stay w range blank = lived-reads-stay (born w) (born-starts w range blank)
 
 -- ---- refused calls
 -- all but maintenance, which keeps finished groups, and reopening, which gives the old table up
