@@ -1,11 +1,10 @@
 -- Demand 3: whatever calls were made, reads give the last accepted put, and a reopening finds the store as it was.
 use mathlib.Core.Path.{_≡_, sym, ap, _∙_, subst}
 use Prim.Native.Nat.{_<_}
-use Rattle.rules.specs.Base.{false, not, _||_, List, [], _∷_, ℕ, _+_, length}
-use Rattle.theory.specs.Types.{Record, Limits, Claim}
+use Rattle.rules.specs.Base.{false, List, [], _∷_, ℕ, _+_, length}
+use Rattle.theory.specs.Types.{Record}
 use Rattle.disk_location.specs.Locations.{maskedOf}
-use Rattle.rules.specs.Refusal.{_gives_, decide}
-use Rattle.rules.specs.Condition1.{outOfRange, refused1}
+use Rattle.rules.specs.Condition1.{outOfRange}
 use Rattle.rules.specs.Ops.{Op}
 use Rattle.rules.specs.SettledLaws.{lastOn}
 use Rattle.rules.specs.FileMap.{isEmpty, recordAt}
@@ -13,7 +12,6 @@ use Rattle.rules.specs.Read.{readOf}
 use Rattle.rules.specs.Write.{writeCall}
 use Rattle.rules.specs.Maintenance.{maintainCall}
 use Rattle.rules.specs.Prune.{pruneCall}
-use Rattle.rules.specs.Claims.{isClaimed, notAFile, claimSet, claimCleared, claimCall, releaseCall}
 use Rattle.rules.specs.Reopen.{reopenCall}
 use Rattle.rules.specs.World.{World, recordsOf, accepted, After}
 use Rattle.theory.specs.Places.{not-empty, record-holds}
@@ -22,8 +20,9 @@ use Rattle.theory.specs.SoundWorld.{SoundWorld, SmallWorld}
 use Rattle.theory.specs.Writing.{engine, heard, sound-write}
 use Rattle.theory.specs.Reading.{Reads, sound-read}
 use Rattle.theory.specs.Maintaining.{sound-maintain}
-use Rattle.theory.specs.Small.{small-write, small-maintain, small-pruned, small-claims}
-use Rattle.theory.specs.Pruning.{file-slot, prune-accepted, sound-prune, sound-claim, sound-release}
+use Rattle.theory.specs.Small.{small-write, small-maintain, small-pruned, small-same}
+use Rattle.theory.specs.Pruning.{file-slot, prune-accepted, sound-prune}
+use Rattle.theory.specs.Quiet.{QuietCall, quietly, undisturbed}
 use Rattle.theory.specs.Again.{again, reopen-accepted, sound-again}
 use Rattle.theory.specs.Fresh.{Blank, views-blank, fresh-opens, sound-fresh}
 
@@ -32,27 +31,24 @@ pub data Call : Type 0 where
   write : List ℕ → Call
   maintain : Call
   prune : Call
-  claim : ℕ → Call
-  release : ℕ → Call
   reopen : Call
+  quiet : QuietCall → Call
 
 -- document 01's call, accepted or refused
 abbrev pub called : World → Call → After
 called w (write bytes) = writeCall w bytes
 called w maintain = maintainCall w
 called w prune = pruneCall w
-called w (claim slot) = claimCall w slot
-called w (release slot) = releaseCall w slot
 called w reopen = reopenCall w
+called w (quiet q) = quietly w q
 
 -- the plain engine: the operations of all accepted writes, in order
 abbrev pub hears : World → List Op → Call → List Op
 hears w history (write bytes) = heard history bytes (writeCall w bytes .answer)
 hears w history maintain = history
 hears w history prune = history
-hears w history (claim slot) = history
-hears w history (release slot) = history
 hears w history reopen = history
+hears w history (quiet q) = history
 
 -- the store and the engine beside it
 pub record Life : Type 0 where
@@ -105,20 +101,17 @@ pub sound-called : (w : World) (history : List Op) (c : Call) → SoundWorld w (
 sound-called w history (write bytes) s = sound-write w history s bytes
 sound-called w history maintain s = sound-maintain history w s
 sound-called w history prune s = sound-prune w (engine history) s
-sound-called w history (claim slot) s = sound-claim w (engine history) s slot
-sound-called w history (release slot) s = sound-release w (engine history) s slot
 sound-called w history reopen s =
     subst (λ (a : After). SoundWorld (a .world) (engine history)) (sym (reopen-accepted w (engine history) s)) (sound-again w (engine history) s)
+sound-called w history (quiet q) s = undisturbed w q .sound (engine history) s
 
 -- and a small store small
 small-called : (w : World) (history : List Op) (c : Call) → SoundWorld w (engine history) → SmallWorld w → SmallWorld (called w c .world)
-unfolding claimCall releaseCall
 small-called w history (write bytes) s small = small-write w history s small bytes
 small-called w history maintain s small = small-maintain history w s small
 small-called w history prune s small = subst (λ (a : After). SmallWorld (a .world)) (sym (prune-accepted w (engine history) s)) (small-pruned w history s small)
-small-called w history (claim slot) s small = small-claims w (claimSet (w .claims) slot) (decide (refused1 w gives Limits ∷ (notAFile w slot || isClaimed (w .claims) slot) gives Claim ∷ [])) small
-small-called w history (release slot) s small = small-claims w (claimCleared (w .claims) slot) (decide (refused1 w gives Limits ∷ (notAFile w slot || not (isClaimed (w .claims) slot)) gives Claim ∷ [])) small
 small-called w history reopen s small = subst (λ (a : After). SmallWorld (a .world)) (sym (reopen-accepted w (engine history) s)) small
+small-called w history (quiet q) s small = small-same w (quietly w q .world) (undisturbed w q .settings) (undisturbed w q .heap) small
 
 -- where a life may start: a store of the invariant, of which the engine says what it heard
 abbrev pub Starts : Life → Type 0

@@ -25,6 +25,7 @@ pub mod Writing
 pub mod Reading
 pub mod Again
 pub mod Pruning
+pub mod Quiet
 pub mod Fresh
 pub mod Moving
 pub mod Shards

@@ -6,7 +6,7 @@ use native.Mathlib.Omega.{arith}
 use lib.ListN.{length-take}
 use borrow.Author.Tests.{leb-false, lt-leb}
 use Rattle.rules.specs.Base.{Bool, true, false, List, [], _∷_, ℕ, zero, suc, _+_, _^_, length, set, take, drop, leb, ltb, pick, any, keep, each}
-use Rattle.theory.specs.Types.{Claims, Entry, Record, Refusal, Answer, Done, Refused}
+use Rattle.theory.specs.Types.{Settings, Entry, Record, Refusal, Answer, Done, Refused}
 use Rattle.disk_location.specs.Locations.{deleteOf, rawOf}
 use Rattle.rules.specs.BaseLaws.{All, all-map, all-append, all-both, any-false, any-clear}
 use Rattle.rules.specs.Refusal.{decide, after}
@@ -16,7 +16,7 @@ use Rattle.rules.specs.SettledLaws.{settled-all}
 use Rattle.rules.specs.Batch.{batchIn, opsOf, tooLarge, anyTooLarge}
 use Rattle.rules.specs.Trailer.{absolute}
 use Rattle.rules.specs.Table.{lookup, mappedTo}
-use Rattle.rules.specs.SlotFile.{objectPart, trailerEntries, File, View, empty, damaged, holds}
+use Rattle.rules.specs.SlotFile.{objectPart, trailerEntries, File, View, empty, damaged, holds, viewsIn}
 use Rattle.rules.specs.WrittenLaws.{fileOfOps}
 use Rattle.rules.specs.FileMap.{recordAt}
 use Rattle.rules.specs.Install.{newSlot, newLsn, installed, installedAll}
@@ -24,7 +24,7 @@ use Rattle.rules.specs.Write.{writeTests, written, writeCall}
 use Rattle.rules.specs.WriteLaws.{opsIn, Accepted, write-accepted}
 use Rattle.rules.specs.Maintenance.{deletesOf, objectsFound, deletesFound, storedObjects, slotOf, foundIn, found, filesOf, Stop, going, stopped, Course, group, groupTests, rewriteGroup, onward, groupsFrom, courseOf, ended, maintainCall}
 use Rattle.rules.specs.Prune.{pruned}
-use Rattle.rules.specs.Claims.{withClaims}
+use Rattle.rules.specs.Settings.{slotsIn}
 use Rattle.rules.specs.World.{World, recordsOf, mappings, accepted, unchanged}
 use Rattle.theory.specs.Places.{viewAt, holds-inj, not-empty, record-holds, record-empty, no-damage}
 use Rattle.theory.specs.Picture.{viewsOf}
@@ -79,6 +79,10 @@ small-installed-all : (bit g : ℕ) (files : List (List Op)) (w : World) → All
 unfolding installedAll installed
 small-installed-all bit g [] w t a small = small
 small-installed-all bit g (os ∷ oss) w t a small = small-installed-all bit g oss (installed bit g w os) (t .1) (a .1) (small-installed bit g w os (t .0) (a .0) small)
+
+-- by settings and heap alone
+abbrev SmallIn : Settings → List ℕ → Type 0
+SmallIn c heap = (k : ℕ) (f : File) → viewAt (viewsIn (slotsIn c (length heap)) (c .«slot_bytes») heap) k ≡ holds f → SmallFile (c .«max_object_size») f
 
 -- ---- call by call
 module _ (w : World) (history : List Op) (s : SoundWorld w (engine history)) (small : SmallWorld w) where
@@ -187,8 +191,6 @@ module _ (history : List Op) where
       let z = small-groups (1 ∷ 2 ∷ 3 ∷ []) (omega arith, (omega arith, (omega arith, tt))) w (record { stop = going; moved = 0; world = w }) s small in
       rw (sound-fine w (engine history) s) (small-ended (courseOf w .stop) (courseOf w) (z .0) (z .1))
 
--- ---- calls that store nothing
--- claim and release
-pub small-claims : (w : World) (c : Claims) (a : Answer) → SmallWorld w → SmallWorld (after a (unchanged w) (record { answer = accepted []; world = withClaims w c }) .world)
-small-claims w c Done small = small
-small-claims w c (Refused r) small = small
+-- the same heap and settings
+pub small-same : (w v : World) → v .settings ≡ w .settings → v .heap ≡ w .heap → SmallWorld w → SmallWorld v
+small-same w v c h small = subst (λ (bytes : List ℕ). SmallIn (v .settings) bytes) (sym h) (subst (λ (d : Settings). SmallIn d (w .heap)) (sym c) small)
