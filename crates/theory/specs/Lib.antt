@@ -46,5 +46,6 @@ pub mod Unmoved
 pub mod Finished
 pub mod Relocated
 pub mod Exactly
--- a life worked out
+-- a life worked out, and a heap that another wrote
 pub mod Witness
+pub mod Foreign
