@@ -11,6 +11,7 @@ pub mod Losing
 -- the invariant on views, and what a file added or removed does to it
 pub mod Picture
 pub mod Sound
+pub mod Whole
 pub mod Installed
 pub mod Emptied
 -- G: what an accepted reopening means
@@ -24,13 +25,16 @@ pub mod Writing
 pub mod Reading
 pub mod Again
 pub mod Pruning
+pub mod Quiet
 pub mod Fresh
 pub mod Moving
 pub mod Shards
 pub mod Rewriting
 pub mod Maintaining
+pub mod Small
 -- demand 3, and that stores accept writes
 pub mod History
+pub mod Clean
 pub mod Accepting
 pub mod Writes
 -- C: which refusals and which count maintenance answers
@@ -42,5 +46,6 @@ pub mod Unmoved
 pub mod Finished
 pub mod Relocated
 pub mod Exactly
--- a life worked out
+-- a life worked out, and a heap that another wrote
 pub mod Witness
+pub mod Foreign
