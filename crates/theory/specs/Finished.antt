@@ -160,7 +160,8 @@ rewrite-ends g ks moved w = go (decide (groupTests w ks (filesOf (w .settings .�
     go Done = inl refl
     go (Refused r) = inr (r, refl, refl)
 
-settings-all : (g : ℕ) (files : List (List Op)) (w : World) → installedAll 0 g w files .settings ≡ w .settings
+-- adding files keeps the settings
+pub settings-all : (g : ℕ) (files : List (List Op)) (w : World) → installedAll 0 g w files .settings ≡ w .settings
 unfolding installedAll installed
 settings-all g [] w = refl
 settings-all g (f ∷ fs) w = settings-all g fs (installed 0 g w f)

@@ -42,5 +42,6 @@ pub mod Unmoved
 pub mod Finished
 pub mod Relocated
 pub mod Exactly
+pub mod FirstRefused
 -- a life worked out
 pub mod Witness

@@ -1,0 +1,363 @@
+-- C exactly: maintenance stops at the first generation that is due and lacks room, slots or positions, and keeps only the generations before it.
+use mathlib.Core.Path.{_≡_, refl, sym, ap, _∙_, subst}
+use mathlib.Core.Bool.{true≢false}
+use mathlib.Core.Logic.{_⊎_, inl, inr, ⊎-elim}
+use Prim.Native.Nat.{_<_, _≤_}
+use native.Mathlib.Omega.{arith}
+use borrow.Author.Tests.{ltb-true, ltb-false, le-ltb}
+use Rattle.rules.specs.Base.{Bool, true, false, List, [], _∷_, ℕ, suc, _+_, length, ltb, pick, keep, sum}
+use Rattle.theory.specs.Types.{Record, Settings, Refusal, Limits, Answer, Done, Refused, Moved, Stopped}
+use Rattle.rules.specs.Answers.{maintain-one}
+use Rattle.rules.specs.BaseLaws.{All, all-map, order}
+use Rattle.rules.specs.Refusal.{Test, decide}
+use Rattle.rules.specs.Condition1.{outOfRange, refused1}
+use Rattle.rules.specs.Ops.{Content, put, delete, Op}
+use Rattle.rules.specs.SettledLaws.{Last, silent, last, lastOn, ops-ext}
+use Rattle.rules.specs.FileMap.{recordAt}
+use Rattle.rules.specs.FileMapLaws.{not-empty, Among}
+use Rattle.rules.specs.Install.{installed, installedAll}
+use Rattle.rules.specs.Maintenance.{found, filesOf, Stop, going, stopped, Course, group, groupTests, rewriteGroup, onward, groupsFrom, courseOf, ended, maintainCall}
+use Rattle.rules.specs.MaintenanceLaws.{Enough, Lacks, DecidedBy, SourcesPass, decided-one, group-decided, group-added, group-kept}
+use Rattle.rules.specs.Prune.{pruned}
+use Rattle.rules.specs.World.{World, recordsOf, maintainGiven, After}
+use Rattle.theory.specs.Picture.{body, gone, lastSays}
+use Rattle.theory.specs.SoundWorld.{SoundWorld, sound-fine}
+use Rattle.theory.specs.Writing.{engine}
+use Rattle.theory.specs.Moving.{Movable, found-movable}
+use Rattle.theory.specs.Rewriting.{last-all}
+use Rattle.theory.specs.Tally.{known, heardIn}
+use Rattle.theory.specs.Checked.{none-each, file-clear}
+use Rattle.theory.specs.Stopping.{group-files, Underway, onward-well}
+use Rattle.theory.specs.Finished.{liveOf, before, Answers, settings-all, maintain-answer}
+use Rattle.theory.specs.Exactly.{Exactly, moved-exactly, turn, sound-moves}
+use Rattle.theory.specs.Fresh.{Blank}
+use Rattle.theory.specs.History.{Call, lived, born, sound-history}
+
+-- ---- the words
+-- the generations of new files
+abbrev pub generations : List ℕ
+generations = 1 ∷ 2 ∷ 3 ∷ []
+
+-- "one with fewer files than min_compaction_files is skipped": the others are due
+abbrev pub Due : World → ℕ → Type 0
+Due w g = w .settings .«min_compaction_files» ≤ length (group w g)
+
+-- the files that come out of a generation's group, by the store as the call starts
+abbrev pub newFiles : World → ℕ → List (List Op)
+newFiles w g = filesOf (w .settings .«target_file_size») (found w (group w g))
+
+-- a generation of the store w finished, in a store v: its new files are added, if it is due
+abbrev pub finishing : World → ℕ → World → World
+finishing w g v = pick (ltb (length (group w g)) (w .settings .«min_compaction_files»)) v (installedAll 0 g v (newFiles w g))
+
+-- generations finished one after another
+unfoldable pub finishedFrom : World → List ℕ → World → World
+finishedFrom w [] v = v
+finishedFrom w (g ∷ gs) v = finishedFrom w gs (finishing w g v)
+
+-- "keeps finished groups": the store with these generations finished, and nothing else
+abbrev pub withFinished : World → List ℕ → World
+withFinished w gs = finishedFrom w gs w
+
+-- a generation is skipped, or its files have room, empty slots and positions when its turn comes
+abbrev pub Passes : World → ℕ → Type 0
+Passes w g = Due w g → Enough (withFinished w (before g)) (newFiles w g)
+
+-- g is the first generation that is due and refused, with r: 4, 5 or 7 by its own files, the empty slots and the base when its turn comes
+pub record FirstRefused (w : World) (g : ℕ) (r : Refusal) : Type 0 where
+  pub generation : Among generations g
+  pub due : Due w g
+  pub lacks : Lacks (withFinished w (before g)) (newFiles w g) r
+  pub earlier : (h : ℕ) → Among generations h → h < g → Passes w h
+
+-- no generation is
+abbrev pub NoneRefused : World → Type 0
+NoneRefused w = (g : ℕ) → Among generations g → Passes w g
+
+-- how maintenance ends
+pub record Ends (w : World) : Type 0 where
+  -- it stops with r in generation g exactly if g is the first that is refused, and with r; the count is the live counts before it
+  pub stops : (r : Refusal) (g n : ℕ) → maintainCall w .answer ≡ maintainGiven (Stopped r g n) → FirstRefused w g r × (n ≡ sum (liveOf w) (before g))
+  pub refused : (r : Refusal) (g : ℕ) → FirstRefused w g r → maintainCall w .answer ≡ maintainGiven (Stopped r g (sum (liveOf w) (before g)))
+  -- it succeeds exactly if none is; the count is that of all generations
+  pub succeeds : (n : ℕ) → maintainCall w .answer ≡ maintainGiven (Moved n) → NoneRefused w × (n ≡ sum (liveOf w) generations)
+  pub moved : NoneRefused w → maintainCall w .answer ≡ maintainGiven (Moved (sum (liveOf w) generations))
+  -- "keeps finished groups .. nothing is pruned": the store left is that of the generations before
+  pub keeps : (r : Refusal) (g n : ℕ) → maintainCall w .answer ≡ maintainGiven (Stopped r g n) → maintainCall w .world ≡ withFinished w (before g)
+  -- "Success prunes": that of all generations, pruned
+  pub prunes : (n : ℕ) → maintainCall w .answer ≡ maintainGiven (Moved n) → maintainCall w .world ≡ pruned (withFinished w generations)
+
+-- ---- what a group finds, and so its new files, are the same when its turn comes
+said-one : (c d : Content) → lastSays (last c) ≡ lastSays (last d) → c ≡ d
+said-one (put a) (put b) e = ap put (cc)
+said-one (put a) delete e = absurd (let z : _≡_ {A = ℕ} 0 1 = cc in omega arith)
+said-one delete (put b) e = absurd (let z : _≡_ {A = ℕ} 0 1 = cc in omega arith)
+said-one delete delete e = refl
+
+found-same : (history : List Op) (w v : World) (ks : List ℕ) → SoundWorld w (engine history) → SoundWorld v (engine history)
+    → Exactly w ks (found v ks) → Exactly w ks (found w ks) → found v ks ≡ found w ks
+found-same history w v ks s t a b =
+    ops-ext 0 0 (found v ks) (found w ks) (a .once) (b .once) (λ x. go x (lastOn (found v ks) x) refl (lastOn (found w ks) x) refl)
+  where
+    go : (x : ℕ) (l : Last) → lastOn (found v ks) x ≡ l → (m : Last) → lastOn (found w ks) x ≡ m → lastOn (found v ks) x ≡ lastOn (found w ks) x
+    go x silent p silent q = p ∙ sym q
+    go x (last c) p (last d) q =
+        let i = last-all (Movable (v .settings .«max_object_size») (engine history)) (found v ks) (found-movable v history t ks) x c p .0 in
+        let j = last-all (Movable (w .settings .«max_object_size») (engine history)) (found w ks) (found-movable w history s ks) x d q .0 in
+        p ∙ ap last (said-one c d (sym i ∙ j)) ∙ sym q
+    go x silent p (last d) q = absurd (true≢false (sym (a .every x (b .only x (ap known q))) ∙ ap known p))
+    go x (last c) p silent q = absurd (true≢false (sym (b .every x (a .only x (ap known p))) ∙ ap known q))
+
+-- settings stay
+pub settings-finished : (w : World) (gs : List ℕ) (v : World) → finishedFrom w gs v .settings ≡ v .settings
+unfolding finishedFrom
+settings-finished w [] v = refl
+settings-finished w (g ∷ gs) v = settings-finished w gs (finishing w g v) ∙ go (ltb (length (group w g)) (w .settings .«min_compaction_files»))
+  where
+    go : (b : Bool) → pick b v (installedAll 0 g v (newFiles w g)) .settings ≡ v .settings
+    go true = refl
+    go false = settings-all g (newFiles w g) v
+
+-- ---- turn by turn
+-- where the call stands when the generations below n are behind it
+abbrev At : World → ℕ → Stop → World → Type 0
+At w n going v = (v ≡ withFinished w (before n)) × ((h : ℕ) → Among generations h → h < n → Passes w h)
+At w n (stopped r g) v = (v ≡ withFinished w (before g)) × FirstRefused w g r
+
+module _ (history : List Op) (w : World) (s : SoundWorld w (engine history)) where
+  same-files : (g : ℕ) (v : World) → SoundWorld v (engine history) → v .settings ≡ w .settings → Exactly w (group w g) (found v (group w g))
+      → filesOf (v .settings .«target_file_size») (found v (group w g)) ≡ newFiles w g
+  same-files g v t same x =
+      ap (λ (c : Settings). filesOf (c .«target_file_size») (found v (group w g))) same
+      ∙ ap (filesOf (w .settings .«target_file_size»)) (found-same history w v (group w g) s t x (moved-exactly w history s (group w g) (group-files w history s g)))
+
+  sources-pass : (g : ℕ) (c : Course) → Underway history w c → SourcesPass (c .world) (group w g)
+  sources-pass g c u =
+      none-each _ (group w g)
+      (all-map (λ (k : ℕ). 0 < recordAt (recordsOf w) k .lsn) _ (group w g)
+      (λ k h. file-clear (c .world) history (u .sound) k (not-empty (recordAt (recordsOf (c .world)) k) (u .stay k h))) (group-files w history s g))
+
+  -- one more generation passes
+  passes-next : (g : ℕ) → ((h : ℕ) → Among generations h → h < g → Passes w h) → Passes w g → (h : ℕ) → Among generations h → h < suc g → Passes w h
+  passes-next g p q h a l = go (order h g)
+    where
+      go : (h < g) ⊎ ((h ≡ g) ⊎ (g < h)) → Passes w h
+      go (inl i) = p h a i
+      go (inr (inl i)) = subst (Passes w) (sym i) q
+      go (inr (inr i)) = absurd (omega arith)
+
+  module _ (g : ℕ) (is : Among generations g) (step : withFinished w (before (suc g)) ≡ finishing w g (withFinished w (before g))) where
+    one-group : (c : Course) → Underway history w c → Exactly w (group w g) (found (c .world) (group w g)) → c .world ≡ withFinished w (before g)
+        → ((h : ℕ) → Among generations h → h < g → Passes w h) → Due w g
+        → At w (suc g) (rewriteGroup g (group w g) (c .moved) (c .world) .stop) (rewriteGroup g (group w g) (c .moved) (c .world) .world)
+    one-group c u x e p due = by (decide tests) refl
+      where
+        settings : c .world .settings ≡ w .settings
+        settings = ap (λ (v : World). v .settings) e ∙ settings-finished w (before g) w
+
+        files : List (List Op)
+        files = filesOf (c .world .settings .«target_file_size») (found (c .world) (group w g))
+
+        same : files ≡ newFiles w g
+        same = same-files g (c .world) (u .sound) settings x
+
+        tests : List Test
+        tests = groupTests (c .world) (group w g) files
+
+        here : (a : Answer) → decide tests ≡ a → DecidedBy (withFinished w (before g)) (newFiles w g) a
+        here a q =
+            subst (λ (v : World). DecidedBy v (newFiles w g) a) e
+            (subst (λ (fs : List (List Op)). DecidedBy (c .world) fs a) same
+            (subst (DecidedBy (c .world) files) q (group-decided (c .world) (group w g) files (sources-pass g c u))))
+
+        by : (a : Answer) → decide tests ≡ a → At w (suc g) (rewriteGroup g (group w g) (c .moved) (c .world) .stop) (rewriteGroup g (group w g) (c .moved) (c .world) .world)
+        by Done q =
+            subst (λ (d : Course). At w (suc g) (d .stop) (d .world)) (sym (group-added g (group w g) (c .moved) (c .world) q)) (
+              ap (λ (fs : List (List Op)). installedAll 0 g (c .world) fs) same
+                  ∙ ap (λ (v : World). installedAll 0 g v (newFiles w g)) e
+                  ∙ sym (step ∙ ap (λ (b : Bool). pick b (withFinished w (before g)) (installedAll 0 g (withFinished w (before g)) (newFiles w g))) (le-ltb (length (group w g)) (w .settings .«min_compaction_files») due)),
+              passes-next g p (λ d. here Done q),
+            )
+        by (Refused r) q =
+            subst (λ (d : Course). At w (suc g) (d .stop) (d .world)) (sym (group-kept g (group w g) (c .moved) (c .world) r q))
+            (e, record { generation = is; due = due; lacks = here (Refused r) q; earlier = p })
+
+    one-turn : (c : Course) → Underway history w c → Exactly w (group w g) (found (c .world) (group w g)) → (stop : Stop) → c .stop ≡ stop → At w g stop (c .world)
+        → At w (suc g) (onward stop g (group w g) c .stop) (onward stop g (group w g) c .world)
+    one-turn c u x (stopped r h) q a = subst (λ (o : Stop). At w (suc g) o (c .world)) (sym q) a
+    one-turn c u x going q (e, p) = go (ltb (length (group w g)) (c .world .settings .«min_compaction_files»)) refl
+      where
+        settings : c .world .settings ≡ w .settings
+        settings = ap (λ (v : World). v .settings) e ∙ settings-finished w (before g) w
+
+        limit : ltb (length (group w g)) (w .settings .«min_compaction_files») ≡ ltb (length (group w g)) (c .world .settings .«min_compaction_files»)
+        limit = ap (λ (x : Settings). ltb (length (group w g)) (x .«min_compaction_files»)) (sym settings)
+
+        go : (b : Bool) → ltb (length (group w g)) (c .world .settings .«min_compaction_files») ≡ b
+            → At w (suc g) (pick b c (rewriteGroup g (group w g) (c .moved) (c .world)) .stop) (pick b c (rewriteGroup g (group w g) (c .moved) (c .world)) .world)
+        go false z = one-group c u x e p (ltb-false _ _ (limit ∙ z))
+        go true z =
+            let few = ltb-true (length (group w g)) (w .settings .«min_compaction_files») (limit ∙ z) in
+            subst (λ (o : Stop). At w (suc g) o (c .world)) (sym q) (
+              e ∙ sym (step ∙ ap (λ (b : Bool). pick b (withFinished w (before g)) (installedAll 0 g (withFinished w (before g)) (newFiles w g))) (limit ∙ z)),
+              passes-next g p (λ d. absurd (omega arith)),
+            )
+
+  -- a generation that passes is not refused, and one is refused with one number
+  never-both : (g : ℕ) (r : Refusal) → Due w g → Lacks (withFinished w (before g)) (newFiles w g) r → Passes w g → ⊥
+  never-both g r due l p =
+      let e = decided-one (withFinished w (before g)) (newFiles w g) (Refused r) Done l (p due) in
+      let z : _≡_ {A = ℕ} 0 1 = cc in
+      omega arith
+
+  one-refused : (g h : ℕ) (r q : Refusal) → FirstRefused w g r → FirstRefused w h q → (g ≡ h) × (r ≡ q)
+  one-refused g h r q a b = go (order g h)
+    where
+      same : (g : ℕ) → g ≡ h → Lacks (withFinished w (before g)) (newFiles w g) r → r ≡ q
+      same g e l =
+          let z = decided-one (withFinished w (before h)) (newFiles w h) (Refused r) (Refused q)
+          (subst (λ (i : ℕ). Lacks (withFinished w (before i)) (newFiles w i) r) e l) (b .lacks) in
+          cc
+
+      go : (g < h) ⊎ ((g ≡ h) ⊎ (h < g)) → (g ≡ h) × (r ≡ q)
+      go (inl i) = absurd (never-both g r (a .due) (a .lacks) (b .earlier g (a .generation) i))
+      go (inr (inl e)) = (e, same g e (a .lacks))
+      go (inr (inr i)) = absurd (never-both h q (b .due) (b .lacks) (a .earlier h (b .generation) i))
+
+  course-at : At w 4 (courseOf w .stop) (courseOf w .world)
+  unfolding courseOf groupsFrom keep finishedFrom
+  course-at = t3
+    where
+      c1 : Course
+      c1 = record { stop = going; moved = 0; world = w }
+
+      c2 : Course
+      c2 = onward (c1 .stop) 1 (group w 1) c1
+
+      c3 : Course
+      c3 = onward (c2 .stop) 2 (group w 2) c2
+
+      u1 : Underway history w c1
+      u1 = record { sound = s; stay = λ k h. h; stop = tt }
+
+      u2 : Underway history w c2
+      u2 = onward-well history w (c1 .stop) 1 (omega arith) (group w 1) (group-files w history s 1) c1 refl u1
+
+      u3 : Underway history w c3
+      u3 = onward-well history w (c2 .stop) 2 (omega arith) (group w 2) (group-files w history s 2) c2 refl u2
+
+      x : All (λ (g : ℕ). Exactly w (group w g) (found (turn w g .world) (group w g))) generations
+      x = sound-moves history w s .groups
+
+      t1 : At w 2 (c2 .stop) (c2 .world)
+      t1 = one-turn 1 (inl refl) refl c1 u1 (x .0) going refl (refl, λ h a l. none h a l)
+        where
+          none : (h : ℕ) → Among generations h → h < 1 → Passes w h
+          none h (inl e) l = absurd (omega arith)
+          none h (inr (inl e)) l = absurd (omega arith)
+          none h (inr (inr (inl e))) l = absurd (omega arith)
+
+      t2 : At w 3 (c3 .stop) (c3 .world)
+      t2 = one-turn 2 (inr (inl refl)) refl c2 u2 (x .1 .0) (c2 .stop) refl t1
+
+      t3 : At w 4 (onward (c3 .stop) 3 (group w 3) c3 .stop) (onward (c3 .stop) 3 (group w 3) c3 .world)
+      t3 = one-turn 3 (inr (inr (inl refl))) refl c3 u3 (x .1 .1 .0) (c3 .stop) refl t2
+
+  -- one of the two ends
+  abbrev Success : Type 0
+  Success = NoneRefused w × (maintainCall w .answer ≡ maintainGiven (Moved (sum (liveOf w) generations))) × (maintainCall w .world ≡ pruned (withFinished w generations))
+
+  abbrev Stop-at : Refusal → ℕ → Type 0
+  Stop-at r g = FirstRefused w g r × (maintainCall w .answer ≡ maintainGiven (Stopped r g (sum (liveOf w) (before g)))) × (maintainCall w .world ≡ withFinished w (before g))
+
+  either-end : Success ⊎ ((r : Refusal) × (g : ℕ) × Stop-at r g)
+  unfolding maintainCall decide keep
+  either-end = by (courseOf w .stop) refl course-at
+    where
+      called : maintainCall w ≡ ended (courseOf w .stop) (courseOf w)
+      called = rw (sound-fine w (engine history) s) refl
+
+      by : (o : Stop) → courseOf w .stop ≡ o → At w 4 o (courseOf w .world) → Success ⊎ ((r : Refusal) × (g : ℕ) × Stop-at r g)
+      by going q (e, p) = inl (λ g a. p g a (low g a), counted (maintain-answer history w s), ap (λ (a : After). a .world) is ∙ ap pruned e)
+        where
+          is : maintainCall w ≡ ended going (courseOf w)
+          is = called ∙ ap (λ (o : Stop). ended o (courseOf w)) q
+
+          low : (g : ℕ) → Among generations g → g < 4
+          low g (inl e) = omega arith
+          low g (inr (inl e)) = omega arith
+          low g (inr (inr (inl e))) = omega arith
+
+          counted : Answers w → maintainCall w .answer ≡ maintainGiven (Moved (sum (liveOf w) generations))
+          counted (inl a) = a
+          counted (inr (r, g, a, z)) =
+              let b = maintain-one (Moved (courseOf w .moved)) (Stopped r g (sum (liveOf w) (before g))) (sym (ap (λ (a : After). a .answer) is) ∙ a) in
+              absurd (let z : _≡_ {A = ℕ} 0 1 = cc in omega arith)
+      by (stopped r g) q (e, f) = inr (r, g, (f, counted (maintain-answer history w s), ap (λ (a : After). a .world) is ∙ e))
+        where
+          is : maintainCall w ≡ ended (stopped r g) (courseOf w)
+          is = called ∙ ap (λ (o : Stop). ended o (courseOf w)) q
+
+          counted : Answers w → maintainCall w .answer ≡ maintainGiven (Stopped r g (sum (liveOf w) (before g)))
+          counted (inl a) =
+              let b = maintain-one (Stopped r g (courseOf w .moved)) (Moved (sum (liveOf w) generations)) (sym (ap (λ (a : After). a .answer) is) ∙ a) in
+              absurd (let z : _≡_ {A = ℕ} 0 1 = cc in omega arith)
+          counted (inr (q, h, a, z)) =
+              let b = maintain-one (Stopped r g (courseOf w .moved)) (Stopped q h (sum (liveOf w) (before h))) (sym (ap (λ (a : After). a .answer) is) ∙ a) in
+              let i : g ≡ h = cc in
+              let j : r ≡ q = cc in
+              a ∙ ap (λ (c : Refusal). maintainGiven (Stopped c h (sum (liveOf w) (before h)))) (sym j) ∙ ap (λ (k : ℕ). maintainGiven (Stopped r k (sum (liveOf w) (before k)))) (sym i)
+
+  -- C: how maintenance ends on a store of the invariant
+  pub maintain-ends : Ends w
+  maintain-ends = record {
+    stops = λ r g n a. stopped-so r g n a either-end;
+    refused = λ r g f. refused-so r g f either-end;
+    succeeds = λ n a. moved-so n a either-end;
+    moved = λ p. ⊎-elim (λ z. z .1) (λ (r, g, z). absurd (never-both g r (z .0 .due) (z .0 .lacks) (p g (z .0 .generation)))) either-end;
+    keeps = λ r g n a. kept r g n a either-end;
+    prunes = λ n a. ⊎-elim (λ z. z .2) (λ (r, g, z). absurd (not-both n r g _ a (z .1))) either-end;
+  }
+    where
+      not-both : (n : ℕ) (r : Refusal) (g m : ℕ) → maintainCall w .answer ≡ maintainGiven (Moved n) → maintainCall w .answer ≡ maintainGiven (Stopped r g m) → ⊥
+      not-both n r g m a b =
+          let c = maintain-one (Moved n) (Stopped r g m) (sym a ∙ b) in
+          let z : _≡_ {A = ℕ} 0 1 = cc in
+          omega arith
+
+      stopped-so : (r : Refusal) (g n : ℕ) → maintainCall w .answer ≡ maintainGiven (Stopped r g n) → Success ⊎ ((r : Refusal) × (g : ℕ) × Stop-at r g)
+          → FirstRefused w g r × (n ≡ sum (liveOf w) (before g))
+      stopped-so r g n a (inl z) = absurd (not-both _ r g n (z .1) a)
+      stopped-so r g n a (inr (q, h, z)) =
+          let b = maintain-one (Stopped q h (sum (liveOf w) (before h))) (Stopped r g n) (sym (z .1) ∙ a) in
+          let i : h ≡ g = cc in
+          let j : q ≡ r = cc in
+          let k : sum (liveOf w) (before h) ≡ n = cc in
+          (subst (λ (m : ℕ). FirstRefused w m r) i (subst (FirstRefused w h) j (z .0)), sym k ∙ ap (λ (m : ℕ). sum (liveOf w) (before m)) i)
+
+      refused-so : (r : Refusal) (g : ℕ) → FirstRefused w g r → Success ⊎ ((r : Refusal) × (g : ℕ) × Stop-at r g)
+          → maintainCall w .answer ≡ maintainGiven (Stopped r g (sum (liveOf w) (before g)))
+      refused-so r g f (inl z) = absurd (never-both g r (f .due) (f .lacks) (z .0 g (f .generation)))
+      refused-so r g f (inr (q, h, z)) =
+          let e = one-refused h g q r (z .0) f in
+          z .1 ∙ ap (λ (c : Refusal). maintainGiven (Stopped c h (sum (liveOf w) (before h)))) (e .1) ∙ ap (λ (m : ℕ). maintainGiven (Stopped r m (sum (liveOf w) (before m)))) (e .0)
+
+      moved-so : (n : ℕ) → maintainCall w .answer ≡ maintainGiven (Moved n) → Success ⊎ ((r : Refusal) × (g : ℕ) × Stop-at r g) → NoneRefused w × (n ≡ sum (liveOf w) generations)
+      moved-so n a (inl z) = let b = maintain-one (Moved n) (Moved (sum (liveOf w) generations)) (sym a ∙ z .1) in (z .0, cc)
+      moved-so n a (inr (r, g, z)) = absurd (not-both n r g _ a (z .1))
+
+      kept : (r : Refusal) (g n : ℕ) → maintainCall w .answer ≡ maintainGiven (Stopped r g n) → Success ⊎ ((r : Refusal) × (g : ℕ) × Stop-at r g) → maintainCall w .world ≡ withFinished w (before g)
+      kept r g n a (inl z) = absurd (not-both _ r g n (z .1) a)
+      kept r g n a (inr (q, h, z)) =
+          let b = maintain-one (Stopped q h (sum (liveOf w) (before h))) (Stopped r g n) (sym (z .1) ∙ a) in
+          let i : h ≡ g = cc in
+          z .2 ∙ ap (λ (m : ℕ). withFinished w (before m)) i
+
+-- C: so on every store of demand 3
+pub any-maintenance-ends : (w : World) → outOfRange (w .settings) (length (w .heap)) (w .table) ≡ false → Blank w → (calls : List Call) → Ends (lived (born w) calls .world)
+any-maintenance-ends w range blank calls = maintain-ends (lived (born w) calls .history) (lived (born w) calls .world) (sound-history w range blank calls)
+
+-- "(0 and 0 with 1)": 1 stops the call before any generation, and the world is as it was; of every world
+pub limits-unchanged : (w : World) → refused1 w ≡ true → maintainCall w ≡ record { answer = maintainGiven (Stopped Limits 0 0); world = w }
+unfolding maintainCall decide
+limits-unchanged w e = rw e refl
