@@ -43,5 +43,6 @@ pub mod Finished
 pub mod Relocated
 pub mod Exactly
 pub mod FirstRefused
+pub mod Covered
 -- a life worked out
 pub mod Witness
