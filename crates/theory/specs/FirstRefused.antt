@@ -27,7 +27,8 @@ use Rattle.theory.specs.Moving.{Movable, found-movable}
 use Rattle.theory.specs.Rewriting.{last-all}
 use Rattle.theory.specs.Tally.{known, heardIn}
 use Rattle.theory.specs.Checked.{none-each, file-clear}
-use Rattle.theory.specs.Stopping.{group-files, Underway, onward-well}
+use Rattle.theory.specs.Lists.{among-get}
+use Rattle.theory.specs.Stopping.{Stay, group-files, Underway, onward-well}
 use Rattle.theory.specs.Finished.{liveOf, before, Answers, settings-all, maintain-answer}
 use Rattle.theory.specs.Exactly.{Exactly, moved-exactly, turn, sound-moves}
 use Rattle.theory.specs.Fresh.{Blank}
@@ -122,7 +123,7 @@ settings-finished w (g ∷ gs) v = settings-finished w gs (finishing w g v) ∙ 
 -- where the call stands when the generations below n are behind it
 abbrev At : World → ℕ → Stop → World → Type 0
 At w n going v = (v ≡ withFinished w (before n)) × ((h : ℕ) → Among generations h → h < n → Passes w h)
-At w n (stopped r g) v = (v ≡ withFinished w (before g)) × FirstRefused w g r
+At w n (stopped r g) v = (v ≡ withFinished w (before g)) × FirstRefused w g r × (g < n)
 
 module _ (history : List Op) (w : World) (s : SoundWorld w (engine history)) where
   same-files : (g : ℕ) (v : World) → SoundWorld v (engine history) → v .settings ≡ w .settings → Exactly w (group w g) (found v (group w g))
@@ -180,11 +181,11 @@ module _ (history : List Op) (w : World) (s : SoundWorld w (engine history)) whe
             )
         by (Refused r) q =
             subst (λ (d : Course). At w (suc g) (d .stop) (d .world)) (sym (group-kept g (group w g) (c .moved) (c .world) r q))
-            (e, record { generation = is; due = due; lacks = here (Refused r) q; earlier = p })
+            (e, record { generation = is; due = due; lacks = here (Refused r) q; earlier = p }, omega arith)
 
     one-turn : (c : Course) → Underway history w c → Exactly w (group w g) (found (c .world) (group w g)) → (stop : Stop) → c .stop ≡ stop → At w g stop (c .world)
         → At w (suc g) (onward stop g (group w g) c .stop) (onward stop g (group w g) c .world)
-    one-turn c u x (stopped r h) q a = subst (λ (o : Stop). At w (suc g) o (c .world)) (sym q) a
+    one-turn c u x (stopped r h) q (e, f, l) = subst (λ (o : Stop). At w (suc g) o (c .world)) (sym q) (e, f, omega arith)
     one-turn c u x going q (e, p) = go (ltb (length (group w g)) (c .world .settings .«min_compaction_files»)) refl
       where
         settings : c .world .settings ≡ w .settings
@@ -224,9 +225,14 @@ module _ (history : List Op) (w : World) (s : SoundWorld w (engine history)) whe
       go (inr (inl e)) = (e, same g e (a .lacks))
       go (inr (inr i)) = absurd (never-both h q (b .due) (b .lacks) (a .earlier h (b .generation) i))
 
-  course-at : At w 4 (courseOf w .stop) (courseOf w .world)
+  -- where the call stands as a generation's turn comes
+  abbrev Turn : ℕ → Type 0
+  Turn g = (c : Course) × Underway history w c × At w g (c .stop) (c .world) × Exactly w (group w g) (found (c .world) (group w g))
+
+  -- each turn, and the end
+  turns : All Turn generations × (Underway history w (courseOf w) × At w 4 (courseOf w .stop) (courseOf w .world))
   unfolding courseOf groupsFrom keep finishedFrom
-  course-at = t3
+  turns = (((c1, u1, t1, x .0), ((c2, u2, t2, x .1 .0), ((c3, u3, t3, x .1 .1 .0), tt))), (u4, t4))
     where
       c1 : Course
       c1 = record { stop = going; moved = 0; world = w }
@@ -246,22 +252,53 @@ module _ (history : List Op) (w : World) (s : SoundWorld w (engine history)) whe
       u3 : Underway history w c3
       u3 = onward-well history w (c2 .stop) 2 (omega arith) (group w 2) (group-files w history s 2) c2 refl u2
 
+      u4 : Underway history w (onward (c3 .stop) 3 (group w 3) c3)
+      u4 = onward-well history w (c3 .stop) 3 (omega arith) (group w 3) (group-files w history s 3) c3 refl u3
+
       x : All (λ (g : ℕ). Exactly w (group w g) (found (turn w g .world) (group w g))) generations
       x = sound-moves history w s .groups
 
-      t1 : At w 2 (c2 .stop) (c2 .world)
-      t1 = one-turn 1 (inl refl) refl c1 u1 (x .0) going refl (refl, λ h a l. none h a l)
+      t1 : At w 1 (c1 .stop) (c1 .world)
+      t1 = (refl, none)
         where
           none : (h : ℕ) → Among generations h → h < 1 → Passes w h
           none h (inl e) l = absurd (omega arith)
           none h (inr (inl e)) l = absurd (omega arith)
           none h (inr (inr (inl e))) l = absurd (omega arith)
 
-      t2 : At w 3 (c3 .stop) (c3 .world)
-      t2 = one-turn 2 (inr (inl refl)) refl c2 u2 (x .1 .0) (c2 .stop) refl t1
+      t2 : At w 2 (c2 .stop) (c2 .world)
+      t2 = one-turn 1 (inl refl) refl c1 u1 (x .0) going refl t1
 
-      t3 : At w 4 (onward (c3 .stop) 3 (group w 3) c3 .stop) (onward (c3 .stop) 3 (group w 3) c3 .world)
-      t3 = one-turn 3 (inr (inr (inl refl))) refl c3 u3 (x .1 .1 .0) (c3 .stop) refl t2
+      t3 : At w 3 (c3 .stop) (c3 .world)
+      t3 = one-turn 2 (inr (inl refl)) refl c2 u2 (x .1 .0) (c2 .stop) refl t2
+
+      t4 : At w 4 (onward (c3 .stop) 3 (group w 3) c3 .stop) (onward (c3 .stop) 3 (group w 3) c3 .world)
+      t4 = one-turn 3 (inr (inr (inl refl))) refl c3 u3 (x .1 .1 .0) (c3 .stop) refl t3
+
+  -- where all generations below n pass, their files stand there as n's turn comes
+  came : (n : ℕ) → ((h : ℕ) → Among generations h → h < n → Passes w h) → (o : Stop) (v : World) → At w n o v → v ≡ withFinished w (before n)
+  came n p going v a = a .0
+  came n p (stopped r g) v (e, f, l) = absurd (never-both g r (f .due) (f .lacks) (p g (f .generation) l))
+
+  -- the store then: the invariant holds, and files are files
+  pub reached : (n : ℕ) → Among generations n ⊎ (n ≡ 4) → ((h : ℕ) → Among generations h → h < n → Passes w h)
+      → SoundWorld (withFinished w (before n)) (engine history) × Stay w (withFinished w (before n))
+  reached n (inl a) p =
+      let t = among-get Turn generations (turns .0) n a in
+      let e = came n p (t .0 .stop) (t .0 .world) (t .2) in
+      subst (λ (v : World). SoundWorld v (engine history) × Stay w v) e (t .1 .sound, t .1 .stay)
+  reached n (inr q) p =
+      let t = turns .1 in
+      let e = came n p (courseOf w .stop) (courseOf w .world) (subst (λ (m : ℕ). At w m (courseOf w .stop) (courseOf w .world)) (sym q) (t .1)) in
+      subst (λ (v : World). SoundWorld v (engine history) × Stay w v) e (t .0 .sound, t .0 .stay)
+
+  -- a generation's files, found when its turn comes, are those found as the call starts
+  pub reached-found : (g : ℕ) → Among generations g → ((h : ℕ) → Among generations h → h < g → Passes w h)
+      → found (withFinished w (before g)) (group w g) ≡ found w (group w g)
+  reached-found g a p =
+      let t = among-get Turn generations (turns .0) g a in
+      subst (λ (v : World). found v (group w g) ≡ found w (group w g)) (came g p (t .0 .stop) (t .0 .world) (t .2))
+      (found-same history w (t .0 .world) (group w g) s (t .1 .sound) (t .3) (moved-exactly w history s (group w g) (group-files w history s g)))
 
   -- one of the two ends
   abbrev Success : Type 0
@@ -272,7 +309,7 @@ module _ (history : List Op) (w : World) (s : SoundWorld w (engine history)) whe
 
   either-end : Success ⊎ ((r : Refusal) × (g : ℕ) × Stop-at r g)
   unfolding maintainCall decide keep
-  either-end = by (courseOf w .stop) refl course-at
+  either-end = by (courseOf w .stop) refl (turns .1 .1)
     where
       called : maintainCall w ≡ ended (courseOf w .stop) (courseOf w)
       called = rw (sound-fine w (engine history) s) refl
@@ -293,7 +330,7 @@ module _ (history : List Op) (w : World) (s : SoundWorld w (engine history)) whe
           counted (inr (r, g, a, z)) =
               let b = maintain-one (Moved (courseOf w .moved)) (Stopped r g (sum (liveOf w) (before g))) (sym (ap (λ (a : After). a .answer) is) ∙ a) in
               absurd (let z : _≡_ {A = ℕ} 0 1 = cc in omega arith)
-      by (stopped r g) q (e, f) = inr (r, g, (f, counted (maintain-answer history w s), ap (λ (a : After). a .world) is ∙ e))
+      by (stopped r g) q (e, f, l) = inr (r, g, (f, counted (maintain-answer history w s), ap (λ (a : After). a .world) is ∙ e))
         where
           is : maintainCall w ≡ ended (stopped r g) (courseOf w)
           is = called ∙ ap (λ (o : Stop). ended o (courseOf w)) q
