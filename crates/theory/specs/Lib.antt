@@ -44,5 +44,6 @@ pub mod Relocated
 pub mod Exactly
 pub mod FirstRefused
 pub mod Covered
+pub mod Arrived
 -- a life worked out
 pub mod Witness
