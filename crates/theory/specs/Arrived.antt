@@ -111,7 +111,7 @@ module _ (history : List Op) (w : World) (s : SoundWorld w (engine history)) (g 
 
 -- ---- files one after another
 -- each stands where no file was
-stood-shown : (bit g : ℕ) (w : World) (files : List (List Op)) → AllStood bit g w files → Shown w (installedAll bit g w files)
+pub stood-shown : (bit g : ℕ) (w : World) (files : List (List Op)) → AllStood bit g w files → Shown w (installedAll bit g w files)
 unfolding installedAll
 stood-shown bit g w [] a k c h = h
 stood-shown bit g w (f ∷ fs) a k c h =
@@ -120,7 +120,7 @@ stood-shown bit g w (f ∷ fs) a k c h =
     ∙ getD-set-other (viewsOf w) (newSlot w) k (holds (fileOfOps (newLsn bit w) g f)) empty (λ e. not-empty (sym (a .0 .free) ∙ ap (viewAt (viewsOf w)) (sym e) ∙ h)) ∙ h)
 
 -- and no file gains
-stood-fewer : (bit g : ℕ) (w : World) (files : List (List Op)) → AllStood bit g w files → (k : ℕ) (c : File) → viewAt (viewsOf w) k ≡ holds c
+pub stood-fewer : (bit g : ℕ) (w : World) (files : List (List Op)) → AllStood bit g w files → (k : ℕ) (c : File) → viewAt (viewsOf w) k ≡ holds c
     → recordAt (recordsOf (installedAll bit g w files)) k .live ≤ recordAt (recordsOf w) k .live
 unfolding installedAll installed recordsWith
 stood-fewer bit g w [] a k c h = omega arith

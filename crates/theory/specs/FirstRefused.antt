@@ -205,7 +205,7 @@ module _ (history : List Op) (w : World) (s : SoundWorld w (engine history)) whe
             )
 
   -- a generation that passes is not refused, and one is refused with one number
-  never-both : (g : ℕ) (r : Refusal) → Due w g → Lacks (withFinished w (before g)) (newFiles w g) r → Passes w g → ⊥
+  pub never-both : (g : ℕ) (r : Refusal) → Due w g → Lacks (withFinished w (before g)) (newFiles w g) r → Passes w g → ⊥
   never-both g r due l p =
       let e = decided-one (withFinished w (before g)) (newFiles w g) (Refused r) Done l (p due) in
       let z : _≡_ {A = ℕ} 0 1 = cc in

@@ -45,5 +45,6 @@ pub mod Exactly
 pub mod FirstRefused
 pub mod Covered
 pub mod Arrived
+pub mod Afterwards
 -- a life worked out
 pub mod Witness

@@ -46,7 +46,7 @@ module _ (w : World) (told : ℕ → Said) (s : SoundWorld w told) where
           (f, e, omega arith)
 
   -- the view of a slot after: empty where its file is dead
-  view-after : (k : ℕ) → k < slotsOf w → viewAt (viewsOf (pruned w)) k ≡ pick (isDead (w .claims) k (recordAt (recordsOf w) k)) empty (viewAt (viewsOf w) k)
+  pub view-after : (k : ℕ) → k < slotsOf w → viewAt (viewsOf (pruned w)) k ≡ pick (isDead (w .claims) k (recordAt (recordsOf w) k)) empty (viewAt (viewsOf w) k)
   unfolding pruned
   view-after k h =
       let n = heap-whole (w .settings) (length (w .heap)) (s .tidy .limits .heap) in
@@ -63,7 +63,8 @@ module _ (w : World) (told : ℕ → Said) (s : SoundWorld w told) where
       views-length (slotsOf (pruned w)) (w .settings .«slot_bytes») (pruned w .heap)
       ∙ ap (slotsIn (w .settings)) (made-length (pruneStores w) (w .heap))
 
-  record-after : (k : ℕ) → recordAt (recordsOf (pruned w)) k ≡ pick (isDead (w .claims) k (recordAt (recordsOf w) k)) emptyRecord (recordAt (recordsOf w) k)
+  -- its record: emptied there
+  pub record-after : (k : ℕ) → recordAt (recordsOf (pruned w)) k ≡ pick (isDead (w .claims) k (recordAt (recordsOf w) k)) emptyRecord (recordAt (recordsOf w) k)
   unfolding pruned
   record-after k = go (ltb k (length (recordsOf w))) refl
     where
@@ -79,7 +80,8 @@ module _ (w : World) (told : ℕ → Said) (s : SoundWorld w told) where
           ∙ pick-same (isDead (w .claims) k (recordAt (recordsOf w) k)) emptyRecord
           ∙ ap (pick (isDead (w .claims) k (recordAt (recordsOf w) k)) emptyRecord) (sym (List·getD-eq-default (recordsOf w) emptyRecord {n = k} l))
 
-  each-slot : (k : ℕ) → KeptOrEmptied (pictureOf w) (pictureOf (pruned w)) k
+  -- each slot is as it was, or without a file that had no live entry
+  pub each-slot : (k : ℕ) → KeptOrEmptied (pictureOf w) (pictureOf (pruned w)) k
   each-slot k = go (isDead (w .claims) k (recordAt (recordsOf w) k)) refl (ltb k (slotsOf w)) refl
     where
       go : (b : Bool) → isDead (w .claims) k (recordAt (recordsOf w) k) ≡ b → (c : Bool) → ltb k (slotsOf w) ≡ c → KeptOrEmptied (pictureOf w) (pictureOf (pruned w)) k
