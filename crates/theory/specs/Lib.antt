@@ -46,5 +46,6 @@ pub mod FirstRefused
 pub mod Covered
 pub mod Arrived
 pub mod Afterwards
+pub mod Sufficing
 -- a life worked out
 pub mod Witness
