@@ -6,11 +6,11 @@ use Prim.Native.Nat.{_<_, _≤_}
 use native.Mathlib.Omega.{arith}
 use borrow.Author.Tests.{ltb-true, ltb-false, le-ltb}
 use Rattle.rules.specs.Base.{Bool, true, false, List, [], _∷_, ℕ, suc, _+_, length, ltb, pick, keep, sum}
-use Rattle.theory.specs.Types.{Record, Settings, Refusal, Limits, Answer, Done, Refused, Moved, Stopped}
+use Rattle.theory.specs.Types.{Record, Settings, Refusal, Answer, Done, Refused, Moved, Stopped}
 use Rattle.rules.specs.Answers.{maintain-one}
 use Rattle.rules.specs.BaseLaws.{All, all-map, order}
 use Rattle.rules.specs.Refusal.{Test, decide}
-use Rattle.rules.specs.Condition1.{outOfRange, refused1}
+use Rattle.rules.specs.Condition1.{outOfRange}
 use Rattle.rules.specs.Ops.{Content, put, delete, Op}
 use Rattle.rules.specs.SettledLaws.{Last, silent, last, lastOn, ops-ext}
 use Rattle.rules.specs.FileMap.{recordAt}
@@ -393,8 +393,3 @@ module _ (history : List Op) (w : World) (s : SoundWorld w (engine history)) whe
 -- C: so on every store of demand 3
 pub any-maintenance-ends : (w : World) → outOfRange (w .settings) (length (w .heap)) (w .table) ≡ false → Blank w → (calls : List Call) → Ends (lived (born w) calls .world)
 any-maintenance-ends w range blank calls = maintain-ends (lived (born w) calls .history) (lived (born w) calls .world) (sound-history w range blank calls)
-
--- "(0 and 0 with 1)": 1 stops the call before any generation, and the world is as it was; of every world
-pub limits-unchanged : (w : World) → refused1 w ≡ true → maintainCall w ≡ record { answer = maintainGiven (Stopped Limits 0 0); world = w }
-unfolding maintainCall decide
-limits-unchanged w e = rw e refl

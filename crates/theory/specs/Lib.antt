@@ -42,6 +42,7 @@ pub mod Unmoved
 pub mod Finished
 pub mod Relocated
 pub mod Exactly
+pub mod Halting
 pub mod FirstRefused
 pub mod Covered
 pub mod Arrived
