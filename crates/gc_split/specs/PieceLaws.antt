@@ -9,7 +9,7 @@ use native.Mathlib.Omega.{arith}
 use borrow.Author.Tests.{eq-eqb, ne-eqb}
 use lib.ListN.{length-set, length-replicate, getD-replicate}
 use lib.Seq.{set-out, getD-set-same, getD-set-other, take-suc-set}
-use Rattle.rules.specs.Base.{Bool, true, false, List, [], _∷_, _++_, map, ℕ, zero, suc, _+_, _/_, _%_, length, getD, set, replicate, take, ltb, eqb, pick, keep}
+use Rattle.rules.specs.Base.{Bool, true, false, List, [], _∷_, _++_, map, ℕ, suc, _+_, _/_, _%_, length, getD, set, replicate, take, ltb, eqb, pick, keep}
 use Rattle.rules.specs.BaseLaws.{All, all-map, same?, all-append}
 use Rattle.rules.specs.Ops.{Op, sizeOf, shardFor}
 use Rattle.rules.specs.OpsLaws.{shard-most}

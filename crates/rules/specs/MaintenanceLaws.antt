@@ -8,7 +8,7 @@ use borrow.Author.Tests.{eqb-false, ne-eqb, not-true, ltb-true, ltb-false, lt-lt
 use Rattle.rules.specs.Base.{Bool, true, false, _&&_, List, [], _∷_, _++_, ℕ, _+_, _*_, _/_, _^_, length, leb, ltb, larger, any, each, sum}
 use Rattle.rules.specs.Types.{Record, Settings, Claims, Refusal, SlotRoom, NoEmptySlot, PositionsSpent, Answer, Done, Refused}
 use Rattle.rules.specs.BaseLaws.{and-true, and-holds, and-false, or-true, or-holds, All, Some, any-true, any-holds, any-false, any-clear, all-map}
-use Rattle.rules.specs.Refusal.{Test, _gives_, decide, after, NoneHolds, decide-append, after-refused, after-done}
+use Rattle.rules.specs.Refusal.{Test, _gives_, decide, NoneHolds, decide-append, after-refused, after-done}
 use Rattle.rules.specs.Ops.{Op, objectsOf, fileBytes}
 use Rattle.rules.specs.Claims.{isClaimed}
 use Rattle.rules.specs.FileMap.{isEmpty, recordAt}

@@ -3,15 +3,14 @@ use mathlib.Core.Path.{_≡_, refl, sym, ap, _∙_, subst}
 use mathlib.Core.Bool.{true≢false}
 use mathlib.Core.Logic.{_⊎_, inl, inr, ⊎-elim}
 use Prim.Native.Nat.{_<_, _≤_}
-use native.Mathlib.Nat.{zero-add}
 use native.Mathlib.Omega.{arith}
-use borrow.Author.Tests.{ne-eqb, ltb-true, ltb-false, le-ltb}
-use Rattle.rules.specs.Base.{Bool, true, false, _&&_, List, [], _∷_, ℕ, zero, suc, _+_, _^_, length, ltb, eqb, pick, keep, sum}
-use Rattle.theory.specs.Types.{Record, Settings, Claims, Refusal, Done, Refused, Moved, Stopped, Slot, Mapped, Is}
+use borrow.Author.Tests.{ne-eqb, ltb-false, le-ltb}
+use Rattle.rules.specs.Base.{Bool, true, false, _&&_, List, [], _∷_, ℕ, zero, suc, _+_, length, ltb, eqb, pick, keep}
+use Rattle.theory.specs.Types.{Record, Settings, Claims, Refusal, Done, Moved, Mapped, Is}
 use Rattle.rules.specs.BaseLaws.{All, all-map, Some, same?, order, and-true}
 use Rattle.rules.specs.Refusal.{decide}
 use Rattle.rules.specs.Condition1.{outOfRange}
-use Rattle.rules.specs.Ops.{Op, objectsOf}
+use Rattle.rules.specs.Ops.{Op}
 use Rattle.rules.specs.SlotFile.{File, empty, holds}
 use Rattle.rules.specs.Table.{lookup}
 use Rattle.rules.specs.TableLaws.{Has, has-lookup, mapped-one}
@@ -20,9 +19,9 @@ use Rattle.rules.specs.FileMap.{emptyRecord, recordAt, fileFor, fileCount}
 use Rattle.rules.specs.FileMapLaws.{not-empty, Among, slot-passes}
 use Rattle.rules.specs.Install.{installed, installedAll}
 use Rattle.rules.specs.InstallLaws.{isAt}
-use Rattle.rules.specs.Maintenance.{found, filesOf, Course, isCandidate, newGeneration, group, groupTests, rewriteGroup, maintainCall}
-use Rattle.rules.specs.MaintenanceLaws.{candidate, Enough, SourcesPass, decided-one, group-decided, group-added}
-use Rattle.rules.specs.Prune.{isDead, pruned}
+use Rattle.rules.specs.Maintenance.{found, filesOf, Course, isCandidate, newGeneration, group, groupTests, maintainCall}
+use Rattle.rules.specs.MaintenanceLaws.{candidate, Enough, decided-one, group-decided, group-added}
+use Rattle.rules.specs.Prune.{pruned}
 use Rattle.rules.specs.PruneLaws.{is-dead}
 use Rattle.rules.specs.Reopen.{inRange, mappedInto}
 use Rattle.rules.specs.World.{World, recordsOf, mappings, maintainGiven}
@@ -36,15 +35,14 @@ use Rattle.theory.specs.SoundWorld.{boundsOf, SoundWorld}
 use Rattle.theory.specs.Standing.{AllStood}
 use Rattle.theory.specs.Writing.{engine}
 use Rattle.theory.specs.Pruning.{file-slot, view-after, record-after, each-slot, sound-pruned}
-use Rattle.theory.specs.Emptied.{KeptOrEmptied}
 use Rattle.theory.specs.Tally.{heardIn}
 use Rattle.theory.specs.Lists.{among-get}
 use Rattle.theory.specs.Checked.{none-each, file-clear}
 use Rattle.theory.specs.Stopping.{Stay, group-files}
 use Rattle.theory.specs.Maintaining.{files-rewritable, group-rewritten}
-use Rattle.theory.specs.Relocated.{Left, Anew, group-relocates}
+use Rattle.theory.specs.Relocated.{Left, group-relocates}
 use Rattle.theory.specs.Finished.{before, Answers, maintain-answer}
-use Rattle.theory.specs.Exactly.{Inside, moved-exactly}
+use Rattle.theory.specs.Exactly.{Inside, moved-exactly, is-one}
 use Rattle.theory.specs.FirstRefused.{generations, Due, FirstRefused, newFiles, finishing, finishedFrom, withFinished, Passes, settings-finished, reached, reached-found, never-both, maintain-ends}
 use Rattle.theory.specs.Covered.{InFile, files-cover}
 use Rattle.theory.specs.Arrived.{Arrived, Shown, arrived-left, stood-shown, stood-fewer, files-arrive}
@@ -69,9 +67,6 @@ pub record Rewrote (w : World) (g : ℕ) : Type 0 where
   -- on success their slots are empty
   pub emptied : (n : ℕ) → maintainCall w .answer ≡ maintainGiven (Moved n) → (k : ℕ) → Among (group w g) k
       → (viewAt (viewsOf (maintainCall w .world)) k ≡ empty) × (recordAt (recordsOf (maintainCall w .world)) k ≡ emptyRecord)
-
-is-one : {j k : ℕ} → Is j ≡ Is k → j ≡ k
-is-one h = cc
 
 -- ---- one group, in the world in which it is rewritten
 record Rewrites (history : List Op) (g : ℕ) (u v : World) (ks : List ℕ) : Type 0 where

@@ -2,14 +2,13 @@
 -- left, and on success their slots are empty.
 use mathlib.Core.Path.{_≡_, refl, sym, ap, _∙_, subst}
 use mathlib.Core.Bool.{true≢false}
-use mathlib.Core.Logic.{_⊎_, inl, inr, ⊎-elim}
+use mathlib.Core.Logic.{_⊎_, inl, inr}
 use Prim.Native.Nat.{_<_, _≤_}
 use native.Mathlib.Omega.{arith}
 use lib.Seq.{getD-set-same, getD-set-other}
-use Rattle.rules.specs.Base.{Bool, true, false, List, [], _∷_, ℕ, suc, _+_, _*_, _^_, length, any, sum}
-use Rattle.theory.specs.Types.{Record, Settings, Done, Held, Mapped, Is}
+use Rattle.rules.specs.Base.{true, false, List, [], _∷_, ℕ, _+_, _*_, _^_, length, any, sum}
+use Rattle.theory.specs.Types.{Record, Settings, Held, Mapped, Is}
 use Rattle.rules.specs.BaseLaws.{All, Some, any-true, same?}
-use Rattle.rules.specs.Refusal.{decide}
 use Rattle.rules.specs.Ops.{Content, Op, isDelete, sizeOf, objectsOf, entriesOf, fileBytes}
 use Rattle.rules.specs.OpsLaws.{Stands, stands-entry, entries-of-rising}
 use Rattle.rules.specs.SettledLaws.{lastOn}
@@ -17,7 +16,7 @@ use Rattle.disk_location.specs.Locations.{rawOf}
 use Rattle.rules.specs.SlotFile.{File, empty, holds}
 use Rattle.rules.specs.SlotLaws.{views-length}
 use Rattle.rules.specs.Table.{lookup}
-use Rattle.rules.specs.TableLaws.{Rising, Has, has-lookup, orElse, lookup-insert-all, mapped-one}
+use Rattle.rules.specs.TableLaws.{Has, has-lookup, orElse, lookup-insert-all}
 use Rattle.rules.specs.FileMap.{emptyRecord, recordAt, fileFor}
 use Rattle.rules.specs.Install.{newRecord, losing, newSlot, newLsn, recordsWith, installed, installedAll, emptyOf}
 use Rattle.rules.specs.InstallLaws.{losing-record}

@@ -1,17 +1,17 @@
 -- What a group moves comes out in its files: no operation is lost between the shards.
-use mathlib.Core.Path.{_≡_, refl, sym, ap, _∙_}
+use mathlib.Core.Path.{_≡_, refl, sym, _∙_}
 use mathlib.Core.Bool.{true≢false}
 use mathlib.Core.Logic.{_⊎_, inl, inr, ⊎-elim}
 use Prim.Native.Nat.{_<_}
 use native.Mathlib.Omega.{arith}
 use lib.ListN.{length-set, length-replicate}
-use Rattle.rules.specs.Base.{Bool, true, false, _||_, List, [], _∷_, _++_, map, ℕ, zero, suc, length, getD, set, replicate, ltb, pick, keep}
+use Rattle.rules.specs.Base.{Bool, true, false, List, [], _∷_, _++_, map, ℕ, zero, suc, length, getD, set, replicate, ltb, pick, keep}
 use Rattle.rules.specs.BaseLaws.{Some, same?, or-holds}
 use Rattle.rules.specs.Ops.{Op, shardFor}
 use Rattle.rules.specs.OpsLaws.{shard-most}
 use Rattle.rules.specs.SettledLaws.{lastOn}
 use Rattle.rules.specs.Maintenance.{Shard, noEntries, Split, cutOff, joining, splitFrom, hasEntries, filesOf}
-use Rattle.theory.specs.Tally.{known, heardIn, heard-append, heard-cons, heard-later}
+use Rattle.theory.specs.Tally.{heardIn, heard-append, heard-cons, heard-later}
 
 -- ---- lists of which one element is such
 some-left : {A : Type 0} (P : A → Type 0) (xs ys : List A) → Some P xs → Some P (xs ++ ys)

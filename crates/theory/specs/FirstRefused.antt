@@ -5,8 +5,8 @@ use mathlib.Core.Logic.{_⊎_, inl, inr, ⊎-elim}
 use Prim.Native.Nat.{_<_, _≤_}
 use native.Mathlib.Omega.{arith}
 use borrow.Author.Tests.{ltb-true, ltb-false, le-ltb}
-use Rattle.rules.specs.Base.{Bool, true, false, List, [], _∷_, ℕ, suc, _+_, length, ltb, pick, keep, sum}
-use Rattle.theory.specs.Types.{Record, Settings, Refusal, Answer, Done, Refused, Moved, Stopped}
+use Rattle.rules.specs.Base.{Bool, true, false, List, [], _∷_, ℕ, suc, length, ltb, pick, keep, sum}
+use Rattle.theory.specs.Types.{Settings, Refusal, Answer, Done, Refused, Moved, Stopped}
 use Rattle.rules.specs.Answers.{maintain-one}
 use Rattle.rules.specs.BaseLaws.{All, all-map, order}
 use Rattle.rules.specs.Refusal.{Test, decide}
@@ -15,17 +15,17 @@ use Rattle.rules.specs.Ops.{Content, put, delete, Op}
 use Rattle.rules.specs.SettledLaws.{Last, silent, last, lastOn, ops-ext}
 use Rattle.rules.specs.FileMap.{recordAt}
 use Rattle.rules.specs.FileMapLaws.{not-empty, Among}
-use Rattle.rules.specs.Install.{installed, installedAll}
+use Rattle.rules.specs.Install.{installedAll}
 use Rattle.rules.specs.Maintenance.{found, filesOf, Stop, going, stopped, Course, group, groupTests, rewriteGroup, onward, groupsFrom, courseOf, ended, maintainCall}
 use Rattle.rules.specs.MaintenanceLaws.{Enough, Lacks, DecidedBy, SourcesPass, decided-one, group-decided, group-added, group-kept}
 use Rattle.rules.specs.Prune.{pruned}
 use Rattle.rules.specs.World.{World, recordsOf, maintainGiven, After}
-use Rattle.theory.specs.Picture.{body, gone, lastSays}
+use Rattle.theory.specs.Picture.{lastSays}
 use Rattle.theory.specs.SoundWorld.{SoundWorld, sound-fine}
 use Rattle.theory.specs.Writing.{engine}
 use Rattle.theory.specs.Moving.{Movable, found-movable}
 use Rattle.theory.specs.Rewriting.{last-all}
-use Rattle.theory.specs.Tally.{known, heardIn}
+use Rattle.theory.specs.Tally.{known}
 use Rattle.theory.specs.Checked.{none-each, file-clear}
 use Rattle.theory.specs.Lists.{among-get}
 use Rattle.theory.specs.Stopping.{Stay, group-files, Underway, onward-well}

@@ -1,16 +1,15 @@
 -- "A refusal stops the call, keeps finished groups": of every world, the world left is the one in which the refused generation's turn came.
 use mathlib.Core.Path.{_≡_, refl, sym, ap, _∙_, subst}
-use mathlib.Core.Logic.{_⊎_, inl, inr, ⊎-elim}
+use mathlib.Core.Logic.{_⊎_, inl, inr}
 use native.Mathlib.Omega.{arith}
-use Rattle.rules.specs.Base.{Bool, true, false, List, [], _∷_, ℕ, length, ltb, pick, keep}
-use Rattle.theory.specs.Types.{Refusal, Limits, Answer, Done, Refused, Moved, Stopped}
+use Rattle.rules.specs.Base.{Bool, true, false, List, ℕ, length, ltb, pick, keep}
+use Rattle.theory.specs.Types.{Refusal, Limits, Done, Refused, Moved, Stopped}
 use Rattle.rules.specs.Answers.{maintain-one}
 use Rattle.rules.specs.Refusal.{decide, done-or-refused}
 use Rattle.rules.specs.Condition1.{refused1}
 use Rattle.rules.specs.Maintenance.{found, filesOf, Stop, going, stopped, Course, group, groupTests, rewriteGroup, onward, groupsFrom, courseOf, ended, maintainCall}
 use Rattle.rules.specs.MaintenanceLaws.{group-added, group-kept}
 use Rattle.rules.specs.World.{World, maintainGiven, After}
-use Rattle.theory.specs.Finished.{before}
 use Rattle.theory.specs.Exactly.{turn}
 
 -- the world left is the one in which generation g's turn came, and no generation before it was refused

@@ -1,7 +1,7 @@
 -- N: no store refuses maintenance for nothing: where there is room for all new files it succeeds.
 use mathlib.Core.Path.{_≡_, refl, sym, subst}
 use mathlib.Core.Logic.{inl, inr}
-use Prim.Native.Nat.{_<_, _≤_}
+use Prim.Native.Nat.{_≤_}
 use native.Mathlib.Omega.{arith}
 use borrow.Author.Tests.{le-ltb}
 use Rattle.rules.specs.Base.{Bool, true, false, List, [], _∷_, ℕ, _+_, _^_, length, ltb, pick, keep, sum}
@@ -11,13 +11,12 @@ use Rattle.rules.specs.Ops.{Op, objectsOf, fileBytes}
 use Rattle.rules.specs.FileMapLaws.{Among}
 use Rattle.rules.specs.Install.{installed, installedAll, emptyOf}
 use Rattle.rules.specs.Maintenance.{group, maintainCall}
-use Rattle.rules.specs.MaintenanceLaws.{Enough}
 use Rattle.rules.specs.World.{World, maintainGiven}
 use Rattle.theory.specs.SoundWorld.{SoundWorld}
 use Rattle.theory.specs.Writing.{engine}
 use Rattle.theory.specs.Rewriting.{one-fewer, installed-numbers}
 use Rattle.theory.specs.Finished.{liveOf, before}
-use Rattle.theory.specs.FirstRefused.{generations, Due, newFiles, finishing, finishedFrom, withFinished, Passes, NoneRefused, settings-finished, maintain-ends}
+use Rattle.theory.specs.FirstRefused.{generations, Due, newFiles, finishing, finishedFrom, NoneRefused, settings-finished, maintain-ends}
 
 -- T + 1 over these files
 abbrev pub positionsOf : List (List Op) → ℕ
