@@ -19,7 +19,8 @@ use Rattle.rules.specs.Table.{lookup, unmapped, mappedTo, full}
 use Rattle.rules.specs.TableCalls.{TableAfter, notForm, same, heldGiven, below, withStored, loadCall, storeCall, compareCall, greaterCall}
 use Rattle.rules.specs.World.{World, Given, accepted, refused, slotsOf, After}
 use Rattle.numbers.specs.Parts.{putAt}
-use Rattle.theory.specs.History.{Call, write, prune, claim, release}
+use Rattle.theory.specs.History.{Call, write, prune, quiet}
+use Rattle.theory.specs.Quiet.{claim, release}
 use Rattle.theory.specs.History.{called as calling}
 use Rattle.theory.specs.Writes.{refused-unchanged}
 use Rattle.theory.specs.Writes.{Plain as PlainCall}
@@ -173,8 +174,8 @@ failed-unchanged key.Record p n bytes d h = record-kept (leb 256 (nth n 0)) d (w
 failed-unchanged key.Claims p n bytes d h = absurd (false≢true h)
 failed-unchanged key.Reopen p n bytes d h = absurd p
 failed-unchanged key.Write p n bytes d h = back-same d (lentBy key.Write n bytes (lentOf d)) (call-kept (write bytes) tt (lentOf d) h)
-failed-unchanged key.Claim p n bytes d h = back-same d (lentBy key.Claim n bytes (lentOf d)) (call-kept (claim (nth n 0)) tt (lentOf d) h)
-failed-unchanged key.Release p n bytes d h = back-same d (lentBy key.Release n bytes (lentOf d)) (call-kept (release (nth n 0)) tt (lentOf d) h)
+failed-unchanged key.Claim p n bytes d h = back-same d (lentBy key.Claim n bytes (lentOf d)) (call-kept (quiet (claim (nth n 0))) tt (lentOf d) h)
+failed-unchanged key.Release p n bytes d h = back-same d (lentBy key.Release n bytes (lentOf d)) (call-kept (quiet (release (nth n 0))) tt (lentOf d) h)
 failed-unchanged key.Prune p n bytes d h = back-same d (lentBy key.Prune n bytes (lentOf d)) (call-kept prune tt (lentOf d) h)
 failed-unchanged key.Read p n bytes d h =
     back-same d (lentBy key.Read n bytes (lentOf d)) (world-kept found (λ (w : World). readCall w (nth n 0)) (lentOf d) (read-kept (worldOf (lentOf d)) (nth n 0)))

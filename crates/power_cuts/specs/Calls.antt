@@ -16,7 +16,7 @@ use Rattle.rules.specs.WriteLaws.{opsIn, write-accepted}
 use Rattle.rules.specs.World.{World, accepted, unchanged}
 use Rattle.theory.specs.SoundWorld.{SoundWorld, sound-fine}
 use Rattle.theory.specs.Writing.{engine, fits-write, sound-write}
-use Rattle.theory.specs.History.{Call, write, maintain, prune, claim, release, reopen, hears}
+use Rattle.theory.specs.History.{Call, write, maintain, prune, reopen, quiet, hears}
 use Rattle.power_cuts.specs.Runs.{filesRun, unlessRefused, writeRun, pruneRun, runOf, run-made}
 use Rattle.power_cuts.specs.Cuts.{Alike}
 use Rattle.power_cuts.specs.Enduring.{alike-self, StandsOn, endured-none}
@@ -74,7 +74,7 @@ module _ (w : World) (history : List Op) (s : SoundWorld w (engine history)) whe
   unfolding pruneRun decide
   prune-cut k = rw (sound-fine w (engine history) s) (prune-endured w (engine history) s .cut k)
 
-  -- ---- claim, release, reopen
+  -- ---- calls that store nothing
   none-cut : (k : ℕ) → StandsOn w (made (take k []) (w .heap)) (engine history)
   none-cut k = endured-none w (engine history) s .cut k
 
@@ -83,15 +83,13 @@ module _ (w : World) (history : List Op) (s : SoundWorld w (engine history)) whe
   cut-early (write bytes) k h = write-early bytes k h
   cut-early maintain k h = maintain-endured history w s .cut k
   cut-early prune k h = prune-cut k
-  cut-early (claim slot) k h = none-cut k
-  cut-early (release slot) k h = none-cut k
   cut-early reopen k h = none-cut k
+  cut-early (quiet q) k h = none-cut k
 
   -- LAW: with its last store all of it is
   pub cut-whole : (c : Call) (k : ℕ) → length (runOf w c) ≤ k → StandsOn w (made (take k (runOf w c)) (w .heap)) (engine (hears w history c))
   cut-whole (write bytes) k h = write-whole bytes k h
   cut-whole maintain k h = maintain-endured history w s .cut k
   cut-whole prune k h = prune-cut k
-  cut-whole (claim slot) k h = none-cut k
-  cut-whole (release slot) k h = none-cut k
   cut-whole reopen k h = none-cut k
+  cut-whole (quiet q) k h = none-cut k

@@ -9,7 +9,7 @@ use Rattle.rules.specs.Stores.{made}
 use Rattle.rules.specs.Write.{writeCall}
 use Rattle.rules.specs.Reopen.{reopenCall}
 use Rattle.rules.specs.World.{World, accepted}
-use Rattle.theory.specs.History.{Call, write, maintain, prune, claim, release, reopen, called, hears, Life}
+use Rattle.theory.specs.History.{Call, write, maintain, prune, reopen, quiet, called, hears, Life}
 use Rattle.theory.specs.Writes.{got}
 use Rattle.power_cuts.specs.Runs.{runOf}
 
@@ -35,9 +35,8 @@ abbrev pub ReadsAfterCut : World → Call → World → Type 0
 ReadsAfterCut w (write bytes) v = SameReads v w ⊎ SameReads v (writeCall w bytes .world)
 ReadsAfterCut w maintain v = SameReads v w
 ReadsAfterCut w prune v = SameReads v w
-ReadsAfterCut w (claim slot) v = SameReads v w
-ReadsAfterCut w (release slot) v = SameReads v w
 ReadsAfterCut w reopen v = SameReads v w
+ReadsAfterCut w (quiet q) v = SameReads v w
 
 -- power was cut behind the first k stores of the call, and the robot has v
 pub record Survived (k : ℕ) (w : World) (c : Call) (v : World) : Type 0 where

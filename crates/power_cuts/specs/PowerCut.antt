@@ -15,7 +15,7 @@ use Rattle.rules.specs.World.{World, accepted}
 use Rattle.theory.specs.SoundWorld.{SoundWorld}
 use Rattle.theory.specs.Writing.{engine}
 use Rattle.theory.specs.Fresh.{Blank}
-use Rattle.theory.specs.History.{Call, write, maintain, prune, claim, release, reopen, called, hears, Life, lived, Kept, sound-kept, sound-called, born, sound-history}
+use Rattle.theory.specs.History.{Call, write, maintain, prune, reopen, quiet, called, hears, Life, lived, Kept, sound-kept, sound-called, Starts, sound-lived, born, born-starts}
 use Rattle.theory.specs.Writes.{got-last}
 use Rattle.power_cuts.specs.Runs.{runOf}
 use Rattle.power_cuts.specs.Cuts.{CutAt, SameReads, ReadsAfterCut, Survived, hearsCut, Event, done, cut, Happens, happened, livedOn, AllHappen}
@@ -72,9 +72,8 @@ module _ (w : World) (history : List Op) (s : SoundWorld w (engine history)) (k 
       go (inr h) = inr (reads-whole w history s k (write bytes) v a h)
   reads-cut maintain a = reads-unheard maintain refl a
   reads-cut prune a = reads-unheard prune refl a
-  reads-cut (claim slot) a = reads-unheard (claim slot) refl a
-  reads-cut (release slot) a = reads-unheard (release slot) refl a
   reads-cut reopen a = reads-unheard reopen refl a
+  reads-cut (quiet q) a = reads-unheard (quiet q) refl a
 
   -- LAW: a call of a store of the invariant, cut anywhere
   pub cut-survived : (c : Call) → CutAt k w c v → Survived k w c v
@@ -89,32 +88,45 @@ module _ (w : World) (history : List Op) (s : SoundWorld w (engine history)) (k 
       answer (inl h) = found-early w history s k c v a h .0
       answer (inr h) = found-whole w history s k c v a h .0
 
--- P8: on every store of demand 3 any call, accepted or refused, is cut behind any of its stores
+-- P8: on any store of the invariant, whatever calls were made, any call, accepted or refused, is cut behind any of its stores
+pub lived-cut : (l : Life) → Starts l → (calls : List Call) (c : Call) (k : ℕ) (v : World) → CutAt k (lived l calls .world) c v → Survived k (lived l calls .world) c v
+lived-cut l s calls c k v a = cut-survived (lived l calls .world) (lived l calls .history) (sound-lived l s calls) k v c a
+
+-- P8: so on every store of demand 3 that began with no file
 pub power-cut : (w : World) → outOfRange (w .settings) (length (w .heap)) (w .table) ≡ false → Blank w
     → (calls : List Call) (c : Call) (k : ℕ) (v : World) → CutAt k (lived (born w) calls .world) c v → Survived k (lived (born w) calls .world) c v
-power-cut w range blank calls c k v a =
-    cut-survived (lived (born w) calls .world) (lived (born w) calls .history) (sound-history w range blank calls) k v c a
+power-cut w range blank = lived-cut (born w) (born-starts w range blank)
 
 -- ---- cuts among the calls
-sound-happened : (l : Life) (e : Event) → SoundWorld (l .world) (engine (l .history)) → Happens (l .world) e → SoundWorld (happened l e .world) (engine (happened l e .history))
+sound-happened : (l : Life) (e : Event) → Starts l → Happens (l .world) e → Starts (happened l e)
 sound-happened l (done c) s h = sound-called (l .world) (l .history) c s
 sound-happened l (cut k c v) s h = sound-cut (l .world) (l .history) s k c v h
 
-sound-lived-on : (l : Life) (es : List Event) → SoundWorld (l .world) (engine (l .history)) → AllHappen l es → SoundWorld (livedOn l es .world) (engine (livedOn l es .history))
+-- LAW: the invariant holds whatever calls were made and wherever power was cut
+pub sound-lived-on : (l : Life) → Starts l → (events : List Event) → AllHappen l events → Starts (livedOn l events)
 unfolding livedOn AllHappen
-sound-lived-on l [] s h = s
-sound-lived-on l (e ∷ es) s h = sound-lived-on (happened l e) es (sound-happened l e s (h .0)) (h .1)
+sound-lived-on l s [] h = s
+sound-lived-on l s (e ∷ es) h = sound-lived-on (happened l e) (sound-happened l e s (h .0)) es (h .1)
 
-module _ (w : World) (range : outOfRange (w .settings) (length (w .heap)) (w .table) ≡ false) (blank : Blank w) (events : List Event) (happen : AllHappen (born w) events) where
-  -- LAW: the invariant holds whatever calls were made and wherever power was cut
-  pub sound-history-cut : SoundWorld (livedOn (born w) events .world) (engine (livedOn (born w) events .history))
-  unfolding lived
-  sound-history-cut = sound-lived-on (born w) events (sound-history w range blank []) happen
-
+module _ (l : Life) (s : Starts l) (events : List Event) (happen : AllHappen l events) where
   -- P8 and DEMAND 3: reads give the last put of the writes that were accepted and not cut short, and a reopening finds the store as it was
-  pub any-history-cut : Kept (livedOn (born w) events .world) (livedOn (born w) events .history)
-  any-history-cut = sound-kept (livedOn (born w) events .world) (livedOn (born w) events .history) sound-history-cut
+  pub lived-on-kept : Kept (livedOn l events .world) (livedOn l events .history)
+  lived-on-kept = sound-kept (livedOn l events .world) (livedOn l events .history) (sound-lived-on l s events happen)
 
   -- and the next cut is survived too
+  pub lived-on-cut : (c : Call) (k : ℕ) (v : World) → CutAt k (livedOn l events .world) c v → Survived k (livedOn l events .world) c v
+  lived-on-cut c k v a = cut-survived (livedOn l events .world) (livedOn l events .history) (sound-lived-on l s events happen) k v c a
+
+-- so where there was no file
+module _ (w : World) (range : outOfRange (w .settings) (length (w .heap)) (w .table) ≡ false) (blank : Blank w) (events : List Event) (happen : AllHappen (born w) events) where
+  -- the invariant
+  pub sound-history-cut : Starts (livedOn (born w) events)
+  sound-history-cut = sound-lived-on (born w) (born-starts w range blank) events happen
+
+  -- P8 and DEMAND 3
+  pub any-history-cut : Kept (livedOn (born w) events .world) (livedOn (born w) events .history)
+  any-history-cut = lived-on-kept (born w) (born-starts w range blank) events happen
+
+  -- and the next cut
   pub power-cut-again : (c : Call) (k : ℕ) (v : World) → CutAt k (livedOn (born w) events .world) c v → Survived k (livedOn (born w) events .world) c v
-  power-cut-again c k v a = cut-survived (livedOn (born w) events .world) (livedOn (born w) events .history) sound-history-cut k v c a
+  power-cut-again = lived-on-cut (born w) (born-starts w range blank) events happen

@@ -66,29 +66,29 @@ module _ (w : World) (told : ℕ → Said) (s : SoundWorld w told) (bit g : ℕ)
 
 module _ (history : List Op) where
   -- ---- a group: files of current contents, in as many empty slots
-  files-endured : (limit g : ℕ) (files : List (List Op)) (w : World) → SoundWorld w (engine history) → g ≤ 255 → limit ≡ w .settings .«max_object_size» → All (Rewritable limit (engine history)) files
+  files-endured : (g : ℕ) (files : List (List Op)) (w : World) → SoundWorld w (engine history) → g ≤ 255 → All (Rewritable (engine history)) files
       → All (λ (f : List Op). 64 + length (fileBytes f) ≤ w .settings .«slot_bytes») files → length files ≤ emptyOf w
       → w .state .«next_position» + sum (λ (f : List Op). length (objectsOf f) + 1) files ≤ 2 ^ 62 → Endured w (installedAll 0 g w files) (filesRun 0 g w files) (engine history)
   unfolding installedAll filesRun sum
-  files-endured limit g [] w s aged same r slot free positions = endured-none w (engine history) s
-  files-endured limit g (f ∷ fs) w s aged same r slot free positions =
-      let fit = fits-file limit history w s g f (r .0) aged same (slot .0) (omega arith) (omega arith) in
+  files-endured g [] w s aged r slot free positions = endured-none w (engine history) s
+  files-endured g (f ∷ fs) w s aged r slot free positions =
+      let fit = fits-file history w s g f (r .0) aged (slot .0) (omega arith) (omega arith) in
       let n : length (objectsOf f) < 2 ^ 64 = omega arith in
-      let e = installed-numbers limit history g w f in
+      let e = installed-numbers history g w f in
       let e1 = e .1 in
       let d = one-fewer 0 g w f in
       let one : SoundWorld (installed 0 g w f) (engine history)
       = sound-told (installed 0 g w f) (λ x. over (fileSays (fileOfOps (newLsn 0 w) g f) x) (engine history x)) (engine history)
-      (λ x. still-said limit history f (r .0) n (newLsn 0 w) g x) (sound-installed w (engine history) s 0 g f fit) in
+      (λ x. still-said history f (r .0) n (newLsn 0 w) g x) (sound-installed w (engine history) s 0 g f fit) in
       endured-on w (installed 0 g w f) (installedAll 0 g (installed 0 g w f) fs) (storesFor (newRecord (newLsn 0 w) g f) w f) (filesRun 0 g (installed 0 g w f) fs) (engine history)
       (file-endured w (engine history) s 0 g f fit one)
-      (files-endured limit g fs (installed 0 g w f) one
-      aged (same ∙ ap (λ (c : Settings). c .«max_object_size») (sym (e .0))) (r .1)
+      (files-endured g fs (installed 0 g w f) one
+      aged (r .1)
       (subst (λ (c : Settings). All (λ (f : List Op). 64 + length (fileBytes f) ≤ c .«slot_bytes») fs) (sym (e .0)) (slot .1))
       (omega arith) (omega arith))
 
   -- 4, 5 and 7 do not hold
-  room-endured : (w : World) → SoundWorld w (engine history) → (g : ℕ) → g ≤ 255 → (files : List (List Op)) → All (Rewritable (w .settings .«max_object_size») (engine history)) files
+  room-endured : (w : World) → SoundWorld w (engine history) → (g : ℕ) → g ≤ 255 → (files : List (List Op)) → All (Rewritable (engine history)) files
       → NoneHolds (roomTests (w .settings .«slot_bytes») (emptyOf w) files ++ positionTests (w .state .«next_position») files)
       → Endured w (installedAll 0 g w files) (filesRun 0 g w files) (engine history)
   unfolding installedAll filesRun
@@ -97,7 +97,7 @@ module _ (history : List Op) where
       let tests = roomTests (w .settings .«slot_bytes») (emptyOf w) (f ∷ fs) in
       let a = room-clear (w .settings .«slot_bytes») (emptyOf w) (f ∷ fs) (none-first tests _ n) in
       let b = positions-clear (w .state .«next_position») (f ∷ fs) (none-rest tests _ n) (omega arith) in
-      files-endured (w .settings .«max_object_size») g (f ∷ fs) w s aged refl r (a .fits) (a .slots) b
+      files-endured g (f ∷ fs) w s aged r (a .fits) (a .slots) b
 
   -- LAW: a group, rewritten or refused, cut anywhere
   group-endured : (g : ℕ) → g ≤ 255 → (slots : List ℕ) (moved : ℕ) (w : World) → SoundWorld w (engine history)

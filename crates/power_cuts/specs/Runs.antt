@@ -1,11 +1,10 @@
 -- P8: "a numbered run of single-byte stores" for each call of demand 3, accepted or refused; a call changes the heap by its run alone.
 use mathlib.Core.Path.{_≡_, refl, sym, ap, _∙_}
-use Rattle.rules.specs.Base.{Bool, true, false, not, _||_, List, [], _∷_, _++_, ℕ, _+_, _^_, length, ltb, pick}
-use Rattle.theory.specs.Types.{Claims, Refusal, Limits, Claim, Answer, Done, Refused, Stopped}
+use Rattle.rules.specs.Base.{Bool, true, false, List, [], _∷_, _++_, ℕ, _+_, _^_, length, ltb, pick}
+use Rattle.theory.specs.Types.{Refusal, Limits, Answer, Done, Refused, Stopped}
 use Rattle.rules.specs.Refusal.{_gives_, decide, after}
 use Rattle.rules.specs.Ops.{Op, settled}
 use Rattle.rules.specs.Batch.{batchIn, opsOf}
-use Rattle.rules.specs.Claims.{isClaimed, notAFile, claimSet, claimCleared, withClaims, claimCall, releaseCall}
 use Rattle.rules.specs.Condition1.{outOfRange, refused1}
 use Rattle.rules.specs.Stores.{Store, made}
 use Rattle.rules.specs.StoreLaws.{made-append}
@@ -16,7 +15,8 @@ use Rattle.rules.specs.Maintenance.{found, filesOf, Stop, going, stopped, Cours
 use Rattle.rules.specs.SlotFile.{View, viewsIn}
 use Rattle.rules.specs.Reopen.{reopenTests, givenUp, opened, reopenCall}
 use Rattle.rules.specs.World.{World, slotsOf, accepted, maintainGiven, After, unchanged}
-use Rattle.theory.specs.History.{Call, write, maintain, prune, claim, release, reopen, called}
+use Rattle.theory.specs.Quiet.{undisturbed}
+use Rattle.theory.specs.History.{Call, write, maintain, prune, reopen, quiet, called}
 
 -- file by file: "file, then label bytes 2 to 64, then label byte 1" of each (`Stores.fileStores`)
 unfoldable pub filesRun : ℕ → ℕ → World → List (List Op) → List Store
@@ -67,9 +67,8 @@ abbrev pub runOf : World → Call → List Store
 runOf w (write bytes) = writeRun w bytes
 runOf w maintain = maintainRun w
 runOf w prune = pruneRun w
-runOf w (claim slot) = []
-runOf w (release slot) = []
 runOf w reopen = []
+runOf w (quiet q) = []
 
 -- ---- a call changes the heap by its run alone
 -- files added
@@ -150,10 +149,6 @@ maintain-made w = go (decide (refused1 w gives Limits ∷ []))
     go Done = all
 
 -- "The heap is only read."
-by-claims : (w : World) (c : Claims) (a : Answer) → after a (unchanged w) (record { answer = accepted []; world = withClaims w c }) .world .heap ≡ w .heap
-by-claims w c Done = refl
-by-claims w c (Refused r) = refl
-
 reopen-reads : (w : World) → reopenCall w .world .heap ≡ w .heap
 unfolding reopenCall givenUp opened
 reopen-reads w = go (decide (outOfRange (w .settings) (length (w .heap)) (w .table) gives Limits ∷ [])) (decide (reopenTests w views))
@@ -168,10 +163,9 @@ reopen-reads w = go (decide (outOfRange (w .settings) (length (w .heap)) (w .tab
 
 -- LAW: "Write, rewrite and prune change the heap only through" their runs; of any world, any call, refused or not
 pub run-made : (w : World) (c : Call) → called w c .world .heap ≡ made (runOf w c) (w .heap)
-unfolding made claimCall releaseCall
+unfolding made
 run-made w (write bytes) = write-made w bytes
 run-made w maintain = maintain-made w
 run-made w prune = prune-made w
-run-made w (claim slot) = by-claims w (claimSet (w .claims) slot) (decide (refused1 w gives Limits ∷ (notAFile w slot || isClaimed (w .claims) slot) gives Claim ∷ []))
-run-made w (release slot) = by-claims w (claimCleared (w .claims) slot) (decide (refused1 w gives Limits ∷ (notAFile w slot || not (isClaimed (w .claims) slot)) gives Claim ∷ []))
 run-made w reopen = reopen-reads w
+run-made w (quiet q) = undisturbed w q .heap

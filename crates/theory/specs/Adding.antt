@@ -4,7 +4,7 @@ use mathlib.Core.Bool.{true≢false}
 use mathlib.Core.Logic.{_⊎_, inl, inr}
 use Prim.Native.Nat.{_<_, _≤_}
 use native.Mathlib.Omega.{arith}
-use Rattle.rules.specs.Base.{false, true, List, ℕ, _+_, _-_, _^_, length, set}
+use Rattle.rules.specs.Base.{true, List, ℕ, _+_, _-_, _^_, length, set}
 use Rattle.theory.specs.Types.{Record}
 use Rattle.disk_location.specs.Locations.{maskedOf}
 use Rattle.disk_location.specs.LocationLaws.{masked-plain, masked-batch, masked-pos}
@@ -12,7 +12,6 @@ use Rattle.rules.specs.Settings.{slotsIn}
 use Rattle.rules.specs.SettingsLaws.{HeapInRange, heap-whole}
 use Rattle.rules.specs.Ops.{Op, objectsOf, entriesOf, fileBytes}
 use Rattle.rules.specs.OpsLaws.{RisingOps, IdsFit, file-length}
-use Rattle.rules.specs.Batch.{anyTooLarge}
 use Rattle.rules.specs.SlotFile.{View, empty, damaged, holds, viewsIn}
 use Rattle.rules.specs.StoreLaws.{made-length}
 use Rattle.rules.specs.SlotLaws.{views-length}
@@ -29,7 +28,7 @@ use Rattle.theory.specs.Entries.{absolute-has}
 use Rattle.theory.specs.Places.{viewAt, record-holds, no-damage}
 use Rattle.theory.specs.Losing.{rowsFor}
 use Rattle.theory.specs.Picture.{Picture, viewsOf, pictureOf, Said, fileSays, added}
-use Rattle.theory.specs.Sound.{Bounds, Sound, table-rising}
+use Rattle.theory.specs.Sound.{Sound, table-rising}
 use Rattle.theory.specs.Installed.{over, Addable, filed-added, newest-added, sound-added}
 use Rattle.theory.specs.Reopened.{rows-used}
 use Rattle.theory.specs.Told.{ids-fit}
@@ -44,7 +43,6 @@ pub record Fitting (bit g : ℕ) (w : World) (os : List Op) : Type 0 where
   pub aged : g ≤ 255
   pub slot : 64 + length (fileBytes os) ≤ w .settings .«slot_bytes»
   pub free : 0 < emptyOf w
-  pub small : anyTooLarge (w .settings .«max_object_size») os ≡ false
   pub room : length (insertAll (mappings w) (rowsFor (newLsn bit w) 0 os)) ≤ capacityOf (w .table)
   pub positions : w .state .«next_position» + (length (objectsOf os) + 1) ≤ 2 ^ 62
 
@@ -90,7 +88,6 @@ module _ (w : World) (told : ℕ → Said) (s : SoundWorld w told) where
           low = base .1;
           within = omega arith;
           ids = f .ids;
-          small = f .small;
           room = f .room;
           narrow = λ x l h. let a = absolute-has (newLsn bit w) (entriesOf 0 os) x l h in ids-fit os (f .ids) 0 x (a .0) (a .1);
         }
@@ -142,10 +139,6 @@ module _ (w : World) (told : ℕ → Said) (s : SoundWorld w told) where
     unfolding installed tableWith
     capacity-after = laid-out-ids (capacityOf (w .table)) (insertAll (mappings w) (rowsFor (newLsn bit w) 0 os)) (f .room)
 
-    bounds-after : boundsOf (installed bit g w os) ≡ boundsOf w
-    unfolding installed
-    bounds-after = λ i. record { entries = capacity-after i; object = w .settings .«max_object_size» }
-
     tidy-installed : Tidy (installed bit g w os)
     unfolding installed tableWith
     tidy-installed =
@@ -173,7 +166,7 @@ module _ (w : World) (told : ℕ → Said) (s : SoundWorld w told) where
     sound-installed = record {
       tidy = tidy-installed;
       sound =
-          subst (λ (b : Bounds). Sound b (pictureOf (installed bit g w os)) (λ x. over (fileSays (fileOfOps (newLsn bit w) g os) x) (told x))) (sym bounds-after)
+          subst (λ (b : ℕ). Sound b (pictureOf (installed bit g w os)) (λ x. over (fileSays (fileOfOps (newLsn bit w) g os) x) (told x))) (sym capacity-after)
           (subst (λ (p : Picture). Sound (boundsOf w) p (λ x. over (fileSays (fileOfOps (newLsn bit w) g os) x) (told x))) (sym picture-installed)
           (sound-added (boundsOf w) (pictureOf w) told (s .sound) (newSlot w) (newLsn bit w) g os addable));
     }

@@ -37,17 +37,18 @@ use Rattle.theory.specs.Writing.{engine}
 use Rattle.theory.specs.Pruning.{file-slot, view-after, record-after, each-slot, sound-pruned}
 use Rattle.theory.specs.Tally.{heardIn}
 use Rattle.theory.specs.Lists.{among-get}
-use Rattle.theory.specs.Checked.{none-each, file-clear}
-use Rattle.theory.specs.Stopping.{Stay, group-files}
+use Rattle.theory.specs.Checked.{Oversized}
+use Rattle.theory.specs.Stopping.{Refusable, Remain, stood-all-remain, Stay, group-files}
+use Rattle.theory.specs.Sizes.{sources-decided, oversized-earlier}
 use Rattle.theory.specs.Maintaining.{files-rewritable, group-rewritten}
 use Rattle.theory.specs.Relocated.{Left, group-relocates}
-use Rattle.theory.specs.Finished.{before, Answers, maintain-answer}
+use Rattle.theory.specs.Finished.{before, AnswersBut, maintain-answer}
 use Rattle.theory.specs.Exactly.{Inside, moved-exactly, is-one}
-use Rattle.theory.specs.FirstRefused.{generations, Due, FirstRefused, newFiles, finishing, finishedFrom, withFinished, Passes, settings-finished, reached, reached-found, never-both, maintain-ends}
+use Rattle.theory.specs.FirstRefused.{generations, Due, FirstRefused, newFiles, finishing, finishedFrom, withFinished, Clears, Passes, settings-finished, reached, reached-found, never-both, maintain-ends}
 use Rattle.theory.specs.Covered.{InFile, files-cover}
-use Rattle.theory.specs.Arrived.{Arrived, Shown, arrived-left, stood-shown, stood-fewer, files-arrive}
+use Rattle.theory.specs.Arrived.{Arrived, arrived-left, stood-fewer, files-arrive}
 use Rattle.theory.specs.Fresh.{Blank}
-use Rattle.theory.specs.History.{Call, lived, born, sound-history}
+use Rattle.theory.specs.History.{Call, Life, lived, Starts, sound-lived, born, born-starts}
 
 -- ---- the words
 -- maintenance finishes generation g: it is due, and neither it nor one before it is refused
@@ -72,17 +73,17 @@ pub record Rewrote (w : World) (g : ℕ) : Type 0 where
 record Rewrites (history : List Op) (g : ℕ) (u v : World) (ks : List ℕ) : Type 0 where
   left : (x : ℕ) → heardIn (found u ks) x ≡ false → Left u v x
   arrived : (x : ℕ) → heardIn (found u ks) x ≡ true → Arrived g u v x
-  shown : Shown u v
+  remain : Remain u v
   fewer : (k : ℕ) (c : File) → viewAt (viewsOf u) k ≡ holds c → recordAt (recordsOf v) k .live ≤ recordAt (recordsOf u) k .live
   dead : (k : ℕ) → Among ks k → recordAt (recordsOf v) k .live ≡ 0
 
 module _ (history : List Op) (u : World) (s : SoundWorld u (engine history)) (g : ℕ) (aged : g ≤ 255) (ks : List ℕ) (files : All (λ (k : ℕ). 0 < recordAt (recordsOf u) k .lsn) ks)
-    (enough : Enough u (filesOf (u .settings .«target_file_size») (found u ks))) where
+    (sizes : Oversized u ks → ⊥) (enough : Enough u (filesOf (u .settings .«target_file_size») (found u ks))) where
   done : decide (groupTests u ks (filesOf (u .settings .«target_file_size») (found u ks))) ≡ Done
   done =
       decided-one u (filesOf (u .settings .«target_file_size») (found u ks)) _ Done
       (group-decided u ks (filesOf (u .settings .«target_file_size») (found u ks))
-      (none-each _ ks (all-map (λ (k : ℕ). 0 < recordAt (recordsOf u) k .lsn) _ ks (λ k h. file-clear u history s k (not-empty (recordAt (recordsOf u) k) h)) files)))
+      (⊎-elim (λ z. absurd (sizes (z .1))) (λ pass. pass) (sources-decided u history s ks files [])))
       enough
 
   stood : AllStood 0 g u (filesOf (u .settings .«target_file_size») (found u ks)) × SoundWorld (installedAll 0 g u (filesOf (u .settings .«target_file_size») (found u ks))) (engine history)
@@ -96,7 +97,7 @@ module _ (history : List Op) (u : World) (s : SoundWorld u (engine history)) (g 
   group-arrived : (x : ℕ) → heardIn (found u ks) x ≡ true → Arrived g u (installedAll 0 g u (filesOf (u .settings .«target_file_size») (found u ks))) x
   group-arrived x h =
       let c = files-cover x (u .settings .«target_file_size») (found u ks) h in
-      files-arrive (u .settings .«max_object_size») history g (filesOf (u .settings .«target_file_size») (found u ks)) u s aged refl (files-rewritable history u s ks (u .settings .«target_file_size»))
+      files-arrive history g (filesOf (u .settings .«target_file_size») (found u ks)) u s aged (files-rewritable history u s ks (u .settings .«target_file_size»))
       (enough .room .fits) (enough .room .slots) (enough .positions (some-length (filesOf (u .settings .«target_file_size») (found u ks)) c)) x c
     where
       some-length : (fs : List (List Op)) → Some (InFile x) fs → 0 < length fs
@@ -114,7 +115,7 @@ module _ (history : List Op) (u : World) (s : SoundWorld u (engine history)) (g 
       z = let y = file-slot u (engine history) s k (not-empty (recordAt (recordsOf u) k) (among-get (λ (j : ℕ). 0 < recordAt (recordsOf u) j .lsn) ks files k a)) in (y .0, y .1)
 
       here : viewAt (viewsOf v) k ≡ holds (z .0)
-      here = stood-shown 0 g u (filesOf (u .settings .«target_file_size») (found u ks)) (stood .0) k (z .0) (z .1)
+      here = stood-all-remain 0 g (filesOf (u .settings .«target_file_size») (found u ks)) u (stood .0) k (z .0) (z .1)
 
       -- no id is in the file
       no : (x l : ℕ) → lookup (mappings v) x ≡ Mapped l → fileFor (recordsOf v) l ≡ Is k → (b : Bool) → heardIn (found u ks) x ≡ b → ⊥
@@ -147,7 +148,7 @@ module _ (history : List Op) (u : World) (s : SoundWorld u (engine history)) (g 
   group-rewrites = record {
     left = group-left;
     arrived = group-arrived;
-    shown = stood-shown 0 g u (filesOf (u .settings .«target_file_size») (found u ks)) (stood .0);
+    remain = stood-all-remain 0 g (filesOf (u .settings .«target_file_size») (found u ks)) u (stood .0);
     fewer = stood-fewer 0 g u (filesOf (u .settings .«target_file_size») (found u ks)) (stood .0);
     dead = group-dead;
   }
@@ -254,7 +255,7 @@ module _ (history : List Op) (w : World) (s : SoundWorld w (engine history)) whe
   turn-rewrites g i due p =
       subst (λ (v : World). Rewrites history g (withFinished w (before g)) v (group w g)) after
       (group-rewrites history u (t .0) g (let l = within-three g i .1 in omega arith) (group w g) (all-map (λ (k : ℕ). 0 < recordAt (recordsOf w) k .lsn) (λ (k : ℕ). 0 < recordAt (recordsOf u) k .lsn) (group w g) (t .1) (group-files w history s g))
-      (subst (Enough u) (sym same) (p g i (omega arith) due)))
+      (λ o. clear .sizes (oversized-earlier history w u s (group w g) (group-files w history s g) (t .2) (settings-finished w (before g) w) o)) (subst (Enough u) (sym same) (clear .enough)))
     where
       u : World
       u = withFinished w (before g)
@@ -262,8 +263,11 @@ module _ (history : List Op) (w : World) (s : SoundWorld w (engine history)) whe
       earlier : Below g
       earlier h a l = p h a (omega arith)
 
-      t : SoundWorld u (engine history) × Stay w u
+      t : SoundWorld u (engine history) × Stay w u × Remain w u
       t = reached history w s g (inl i) earlier
+
+      clear : Clears w g
+      clear = p g i (omega arith) due
 
       same : filesOf (u .settings .«target_file_size») (found u (group w g)) ≡ newFiles w g
       same =
@@ -283,7 +287,7 @@ module _ (history : List Op) (w : World) (s : SoundWorld w (engine history)) whe
       u : World
       u = withFinished w (before m)
 
-      t : SoundWorld u (engine history) × Stay w u
+      t : SoundWorld u (engine history) × Stay w u × Remain w u
       t = reached history w s m (inl j) (λ h b c. p h b (omega arith))
 
       -- it is in none of that generation's files
@@ -302,7 +306,7 @@ module _ (history : List Op) (w : World) (s : SoundWorld w (engine history)) whe
           (sym (one-more w m j ∙ ap (λ (b : Bool). pick b u (installedAll 0 m u (newFiles w m))) e)) a
       go false e =
           let r = turn-rewrites m j (ltb-false _ _ e) p in
-          arrived-left g (withFinished w (before g)) u (withFinished w (before (suc m))) x a (r .left x (out (heardIn (found u (group w m)) x) refl)) (r .shown)
+          arrived-left g (withFinished w (before g)) u (withFinished w (before (suc m))) x a (r .left x (out (heardIn (found u (group w m)) x) refl)) (r .remain)
 
   -- so a file of the group has no live entry still
   dead-still : (g m : ℕ) → Among generations m → Below (suc m) → (k : ℕ) → Among (group w g) k
@@ -356,8 +360,8 @@ module _ (history : List Op) (w : World) (s : SoundWorld w (engine history)) whe
       where
         go : (g < h) ⊎ ((g ≡ h) ⊎ (h < g)) → (g < h) × (h ≤ 4)
         go (inl l) = (l, let b = within-three h (e .generation) .1 in omega arith)
-        go (inr (inl l)) = absurd (never-both history w s h r (e .due) (e .lacks) (f .passes h (e .generation) (omega arith)))
-        go (inr (inr l)) = absurd (never-both history w s h r (e .due) (e .lacks) (f .passes h (e .generation) (omega arith)))
+        go (inr (inl l)) = absurd (never-both history w s h r (e .due) (e .refused) (f .passes h (e .generation) (omega arith)))
+        go (inr (inr l)) = absurd (never-both history w s h r (e .due) (e .refused) (f .passes h (e .generation) (omega arith)))
 
     -- success: the group's slots are empty
     success : (n : ℕ) → maintainCall w .answer ≡ maintainGiven (Moved n) → (k : ℕ) → Among (group w g) k
@@ -383,7 +387,7 @@ module _ (history : List Op) (w : World) (s : SoundWorld w (engine history)) whe
           subst (λ (v : World). (viewAt (viewsOf v) k ≡ empty) × (recordAt (recordsOf v) k ≡ emptyRecord)) (sym (maintain-ends history w s .prunes n a)) (success n a k i);
     }
       where
-        stays : (x : ℕ) → Inside w (group w g) x → Answers w → Arrived g (withFinished w (before g)) (maintainCall w .world) x
+        stays : (x : ℕ) → Inside w (group w g) x → AnswersBut (λ r g. Refusable w (group w g) r) w → Arrived g (withFinished w (before g)) (maintainCall w .world) x
         stays x i (inl a) =
             let p : Below 4 = λ h b l. maintain-ends history w s .succeeds _ a .0 h b in
             subst (λ (v : World). Arrived g (withFinished w (before g)) v x) (sym (maintain-ends history w s .prunes _ a))
@@ -394,7 +398,7 @@ module _ (history : List Op) (w : World) (s : SoundWorld w (engine history)) whe
             subst (λ (v : World). Arrived g (withFinished w (before g)) v x) (sym (maintain-ends history w s .keeps r h _ a))
             (arrived-at h (later h r e .0) (later h r e .1) (e .earlier) x i)
 
-        left : (k : ℕ) → Among (group w g) k → Answers w → recordAt (recordsOf (maintainCall w .world)) k .live ≡ 0
+        left : (k : ℕ) → Among (group w g) k → AnswersBut (λ r g. Refusable w (group w g) r) w → recordAt (recordsOf (maintainCall w .world)) k .live ≡ 0
         left k i (inl a) =
             subst (λ (v : World). recordAt (recordsOf v) k .live ≡ 0) (sym (maintain-ends history w s .prunes _ a)) (ap (λ (r : Record). r .live) (success _ a k i .1))
         left k i (inr (r, h, a, z)) =
@@ -402,7 +406,11 @@ module _ (history : List Op) (w : World) (s : SoundWorld w (engine history)) whe
             subst (λ (v : World). recordAt (recordsOf v) k .live ≡ 0) (sym (maintain-ends history w s .keeps r h _ a))
             (dead-at h (later h r e .0) (later h r e .1) (e .earlier) k i)
 
--- C: so on every store of demand 3
+-- C: on any store of the invariant, whatever calls were made
+pub lived-maintenance-rewrote : (l : Life) → Starts l → (calls : List Call) → (g : ℕ) → Finishes (lived l calls .world) g → Rewrote (lived l calls .world) g
+lived-maintenance-rewrote l s calls = finished-rewrote (lived l calls .history) (lived l calls .world) (sound-lived l s calls)
+
+-- C: so on every store of demand 3 that began with no file
 pub any-maintenance-rewrote : (w : World) → outOfRange (w .settings) (length (w .heap)) (w .table) ≡ false → Blank w → (calls : List Call) → (g : ℕ) → Finishes (lived (born w) calls .world) g
     → Rewrote (lived (born w) calls .world) g
-any-maintenance-rewrote w range blank calls = finished-rewrote (lived (born w) calls .history) (lived (born w) calls .world) (sound-history w range blank calls)
+any-maintenance-rewrote w range blank = lived-maintenance-rewrote (born w) (born-starts w range blank)

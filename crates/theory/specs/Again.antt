@@ -16,12 +16,11 @@ use Rattle.rules.specs.LayoutLaws.{laid-out-used}
 use Rattle.rules.specs.FileMap.{emptyRecord, recordAt, withLive, fileFor}
 use Rattle.rules.specs.Claims.{noClaims}
 use Rattle.rules.specs.Reopen.{viewTests, filesIn, notRising, tableOf, reopenTests, mappedInto, recordOf, recordsFrom, nextAfter, opened, reopenCall}
-use Rattle.rules.specs.ReopenLaws.{rising-entries, records-from-length}
+use Rattle.rules.specs.ReopenLaws.{records-from-length}
 use Rattle.rules.specs.World.{World, recordsOf, stateWith, accepted}
 use Rattle.theory.specs.Places.{viewAt, record-holds, record-empty, no-damage}
 use Rattle.theory.specs.Files.{no-file, no-damage-tests, no-overlap, next-positive, next-above, record-from}
 use Rattle.theory.specs.Picture.{Picture, viewsOf, pictureOf, Said, gone, slotSays, heldSays, pictureSays}
-use Rattle.theory.specs.Sound.{written-rising}
 use Rattle.theory.specs.SoundWorld.{SoundWorld}
 
 -- the same store without claims, its next position worked out again
@@ -77,7 +76,7 @@ module _ (w : World) (told : ℕ → Said) (s : SoundWorld w told) where
       none-append (each viewTests (viewsOf w)) _ (no-damage-tests (viewsOf w) (no-damage (viewsOf w) (recordsOf w) (s .sound .filed))) (
         no-overlap (viewsOf w) (s .sound .filed .apart),
         (
-          no-file (λ (f : File). notRising (f .entries)) (viewsOf w) (λ k f h. rising-entries 0 (f .entries) (written-rising (w .settings .«max_object_size») f (s .sound .written k f h))),
+          no-file (λ (f : File). notRising (f .entries)) (viewsOf w) (λ k f h. s .sound .whole k f h .repeats),
           (
             le-ltb (capacityOf (w .table)) (length (tableOf (filesIn (viewsOf w)))) (subst (λ (t : List Entry). length t ≤ capacityOf (w .table)) (s .sound .newest) (s .sound .room)),
             tt,
@@ -119,7 +118,7 @@ module _ (w : World) (told : ℕ → Said) (s : SoundWorld w told) where
         tidy = record { limits = t .limits; settings = t .settings; heap-len = t .heap-len; table-len = t .table-len; form = t .form };
         sound = record {
           filed = p .filed;
-          written = p .written;
+          whole = p .whole;
           sized = p .sized;
           started = next-positive (viewsOf w);
           above = λ k f h. next-above (viewsOf w) k f h (p .filed .made k f h);

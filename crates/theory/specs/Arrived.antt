@@ -33,6 +33,7 @@ use Rattle.theory.specs.Standing.{AllStood, fitting-stands}
 use Rattle.theory.specs.Writing.{engine, sound-told}
 use Rattle.theory.specs.Rewriting.{Rewritable, fits-file, still-said, one-fewer, installed-numbers, sound-rewritten}
 use Rattle.theory.specs.Tally.{heardIn, heard-later}
+use Rattle.theory.specs.Stopping.{Remain, stood-all-remain}
 use Rattle.theory.specs.Relocated.{Left, Anew, files-relocate}
 use Rattle.theory.specs.Covered.{InFile}
 
@@ -47,12 +48,8 @@ pub record Arrived (g : ℕ) (w v : World) (x : ℕ) : Type 0 where
   pub shows : viewAt (viewsOf v) slot ≡ holds file
   pub generation : file .label .generation ≡ g
 
--- a slot that shows a file shows it still
-abbrev pub Shown : World → World → Type 0
-Shown w v = (k : ℕ) (c : File) → viewAt (viewsOf w) k ≡ holds c → viewAt (viewsOf v) k ≡ holds c
-
 -- nothing happens to the id afterwards, or before
-pub arrived-left : (g : ℕ) (w u v : World) (x : ℕ) → Arrived g w u x → Left u v x → Shown u v → Arrived g w v x
+pub arrived-left : (g : ℕ) (w u v : World) (x : ℕ) → Arrived g w u x → Left u v x → Remain u v → Arrived g w v x
 arrived-left g w u v x a l n = record {
   location = a .location;
   slot = a .slot;
@@ -109,16 +106,7 @@ module _ (history : List Op) (w : World) (s : SoundWorld w (engine history)) (g 
       }
 
 -- ---- files one after another
--- each stands where no file was
-pub stood-shown : (bit g : ℕ) (w : World) (files : List (List Op)) → AllStood bit g w files → Shown w (installedAll bit g w files)
-unfolding installedAll
-stood-shown bit g w [] a k c h = h
-stood-shown bit g w (f ∷ fs) a k c h =
-    stood-shown bit g (installed bit g w f) fs (a .1) k c
-    (ap (λ (vs : _). viewAt vs k) (a .0 .views)
-    ∙ getD-set-other (viewsOf w) (newSlot w) k (holds (fileOfOps (newLsn bit w) g f)) empty (λ e. not-empty (sym (a .0 .free) ∙ ap (viewAt (viewsOf w)) (sym e) ∙ h)) ∙ h)
-
--- and no file gains
+-- no file gains
 pub stood-fewer : (bit g : ℕ) (w : World) (files : List (List Op)) → AllStood bit g w files → (k : ℕ) (c : File) → viewAt (viewsOf w) k ≡ holds c
     → recordAt (recordsOf (installedAll bit g w files)) k .live ≤ recordAt (recordsOf w) k .live
 unfolding installedAll installed recordsWith
@@ -154,35 +142,34 @@ arrived-later g w u v x n a = record {
   generation = a .generation;
 }
 
-module _ (limit : ℕ) (history : List Op) where
+module _ (history : List Op) where
   -- LAW: what is in one of the files is in a new file afterwards
-  pub files-arrive : (g : ℕ) (files : List (List Op)) (w : World) → SoundWorld w (engine history) → g ≤ 255 → limit ≡ w .settings .«max_object_size» → All (Rewritable limit (engine history)) files
+  pub files-arrive : (g : ℕ) (files : List (List Op)) (w : World) → SoundWorld w (engine history) → g ≤ 255 → All (Rewritable (engine history)) files
       → All (λ (f : List Op). 64 + length (fileBytes f) ≤ w .settings .«slot_bytes») files → length files ≤ emptyOf w
       → w .state .«next_position» + sum (λ (f : List Op). length (objectsOf f) + 1) files ≤ 2 ^ 62
       → (x : ℕ) → Some (InFile x) files → Arrived g w (installedAll 0 g w files) x
   unfolding installedAll sum
-  files-arrive g [] w s aged same r slot free positions x h = absurd h
-  files-arrive g (f ∷ fs) w s aged same r slot free positions x h =
-      let fit = fits-file limit history w s g f (r .0) aged same (slot .0) (omega arith) (omega arith) in
+  files-arrive g [] w s aged r slot free positions x h = absurd h
+  files-arrive g (f ∷ fs) w s aged r slot free positions x h =
+      let fit = fits-file history w s g f (r .0) aged (slot .0) (omega arith) (omega arith) in
       let n : length (objectsOf f) < 2 ^ 64 = omega arith in
-      let e = installed-numbers limit history g w f in
+      let e = installed-numbers history g w f in
       let e1 = e .1 in
       let d = one-fewer 0 g w f in
       let t = sound-told (installed 0 g w f) (λ x. over (fileSays (fileOfOps (newLsn 0 w) g f) x) (engine history x)) (engine history)
-      (λ x. still-said limit history f (r .0) n (newLsn 0 w) g x) (sound-installed w (engine history) s 0 g f fit) in
-      let same2 = same ∙ ap (λ (c : Settings). c .«max_object_size») (sym (e .0)) in
+      (λ x. still-said history f (r .0) n (newLsn 0 w) g x) (sound-installed w (engine history) s 0 g f fit) in
       let slot2 = subst (λ (c : Settings). All (λ (f : List Op). 64 + length (fileBytes f) ≤ c .«slot_bytes») fs) (sym (e .0)) (slot .1) in
       let free2 : length fs ≤ emptyOf (installed 0 g w f) = omega arith in
       let positions2 : installed 0 g w f .state .«next_position» + sum (λ (f : List Op). length (objectsOf f) + 1) fs ≤ 2 ^ 62 = omega arith in
       go (stood-free 0 g w f (fitting-stands w (engine history) s 0 g f fit, tt)) (file-arrives history w s g f fit x)
-      (files-relocate limit history g fs (installed 0 g w f) t aged same2 (r .1) slot2 free2 positions2 x)
-      (stood-shown 0 g (installed 0 g w f) fs (sound-rewritten limit history g fs (installed 0 g w f) t aged same2 (r .1) slot2 free2 positions2 .0))
-      (files-arrive g fs (installed 0 g w f) t aged same2 (r .1) slot2 free2 positions2 x) h
+      (files-relocate history g fs (installed 0 g w f) t aged (r .1) slot2 free2 positions2 x)
+      (stood-all-remain 0 g fs (installed 0 g w f) (sound-rewritten history g fs (installed 0 g w f) t aged (r .1) slot2 free2 positions2 .0))
+      (files-arrive g fs (installed 0 g w f) t aged (r .1) slot2 free2 positions2 x) h
     where
       go : ((k : ℕ) → viewAt (viewsOf (installed 0 g w f)) k ≡ empty → viewAt (viewsOf w) k ≡ empty)
           → (heardIn f x ≡ true → Arrived g w (installed 0 g w f) x)
           → Left (installed 0 g w f) (installedAll 0 g (installed 0 g w f) fs) x ⊎ (Anew (installed 0 g w f) (installedAll 0 g (installed 0 g w f) fs) x × (any (λ (f : List Op). heardIn f x) fs ≡ true))
-          → Shown (installed 0 g w f) (installedAll 0 g (installed 0 g w f) fs)
+          → Remain (installed 0 g w f) (installedAll 0 g (installed 0 g w f) fs)
           → (Some (InFile x) fs → Arrived g (installed 0 g w f) (installedAll 0 g (installed 0 g w f) fs) x)
           → InFile x f ⊎ Some (InFile x) fs → Arrived g w (installedAll 0 g (installed 0 g w f) fs) x
       go b a l k ih (inr h) = arrived-later g w (installed 0 g w f) (installedAll 0 g (installed 0 g w f) fs) x b (ih h)

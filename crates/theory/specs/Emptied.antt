@@ -16,7 +16,7 @@ use Rattle.theory.specs.Newest.{maskedAt, newest-less, newest-one}
 use Rattle.theory.specs.Places.{viewAt, rowsOf, Agrees, Filed, Stands, stands-has, has-stands, not-empty, own-file, in-own-range, distinct}
 use Rattle.theory.specs.Losing.{liveAt}
 use Rattle.theory.specs.Picture.{Picture, Said, gone, viewSays, slotSays, heldSays, pictureSays}
-use Rattle.theory.specs.Sound.{Bounds, Sound, newest-table, rising-table, table-rising, table-newest, table-stands}
+use Rattle.theory.specs.Sound.{Sound, newest-table, rising-table, table-rising, table-newest, table-stands}
 
 -- slot k as it was, or without its file, which had no live entry
 abbrev pub KeptOrEmptied : Picture → Picture → ℕ → Type 0
@@ -32,7 +32,7 @@ pub record Emptied (p q : Picture) : Type 0 where
   pub table : q .table ≡ p .table
   pub next : q .next ≡ p .next
 
-module _ (bounds : Bounds) (p : Picture) (told : ℕ → Said) (s : Sound bounds p told) (q : Picture) (e : Emptied p q) where
+module _ (bounds : ℕ) (p : Picture) (told : ℕ → Said) (s : Sound bounds p told) (q : Picture) (e : Emptied p q) where
   -- a file that is there was there, with that live count
   back : (k : ℕ) (f : File) → viewAt (q .views) k ≡ holds f → (viewAt (p .views) k ≡ holds f) × (recordAt (q .records) k ≡ recordAt (p .records) k)
   back k f h = ⊎-elim (λ c. (sym (c .0) ∙ h, c .1)) (λ c. absurd (not-empty (sym (c .1) ∙ h))) (e .each k)
@@ -104,7 +104,7 @@ module _ (bounds : Bounds) (p : Picture) (told : ℕ → Said) (s : Sound bounds
   pub sound-emptied : Sound bounds q told
   sound-emptied = record {
     filed = filed-emptied;
-    written = λ k f h. s .written k f (back k f h .0);
+    whole = λ k f h. s .whole k f (back k f h .0);
     sized = e .sized ∙ s .sized;
     started = rw (e .next) (s .started);
     above = λ k f h. rw (e .next) (s .above k f (back k f h .0));

@@ -36,11 +36,11 @@ use Rattle.theory.specs.Moving.{Movable, found-movable}
 use Rattle.theory.specs.Rewriting.{last-all, heard-of}
 use Rattle.theory.specs.Tally.{known, heardIn, keep-same, count-heard}
 use Rattle.theory.specs.Moved.{InRangeOf, found-inside, heard-each}
-use Rattle.theory.specs.Stopping.{group-files, Underway, onward-well}
+use Rattle.theory.specs.Stopping.{Underway, underway-first, still-files, onward-well}
 use Rattle.theory.specs.Relocated.{Left, Anew, group-relocates}
 use Rattle.theory.specs.Finished.{before}
 use Rattle.theory.specs.Fresh.{Blank}
-use Rattle.theory.specs.History.{Call, lived, born, sound-history}
+use Rattle.theory.specs.History.{Call, Life, lived, Starts, sound-lived, born, born-starts}
 use Rattle.theory.specs.Lists.{all-each, all-among, among-get}
 
 -- the location's file is in one of these slots
@@ -136,7 +136,7 @@ module _ (w : World) (history : List Op) (s : SoundWorld w (engine history)) whe
       go : (o : Last) → lastOn (found w ks) x ≡ o → known (lastOn (found w ks) x) ≡ true → Inside w ks x
       go silent p q = absurd (true≢false (sym q ∙ ap known p))
       go (last c) p q =
-          let m = said-mapped x c (last-all (Movable (w .settings .«max_object_size») (engine history)) (found w ks) (found-movable w history s ks) x c p .0) in
+          let m = said-mapped x c (last-all (Movable (engine history)) (found w ks) (found-movable w history s ks) x c p .0) in
           (m .0, m .1, last-all (Placed ks) (found w ks) (placed ks files) x c p (m .0) (m .1))
 
   -- as many operations as ids of the table
@@ -273,9 +273,6 @@ groups-apart w g h k a b =
     ∙ eqb-true _ h (and-true (isCandidate (w .settings) (w .claims) (fileCount (recordsOf w)) (0 + q .off) (recordAt (recordsOf w) (q .off))) _ (q .passes) .1)
 
 module _ (history : List Op) (start : World) (st : SoundWorld start (engine history)) where
-  still-files : (g : ℕ) (c : Course) → Underway history start c → All (λ (k : ℕ). 0 < recordAt (recordsOf (c .world)) k .lsn) (group start g)
-  still-files g c u = all-map (λ (k : ℕ). 0 < recordAt (recordsOf start) k .lsn) (λ (k : ℕ). 0 < recordAt (recordsOf (c .world)) k .lsn) (group start g) (λ k h. u .stay k h) (group-files start history st g)
-
   -- another group's files keep their ids, and get none
   same-group : (g h : ℕ) → (h ≡ g → ⊥) → h ≤ 255 → (c : Course) → Underway history start c
       → Same (c .world) (rewriteGroup h (group start h) (c .moved) (c .world) .world) (group start g)
@@ -287,7 +284,7 @@ module _ (history : List Op) (start : World) (st : SoundWorld start (engine hist
       there : Left (c .world) v x ⊎ (Anew (c .world) v x × (heardIn (found (c .world) (group start h)) x ≡ true)) → Inside (c .world) (group start g) x → Inside v (group start g) x
       there (inl y) (l, e, (k, a, q)) = (l, y .table ∙ e, (k, a, y .file l e ∙ q))
       there (inr y) (l, e, (k, a, q)) =
-          let i = moved-exactly (c .world) history (u .sound) (group start h) (still-files h c u) .only x (y .1) in
+          let i = moved-exactly (c .world) history (u .sound) (group start h) (still-files history start st h c u) .only x (y .1) in
           let j : i .2 .0 ≡ k = is-one (sym (i .2 .2) ∙ ap (fileFor (recordsOf (c .world))) (mapped-one (sym (i .1) ∙ e)) ∙ q) in
           absurd (n (groups-apart start h g k (subst (Among (group start h)) j (i .2 .1)) a))
 
@@ -295,7 +292,7 @@ module _ (history : List Op) (start : World) (st : SoundWorld start (engine hist
       back (inl y) (l, e, (k, a, q)) = let z = sym (y .table) ∙ e in (l, z, (k, a, sym (y .file l z) ∙ q))
       back (inr y) (l, e, (k, a, q)) =
           let j : y .0 .slot ≡ k = is-one (sym (y .0 .file) ∙ ap (fileFor (recordsOf v)) (mapped-one (sym (y .0 .table) ∙ e)) ∙ q) in
-          let f = file-slot (c .world) (engine history) (u .sound) k (not-empty (recordAt (recordsOf (c .world)) k) (among-get (λ (m : ℕ). 0 < recordAt (recordsOf (c .world)) m .lsn) (group start g) (still-files g c u) k a)) in
+          let f = file-slot (c .world) (engine history) (u .sound) k (not-empty (recordAt (recordsOf (c .world)) k) (among-get (λ (m : ℕ). 0 < recordAt (recordsOf (c .world)) m .lsn) (group start g) (still-files history start st g c u) k a)) in
           absurd (places.not-empty (sym (y .0 .free) ∙ ap (viewAt (viewsOf (c .world))) j ∙ f .1))
 
   same-onward : (stop : Stop) (g h : ℕ) → (h ≡ g → ⊥) → h ≤ 255 → (c : Course) → Underway history start c → Same start (c .world) (group start g)
@@ -312,14 +309,14 @@ module _ (history : List Op) (start : World) (st : SoundWorld start (engine hist
   unfolding groupsFrom
   same-groups g [] a c u y = (u, y)
   same-groups g (h ∷ hs) a c u y =
-      same-groups g hs (a .1) (onward (c .stop) h (group start h) c) (onward-well history start (c .stop) h (a .0 .0) (group start h) (group-files start history st h) c refl u)
+      same-groups g hs (a .1) (onward (c .stop) h (group start h) c) (onward-well history start st (c .stop) h (a .0 .0) c refl u)
       (same-onward (c .stop) g h (a .0 .1) (a .0 .0) c u y)
 
   -- a group in its turn, by the table and the records as the call starts
   turn-exactly : (g : ℕ) → All (λ (h : ℕ). (h ≤ 255) × (h ≡ g → ⊥)) (before g) → Underway history start (turn start g) × Exactly start (group start g) (found (turn start g .world) (group start g))
   turn-exactly g a =
-      let z = same-groups g (before g) a (record { stop = going; moved = 0; world = start }) (record { sound = st; stay = λ k h. h; stop = tt }) (λ x. (λ i. i, λ i. i)) in
-      let m = moved-exactly (turn start g .world) history (z .0 .sound) (group start g) (still-files g (turn start g) (z .0)) in
+      let z = same-groups g (before g) a (record { stop = going; moved = 0; world = start }) (underway-first history start st) (λ x. (λ i. i, λ i. i)) in
+      let m = moved-exactly (turn start g .world) history (z .0 .sound) (group start g) (still-files history start st g (turn start g) (z .0)) in
       (z .0, exactly start history st (group start g) (found (turn start g .world) (group start g)) (m .once) (λ x h. z .1 x .1 (m .only x h)) (λ x i. m .every x (z .1 x .0 i)))
 
   -- an id that a turn does not move keeps its location
@@ -380,6 +377,10 @@ module _ (history : List Op) (start : World) (st : SoundWorld start (engine hist
       by going = inl (ap (λ (n : ℕ). maintainGiven (Moved n)) total)
       by (stopped r g) = inr (r, g, ap (λ (n : ℕ). maintainGiven (Stopped r g n)) total)
 
--- C: so on every store of demand 3
+-- C: on any store of the invariant, whatever calls were made
+pub lived-maintenance-moves : (l : Life) → Starts l → (calls : List Call) → Moves (lived l calls .world)
+lived-maintenance-moves l s calls = sound-moves (lived l calls .history) (lived l calls .world) (sound-lived l s calls)
+
+-- C: so on every store of demand 3 that began with no file
 pub any-maintenance-moves : (w : World) → outOfRange (w .settings) (length (w .heap)) (w .table) ≡ false → Blank w → (calls : List Call) → Moves (lived (born w) calls .world)
-any-maintenance-moves w range blank calls = sound-moves (lived (born w) calls .history) (lived (born w) calls .world) (sound-history w range blank calls)
+any-maintenance-moves w range blank = lived-maintenance-moves (born w) (born-starts w range blank)

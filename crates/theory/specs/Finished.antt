@@ -17,7 +17,7 @@ use Rattle.rules.specs.Table.{lookup}
 use Rattle.rules.specs.TableLaws.{lookup-has}
 use Rattle.rules.specs.FileMap.{recordAt, slotsWhere, fileCount}
 use Rattle.rules.specs.FileMapLaws.{not-empty, Among, slot-passes}
-use Rattle.rules.specs.Install.{installed, installedAll, roomTests, emptyOf, positionTests}
+use Rattle.rules.specs.Install.{installedAll, roomTests, emptyOf, positionTests}
 use Rattle.rules.specs.InstallLaws.{room-clear, positions-clear}
 use Rattle.rules.specs.Maintenance.{objectsFound, deletesFound, foundIn, found, filesOf, fileTests, slotOf, Stop, going, stopped, Course, isCandidate, newGeneration, group, groupTests, rewriteGroup, onward, groupsFrom, courseOf, ended, maintainCall}
 use Rattle.rules.specs.Reopen.{inRange}
@@ -25,20 +25,21 @@ use Rattle.rules.specs.World.{World, recordsOf, mappings, maintainGiven}
 use Rattle.theory.specs.Newest.{maskedAt}
 use Rattle.theory.specs.Places.{record-holds}
 use Rattle.theory.specs.Picture.{viewsOf}
-use Rattle.theory.specs.SoundWorld.{SoundWorld, sound-fine}
+use Rattle.theory.specs.SoundWorld.{SmallWorld, SoundWorld, sound-fine}
 use Rattle.theory.specs.Writing.{engine}
 use Rattle.theory.specs.Pruning.{file-slot}
 use Rattle.theory.specs.Shards.{PartOf, sub-all, files-parts}
 use Rattle.theory.specs.Tally.{Ascending, sum-same}
 use Rattle.theory.specs.Moved.{InRangeOf, found-inside, one-range, found-count}
 use Rattle.theory.specs.Maintaining.{files-rewritable}
-use Rattle.theory.specs.Stopping.{Spent, StopsWell, group-files, Underway, onward-well, groups-well}
+use Rattle.theory.specs.Checked.{not-oversized}
+use Rattle.theory.specs.Stopping.{Spent, Refusable, settings-group, StopsWell, group-files, Underway, underway-first, still-files, onward-well, groups-well}
 use Rattle.theory.specs.Rewriting.{Rewritable}
 use Rattle.theory.specs.Unmoved.{Elsewhere, unmoved}
 use Rattle.theory.specs.Lists.{all-each, among-all, all-among, among-get}
 use Rattle.rules.specs.Condition1.{outOfRange}
 use Rattle.theory.specs.Fresh.{Blank}
-use Rattle.theory.specs.History.{Call, lived, born, sound-history}
+use Rattle.theory.specs.History.{Call, Life, lived, Starts, sound-lived, small-lived, born, born-starts, born-small}
 
 -- the ids mapped into a generation's candidates, as the call starts; none where the group is skipped
 abbrev pub liveOf : World → ℕ → ℕ
@@ -48,11 +49,15 @@ liveOf w g = pick (ltb (length (group w g)) (w .settings .«min_compaction_files
 abbrev pub before : ℕ → List ℕ
 before g = keep (λ (h : ℕ). ltb h g) (1 ∷ 2 ∷ 3 ∷ [])
 
--- what maintenance answers: the live counts of all groups that are not skipped; or 4, 5 or 7, its generation, and those of the generations before
-abbrev pub Answers : World → Type 0
-Answers w =
+-- what maintenance answers: the live counts of all groups that are not skipped; or a number, its generation, and those of the generations before
+abbrev pub AnswersBut : (Refusal → ℕ → Type 0) → World → Type 0
+AnswersBut refuses w =
     (maintainCall w .answer ≡ maintainGiven (Moved (sum (liveOf w) (1 ∷ 2 ∷ 3 ∷ []))))
-    ⊎ ((r : Refusal) × (g : ℕ) × (maintainCall w .answer ≡ maintainGiven (Stopped r g (sum (liveOf w) (before g)))) × Spent r)
+    ⊎ ((r : Refusal) × (g : ℕ) × (maintainCall w .answer ≡ maintainGiven (Stopped r g (sum (liveOf w) (before g)))) × refuses r g)
+
+-- with 4, 5 or 7 only
+abbrev pub Answers : World → Type 0
+Answers = AnswersBut (λ r g. Spent r)
 
 -- ---- slots of a group: ascending, and of one generation only
 where-ascending : (f : ℕ → Record → Bool) (i : ℕ) (rs : List Record) → Ascending i (slotsWhere f i rs)
@@ -101,7 +106,7 @@ module _ (history : List Op) (w : World) (s : SoundWorld w (engine history)) whe
       settled-all (Elsewhere w k) (each (foundIn w) ks)
       (all-each (Elsewhere w k) (foundIn w) ks (all-among (λ (j : ℕ). 0 < recordAt (recordsOf w) j .lsn) (λ (j : ℕ). All (Elsewhere w k) (foundIn w j)) ks (λ j a some. elsewhere-in k j (out j a) some) files))
 
-  files-unmoved : (g : ℕ) → g ≤ 255 → (fs : List (List Op)) → All (Rewritable (w .settings .«max_object_size») (engine history)) fs → (k : ℕ) → 0 < recordAt (recordsOf w) k .lsn
+  files-unmoved : (g : ℕ) → g ≤ 255 → (fs : List (List Op)) → All (Rewritable (engine history)) fs → (k : ℕ) → 0 < recordAt (recordsOf w) k .lsn
       → All (All (Elsewhere w k)) fs → NoneHolds (roomTests (w .settings .«slot_bytes») (emptyOf w) fs ++ positionTests (w .state .«next_position») fs)
       → recordAt (recordsOf (installedAll 0 g w fs)) k ≡ recordAt (recordsOf w) k
   unfolding installedAll
@@ -110,7 +115,7 @@ module _ (history : List Op) (w : World) (s : SoundWorld w (engine history)) whe
       let tests = roomTests (w .settings .«slot_bytes») (emptyOf w) (f ∷ fs) in
       let b = room-clear (w .settings .«slot_bytes») (emptyOf w) (f ∷ fs) (none-first tests _ n) in
       let c = positions-clear (w .state .«next_position») (f ∷ fs) (none-rest tests _ n) (omega arith) in
-      unmoved (w .settings .«max_object_size») history g (f ∷ fs) w s aged refl r (b .fits) (b .slots) c k some a
+      unmoved history g (f ∷ fs) w s aged r (b .fits) (b .slots) c k some a
 
   -- a file outside the group keeps its record
   group-unmoved : (g : ℕ) → g ≤ 255 → (ks : List ℕ) (moved : ℕ) → All (λ (j : ℕ). 0 < recordAt (recordsOf w) j .lsn) ks → (k : ℕ) → 0 < recordAt (recordsOf w) k .lsn → ((j : ℕ) → Among ks j → k ≡ j → ⊥)
@@ -160,21 +165,6 @@ rewrite-ends g ks moved w = go (decide (groupTests w ks (filesOf (w .settings .�
     go Done = inl refl
     go (Refused r) = inr (r, refl, refl)
 
--- adding files keeps the settings
-pub settings-all : (g : ℕ) (files : List (List Op)) (w : World) → installedAll 0 g w files .settings ≡ w .settings
-unfolding installedAll installed
-settings-all g [] w = refl
-settings-all g (f ∷ fs) w = settings-all g fs (installed 0 g w f)
-
-settings-group : (g : ℕ) (ks : List ℕ) (moved : ℕ) (w : World) → rewriteGroup g ks moved w .world .settings ≡ w .settings
-unfolding rewriteGroup
-settings-group g ks moved w = go (decide (groupTests w ks (filesOf (w .settings .«target_file_size») (found w ks))))
-  where
-    go : (a : Answer) → after {A = Course} a (λ (r : Refusal). record { stop = stopped r g; moved = moved; world = w })
-        (record { stop = going; moved = moved + length (found w ks); world = installedAll 0 g w (filesOf (w .settings .«target_file_size») (found w ks)) }) .world .settings ≡ w .settings
-    go Done = settings-all g (filesOf (w .settings .«target_file_size») (found w ks)) w
-    go (Refused r) = refl
-
 -- ---- group by group
 -- what was moved, where the groups ds are done
 abbrev MovedBy : World → List ℕ → Stop → ℕ → Type 0
@@ -207,7 +197,7 @@ module _ (history : List Op) (start : World) (st : SoundWorld start (engine hist
   }
     where
       files : All (λ (k : ℕ). 0 < recordAt (recordsOf (c .world)) k .lsn) (group start g)
-      files = all-map (λ (k : ℕ). 0 < recordAt (recordsOf start) k .lsn) (λ (k : ℕ). 0 < recordAt (recordsOf (c .world)) k .lsn) (group start g) (λ k h. u .stay k h) (group-files start history st g)
+      files = still-files history start st g c u
 
       here : c .moved ≡ sum (liveOf start) ds
       here = subst (λ (o : Stop). MovedBy start ds o (c .moved)) e (t .moved)
@@ -277,33 +267,45 @@ module _ (history : List Op) (start : World) (st : SoundWorld start (engine hist
   tally-groups ds (g ∷ gs) y p c u t =
       subst (λ (l : List ℕ). Tallied start l [] (groupsFrom gs start (onward (c .stop) g (group start g) c))) (append-assoc ds (g ∷ []) gs)
       (tally-groups (ds ++ (g ∷ [])) gs (y .1) (p .2) (onward (c .stop) g (group start g) c)
-      (onward-well history start (c .stop) g (y .0) (group start g) (group-files start history st g) c refl u)
+      (onward-well history start st (c .stop) g (y .0) c refl u)
       (tally-onward (c .stop) g (y .0) ds gs p c refl u t))
 
   all-same : (gs : List ℕ) → All (λ (g : ℕ). All (λ (k : ℕ). recordAt (recordsOf start) k ≡ recordAt (recordsOf start) k) (group start g)) gs
   all-same [] = tt
   all-same (g ∷ gs) = (among-all (λ (k : ℕ). recordAt (recordsOf start) k ≡ recordAt (recordsOf start) k) (group start g) (λ k a. refl), all-same gs)
 
-  -- LAW: maintenance on a store of the invariant
-  pub maintain-answer : Answers start
+  -- LAW: maintenance on a store of the invariant stops with 4, 5 or 7, or with 3 where an object of the group is of max_object_size or more
+  pub maintain-answer : AnswersBut (λ r g. Refusable start (group start g) r) start
   unfolding maintainCall decide courseOf sum keep
   maintain-answer = rw (sound-fine start (engine history) st) (by (courseOf start .stop) (u .stop) (t .moved))
     where
       u : Underway history start (courseOf start)
-      u = groups-well history (1 ∷ 2 ∷ 3 ∷ []) (omega arith, (omega arith, (omega arith, tt))) start st (record { stop = going; moved = 0; world = start }) (record { sound = st; stay = λ k h. h; stop = tt })
+      u = groups-well history (1 ∷ 2 ∷ 3 ∷ []) (omega arith, (omega arith, (omega arith, tt))) start st (record { stop = going; moved = 0; world = start }) (underway-first history start st)
 
       t : Tallied start (1 ∷ 2 ∷ 3 ∷ []) [] (courseOf start)
       t = tally-groups [] (1 ∷ 2 ∷ 3 ∷ []) (omega arith, (omega arith, (omega arith, tt)))
           (refl, ((λ z. omega arith), ((λ z. omega arith), tt)), (refl, ((λ z. omega arith), tt), (refl, tt, tt)))
-          (record { stop = going; moved = 0; world = start }) (record { sound = st; stay = λ k h. h; stop = tt })
+          (record { stop = going; moved = 0; world = start }) (underway-first history start st)
           (record { settings = refl; same = all-same (1 ∷ 2 ∷ 3 ∷ []); moved = refl })
 
-      by : (o : Stop) → StopsWell o → MovedBy start (1 ∷ 2 ∷ 3 ∷ []) o (courseOf start .moved)
+      by : (o : Stop) → StopsWell start o → MovedBy start (1 ∷ 2 ∷ 3 ∷ []) o (courseOf start .moved)
           → (ended o (courseOf start) .answer ≡ maintainGiven (Moved (sum (liveOf start) (1 ∷ 2 ∷ 3 ∷ []))))
-          ⊎ ((r : Refusal) × (g : ℕ) × (ended o (courseOf start) .answer ≡ maintainGiven (Stopped r g (sum (liveOf start) (before g)))) × Spent r)
+          ⊎ ((r : Refusal) × (g : ℕ) × (ended o (courseOf start) .answer ≡ maintainGiven (Stopped r g (sum (liveOf start) (before g)))) × Refusable start (group start g) r)
       by going s m = inl (ap (λ (n : ℕ). maintainGiven (Moved n)) m)
       by (stopped r g) s m = inr (r, g, ap (λ (n : ℕ). maintainGiven (Stopped r g n)) m, s)
 
--- C: so on every store of demand 3
+  -- LAW: with 4, 5 or 7 only, where no object is so large
+  pub small-answer : SmallWorld start → Answers start
+  small-answer small = ⊎-elim inl (λ z. inr (z .0, z .1, z .2, ⊎-elim (λ p. p) (λ o. absurd (not-oversized start small (group start (z .1)) (o .1))) (z .3))) maintain-answer
+
+-- C: on any store of the invariant, whatever calls were made
+pub lived-maintenance : (l : Life) → Starts l → (calls : List Call) → AnswersBut (λ r g. Refusable (lived l calls .world) (group (lived l calls .world) g) r) (lived l calls .world)
+lived-maintenance l s calls = maintain-answer (lived l calls .history) (lived l calls .world) (sound-lived l s calls)
+
+-- with 4, 5 or 7 only, if no object was of max_object_size or more as it started
+pub small-maintenance : (l : Life) → Starts l → SmallWorld (l .world) → (calls : List Call) → Answers (lived l calls .world)
+small-maintenance l s small calls = small-answer (lived l calls .history) (lived l calls .world) (sound-lived l s calls) (small-lived l s small calls)
+
+-- C: so on every store of demand 3 that began with no file
 pub any-maintenance : (w : World) → outOfRange (w .settings) (length (w .heap)) (w .table) ≡ false → Blank w → (calls : List Call) → Answers (lived (born w) calls .world)
-any-maintenance w range blank calls = maintain-answer (lived (born w) calls .history) (lived (born w) calls .world) (sound-history w range blank calls)
+any-maintenance w range blank = small-maintenance (born w) (born-starts w range blank) (born-small w range blank)

@@ -1,38 +1,39 @@
--- C exactly: maintenance stops at the first generation that is due and lacks room, slots or positions, and keeps only the generations before it.
+-- C exactly: maintenance stops at the first generation that is due and refused, with 3 for an object that is too large, else with 4, 5 or 7 by its new
+-- files, the empty slots and the base; and it keeps only the generations before it.
 use mathlib.Core.Path.{_≡_, refl, sym, ap, _∙_, subst}
 use mathlib.Core.Bool.{true≢false}
 use mathlib.Core.Logic.{_⊎_, inl, inr, ⊎-elim}
 use Prim.Native.Nat.{_<_, _≤_}
 use native.Mathlib.Omega.{arith}
 use borrow.Author.Tests.{ltb-true, ltb-false, le-ltb}
-use Rattle.rules.specs.Base.{Bool, true, false, List, [], _∷_, ℕ, suc, length, ltb, pick, keep, sum}
-use Rattle.theory.specs.Types.{Settings, Refusal, Answer, Done, Refused, Moved, Stopped}
+use Rattle.rules.specs.Base.{Bool, true, false, List, [], _∷_, _++_, ℕ, suc, length, ltb, pick, keep, sum}
+use Rattle.theory.specs.Types.{Settings, Refusal, ObjectSize, Answer, Done, Refused, Moved, Stopped}
 use Rattle.rules.specs.Answers.{maintain-one}
-use Rattle.rules.specs.BaseLaws.{All, all-map, order}
+use Rattle.rules.specs.BaseLaws.{All, order}
 use Rattle.rules.specs.Refusal.{Test, decide}
 use Rattle.rules.specs.Condition1.{outOfRange}
 use Rattle.rules.specs.Ops.{Content, put, delete, Op}
 use Rattle.rules.specs.SettledLaws.{Last, silent, last, lastOn, ops-ext}
-use Rattle.rules.specs.FileMap.{recordAt}
-use Rattle.rules.specs.FileMapLaws.{not-empty, Among}
-use Rattle.rules.specs.Install.{installedAll}
+use Rattle.rules.specs.FileMapLaws.{Among}
+use Rattle.rules.specs.Install.{installedAll, roomTests, emptyOf, positionTests}
 use Rattle.rules.specs.Maintenance.{found, filesOf, Stop, going, stopped, Course, group, groupTests, rewriteGroup, onward, groupsFrom, courseOf, ended, maintainCall}
 use Rattle.rules.specs.MaintenanceLaws.{Enough, Lacks, DecidedBy, SourcesPass, decided-one, group-decided, group-added, group-kept}
 use Rattle.rules.specs.Prune.{pruned}
-use Rattle.rules.specs.World.{World, recordsOf, maintainGiven, After}
+use Rattle.rules.specs.World.{World, maintainGiven, After}
 use Rattle.theory.specs.Picture.{lastSays}
-use Rattle.theory.specs.SoundWorld.{SoundWorld, sound-fine}
+use Rattle.theory.specs.SoundWorld.{SmallWorld, SoundWorld, sound-fine}
 use Rattle.theory.specs.Writing.{engine}
 use Rattle.theory.specs.Moving.{Movable, found-movable}
 use Rattle.theory.specs.Rewriting.{last-all}
 use Rattle.theory.specs.Tally.{known}
-use Rattle.theory.specs.Checked.{none-each, file-clear}
+use Rattle.theory.specs.Checked.{Oversized, not-oversized}
 use Rattle.theory.specs.Lists.{among-get}
-use Rattle.theory.specs.Stopping.{Stay, group-files, Underway, onward-well}
-use Rattle.theory.specs.Finished.{liveOf, before, Answers, settings-all, maintain-answer}
+use Rattle.theory.specs.Stopping.{Refusable, Remain, settings-all, Stay, group-files, Underway, underway-first, still-files, onward-well}
+use Rattle.theory.specs.Sizes.{sources-decided, passed-small, oversized-later, oversized-earlier}
+use Rattle.theory.specs.Finished.{liveOf, before, AnswersBut, maintain-answer}
 use Rattle.theory.specs.Exactly.{Exactly, moved-exactly, turn, sound-moves}
 use Rattle.theory.specs.Fresh.{Blank}
-use Rattle.theory.specs.History.{Call, lived, born, sound-history}
+use Rattle.theory.specs.History.{Call, Life, lived, Starts, sound-lived, born, born-starts}
 
 -- ---- the words
 -- the generations of new files
@@ -60,15 +61,28 @@ finishedFrom w (g ∷ gs) v = finishedFrom w gs (finishing w g v)
 abbrev pub withFinished : World → List ℕ → World
 withFinished w gs = finishedFrom w gs w
 
--- a generation is skipped, or its files have room, empty slots and positions when its turn comes
-abbrev pub Passes : World → ℕ → Type 0
-Passes w g = Due w g → Enough (withFinished w (before g)) (newFiles w g)
+-- the new files of generation g and the store that they find when its turn comes
+abbrev pub Turn : (World → List (List Op) → Type 0) → World → ℕ → Type 0
+Turn says w g = says (withFinished w (before g)) (newFiles w g)
 
--- g is the first generation that is due and refused, with r: 4, 5 or 7 by its own files, the empty slots and the base when its turn comes
+-- generation g is not refused: no object of its files is of max_object_size or more, and its new files have room, empty slots and positions
+pub record Clears (w : World) (g : ℕ) : Type 0 where
+  pub sizes : Oversized w (group w g) → ⊥
+  pub enough : Turn Enough w g
+
+-- it is refused with r: with 3 for such an object; else with 4, 5 or 7 by its own new files, the empty slots and the base
+abbrev pub RefusedWith : World → ℕ → Refusal → Type 0
+RefusedWith w g r = ((r ≡ ObjectSize) × Oversized w (group w g)) ⊎ ((Oversized w (group w g) → ⊥) × Turn (λ v files. Lacks v files r) w g)
+
+-- it is skipped, or not refused
+abbrev pub Passes : World → ℕ → Type 0
+Passes w g = Due w g → Clears w g
+
+-- g is the first generation that is due and refused, with r
 pub record FirstRefused (w : World) (g : ℕ) (r : Refusal) : Type 0 where
   pub generation : Among generations g
   pub due : Due w g
-  pub lacks : Lacks (withFinished w (before g)) (newFiles w g) r
+  pub refused : RefusedWith w g r
   pub earlier : (h : ℕ) → Among generations h → h < g → Passes w h
 
 -- no generation is
@@ -103,8 +117,8 @@ found-same history w v ks s t a b =
     go : (x : ℕ) (l : Last) → lastOn (found v ks) x ≡ l → (m : Last) → lastOn (found w ks) x ≡ m → lastOn (found v ks) x ≡ lastOn (found w ks) x
     go x silent p silent q = p ∙ sym q
     go x (last c) p (last d) q =
-        let i = last-all (Movable (v .settings .«max_object_size») (engine history)) (found v ks) (found-movable v history t ks) x c p .0 in
-        let j = last-all (Movable (w .settings .«max_object_size») (engine history)) (found w ks) (found-movable w history s ks) x d q .0 in
+        let i = last-all (Movable (engine history)) (found v ks) (found-movable v history t ks) x c p .0 in
+        let j = last-all (Movable (engine history)) (found w ks) (found-movable w history s ks) x d q .0 in
         p ∙ ap last (said-one c d (sym i ∙ j)) ∙ sym q
     go x silent p (last d) q = absurd (true≢false (sym (a .every x (b .only x (ap known q))) ∙ ap known p))
     go x (last c) p silent q = absurd (true≢false (sym (b .every x (a .only x (ap known p))) ∙ ap known q))
@@ -132,12 +146,6 @@ module _ (history : List Op) (w : World) (s : SoundWorld w (engine history)) whe
       ap (λ (c : Settings). filesOf (c .«target_file_size») (found v (group w g))) same
       ∙ ap (filesOf (w .settings .«target_file_size»)) (found-same history w v (group w g) s t x (moved-exactly w history s (group w g) (group-files w history s g)))
 
-  sources-pass : (g : ℕ) (c : Course) → Underway history w c → SourcesPass (c .world) (group w g)
-  sources-pass g c u =
-      none-each _ (group w g)
-      (all-map (λ (k : ℕ). 0 < recordAt (recordsOf w) k .lsn) _ (group w g)
-      (λ k h. file-clear (c .world) history (u .sound) k (not-empty (recordAt (recordsOf (c .world)) k) (u .stay k h))) (group-files w history s g))
-
   -- one more generation passes
   passes-next : (g : ℕ) → ((h : ℕ) → Among generations h → h < g → Passes w h) → Passes w g → (h : ℕ) → Among generations h → h < suc g → Passes w h
   passes-next g p q h a l = go (order h g)
@@ -151,48 +159,59 @@ module _ (history : List Op) (w : World) (s : SoundWorld w (engine history)) whe
     one-group : (c : Course) → Underway history w c → Exactly w (group w g) (found (c .world) (group w g)) → c .world ≡ withFinished w (before g)
         → ((h : ℕ) → Among generations h → h < g → Passes w h) → Due w g
         → At w (suc g) (rewriteGroup g (group w g) (c .moved) (c .world) .stop) (rewriteGroup g (group w g) (c .moved) (c .world) .world)
-    one-group c u x e p due = by (decide tests) refl
+    unfolding groupTests
+    one-group c u x e p due = split (sources-decided (c .world) history (u .sound) (group w g) (still-files history w s g c u) (limits))
       where
-        settings : c .world .settings ≡ w .settings
-        settings = ap (λ (v : World). v .settings) e ∙ settings-finished w (before g) w
-
         files : List (List Op)
         files = filesOf (c .world .settings .«target_file_size») (found (c .world) (group w g))
 
+        limits : List Test
+        limits = roomTests (c .world .settings .«slot_bytes») (emptyOf (c .world)) files ++ positionTests (c .world .state .«next_position») files
+
         same : files ≡ newFiles w g
-        same = same-files g (c .world) (u .sound) settings x
+        same = same-files g (c .world) (u .sound) (u .settings) x
 
         tests : List Test
         tests = groupTests (c .world) (group w g) files
 
-        here : (a : Answer) → decide tests ≡ a → DecidedBy (withFinished w (before g)) (newFiles w g) a
-        here a q =
+        here : SourcesPass (c .world) (group w g) → (a : Answer) → decide tests ≡ a → DecidedBy (withFinished w (before g)) (newFiles w g) a
+        here pass a q =
             subst (λ (v : World). DecidedBy v (newFiles w g) a) e
             (subst (λ (fs : List (List Op)). DecidedBy (c .world) fs a) same
-            (subst (DecidedBy (c .world) files) q (group-decided (c .world) (group w g) files (sources-pass g c u))))
+            (subst (DecidedBy (c .world) files) q (group-decided (c .world) (group w g) files pass)))
 
-        by : (a : Answer) → decide tests ≡ a → At w (suc g) (rewriteGroup g (group w g) (c .moved) (c .world) .stop) (rewriteGroup g (group w g) (c .moved) (c .world) .world)
-        by Done q =
+        small : SourcesPass (c .world) (group w g) → Oversized w (group w g) → ⊥
+        small pass o = passed-small (c .world) history (u .sound) (group w g) pass (oversized-later w (c .world) (group w g) (u .remain) (u .settings) o)
+
+        refuses : (r : Refusal) → decide tests ≡ Refused r → RefusedWith w g r
+            → At w (suc g) (rewriteGroup g (group w g) (c .moved) (c .world) .stop) (rewriteGroup g (group w g) (c .moved) (c .world) .world)
+        refuses r q f =
+            subst (λ (d : Course). At w (suc g) (d .stop) (d .world)) (sym (group-kept g (group w g) (c .moved) (c .world) r q))
+            (e, record { generation = is; due = due; refused = f; earlier = p }, omega arith)
+
+        by : SourcesPass (c .world) (group w g) → (a : Answer) → decide tests ≡ a
+            → At w (suc g) (rewriteGroup g (group w g) (c .moved) (c .world) .stop) (rewriteGroup g (group w g) (c .moved) (c .world) .world)
+        by pass Done q =
             subst (λ (d : Course). At w (suc g) (d .stop) (d .world)) (sym (group-added g (group w g) (c .moved) (c .world) q)) (
               ap (λ (fs : List (List Op)). installedAll 0 g (c .world) fs) same
                   ∙ ap (λ (v : World). installedAll 0 g v (newFiles w g)) e
                   ∙ sym (step ∙ ap (λ (b : Bool). pick b (withFinished w (before g)) (installedAll 0 g (withFinished w (before g)) (newFiles w g))) (le-ltb (length (group w g)) (w .settings .«min_compaction_files») due)),
-              passes-next g p (λ d. here Done q),
+              passes-next g p (λ d. record { sizes = small pass; enough = here pass Done q }),
             )
-        by (Refused r) q =
-            subst (λ (d : Course). At w (suc g) (d .stop) (d .world)) (sym (group-kept g (group w g) (c .moved) (c .world) r q))
-            (e, record { generation = is; due = due; lacks = here (Refused r) q; earlier = p }, omega arith)
+        by pass (Refused r) q = refuses r q (inr (small pass, here pass (Refused r) q))
+
+        split : ((decide tests ≡ Refused ObjectSize) × Oversized (c .world) (group w g)) ⊎ SourcesPass (c .world) (group w g)
+            → At w (suc g) (rewriteGroup g (group w g) (c .moved) (c .world) .stop) (rewriteGroup g (group w g) (c .moved) (c .world) .world)
+        split (inl (q, o)) = refuses ObjectSize q (inl (refl, oversized-earlier history w (c .world) s (group w g) (group-files w history s g) (u .remain) (u .settings) o))
+        split (inr pass) = by pass (decide tests) refl
 
     one-turn : (c : Course) → Underway history w c → Exactly w (group w g) (found (c .world) (group w g)) → (stop : Stop) → c .stop ≡ stop → At w g stop (c .world)
         → At w (suc g) (onward stop g (group w g) c .stop) (onward stop g (group w g) c .world)
     one-turn c u x (stopped r h) q (e, f, l) = subst (λ (o : Stop). At w (suc g) o (c .world)) (sym q) (e, f, omega arith)
     one-turn c u x going q (e, p) = go (ltb (length (group w g)) (c .world .settings .«min_compaction_files»)) refl
       where
-        settings : c .world .settings ≡ w .settings
-        settings = ap (λ (v : World). v .settings) e ∙ settings-finished w (before g) w
-
         limit : ltb (length (group w g)) (w .settings .«min_compaction_files») ≡ ltb (length (group w g)) (c .world .settings .«min_compaction_files»)
-        limit = ap (λ (x : Settings). ltb (length (group w g)) (x .«min_compaction_files»)) (sym settings)
+        limit = ap (λ (x : Settings). ltb (length (group w g)) (x .«min_compaction_files»)) (sym (u .settings))
 
         go : (b : Bool) → ltb (length (group w g)) (c .world .settings .«min_compaction_files») ≡ b
             → At w (suc g) (pick b c (rewriteGroup g (group w g) (c .moved) (c .world)) .stop) (pick b c (rewriteGroup g (group w g) (c .moved) (c .world)) .world)
@@ -205,32 +224,33 @@ module _ (history : List Op) (w : World) (s : SoundWorld w (engine history)) whe
             )
 
   -- a generation that passes is not refused, and one is refused with one number
-  pub never-both : (g : ℕ) (r : Refusal) → Due w g → Lacks (withFinished w (before g)) (newFiles w g) r → Passes w g → ⊥
-  never-both g r due l p =
-      let e = decided-one (withFinished w (before g)) (newFiles w g) (Refused r) Done l (p due) in
+  pub never-both : (g : ℕ) (r : Refusal) → Due w g → RefusedWith w g r → Passes w g → ⊥
+  never-both g r due (inl (e, o)) p = p due .sizes o
+  never-both g r due (inr (n, l)) p =
+      let e = decided-one (withFinished w (before g)) (newFiles w g) (Refused r) Done l (p due .enough) in
       let z : _≡_ {A = ℕ} 0 1 = cc in
       omega arith
+
+  one-number : (g : ℕ) (r q : Refusal) → RefusedWith w g r → RefusedWith w g q → r ≡ q
+  one-number g r q (inl a) (inl b) = a .0 ∙ sym (b .0)
+  one-number g r q (inl a) (inr b) = absurd (b .0 (a .1))
+  one-number g r q (inr a) (inl b) = absurd (a .0 (b .1))
+  one-number g r q (inr a) (inr b) = let z = decided-one (withFinished w (before g)) (newFiles w g) (Refused r) (Refused q) (a .1) (b .1) in cc
 
   one-refused : (g h : ℕ) (r q : Refusal) → FirstRefused w g r → FirstRefused w h q → (g ≡ h) × (r ≡ q)
   one-refused g h r q a b = go (order g h)
     where
-      same : (g : ℕ) → g ≡ h → Lacks (withFinished w (before g)) (newFiles w g) r → r ≡ q
-      same g e l =
-          let z = decided-one (withFinished w (before h)) (newFiles w h) (Refused r) (Refused q)
-          (subst (λ (i : ℕ). Lacks (withFinished w (before i)) (newFiles w i) r) e l) (b .lacks) in
-          cc
-
       go : (g < h) ⊎ ((g ≡ h) ⊎ (h < g)) → (g ≡ h) × (r ≡ q)
-      go (inl i) = absurd (never-both g r (a .due) (a .lacks) (b .earlier g (a .generation) i))
-      go (inr (inl e)) = (e, same g e (a .lacks))
-      go (inr (inr i)) = absurd (never-both h q (b .due) (b .lacks) (a .earlier h (b .generation) i))
+      go (inl i) = absurd (never-both g r (a .due) (a .refused) (b .earlier g (a .generation) i))
+      go (inr (inl e)) = (e, one-number h r q (subst (λ (i : ℕ). RefusedWith w i r) e (a .refused)) (b .refused))
+      go (inr (inr i)) = absurd (never-both h q (b .due) (b .refused) (a .earlier h (b .generation) i))
 
   -- where the call stands as a generation's turn comes
-  abbrev Turn : ℕ → Type 0
-  Turn g = (c : Course) × Underway history w c × At w g (c .stop) (c .world) × Exactly w (group w g) (found (c .world) (group w g))
+  abbrev Stand : ℕ → Type 0
+  Stand g = (c : Course) × Underway history w c × At w g (c .stop) (c .world) × Exactly w (group w g) (found (c .world) (group w g))
 
   -- each turn, and the end
-  turns : All Turn generations × (Underway history w (courseOf w) × At w 4 (courseOf w .stop) (courseOf w .world))
+  turns : All Stand generations × (Underway history w (courseOf w) × At w 4 (courseOf w .stop) (courseOf w .world))
   unfolding courseOf groupsFrom keep finishedFrom
   turns = (((c1, u1, t1, x .0), ((c2, u2, t2, x .1 .0), ((c3, u3, t3, x .1 .1 .0), tt))), (u4, t4))
     where
@@ -244,16 +264,16 @@ module _ (history : List Op) (w : World) (s : SoundWorld w (engine history)) whe
       c3 = onward (c2 .stop) 2 (group w 2) c2
 
       u1 : Underway history w c1
-      u1 = record { sound = s; stay = λ k h. h; stop = tt }
+      u1 = underway-first history w s
 
       u2 : Underway history w c2
-      u2 = onward-well history w (c1 .stop) 1 (omega arith) (group w 1) (group-files w history s 1) c1 refl u1
+      u2 = onward-well history w s (c1 .stop) 1 (omega arith) c1 refl u1
 
       u3 : Underway history w c3
-      u3 = onward-well history w (c2 .stop) 2 (omega arith) (group w 2) (group-files w history s 2) c2 refl u2
+      u3 = onward-well history w s (c2 .stop) 2 (omega arith) c2 refl u2
 
       u4 : Underway history w (onward (c3 .stop) 3 (group w 3) c3)
-      u4 = onward-well history w (c3 .stop) 3 (omega arith) (group w 3) (group-files w history s 3) c3 refl u3
+      u4 = onward-well history w s (c3 .stop) 3 (omega arith) c3 refl u3
 
       x : All (λ (g : ℕ). Exactly w (group w g) (found (turn w g .world) (group w g))) generations
       x = sound-moves history w s .groups
@@ -278,25 +298,25 @@ module _ (history : List Op) (w : World) (s : SoundWorld w (engine history)) whe
   -- where all generations below n pass, their files stand there as n's turn comes
   came : (n : ℕ) → ((h : ℕ) → Among generations h → h < n → Passes w h) → (o : Stop) (v : World) → At w n o v → v ≡ withFinished w (before n)
   came n p going v a = a .0
-  came n p (stopped r g) v (e, f, l) = absurd (never-both g r (f .due) (f .lacks) (p g (f .generation) l))
+  came n p (stopped r g) v (e, f, l) = absurd (never-both g r (f .due) (f .refused) (p g (f .generation) l))
 
-  -- the store then: the invariant holds, and files are files
+  -- the store then: the invariant holds, and each file is where it was
   pub reached : (n : ℕ) → Among generations n ⊎ (n ≡ 4) → ((h : ℕ) → Among generations h → h < n → Passes w h)
-      → SoundWorld (withFinished w (before n)) (engine history) × Stay w (withFinished w (before n))
+      → SoundWorld (withFinished w (before n)) (engine history) × Stay w (withFinished w (before n)) × Remain w (withFinished w (before n))
   reached n (inl a) p =
-      let t = among-get Turn generations (turns .0) n a in
+      let t = among-get Stand generations (turns .0) n a in
       let e = came n p (t .0 .stop) (t .0 .world) (t .2) in
-      subst (λ (v : World). SoundWorld v (engine history) × Stay w v) e (t .1 .sound, t .1 .stay)
+      subst (λ (v : World). SoundWorld v (engine history) × Stay w v × Remain w v) e (t .1 .sound, t .1 .stay, t .1 .remain)
   reached n (inr q) p =
       let t = turns .1 in
       let e = came n p (courseOf w .stop) (courseOf w .world) (subst (λ (m : ℕ). At w m (courseOf w .stop) (courseOf w .world)) (sym q) (t .1)) in
-      subst (λ (v : World). SoundWorld v (engine history) × Stay w v) e (t .0 .sound, t .0 .stay)
+      subst (λ (v : World). SoundWorld v (engine history) × Stay w v × Remain w v) e (t .0 .sound, t .0 .stay, t .0 .remain)
 
   -- a generation's files, found when its turn comes, are those found as the call starts
   pub reached-found : (g : ℕ) → Among generations g → ((h : ℕ) → Among generations h → h < g → Passes w h)
       → found (withFinished w (before g)) (group w g) ≡ found w (group w g)
   reached-found g a p =
-      let t = among-get Turn generations (turns .0) g a in
+      let t = among-get Stand generations (turns .0) g a in
       subst (λ (v : World). found v (group w g) ≡ found w (group w g)) (came g p (t .0 .stop) (t .0 .world) (t .2))
       (found-same history w (t .0 .world) (group w g) s (t .1 .sound) (t .3) (moved-exactly w history s (group w g) (group-files w history s g)))
 
@@ -325,7 +345,7 @@ module _ (history : List Op) (w : World) (s : SoundWorld w (engine history)) whe
           low g (inr (inl e)) = omega arith
           low g (inr (inr (inl e))) = omega arith
 
-          counted : Answers w → maintainCall w .answer ≡ maintainGiven (Moved (sum (liveOf w) generations))
+          counted : AnswersBut (λ r g. Refusable w (group w g) r) w → maintainCall w .answer ≡ maintainGiven (Moved (sum (liveOf w) generations))
           counted (inl a) = a
           counted (inr (r, g, a, z)) =
               let b = maintain-one (Moved (courseOf w .moved)) (Stopped r g (sum (liveOf w) (before g))) (sym (ap (λ (a : After). a .answer) is) ∙ a) in
@@ -335,7 +355,7 @@ module _ (history : List Op) (w : World) (s : SoundWorld w (engine history)) whe
           is : maintainCall w ≡ ended (stopped r g) (courseOf w)
           is = called ∙ ap (λ (o : Stop). ended o (courseOf w)) q
 
-          counted : Answers w → maintainCall w .answer ≡ maintainGiven (Stopped r g (sum (liveOf w) (before g)))
+          counted : AnswersBut (λ r g. Refusable w (group w g) r) w → maintainCall w .answer ≡ maintainGiven (Stopped r g (sum (liveOf w) (before g)))
           counted (inl a) =
               let b = maintain-one (Stopped r g (courseOf w .moved)) (Moved (sum (liveOf w) generations)) (sym (ap (λ (a : After). a .answer) is) ∙ a) in
               absurd (let z : _≡_ {A = ℕ} 0 1 = cc in omega arith)
@@ -351,7 +371,7 @@ module _ (history : List Op) (w : World) (s : SoundWorld w (engine history)) whe
     stops = λ r g n a. stopped-so r g n a either-end;
     refused = λ r g f. refused-so r g f either-end;
     succeeds = λ n a. moved-so n a either-end;
-    moved = λ p. ⊎-elim (λ z. z .1) (λ (r, g, z). absurd (never-both g r (z .0 .due) (z .0 .lacks) (p g (z .0 .generation)))) either-end;
+    moved = λ p. ⊎-elim (λ z. z .1) (λ (r, g, z). absurd (never-both g r (z .0 .due) (z .0 .refused) (p g (z .0 .generation)))) either-end;
     keeps = λ r g n a. kept r g n a either-end;
     prunes = λ n a. ⊎-elim (λ z. z .2) (λ (r, g, z). absurd (not-both n r g _ a (z .1))) either-end;
   }
@@ -374,7 +394,7 @@ module _ (history : List Op) (w : World) (s : SoundWorld w (engine history)) whe
 
       refused-so : (r : Refusal) (g : ℕ) → FirstRefused w g r → Success ⊎ ((r : Refusal) × (g : ℕ) × Stop-at r g)
           → maintainCall w .answer ≡ maintainGiven (Stopped r g (sum (liveOf w) (before g)))
-      refused-so r g f (inl z) = absurd (never-both g r (f .due) (f .lacks) (z .0 g (f .generation)))
+      refused-so r g f (inl z) = absurd (never-both g r (f .due) (f .refused) (z .0 g (f .generation)))
       refused-so r g f (inr (q, h, z)) =
           let e = one-refused h g q r (z .0) f in
           z .1 ∙ ap (λ (c : Refusal). maintainGiven (Stopped c h (sum (liveOf w) (before h)))) (e .1) ∙ ap (λ (m : ℕ). maintainGiven (Stopped r m (sum (liveOf w) (before m)))) (e .0)
@@ -390,6 +410,15 @@ module _ (history : List Op) (w : World) (s : SoundWorld w (engine history)) whe
           let i : h ≡ g = cc in
           z .2 ∙ ap (λ (m : ℕ). withFinished w (before m)) i
 
--- C: so on every store of demand 3
+-- where no object is so large it is refused with 4, 5 or 7
+pub small-lacks : (w : World) → SmallWorld w → (g : ℕ) (r : Refusal) → RefusedWith w g r → Lacks (withFinished w (before g)) (newFiles w g) r
+small-lacks w small g r (inl a) = absurd (not-oversized w small (group w g) (a .1))
+small-lacks w small g r (inr a) = a .1
+
+-- C: on any store of the invariant, whatever calls were made
+pub lived-maintenance-ends : (l : Life) → Starts l → (calls : List Call) → Ends (lived l calls .world)
+lived-maintenance-ends l s calls = maintain-ends (lived l calls .history) (lived l calls .world) (sound-lived l s calls)
+
+-- C: so on every store of demand 3 that began with no file
 pub any-maintenance-ends : (w : World) → outOfRange (w .settings) (length (w .heap)) (w .table) ≡ false → Blank w → (calls : List Call) → Ends (lived (born w) calls .world)
-any-maintenance-ends w range blank calls = maintain-ends (lived (born w) calls .history) (lived (born w) calls .world) (sound-history w range blank calls)
+any-maintenance-ends w range blank = lived-maintenance-ends (born w) (born-starts w range blank)

@@ -55,7 +55,8 @@ module _ (w : World) (range : outOfRange (w .settings) (length (w .heap)) (w .ta
   limits : InLimits (w .settings) (length (w .heap)) (w .table)
   limits = in-limits (w .settings) (length (w .heap)) (w .table) range
 
-  views-blank : (k : ℕ) → viewAt (viewsOf w) k ≡ empty
+  -- no slot shows a file
+  pub views-blank : (k : ℕ) → viewAt (viewsOf w) k ≡ empty
   unfolding slotBytes
   views-blank k = go (ltb k (slotsOf w)) refl
     where
@@ -147,7 +148,7 @@ module _ (w : World) (range : outOfRange (w .settings) (length (w .heap)) (w .ta
             single = λ k f e. absurd (no k f e);
             apart = λ j k f g e. absurd (no j f e);
           };
-          written = λ k f e. absurd (no k f e);
+          whole = λ k f e. absurd (no k f e);
           sized = length-replicate 256 emptyRecord;
           started = omega arith;
           above = λ k f e. absurd (no k f e);

@@ -1,5 +1,5 @@
 -- Demand 3: whatever calls were made, reads give the last accepted put, and a reopening finds the store as it was.
-use mathlib.Core.Path.{_≡_, sym, ap, subst}
+use mathlib.Core.Path.{_≡_, sym, ap, _∙_, subst}
 use Prim.Native.Nat.{_<_}
 use Rattle.rules.specs.Base.{false, List, [], _∷_, ℕ, _+_, length}
 use Rattle.theory.specs.Types.{Record}
@@ -12,45 +12,43 @@ use Rattle.rules.specs.Read.{readOf}
 use Rattle.rules.specs.Write.{writeCall}
 use Rattle.rules.specs.Maintenance.{maintainCall}
 use Rattle.rules.specs.Prune.{pruneCall}
-use Rattle.rules.specs.Claims.{claimCall, releaseCall}
 use Rattle.rules.specs.Reopen.{reopenCall}
 use Rattle.rules.specs.World.{World, recordsOf, accepted, After}
-use Rattle.theory.specs.Places.{record-holds}
+use Rattle.theory.specs.Places.{not-empty, record-holds}
 use Rattle.theory.specs.Picture.{viewsOf}
-use Rattle.theory.specs.SoundWorld.{SoundWorld}
+use Rattle.theory.specs.SoundWorld.{SoundWorld, SmallWorld}
 use Rattle.theory.specs.Writing.{engine, heard, sound-write}
 use Rattle.theory.specs.Reading.{Reads, sound-read}
 use Rattle.theory.specs.Maintaining.{sound-maintain}
-use Rattle.theory.specs.Pruning.{file-slot, sound-prune, sound-claim, sound-release}
+use Rattle.theory.specs.Small.{small-write, small-maintain, small-pruned, small-same}
+use Rattle.theory.specs.Pruning.{file-slot, prune-accepted, sound-prune}
+use Rattle.theory.specs.Quiet.{QuietCall, quietly, undisturbed}
 use Rattle.theory.specs.Again.{again, reopen-accepted, sound-again}
-use Rattle.theory.specs.Fresh.{Blank, fresh-opens, sound-fresh}
+use Rattle.theory.specs.Fresh.{Blank, views-blank, fresh-opens, sound-fresh}
 
 -- the calls that change a store
 pub data Call : Type 0 where
   write : List ℕ → Call
   maintain : Call
   prune : Call
-  claim : ℕ → Call
-  release : ℕ → Call
   reopen : Call
+  quiet : QuietCall → Call
 
 -- document 01's call, accepted or refused
 abbrev pub called : World → Call → After
 called w (write bytes) = writeCall w bytes
 called w maintain = maintainCall w
 called w prune = pruneCall w
-called w (claim slot) = claimCall w slot
-called w (release slot) = releaseCall w slot
 called w reopen = reopenCall w
+called w (quiet q) = quietly w q
 
 -- the plain engine: the operations of all accepted writes, in order
 abbrev pub hears : World → List Op → Call → List Op
 hears w history (write bytes) = heard history bytes (writeCall w bytes .answer)
 hears w history maintain = history
 hears w history prune = history
-hears w history (claim slot) = history
-hears w history (release slot) = history
 hears w history reopen = history
+hears w history (quiet q) = history
 
 -- the store and the engine beside it
 pub record Life : Type 0 where
@@ -103,29 +101,59 @@ pub sound-called : (w : World) (history : List Op) (c : Call) → SoundWorld w (
 sound-called w history (write bytes) s = sound-write w history s bytes
 sound-called w history maintain s = sound-maintain history w s
 sound-called w history prune s = sound-prune w (engine history) s
-sound-called w history (claim slot) s = sound-claim w (engine history) s slot
-sound-called w history (release slot) s = sound-release w (engine history) s slot
 sound-called w history reopen s =
     subst (λ (a : After). SoundWorld (a .world) (engine history)) (sym (reopen-accepted w (engine history) s)) (sound-again w (engine history) s)
+sound-called w history (quiet q) s = undisturbed w q .sound (engine history) s
 
-sound-lived : (l : Life) (cs : List Call) → SoundWorld (l .world) (engine (l .history)) → SoundWorld (lived l cs .world) (engine (lived l cs .history))
+-- and a small store small
+small-called : (w : World) (history : List Op) (c : Call) → SoundWorld w (engine history) → SmallWorld w → SmallWorld (called w c .world)
+small-called w history (write bytes) s small = small-write w history s small bytes
+small-called w history maintain s small = small-maintain history w s small
+small-called w history prune s small = subst (λ (a : After). SmallWorld (a .world)) (sym (prune-accepted w (engine history) s)) (small-pruned w history s small)
+small-called w history reopen s small = subst (λ (a : After). SmallWorld (a .world)) (sym (reopen-accepted w (engine history) s)) small
+small-called w history (quiet q) s small = small-same w (quietly w q .world) (undisturbed w q .settings) (undisturbed w q .heap) small
+
+-- where a life may start: a store of the invariant, of which the engine says what it heard
+abbrev pub Starts : Life → Type 0
+Starts l = SoundWorld (l .world) (engine (l .history))
+
+-- LAW: the invariant holds whatever calls were made
+pub sound-lived : (l : Life) → Starts l → (calls : List Call) → Starts (lived l calls)
 unfolding lived
-sound-lived l [] s = s
-sound-lived l (c ∷ cs) s =
-    sound-lived (record { world = called (l .world) c .world; history = hears (l .world) (l .history) c }) cs (sound-called (l .world) (l .history) c s)
+sound-lived l s [] = s
+sound-lived l s (c ∷ cs) =
+    sound-lived (record { world = called (l .world) c .world; history = hears (l .world) (l .history) c }) (sound-called (l .world) (l .history) c s) cs
 
+-- LAW: and a small store stays one
+pub small-lived : (l : Life) → Starts l → SmallWorld (l .world) → (calls : List Call) → SmallWorld (lived l calls .world)
+unfolding lived
+small-lived l s small [] = small
+small-lived l s small (c ∷ cs) =
+    small-lived (record { world = called (l .world) c .world; history = hears (l .world) (l .history) c }) (sound-called (l .world) (l .history) c s)
+    (small-called (l .world) (l .history) c s small) cs
+
+-- DEMAND 3: from any store of the invariant make any calls, refused ones among them
+pub lived-kept : (l : Life) → Starts l → (calls : List Call) → Kept (lived l calls .world) (lived l calls .history)
+lived-kept l s calls = sound-kept (lived l calls .world) (lived l calls .history) (sound-lived l s calls)
+
+-- ---- a heap whose slots all begin with byte 0
 -- the store after a first reopening: nothing was heard
 abbrev pub born : World → Life
 born w = record { world = reopenCall w .world; history = [] }
 
--- LAW: the invariant holds whatever calls were made
-pub sound-history : (w : World) → outOfRange (w .settings) (length (w .heap)) (w .table) ≡ false → Blank w
-    → (calls : List Call) → SoundWorld (lived (born w) calls .world) (engine (lived (born w) calls .history))
-sound-history w range blank calls =
-    sound-lived (born w) calls
-    (subst (λ (a : After). SoundWorld (a .world) (engine [])) (sym (fresh-opens w range blank)) (sound-fresh w range blank))
+module _ (w : World) (range : outOfRange (w .settings) (length (w .heap)) (w .table) ≡ false) (blank : Blank w) where
+  -- it is such a start, and small
+  pub born-starts : Starts (born w)
+  born-starts = subst (λ (a : After). SoundWorld (a .world) (engine [])) (sym (fresh-opens w range blank)) (sound-fresh w range blank)
 
--- DEMAND 3: reopen a heap whose slots all begin with byte 0, in range; then make any calls, refused ones among them
-pub any-history : (w : World) → outOfRange (w .settings) (length (w .heap)) (w .table) ≡ false → Blank w
-    → (calls : List Call) → Kept (lived (born w) calls .world) (lived (born w) calls .history)
-any-history w range blank calls = sound-kept (lived (born w) calls .world) (lived (born w) calls .history) (sound-history w range blank calls)
+  -- no file is there
+  pub born-small : SmallWorld (born w .world)
+  born-small = subst (λ (a : After). SmallWorld (a .world)) (sym (fresh-opens w range blank)) (λ k f e. absurd (not-empty (sym (views-blank w range blank k) ∙ e)))
+
+  -- so the invariant holds whatever calls were made
+  pub sound-history : (calls : List Call) → Starts (lived (born w) calls)
+  sound-history = sound-lived (born w) born-starts
+
+  -- DEMAND 3: reopen a heap whose slots all begin with byte 0, in range; then make any calls, refused ones among them
+  pub any-history : (calls : List Call) → Kept (lived (born w) calls .world) (lived (born w) calls .history)
+  any-history = lived-kept (born w) born-starts

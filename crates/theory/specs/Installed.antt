@@ -13,7 +13,6 @@ use Rattle.rules.specs.Refusal.{decide, after}
 use Rattle.rules.specs.Object.{storedAt}
 use Rattle.rules.specs.Ops.{Op, objectsOf, entriesOf}
 use Rattle.rules.specs.OpsLaws.{RisingOps, IdsFit, file-length, entries-of-rising, entries-of-inside}
-use Rattle.rules.specs.Batch.{anyTooLarge}
 use Rattle.rules.specs.SlotFile.{File, View, empty, damaged, holds}
 use Rattle.rules.specs.Table.{lookup, insertAll}
 use Rattle.rules.specs.TableLaws.{Rising, Has, lookup-has, table-ext, orElse, rising-insert-all, lookup-insert-all, has-lookup}
@@ -29,7 +28,8 @@ use Rattle.theory.specs.Places.{viewAt, rowsIn, rowsOf, WellMade, Single
 use Rattle.theory.specs.Losing.{liveAt, rowsFor, losing-live, losing-new}
 use Rattle.rules.specs.WrittenLaws.{fileOfOps}
 use Rattle.theory.specs.Picture.{Picture, Said, unheard, gone, body, broken, placeSays, entrySays, fileSays, viewSays, slotSays, heldSays, pictureSays, added}
-use Rattle.theory.specs.Sound.{Bounds, OfOps, Sound, newest-table, rising-table, table-rising, table-newest, table-stands}
+use Rattle.theory.specs.Whole.{whole-written}
+use Rattle.theory.specs.Sound.{WholeFile, Sound, newest-table, rising-table, table-rising, table-newest, table-stands}
 
 -- what a file says goes before what was said
 abbrev pub over : Said → Said → Said
@@ -39,7 +39,7 @@ over (body b) s = body b
 over (broken r) s = broken r
 
 -- a file that may be added at slot k: the slot is empty, the file at the next position
-pub record Addable (bounds : Bounds) (p : Picture) (k lsn : ℕ) (os : List Op) : Type 0 where
+pub record Addable (bounds : ℕ) (p : Picture) (k lsn : ℕ) (os : List Op) : Type 0 where
   pub slot : k < length (p .views)
   pub free : viewAt (p .views) k ≡ empty
   pub rising : RisingOps 0 os
@@ -47,11 +47,10 @@ pub record Addable (bounds : Bounds) (p : Picture) (k lsn : ℕ) (os : List Op) 
   pub low : lsn < 2 ^ 63
   pub within : p .next + length (objectsOf os) < 2 ^ 62
   pub ids : IdsFit os
-  pub small : anyTooLarge (bounds .object) os ≡ false
-  pub room : length (insertAll (p .table) (rowsFor lsn 0 os)) ≤ bounds .entries
+  pub room : length (insertAll (p .table) (rowsFor lsn 0 os)) ≤ bounds
   pub narrow : (x l : ℕ) → Has (rowsFor lsn 0 os) x l → x < 2 ^ 64
 
-module _ (bounds : Bounds) (p : Picture) (told : ℕ → Said) (s : Sound bounds p told) (k lsn g : ℕ) (os : List Op) (a : Addable bounds p k lsn os) where
+module _ (bounds : ℕ) (p : Picture) (told : ℕ → Said) (s : Sound bounds p told) (k lsn g : ℕ) (os : List Op) (a : Addable bounds p k lsn os) where
   new-made : WellMade (fileOfOps lsn g os)
   unfolding newRecord
   new-made =
@@ -329,12 +328,12 @@ module _ (bounds : Bounds) (p : Picture) (told : ℕ → Said) (s : Sound bounds
           omega arith
       go (inr z) = let u = s .above j h (sym (view-old j z) ∙ e) in omega arith
 
-  written-added : (j : ℕ) (h : File) → viewAt (added lsn g p k os .views) j ≡ holds h → OfOps (bounds .object) h
-  written-added j h e = go (same? j k)
+  whole-added : (j : ℕ) (h : File) → viewAt (added lsn g p k os .views) j ≡ holds h → WholeFile h
+  whole-added j h e = go (same? j k)
     where
-      go : (j ≡ k) ⊎ (j ≡ k → ⊥) → OfOps (bounds .object) h
-      go (inl z) = subst (OfOps (bounds .object)) (is-new j h e z) (record { ops = os; rising = a .rising; ids = a .ids; small = a .small; entries = refl; objects = refl })
-      go (inr z) = s .written j h (sym (view-old j z) ∙ e)
+      go : (j ≡ k) ⊎ (j ≡ k → ⊥) → WholeFile h
+      go (inl z) = let n = a .within in subst WholeFile (is-new j h e z) (whole-written lsn g os (a .rising) (a .ids) (omega arith))
+      go (inr z) = s .whole j h (sym (view-old j z) ∙ e)
 
   narrow-added : (x l : ℕ) → Has (insertAll (p .table) (rowsFor lsn 0 os)) x l → x < 2 ^ 64
   narrow-added x l h =
@@ -351,7 +350,7 @@ module _ (bounds : Bounds) (p : Picture) (told : ℕ → Said) (s : Sound bounds
   unfolding added pictureSays
   sound-added = record {
     filed = filed-added;
-    written = written-added;
+    whole = whole-added;
     sized = length-set (losing (p .table) os (p .records)) k (newRecord lsn g os) ∙ losing-length (p .table) os (p .records) ∙ s .sized;
     started = let z = s .started in omega arith;
     above = above-added;

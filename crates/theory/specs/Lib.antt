@@ -11,6 +11,7 @@ pub mod Losing
 -- the invariant on views, and what a file added or removed does to it
 pub mod Picture
 pub mod Sound
+pub mod Whole
 pub mod Installed
 pub mod Emptied
 -- G: what an accepted reopening means
@@ -24,11 +25,13 @@ pub mod Writing
 pub mod Reading
 pub mod Again
 pub mod Pruning
+pub mod Quiet
 pub mod Fresh
 pub mod Moving
 pub mod Shards
 pub mod Rewriting
 pub mod Maintaining
+pub mod Small
 -- demand 3, and that stores accept writes
 pub mod History
 pub mod Accepting
@@ -43,6 +46,7 @@ pub mod Finished
 pub mod Relocated
 pub mod Exactly
 pub mod Halting
+pub mod Sizes
 pub mod FirstRefused
 pub mod Covered
 pub mod Arrived

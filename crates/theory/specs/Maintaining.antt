@@ -23,19 +23,19 @@ use Rattle.theory.specs.Rewriting.{Rewritable, sound-rewritten}
 
 module _ (history : List Op) where
   -- what a group moves, in files
-  pub files-rewritable : (w : World) → SoundWorld w (engine history) → (slots : List ℕ) (target : ℕ) → All (Rewritable (w .settings .«max_object_size») (engine history)) (filesOf target (found w slots))
+  pub files-rewritable : (w : World) → SoundWorld w (engine history) → (slots : List ℕ) (target : ℕ) → All (Rewritable (engine history)) (filesOf target (found w slots))
   unfolding found
   files-rewritable w s slots target =
-      all-map (PartOf (found w slots)) (Rewritable (w .settings .«max_object_size») (engine history)) (filesOf target (found w slots))
+      all-map (PartOf (found w slots)) (Rewritable (engine history)) (filesOf target (found w slots))
       (λ f p. record {
         rising = sub-rising (p .0) (settled-rising (each (foundIn w) slots));
-        current = sub-all (Movable (w .settings .«max_object_size») (engine history)) (p .0) (found-movable w history s slots);
+        current = sub-all (Movable (engine history)) (p .0) (found-movable w history s slots);
         some = p .1;
       })
       (files-parts target (found w slots))
 
   -- 4, 5 and 7 decided for the whole group: its files come into empty slots
-  group-installed : (w : World) → SoundWorld w (engine history) → (g : ℕ) → g ≤ 255 → (files : List (List Op)) → All (Rewritable (w .settings .«max_object_size») (engine history)) files
+  group-installed : (w : World) → SoundWorld w (engine history) → (g : ℕ) → g ≤ 255 → (files : List (List Op)) → All (Rewritable (engine history)) files
       → NoneHolds (roomTests (w .settings .«slot_bytes») (emptyOf w) files ++ positionTests (w .state .«next_position») files)
       → AllStood 0 g w files × SoundWorld (installedAll 0 g w files) (engine history)
   unfolding installedAll
@@ -44,7 +44,7 @@ module _ (history : List Op) where
       let tests = roomTests (w .settings .«slot_bytes») (emptyOf w) (f ∷ fs) in
       let a = room-clear (w .settings .«slot_bytes») (emptyOf w) (f ∷ fs) (none-first tests _ n) in
       let b = positions-clear (w .state .«next_position») (f ∷ fs) (none-rest tests _ n) (omega arith) in
-      sound-rewritten (w .settings .«max_object_size») history g (f ∷ fs) w s aged refl r (a .fits) (a .slots) b
+      sound-rewritten history g (f ∷ fs) w s aged r (a .fits) (a .slots) b
 
   -- none of a group's tests holds: each of its files stands, and the invariant holds again
   pub group-rewritten : (g : ℕ) → g ≤ 255 → (slots : List ℕ) (w : World) → SoundWorld w (engine history) → decide (groupTests w slots (filesOf (w .settings .«target_file_size») (found w slots))) ≡ Done

@@ -4,17 +4,15 @@ use mathlib.Core.Bool.{true≢false}
 use mathlib.Core.Logic.{inl, inr}
 use Prim.Native.Nat.{_<_, _≤_}
 use native.Mathlib.Omega.{arith}
-use borrow.Author.Tests.{le-leb, lt-leb, leb-true, eq-eqb}
+use borrow.Author.Tests.{le-leb, lt-leb, leb-true, eq-eqb, eqb-false}
 use Rattle.rules.specs.Base.{Bool, true, false, _&&_, _||_, List, [], _∷_, _++_, map, ℕ, _+_, _*_, _%_, length, leb, pick, any, keep, each, sum}
 use Rattle.theory.specs.Types.{Entry, Record, Held, Mapped, Unmapped}
 use Rattle.disk_location.specs.Locations.{maskedOf, positionOf, deleteOf, rawOf}
 use Rattle.disk_location.specs.LocationLaws.{masked-plain}
 use Rattle.rules.specs.BaseLaws.{All, all-map, and-true, all-append}
 use Rattle.rules.specs.Object.{Stored, objectsIn}
-use Rattle.rules.specs.ObjectLaws.{storedObject}
 use Rattle.rules.specs.Trailer.{absolute}
-use Rattle.rules.specs.Ops.{Content, put, delete, isDelete, Op, sizeOf, objectsOf}
-use Rattle.rules.specs.OpsLaws.{storedHere, storedOf, objects-back, Stands, Of, entry-stands}
+use Rattle.rules.specs.Ops.{put, delete, Op}
 use Rattle.rules.specs.SettledLaws.{Last, silent, last, lastOn, settled-rising, settled-last}
 use Rattle.rules.specs.SlotFile.{objectPart, trailerEntries, File, View, empty, damaged, holds}
 use Rattle.rules.specs.Table.{lookup, unmapped, mappedTo}
@@ -27,7 +25,7 @@ use Rattle.theory.specs.Entries.{absolute-location}
 use Rattle.theory.specs.Newest.{maskedAt}
 use Rattle.theory.specs.Places.{viewAt, WellMade, masked-at, record-holds, record-empty, no-damage, in-own-range, in-no-other}
 use Rattle.theory.specs.Picture.{viewsOf, pictureOf, heldSays, pictureSays}
-use Rattle.theory.specs.Sound.{table-rising, table-stands, range-entry}
+use Rattle.theory.specs.Sound.{StartsAt, table-rising, table-stands, range-entry}
 use Rattle.theory.specs.SoundWorld.{boundsOf, SoundWorld, shown}
 use Rattle.theory.specs.Writing.{engine}
 use Rattle.rules.specs.FileMapLaws.{not-empty}
@@ -55,31 +53,21 @@ empty-range m h = rw (lt-leb m (maskedOf 0 + 0) (let z = masked-plain 0 (omega a
     go false = refl
 
 -- ---- what stands in a file at its id's location is found
--- an object, among those of operations
-object-found : (table : List Entry) (lsn q : ℕ) (os : List Op) (x : ℕ) (b : List ℕ) (p : ℕ) → Stands q os x (put b) p → mappedTo (lookup table x) (rawOf (lsn + p) false) ≡ true
-    → heardIn (map (λ (o : Stored). record { id = o .id; content = put (o .body) }) (keep (λ (o : Stored). mappedTo (lookup table (o .id)) (rawOf (lsn + o .position) false)) (storedOf q os))) x ≡ true
-unfolding storedOf keep
-object-found table lsn q [] x b p h m = absurd h
-object-found table lsn q (o ∷ os) x b p (inl (i, c, e)) m = go (o .content) c
+-- an object, among those of the walk
+object-found : (table : List Entry) (lsn : ℕ) (os : List Stored) (x p : ℕ) → StartsAt os x p → mappedTo (lookup table x) (rawOf (lsn + p) false) ≡ true
+    → heardIn (map (λ (o : Stored). record { id = o .id; content = put (o .body) }) (keep (λ (o : Stored). mappedTo (lookup table (o .id)) (rawOf (lsn + o .position) false)) os)) x ≡ true
+unfolding keep
+object-found table lsn [] x p h m = absurd h
+object-found table lsn (o ∷ os) x p (inl (i, e)) m =
+    let y : mappedTo (lookup table (o .id)) (rawOf (lsn + o .position) false) ≡ true
+    = ap (λ (n : ℕ). mappedTo (lookup table n) (rawOf (lsn + o .position) false)) i ∙ ap (λ (n : ℕ). mappedTo (lookup table x) (rawOf (lsn + n) false)) e ∙ m in
+    rw y (heard-cons (record { id = o .id; content = put (o .body) }) _ x (inl i))
+object-found table lsn (o ∷ os) x p (inr h) m = go (mappedTo (lookup table (o .id)) (rawOf (lsn + o .position) false)) (object-found table lsn os x p h m)
   where
-    go : (c : Content) → c ≡ put b
-        → heardIn (map (λ (o : Stored). record { id = o .id; content = put (o .body) }) (keep (λ (o : Stored). mappedTo (lookup table (o .id)) (rawOf (lsn + o .position) false)) (storedHere q (o .id) c (length (objectsOf os)) ++ storedOf (q + sizeOf (o .content)) os))) x ≡ true
-    go delete e = absurd (let z : _≡_ {A = ℕ} 0 1 = cc in omega arith)
-    go (put d) t =
-        let y : mappedTo (lookup table (o .id)) (rawOf (lsn + q) false) ≡ true = ap (λ (n : ℕ). mappedTo (lookup table n) (rawOf (lsn + q) false)) i ∙ ap (λ (n : ℕ). mappedTo (lookup table x) (rawOf (lsn + n) false)) e ∙ m in
-        rw y (heard-cons (record { id = o .id; content = put d }) _ x (inl i))
-object-found table lsn q (o ∷ os) x b p (inr h) m = go (o .content) (object-found table lsn (q + sizeOf (o .content)) os x b p h m)
-  where
-    go : (c : Content)
-        → heardIn (map (λ (o : Stored). record { id = o .id; content = put (o .body) }) (keep (λ (o : Stored). mappedTo (lookup table (o .id)) (rawOf (lsn + o .position) false)) (storedOf (q + sizeOf (o .content)) os))) x ≡ true
-        → heardIn (map (λ (o : Stored). record { id = o .id; content = put (o .body) }) (keep (λ (o : Stored). mappedTo (lookup table (o .id)) (rawOf (lsn + o .position) false)) (storedHere q (o .id) c (length (objectsOf os)) ++ storedOf (q + sizeOf (o .content)) os))) x ≡ true
-    go delete ih = ih
-    go (put d) ih = by (mappedTo (lookup table (o .id)) (rawOf (lsn + q) false)) refl
-      where
-        by : (t : Bool) → mappedTo (lookup table (o .id)) (rawOf (lsn + q) false) ≡ t
-            → heardIn (map (λ (o : Stored). record { id = o .id; content = put (o .body) }) (keep (λ (o : Stored). mappedTo (lookup table (o .id)) (rawOf (lsn + o .position) false)) (storedObject q (o .id) d (length (objectsOf os)) ∷ storedOf (q + sizeOf (o .content)) os))) x ≡ true
-        by true e = rw e (heard-cons (record { id = o .id; content = put d }) _ x (inr ih))
-        by false e = rw e ih
+    go : (b : Bool) → heardIn (map (λ (o : Stored). record { id = o .id; content = put (o .body) }) (keep (λ (o : Stored). mappedTo (lookup table (o .id)) (rawOf (lsn + o .position) false)) os)) x ≡ true
+        → heardIn (map (λ (o : Stored). record { id = o .id; content = put (o .body) }) (pick b (o ∷ keep (λ (o : Stored). mappedTo (lookup table (o .id)) (rawOf (lsn + o .position) false)) os) (keep (λ (o : Stored). mappedTo (lookup table (o .id)) (rawOf (lsn + o .position) false)) os))) x ≡ true
+    go true ih = heard-cons (record { id = o .id; content = put (o .body) }) _ x (inr ih)
+    go false ih = ih
 
 -- a delete entry
 delete-found : (table : List Entry) (lsn : ℕ) (es : List Entry) (x r : ℕ) → Has es x r → deleteOf r ≡ true → mappedTo (lookup table x) (r + 2 * lsn) ≡ true
@@ -146,36 +134,27 @@ module _ (w : World) (history : List Op) (s : SoundWorld w (engine history)) whe
   unfolding objectsFound deletesFound deletesOf
   inside-found k f h n x l r e a q =
       heard-append (objectsFound (mappings w) (withLive (f .label) n) (slotOf w k)) (deletesFound (mappings w) (withLive (f .label) n) (slotOf w k)) x
-      ∙ go (ow .content) (ow .stands) (ow .location)
+      ∙ go (deleteOf r) refl
     where
-      ow : Of 0 (s .sound .written k f h .ops) x r
-      ow = entry-stands 0 (s .sound .written k f h .ops) x r (subst (λ (es : List Entry). Has es x r) (s .sound .written k f h .entries) a)
-
       mapped : (m : ℕ) → l ≡ m → mappedTo (lookup (mappings w) x) m ≡ true
       mapped m z = ap (λ (c : Held). mappedTo c m) e ∙ eq-eqb l m z
-
-      stored : objectsIn (objectPart (f .label) (slotOf w k)) ≡ storedOf 0 (s .sound .written k f h .ops)
-      stored =
-          let b = objects-inside w history s k f h in
-          let c = s .sound .filed .made k f h .within in
-          let n : length (f .objects) ≡ length (objectsOf (s .sound .written k f h .ops)) = ap length (s .sound .written k f h .objects) in
-          ap objectsIn (shown w k f h .1 .objects ∙ s .sound .written k f h .objects) ∙ objects-back (s .sound .written k f h .ops) (s .sound .written k f h .ids) (omega arith)
 
       or-right : (a b : Bool) → b ≡ true → (a || b) ≡ true
       or-right true b e = refl
       or-right false b e = e
 
-      go : (c : Content) → Stands 0 (s .sound .written k f h .ops) x c (positionOf r) → r ≡ rawOf (positionOf r) (isDelete c)
+      go : (d : Bool) → deleteOf r ≡ d
           → (heardIn (deletesFound (mappings w) (withLive (f .label) n) (slotOf w k)) x || heardIn (objectsFound (mappings w) (withLive (f .label) n) (slotOf w k)) x) ≡ true
-      go (put b) t z =
+      go false d =
+          let z = eqb-false (r % 2) 1 d in
           or-right (heardIn (deletesFound (mappings w) (withLive (f .label) n) (slotOf w k)) x) (heardIn (objectsFound (mappings w) (withLive (f .label) n) (slotOf w k)) x)
-          (subst (λ (os : List Stored). heardIn (map (λ (o : Stored). record { id = o .id; content = put (o .body) }) (keep (λ (o : Stored). mappedTo (lookup (mappings w) (o .id)) (rawOf (f .label .lsn + o .position) false)) os)) x ≡ true) (sym stored)
-          (object-found (mappings w) (f .label .lsn) 0 (s .sound .written k f h .ops) x b (positionOf r) t (mapped (rawOf (f .label .lsn + positionOf r) false) (omega arith))))
-      go delete t z =
+          (subst (λ (bs : List ℕ). heardIn (map (λ (o : Stored). record { id = o .id; content = put (o .body) }) (keep (λ (o : Stored). mappedTo (lookup (mappings w) (o .id)) (rawOf (f .label .lsn + o .position) false)) (objectsIn bs))) x ≡ true) (sym (shown w k f h .1 .objects))
+          (object-found (mappings w) (f .label .lsn) (objectsIn (f .objects)) x (positionOf r) (s .sound .whole k f h .stored x r a d) (mapped (rawOf (f .label .lsn + positionOf r) false) (omega arith))))
+      go true d =
           ap (λ (c : Bool). c || heardIn (objectsFound (mappings w) (withLive (f .label) n) (slotOf w k)) x)
           (subst (λ (es : List Entry). heardIn (map (λ (e : Entry). record { id = e .id; content = delete }) (keep (λ (e : Entry). mappedTo (lookup (mappings w) (e .id)) (absolute (f .label .lsn) e .location)) (keep (λ (e : Entry). deleteOf (e .location)) es))) x ≡ true)
           (sym (shown w k f h .1 .entries))
-          (delete-found (mappings w) (f .label .lsn) (f .entries) x r a (let y : r % 2 ≡ 1 = omega arith in rw y refl) (mapped (r + 2 * f .label .lsn) q)))
+          (delete-found (mappings w) (f .label .lsn) (f .entries) x r a d (mapped (r + 2 * f .label .lsn) q)))
 
   -- LAW: an id is found in a file exactly where its location lies in the file's masked range
   heard-range : (k : ℕ) (f : File) → viewAt (viewsOf w) k ≡ holds f → (x l : ℕ) → lookup (mappings w) x ≡ Mapped l → heardIn (foundIn w k) x ≡ inRange (recordAt (recordsOf w) k) (maskedAt l)
@@ -240,7 +219,7 @@ module _ (w : World) (history : List Op) (s : SoundWorld w (engine history)) whe
       go silent p q Unmapped e = absurd (true≢false (sym q ∙ ap known p))
       go (last c) p q Unmapped e =
           absurd (heard-of c (sym (ap (λ (m : Held). heldSays (pictureOf w) m x) e) ∙ s .sound .says x
-          ∙ last-all (Movable (w .settings .«max_object_size») (engine history)) (found w ks) (found-movable w history s ks) x c p .0))
+          ∙ last-all (Movable (engine history)) (found w ks) (found-movable w history s ks) x c p .0))
 
   live-is : (k : ℕ) → 0 < recordAt (recordsOf w) k .lsn → mappedInto (mappings w) (recordAt (recordsOf w) k) ≡ recordAt (recordsOf w) k .live
   unfolding mappedInto

@@ -4,16 +4,14 @@ use Prim.Native.Nat.{_<_, _≤_}
 use native.Mathlib.Omega.{arith}
 use lib.ListN.{length-take, length-drop}
 use lib.Seq.{drop-drop}
-use Rattle.rules.specs.Base.{Bool, true, false, List, [], _∷_, _++_, ℕ, zero, suc, _+_, _-_, _*_, _%_, _^_, length, drop, eqb, pick, keep, each}
+use Rattle.rules.specs.Base.{Bool, true, false, List, [], _∷_, ℕ, zero, suc, _+_, _-_, _*_, _%_, _^_, length, drop, eqb, pick, keep, each}
 use Rattle.theory.specs.Types.{Entry, Record, Answer, Done, Refused, Held, Mapped, Slot, Is}
 use Rattle.disk_location.specs.Locations.{positionOf, deleteOf, rawOf}
-use Rattle.rules.specs.BaseLaws.{All, any-false, all-append, all-both}
+use Rattle.rules.specs.BaseLaws.{All, all-append}
 use Rattle.rules.specs.Refusal.{decide, after}
 use Rattle.rules.specs.Object.{Stored, storedAt, objectsFrom, objectsIn}
 use Rattle.rules.specs.Trailer.{absolute}
-use Rattle.rules.specs.Ops.{Content, put, delete, Op, sizeOf, objectsOf}
-use Rattle.rules.specs.OpsLaws.{storedHere, storedOf, objects-back}
-use Rattle.rules.specs.Batch.{tooLarge, anyTooLarge}
+use Rattle.rules.specs.Ops.{put, delete, Op}
 use Rattle.rules.specs.SettledLaws.{Last, last, lastOn, settled-all}
 use Rattle.rules.specs.SlotFile.{slotBytes, fileIn, objectPart, trailerEntries, File, View, empty, damaged, holds}
 use Rattle.rules.specs.Table.{lookup, mappedTo}
@@ -23,29 +21,16 @@ use Rattle.rules.specs.Read.{objectTests}
 use Rattle.rules.specs.Maintenance.{storedObjects, deletesOf, objectsFound, deletesFound, slotOf, foundIn, found}
 use Rattle.rules.specs.World.{World, recordsOf, mappings}
 use Rattle.theory.specs.Entries.{absolute-location}
-use Rattle.theory.specs.Places.{viewAt, record-holds, record-empty, no-damage, own-place, WellMade}
+use Rattle.theory.specs.Places.{viewAt, record-holds, record-empty, no-damage, own-place}
 use Rattle.theory.specs.Picture.{viewsOf, pictureOf, Said, gone, body, broken, objectSays, placeSays, viewSays, slotSays, heldSays, pictureSays, lastSays}
-use Rattle.theory.specs.Sound.{OfOps}
 use Rattle.theory.specs.SoundWorld.{SoundWorld, shown}
 use Rattle.theory.specs.Writing.{engine}
 use Rattle.theory.specs.Reading.{not-broken}
 use Rattle.theory.specs.Lists.{all-kept, all-pass, all-each, every}
 
--- an operation that says what is said already, and that neither 3 nor an id's width refuses
-abbrev pub Movable : ℕ → (ℕ → Said) → Op → Type 0
-Movable limit told o = (told (o .id) ≡ lastSays (last (o .content))) × (o .id < 2 ^ 64) × (tooLarge limit (o .content) ≡ false)
-
--- the objects of operations that 3 does not refuse
-stored-small : (limit position : ℕ) (os : List Op) → All (λ (o : Op). tooLarge limit (o .content) ≡ false) os
-    → All (λ (o : Stored). tooLarge limit (put (o .body)) ≡ false) (storedOf position os)
-unfolding storedOf
-stored-small limit position [] a = tt
-stored-small limit position (o ∷ os) a = go (o .content) (a .0) (stored-small limit (position + sizeOf (o .content)) os (a .1))
-  where
-    go : (c : Content) → tooLarge limit c ≡ false → All (λ (o : Stored). tooLarge limit (put (o .body)) ≡ false) (storedOf (position + sizeOf (o .content)) os)
-        → All (λ (o : Stored). tooLarge limit (put (o .body)) ≡ false) (storedHere position (o .id) c (length (objectsOf os)) ++ storedOf (position + sizeOf (o .content)) os)
-    go (put b) h ih = (h, ih)
-    go delete h ih = ih
+-- an operation that says what is said already, on an id of 64 bits
+abbrev pub Movable : (ℕ → Said) → Op → Type 0
+Movable told o = (told (o .id) ≡ lastSays (last (o .content))) × (o .id < 2 ^ 64)
 
 -- ---- the walk over object bytes: each object is what stands at its position
 abbrev pub StandsIn : List ℕ → Stored → Type 0
@@ -83,7 +68,7 @@ delete-absolute lsn e =
     ap (λ (n : ℕ). eqb n 1) z
 
 -- an empty record has no object
-none-found : (P : Op → Type 0) (table : List Entry) (slot : List ℕ) → All P (objectsFound table emptyRecord slot)
+pub none-found : (P : Op → Type 0) (table : List Entry) (slot : List ℕ) → All P (objectsFound table emptyRecord slot)
 unfolding objectsFound objectsIn objectsFrom keep
 none-found P table slot = tt
 
@@ -139,61 +124,47 @@ module _ (w : World) (history : List Op) (s : SoundWorld w (engine history)) whe
   narrow : (x l : ℕ) → lookup (mappings w) x ≡ Mapped l → x < 2 ^ 64
   narrow x l e = s .sound .narrow x l (lookup-has (mappings w) x l e)
 
-  -- the objects of a file's object bytes are those of its operations
-  objects-small : (f : File) → OfOps (w .settings .«max_object_size») f → WellMade f → length (f .objects) ≤ f .label .«trailer_offset»
-      → All (λ (o : Stored). tooLarge (w .settings .«max_object_size») (put (o .body)) ≡ false) (objectsIn (f .objects))
-  unfolding anyTooLarge
-  objects-small f o m h =
-      let a = m .within in
-      let n : length (f .objects) ≡ length (objectsOf (o .ops)) = ap length (o .objects) in
-      subst (λ (os : List Stored). All (λ (c : Stored). tooLarge (w .settings .«max_object_size») (put (c .body)) ≡ false) os)
-      (sym (ap objectsIn (o .objects) ∙ objects-back (o .ops) (o .ids) (omega arith)))
-      (stored-small (w .settings .«max_object_size») 0 (o .ops) (any-false (λ (o : Op). tooLarge (w .settings .«max_object_size») (o .content)) (o .ops) (o .small)))
-
   objects-movable : (k : ℕ) (f : File) → viewAt (viewsOf w) k ≡ holds f → (r : Record) → r ≡ recordAt (recordsOf w) k
-      → All (Movable (w .settings .«max_object_size») (engine history)) (objectsFound (mappings w) r (slotOf w k))
+      → All (Movable (engine history)) (objectsFound (mappings w) r (slotOf w k))
   unfolding objectsFound
   objects-movable k f h r e =
-      all-kept (λ (o : Stored). StandsIn (f .objects) o × (tooLarge (w .settings .«max_object_size») (put (o .body)) ≡ false))
-      (Movable (w .settings .«max_object_size») (engine history))
+      all-kept (StandsIn (f .objects)) (Movable (engine history))
       (λ (o : Stored). mappedTo (lookup (mappings w) (o .id)) (rawOf (r .lsn + o .position) false)) (λ (o : Stored). record { id = o .id; content = put (o .body) })
       (storedObjects r (slotOf w k))
       (λ o t q.
       let m = mapped-to (lookup (mappings w) (o .id)) (rawOf (r .lsn + o .position) false) q in
-      (current-object k f o h (t .0) (m ∙ ap (λ (c : Record). Mapped (rawOf (c .lsn + o .position) false)) e), narrow (o .id) (rawOf (r .lsn + o .position) false) m, t .1))
-      (subst (λ (bs : List ℕ). All (λ (o : Stored). StandsIn (f .objects) o × (tooLarge (w .settings .«max_object_size») (put (o .body)) ≡ false)) (objectsIn bs)) same
-      (all-both (StandsIn (f .objects)) (λ (o : Stored). tooLarge (w .settings .«max_object_size») (put (o .body)) ≡ false) (objectsIn (f .objects)) (objects-stand (f .objects))
-      (objects-small f (s .sound .written k f h) (s .sound .filed .made k f h) (objects-inside k f h))))
+      (current-object k f o h t (m ∙ ap (λ (c : Record). Mapped (rawOf (c .lsn + o .position) false)) e), narrow (o .id) (rawOf (r .lsn + o .position) false) m))
+      (subst (λ (bs : List ℕ). All (StandsIn (f .objects)) (objectsIn bs)) same (objects-stand (f .objects)))
     where
       same : f .objects ≡ objectPart r (slotOf w k)
       same =
           sym (shown w k f h .1 .objects)
           ∙ ap (λ (c : Record). objectPart c (slotOf w k)) (sym (e ∙ record-holds (viewsOf w) (recordsOf w) (s .sound .filed) k f h))
 
-  deletes-movable : (r : Record) (slot : List ℕ) → All (Movable (w .settings .«max_object_size») (engine history)) (deletesFound (mappings w) r slot)
+  deletes-movable : (r : Record) (slot : List ℕ) → All (Movable (engine history)) (deletesFound (mappings w) r slot)
   unfolding deletesFound deletesOf
   deletes-movable r slot =
-      all-kept (λ (e : Entry). deleteOf (e .location) ≡ true) (Movable (w .settings .«max_object_size») (engine history))
+      all-kept (λ (e : Entry). deleteOf (e .location) ≡ true) (Movable (engine history))
       (λ (e : Entry). mappedTo (lookup (mappings w) (e .id)) (absolute (r .lsn) e .location)) (λ (e : Entry). record { id = e .id; content = delete })
       (keep (λ (e : Entry). deleteOf (e .location)) (trailerEntries r slot))
       (λ e d q.
       let m = mapped-to (lookup (mappings w) (e .id)) (absolute (r .lsn) e .location) q in
-      (current-delete (e .id) (absolute (r .lsn) e .location) (delete-absolute (r .lsn) e ∙ d) m, narrow (e .id) (absolute (r .lsn) e .location) m, refl))
+      (current-delete (e .id) (absolute (r .lsn) e .location) (delete-absolute (r .lsn) e ∙ d) m, narrow (e .id) (absolute (r .lsn) e .location) m))
       (all-pass (λ (e : Entry). deleteOf (e .location)) (trailerEntries r slot))
 
-  found-in : (k : ℕ) → All (Movable (w .settings .«max_object_size») (engine history)) (foundIn w k)
+  found-in : (k : ℕ) → All (Movable (engine history)) (foundIn w k)
   found-in k =
-      all-append (Movable (w .settings .«max_object_size») (engine history)) (objectsFound (mappings w) (recordAt (recordsOf w) k) (slotOf w k)) (deletesFound (mappings w) (recordAt (recordsOf w) k) (slotOf w k))
+      all-append (Movable (engine history)) (objectsFound (mappings w) (recordAt (recordsOf w) k) (slotOf w k)) (deletesFound (mappings w) (recordAt (recordsOf w) k) (slotOf w k))
       (go (viewAt (viewsOf w) k) refl) (deletes-movable (recordAt (recordsOf w) k) (slotOf w k))
     where
-      go : (v : View) → viewAt (viewsOf w) k ≡ v → All (Movable (w .settings .«max_object_size») (engine history)) (objectsFound (mappings w) (recordAt (recordsOf w) k) (slotOf w k))
+      go : (v : View) → viewAt (viewsOf w) k ≡ v → All (Movable (engine history)) (objectsFound (mappings w) (recordAt (recordsOf w) k) (slotOf w k))
       go empty e =
-          subst (λ (r : Record). All (Movable (w .settings .«max_object_size») (engine history)) (objectsFound (mappings w) r (slotOf w k)))
-          (sym (record-empty (viewsOf w) (recordsOf w) (s .sound .filed) k e)) (none-found (Movable (w .settings .«max_object_size») (engine history)) (mappings w) (slotOf w k))
+          subst (λ (r : Record). All (Movable (engine history)) (objectsFound (mappings w) r (slotOf w k)))
+          (sym (record-empty (viewsOf w) (recordsOf w) (s .sound .filed) k e)) (none-found (Movable (engine history)) (mappings w) (slotOf w k))
       go (damaged r) e = absurd (no-damage (viewsOf w) (recordsOf w) (s .sound .filed) k r e)
       go (holds f) e = objects-movable k f e (recordAt (recordsOf w) k) refl
 
   -- LAW: what a group moves is current
-  pub found-movable : (slots : List ℕ) → All (Movable (w .settings .«max_object_size») (engine history)) (found w slots)
+  pub found-movable : (slots : List ℕ) → All (Movable (engine history)) (found w slots)
   unfolding found
-  found-movable slots = settled-all (Movable (w .settings .«max_object_size») (engine history)) (each (foundIn w) slots) (all-each (Movable (w .settings .«max_object_size») (engine history)) (foundIn w) slots (every (λ (k : ℕ). All (Movable (w .settings .«max_object_size») (engine history)) (foundIn w k)) slots found-in))
+  found-movable slots = settled-all (Movable (engine history)) (each (foundIn w) slots) (all-each (Movable (engine history)) (foundIn w) slots (every (λ (k : ℕ). All (Movable (engine history)) (foundIn w k)) slots found-in))

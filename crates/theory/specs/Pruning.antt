@@ -1,4 +1,4 @@
--- Prune, claim and release on a store of the invariant.
+-- Prune on a store of the invariant.
 use mathlib.Core.Path.{_≡_, refl, sym, ap, _∙_, subst}
 use mathlib.Core.Bool.{true≢false}
 use mathlib.Core.Logic.{inl, inr}
@@ -7,9 +7,8 @@ use native.Mathlib.Nat.{zero-add}
 use native.Mathlib.Omega.{arith}
 use lib.ListN.{List·getD-eq-default}
 use borrow.Author.Tests.{ltb-true, ltb-false}
-use Rattle.rules.specs.Base.{Bool, true, false, not, _||_, List, [], _∷_, ℕ, length, ltb, pick}
-use Rattle.theory.specs.Types.{Claims, Limits, Claim, Answer, Done, Refused}
-use Rattle.rules.specs.Refusal.{_gives_, decide, after}
+use Rattle.rules.specs.Base.{Bool, true, false, List, [], ℕ, length, ltb, pick}
+use Rattle.rules.specs.Refusal.{decide}
 use Rattle.rules.specs.Settings.{slotsIn}
 use Rattle.rules.specs.SettingsLaws.{HeapInRange, heap-whole}
 use Rattle.rules.specs.SlotFile.{File, View, empty, damaged, holds, viewsIn}
@@ -18,11 +17,9 @@ use Rattle.rules.specs.Stores.{Store, made}
 use Rattle.rules.specs.StoreLaws.{made-length}
 use Rattle.rules.specs.FileMap.{emptyRecord, isEmpty, recordAt}
 use Rattle.rules.specs.FileMapLaws.{is-empty}
-use Rattle.rules.specs.Claims.{isClaimed, notAFile, claimSet, claimCleared, withClaims, claimCall, releaseCall}
-use Rattle.rules.specs.Condition1.{refused1}
 use Rattle.rules.specs.Prune.{isDead, emptiedFrom, pruneStores, pruned, pruneCall}
 use Rattle.rules.specs.PruneLaws.{dead, emptied-length, emptied-at, prune-stores, prune-view}
-use Rattle.rules.specs.World.{World, recordsOf, slotsOf, accepted, After, unchanged}
+use Rattle.rules.specs.World.{World, recordsOf, slotsOf, accepted, After}
 use Rattle.theory.specs.Places.{viewAt, holds-lt, record-empty, no-damage}
 use Rattle.theory.specs.Picture.{viewsOf, pictureOf, Said}
 use Rattle.theory.specs.Emptied.{KeptOrEmptied, Emptied, sound-emptied}
@@ -80,7 +77,7 @@ module _ (w : World) (told : ℕ → Said) (s : SoundWorld w told) where
           ∙ pick-same (isDead (w .claims) k (recordAt (recordsOf w) k)) emptyRecord
           ∙ ap (pick (isDead (w .claims) k (recordAt (recordsOf w) k)) emptyRecord) (sym (List·getD-eq-default (recordsOf w) emptyRecord {n = k} l))
 
-  -- each slot is as it was, or without a file that had no live entry
+  -- each slot is as it was, or its dead file is gone
   pub each-slot : (k : ℕ) → KeptOrEmptied (pictureOf w) (pictureOf (pruned w)) k
   each-slot k = go (isDead (w .claims) k (recordAt (recordsOf w) k)) refl (ltb k (slotsOf w)) refl
     where
@@ -140,27 +137,3 @@ module _ (w : World) (told : ℕ → Said) (s : SoundWorld w told) where
   -- the call
   pub sound-prune : SoundWorld (pruneCall w .world) told
   sound-prune = subst (λ (a : After). SoundWorld (a .world) told) (sym prune-accepted) sound-pruned
-
-  -- claims change nothing else
-  sound-claims : (c : Claims) → SoundWorld (withClaims w c) told
-  sound-claims c =
-      let t = s .tidy in
-      record {
-        tidy = record { limits = t .limits; settings = t .settings; heap-len = t .heap-len; table-len = t .table-len; form = t .form };
-        sound = s .sound;
-      }
-
-  -- a call that is refused with nothing changed, or changes the claims
-  by-claims : (a : Answer) (c : Claims) → SoundWorld (after a (unchanged w) (record { answer = accepted []; world = withClaims w c }) .world) told
-  by-claims Done c = sound-claims c
-  by-claims (Refused r) c = s
-
-  -- LAW: claim and release, refused or not
-  pub sound-claim : (slot : ℕ) → SoundWorld (claimCall w slot .world) told
-  unfolding claimCall
-  sound-claim slot = by-claims (decide (refused1 w gives Limits ∷ (notAFile w slot || isClaimed (w .claims) slot) gives Claim ∷ [])) (claimSet (w .claims) slot)
-
-  -- and release
-  pub sound-release : (slot : ℕ) → SoundWorld (releaseCall w slot .world) told
-  unfolding releaseCall
-  sound-release slot = by-claims (decide (refused1 w gives Limits ∷ (notAFile w slot || not (isClaimed (w .claims) slot)) gives Claim ∷ [])) (claimCleared (w .claims) slot)

@@ -102,7 +102,8 @@ room-is : (position : ℕ) (bs : List ℕ) → storedAt position bs .room ≡ le
 unfolding storedAt
 room-is position bs = refl
 
-body-is : (position : ℕ) (bs : List ℕ) → storedAt position bs .body ≡ take (storedAt position bs .size) (drop 20 bs)
+-- its body is so many of its bytes
+pub body-is : (position : ℕ) (bs : List ℕ) → storedAt position bs .body ≡ take (storedAt position bs .size) (drop 20 bs)
 unfolding storedAt
 body-is position bs = refl
 

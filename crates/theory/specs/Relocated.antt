@@ -140,24 +140,24 @@ anew-left w u v x a b = record {
 anew-earlier : (w u v : World) (x : ℕ) → ((k : ℕ) → viewAt (viewsOf u) k ≡ empty → viewAt (viewsOf w) k ≡ empty) → Anew u v x → Anew w v x
 anew-earlier w u v x h a = record { location = a .location; slot = a .slot; table = a .table; file = a .file; free = h (a .slot) (a .free) }
 
-module _ (limit : ℕ) (history : List Op) where
+module _ (history : List Op) where
   -- files one after another
-  pub files-relocate : (g : ℕ) (files : List (List Op)) (w : World) → SoundWorld w (engine history) → g ≤ 255 → limit ≡ w .settings .«max_object_size» → All (Rewritable limit (engine history)) files
+  pub files-relocate : (g : ℕ) (files : List (List Op)) (w : World) → SoundWorld w (engine history) → g ≤ 255 → All (Rewritable (engine history)) files
       → All (λ (f : List Op). 64 + length (fileBytes f) ≤ w .settings .«slot_bytes») files → length files ≤ emptyOf w
       → w .state .«next_position» + sum (λ (f : List Op). length (objectsOf f) + 1) files ≤ 2 ^ 62
       → (x : ℕ) → Left w (installedAll 0 g w files) x ⊎ (Anew w (installedAll 0 g w files) x × (any (λ (f : List Op). heardIn f x) files ≡ true))
   unfolding installedAll sum any
-  files-relocate g [] w s aged same r slot free positions x = inl (record { table = refl; file = λ l e. refl })
-  files-relocate g (f ∷ fs) w s aged same r slot free positions x =
-      let fit = fits-file limit history w s g f (r .0) aged same (slot .0) (omega arith) (omega arith) in
+  files-relocate g [] w s aged r slot free positions x = inl (record { table = refl; file = λ l e. refl })
+  files-relocate g (f ∷ fs) w s aged r slot free positions x =
+      let fit = fits-file history w s g f (r .0) aged (slot .0) (omega arith) (omega arith) in
       let n : length (objectsOf f) < 2 ^ 64 = omega arith in
-      let e = installed-numbers limit history g w f in
+      let e = installed-numbers history g w f in
       let e1 = e .1 in
       let d = one-fewer 0 g w f in
       let rest = files-relocate g fs (installed 0 g w f)
       (sound-told (installed 0 g w f) (λ x. over (fileSays (fileOfOps (newLsn 0 w) g f) x) (engine history x)) (engine history)
-      (λ x. still-said limit history f (r .0) n (newLsn 0 w) g x) (sound-installed w (engine history) s 0 g f fit))
-      aged (same ∙ ap (λ (c : Settings). c .«max_object_size») (sym (e .0))) (r .1)
+      (λ x. still-said history f (r .0) n (newLsn 0 w) g x) (sound-installed w (engine history) s 0 g f fit))
+      aged (r .1)
       (subst (λ (c : Settings). All (λ (f : List Op). 64 + length (fileBytes f) ≤ c .«slot_bytes») fs) (sym (e .0)) (slot .1))
       (omega arith) (omega arith) x in
       go (free-before history w s g f fit) (after-file history w s g f fit x) rest
@@ -171,7 +171,7 @@ module _ (limit : ℕ) (history : List Op) where
       go h a (inr b) = inr (anew-earlier w (installed 0 g w f) (installedAll 0 g (installed 0 g w f) fs) x h (b .0), or-holds (heardIn f x) (any (λ (f : List Op). heardIn f x) fs) (inr (b .1)))
 
 -- 4, 5 and 7 decided for the whole group
-fits-relocate : (history : List Op) (w : World) → SoundWorld w (engine history) → (g : ℕ) → g ≤ 255 → (ks : List ℕ) (x : ℕ) (fs : List (List Op)) → All (Rewritable (w .settings .«max_object_size») (engine history)) fs → All (PartOf (found w ks)) fs
+fits-relocate : (history : List Op) (w : World) → SoundWorld w (engine history) → (g : ℕ) → g ≤ 255 → (ks : List ℕ) (x : ℕ) (fs : List (List Op)) → All (Rewritable (engine history)) fs → All (PartOf (found w ks)) fs
     → NoneHolds (roomTests (w .settings .«slot_bytes») (emptyOf w) fs ++ positionTests (w .state .«next_position») fs)
     → Left w (installedAll 0 g w fs) x ⊎ (Anew w (installedAll 0 g w fs) x × (heardIn (found w ks) x ≡ true))
 unfolding installedAll
@@ -181,7 +181,7 @@ fits-relocate history w s g aged ks x (f ∷ fs) r p n =
     let b = room-clear (w .settings .«slot_bytes») (emptyOf w) (f ∷ fs) (none-first tests _ n) in
     let c = positions-clear (w .state .«next_position») (f ∷ fs) (none-rest tests _ n) (omega arith) in
     ⊎-elim inl (λ z. inr (z .0, part-heard (found w ks) x (f ∷ fs) p (z .1)))
-    (files-relocate (w .settings .«max_object_size») history g (f ∷ fs) w s aged refl r (b .fits) (b .slots) c x)
+    (files-relocate history g (f ∷ fs) w s aged r (b .fits) (b .slots) c x)
 
 -- LAW: a group, rewritten or refused
 pub group-relocates : (history : List Op) (w : World) → SoundWorld w (engine history) → (g : ℕ) → g ≤ 255 → (ks : List ℕ) (moved : ℕ) (x : ℕ)

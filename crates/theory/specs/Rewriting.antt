@@ -8,11 +8,10 @@ use lib.Seq.{getD-take, getD-set-other}
 use borrow.Author.Tests.{ltb-true, ltb-false, eqb-true}
 use Rattle.rules.specs.Base.{Bool, true, false, List, [], _∷_, ℕ, zero, suc, _+_, _-_, _*_, _^_, length, set, take, ltb, eqb, pick, sum}
 use Rattle.theory.specs.Types.{Record, Settings, Held, Mapped, Unmapped}
-use Rattle.rules.specs.BaseLaws.{any-clear, All, all-map}
+use Rattle.rules.specs.BaseLaws.{All, all-map}
 use Rattle.rules.specs.Settings.{slotsIn}
 use Rattle.rules.specs.Ops.{Content, put, delete, Op, objectsOf, entriesOf, fileBytes}
 use Rattle.rules.specs.OpsLaws.{RisingOps, entry-stands, Stands}
-use Rattle.rules.specs.Batch.{tooLarge, anyTooLarge}
 use Rattle.rules.specs.SettledLaws.{Last, silent, last, orEarlier, lastOn}
 use Rattle.rules.specs.StoreLaws.{made-length}
 use Rattle.rules.specs.WrittenLaws.{fileOfOps}
@@ -157,31 +156,26 @@ over-last-word (put b) t = refl
 over-last-word delete t = refl
 
 -- a file of current contents: in order, not empty
-pub record Rewritable (limit : ℕ) (told : ℕ → Said) (file : List Op) : Type 0 where
+pub record Rewritable (told : ℕ → Said) (file : List Op) : Type 0 where
   pub rising : RisingOps 0 file
-  pub current : All (Movable limit told) file
+  pub current : All (Movable told) file
   pub some : 0 < length file
 
-module _ (limit : ℕ) (history : List Op) where
+module _ (history : List Op) where
   -- nothing else is said
-  pub still-said : (file : List Op) → Rewritable limit (engine history) file → length (objectsOf file) < 2 ^ 64 → (lsn g x : ℕ)
+  pub still-said : (file : List Op) → Rewritable (engine history) file → length (objectsOf file) < 2 ^ 64 → (lsn g x : ℕ)
       → over (fileSays (fileOfOps lsn g file) x) (engine history x) ≡ engine history x
   still-said file r n lsn g x =
       ap (λ (t : Said). over t (engine history x))
-      (file-says lsn g file (r .rising) (all-map (Movable limit (engine history)) (λ (o : Op). o .id < 2 ^ 64) file (λ o m. m .1) (r .current)) n x)
+      (file-says lsn g file (r .rising) (all-map (Movable (engine history)) (λ (o : Op). o .id < 2 ^ 64) file (λ o m. m .1) (r .current)) n x)
       ∙ go (lastOn file x) refl
     where
       go : (l : Last) → lastOn file x ≡ l → over (lastSays l) (engine history x) ≡ engine history x
       go silent e = refl
-      go (last c) e = over-last-word c (engine history x) ∙ sym (last-all (Movable limit (engine history)) file (r .current) x c e .0)
-
-  all-small : (file : List Op) → All (Movable limit (engine history)) file → anyTooLarge limit file ≡ false
-  unfolding anyTooLarge
-  all-small file a =
-      any-clear (λ (o : Op). tooLarge limit (o .content)) file (all-map (Movable limit (engine history)) (λ (o : Op). tooLarge limit (o .content) ≡ false) file (λ o m. m .2) a)
+      go (last c) e = over-last-word c (engine history x) ∙ sym (last-all (Movable (engine history)) file (r .current) x c e .0)
 
   -- no id is new to the table
-  all-mapped : (w : World) → SoundWorld w (engine history) → (file : List Op) → Rewritable limit (engine history) file → (lsn x l : ℕ) → Has (rowsFor lsn 0 file) x l
+  all-mapped : (w : World) → SoundWorld w (engine history) → (file : List Op) → Rewritable (engine history) file → (lsn x l : ℕ) → Has (rowsFor lsn 0 file) x l
       → (m : ℕ) × (lookup (mappings w) x ≡ Mapped m)
   unfolding pictureSays
   all-mapped w s file r lsn x l h = go (lookup (mappings w) x) refl
@@ -193,17 +187,16 @@ module _ (limit : ℕ) (history : List Op) where
       go (Mapped m) e = (m, e)
       go Unmapped e =
           let d = entry-stands 0 file x (a .0) (a .1) in
-          let t = stands-all (Movable limit (engine history)) 0 file (r .current) x (d .content) _ (d .stands) in
+          let t = stands-all (Movable (engine history)) 0 file (r .current) x (d .content) _ (d .stands) in
           absurd (heard-of (d .content) (sym (ap (λ (c : Held). heldSays (pictureOf w) c x) e) ∙ s .sound .says x ∙ t .0))
 
   -- a file of current contents fits where there is room for it
-  pub fits-file : (w : World) → SoundWorld w (engine history) → (g : ℕ) (file : List Op) → Rewritable limit (engine history) file → g ≤ 255 → limit ≡ w .settings .«max_object_size»
+  pub fits-file : (w : World) → SoundWorld w (engine history) → (g : ℕ) (file : List Op) → Rewritable (engine history) file → g ≤ 255
       → 64 + length (fileBytes file) ≤ w .settings .«slot_bytes» → 0 < emptyOf w → w .state .«next_position» + (length (objectsOf file) + 1) ≤ 2 ^ 62 → Fitting 0 g w file
-  fits-file w s g file r aged same slot free positions = record {
+  fits-file w s g file r aged slot free positions = record {
     some = r .some;
     rising = r .rising;
-    ids = all-map (Movable limit (engine history)) (λ (o : Op). o .id < 2 ^ 64) file (λ o m. m .1) (r .current);
-    small = subst (λ (n : ℕ). anyTooLarge n file ≡ false) same (all-small file (r .current));
+    ids = all-map (Movable (engine history)) (λ (o : Op). o .id < 2 ^ 64) file (λ o m. m .1) (r .current);
     kind = inl refl;
     aged = aged;
     slot = slot;
@@ -223,13 +216,13 @@ module _ (limit : ℕ) (history : List Op) where
   installed-numbers g w file = (refl, refl)
 
   -- LAW: files of current contents, in as many empty slots
-  pub sound-rewritten : (g : ℕ) (files : List (List Op)) (w : World) → SoundWorld w (engine history) → g ≤ 255 → limit ≡ w .settings .«max_object_size» → All (Rewritable limit (engine history)) files
+  pub sound-rewritten : (g : ℕ) (files : List (List Op)) (w : World) → SoundWorld w (engine history) → g ≤ 255 → All (Rewritable (engine history)) files
       → All (λ (f : List Op). 64 + length (fileBytes f) ≤ w .settings .«slot_bytes») files → length files ≤ emptyOf w
       → w .state .«next_position» + sum (λ (f : List Op). length (objectsOf f) + 1) files ≤ 2 ^ 62 → AllStood 0 g w files × SoundWorld (installedAll 0 g w files) (engine history)
   unfolding installedAll sum
-  sound-rewritten g [] w s aged same r slot free positions = (tt, s)
-  sound-rewritten g (f ∷ fs) w s aged same r slot free positions =
-      let fit = fits-file w s g f (r .0) aged same (slot .0) (omega arith) (omega arith) in
+  sound-rewritten g [] w s aged r slot free positions = (tt, s)
+  sound-rewritten g (f ∷ fs) w s aged r slot free positions =
+      let fit = fits-file w s g f (r .0) aged (slot .0) (omega arith) (omega arith) in
       let n : length (objectsOf f) < 2 ^ 64 = omega arith in
       let e = installed-numbers g w f in
       let e1 = e .1 in
@@ -237,7 +230,7 @@ module _ (limit : ℕ) (history : List Op) where
       let rest = sound-rewritten g fs (installed 0 g w f)
       (sound-told (installed 0 g w f) (λ x. over (fileSays (fileOfOps (newLsn 0 w) g f) x) (engine history x)) (engine history)
       (λ x. still-said f (r .0) n (newLsn 0 w) g x) (sound-installed w (engine history) s 0 g f fit))
-      aged (same ∙ ap (λ (c : Settings). c .«max_object_size») (sym (e .0))) (r .1)
+      aged (r .1)
       (subst (λ (c : Settings). All (λ (f : List Op). 64 + length (fileBytes f) ≤ c .«slot_bytes») fs) (sym (e .0)) (slot .1))
       (omega arith) (omega arith) in
       ((fitting-stands w (engine history) s 0 g f fit, rest .0), rest .1)

@@ -1,18 +1,18 @@
--- The invariant of a store that its own calls left, on its picture.
+-- The invariant of a store, on its picture; and what makes a file whole.
 use mathlib.Core.Path.{_≡_, sym, ap, _∙_, subst}
 use mathlib.Core.Bool.{true≢false}
 use mathlib.Core.Logic.{_⊎_, inl, inr}
 use Prim.Native.Nat.{_<_, _≤_}
-use Rattle.rules.specs.Base.{true, false, List, ℕ, _+_, _*_, _^_, length}
-use Rattle.rules.specs.BaseLaws.{same?}
+use Rattle.rules.specs.Base.{true, false, List, [], _∷_, ℕ, _+_, _*_, _^_, length, leb}
+use Rattle.rules.specs.BaseLaws.{All, same?}
 use Rattle.theory.specs.Types.{Entry, Mapped}
-use Rattle.disk_location.specs.Locations.{maskedOf}
-use Rattle.rules.specs.Ops.{Op, objectsOf, entriesOf}
-use Rattle.rules.specs.OpsLaws.{RisingOps, IdsFit, entries-of-rising}
-use Rattle.rules.specs.Batch.{anyTooLarge}
+use Rattle.disk_location.specs.Locations.{maskedOf, positionOf, deleteOf, rawOf}
+use Rattle.rules.specs.Refusal.{NoneHolds}
+use Rattle.rules.specs.Object.{Stored, objectsIn}
+use Rattle.rules.specs.Read.{objectTests}
 use Rattle.rules.specs.SlotFile.{File, View, holds}
 use Rattle.rules.specs.Table.{lookup}
-use Rattle.rules.specs.Reopen.{filesIn, inRange, tableOf, mappedInto}
+use Rattle.rules.specs.Reopen.{filesIn, inRange, notRising, tableOf, mappedInto}
 use Rattle.rules.specs.TableLaws.{Rising, Has}
 use Rattle.rules.specs.ReopenLaws.{latest-of-rising}
 use Rattle.theory.specs.Newest.{maskedAt, Newest, newest-latest}
@@ -20,33 +20,39 @@ use Rattle.theory.specs.Places.{viewAt, rowsOf, Filed, Stands, has-stand
 use Rattle.theory.specs.Losing.{liveAt}
 use Rattle.theory.specs.Picture.{Picture, Said, pictureSays}
 
--- the table's entries, and max_object_size
-pub record Bounds : Type 0 where
-  pub entries : ℕ
-  pub object : ℕ
+-- an object of this id starts at this position
+abbrev pub StartsAt : List Stored → ℕ → ℕ → Type 0
+StartsAt [] x position = ⊥
+StartsAt (o ∷ os) x position = ((o .id ≡ x) × (o .position ≡ position)) ⊎ StartsAt os x position
 
--- a file as a writer makes it: of operations in order, none of which 3 refuses
-pub record OfOps (limit : ℕ) (f : File) : Type 0 where
-  pub ops : List Op
-  pub rising : RisingOps 0 ops
-  pub ids : IdsFit ops
-  pub small : anyTooLarge limit ops ≡ false
-  pub entries : f .entries ≡ entriesOf 0 ops
-  pub objects : f .objects ≡ objectsOf ops
+-- a file whose bytes and entries tell the same, whoever wrote it
+pub record WholeFile (f : File) : Type 0 where
+  -- up to T the bytes are objects one behind the other, walked from 0 by their lengths: none is cut short, each has its right checksum
+  pub walked : All (λ (o : Stored). NoneHolds (objectTests (o .id) o)) (objectsIn (f .objects))
+  -- each has an object entry of its id at its position
+  pub entered : All (λ (o : Stored). Has (f .entries) (o .id) (rawOf (o .position) false)) (objectsIn (f .objects))
+  -- and at each object entry's position an object of its id starts
+  pub stored : (x l : ℕ) → Has (f .entries) x l → deleteOf l ≡ false → StartsAt (objectsIn (f .objects)) x (positionOf l)
+  -- a repeated id rises (15), so no id stands twice at one position
+  pub repeats : notRising (f .entries) ≡ false
 
--- told: what the plain engine says of each id
-pub record Sound (bounds : Bounds) (p : Picture) (told : ℕ → Said) : Type 0 where
+-- no object of the file is of max_object_size or more
+abbrev pub SmallFile : ℕ → File → Type 0
+SmallFile limit f = All (λ (o : Stored). leb limit (o .size) ≡ false) (objectsIn (f .objects))
+
+-- bounds: the table's entries; told: what the plain engine says of each id
+pub record Sound (bounds : ℕ) (p : Picture) (told : ℕ → Said) : Type 0 where
   -- views and records tell of the same files; these are well made, and their masked ranges apart
   pub filed : Filed (p .views) (p .records)
-  -- every file is one of operations
-  pub written : (k : ℕ) (f : File) → viewAt (p .views) k ≡ holds f → OfOps (bounds .object) f
+  -- bytes and entries of every file tell the same
+  pub whole : (k : ℕ) (f : File) → viewAt (p .views) k ≡ holds f → WholeFile f
   pub sized : length (p .records) ≡ 256
   pub started : 0 < p .next
   -- the next position lies above every file
   pub above : (k : ℕ) (f : File) → viewAt (p .views) k ≡ holds f → maskedOf (f .label .lsn) + f .label .«trailer_offset» < p .next
   -- the table is the one that a reopening makes of the files
   pub newest : p .table ≡ tableOf (filesIn (p .views))
-  pub room : length (p .table) ≤ bounds .entries
+  pub room : length (p .table) ≤ bounds
   -- ids are numbers of 64 bits
   pub narrow : (x l : ℕ) → Has (p .table) x l → x < 2 ^ 64
   -- a file's live count is the number of ids mapped into it
@@ -64,11 +70,7 @@ pub rising-table : (views : List View) → Rising 0 (tableOf (filesIn views))
 unfolding tableOf
 rising-table views = latest-of-rising (rowsOf views)
 
--- its trailer's ids rise
-pub written-rising : (limit : ℕ) (f : File) → OfOps limit f → Rising 0 (f .entries)
-written-rising limit f o = subst (Rising 0) (sym (o .entries)) (entries-of-rising 0 0 (o .ops) (o .rising))
-
-module _ (bounds : Bounds) (p : Picture) (told : ℕ → Said) (s : Sound bounds p told) where
+module _ (bounds : ℕ) (p : Picture) (told : ℕ → Said) (s : Sound bounds p told) where
   -- the table is in order
   pub table-rising : Rising 0 (p .table)
   table-rising = subst (Rising 0) (sym (s .newest)) (rising-table (p .views))

@@ -25,7 +25,7 @@ use Rattle.theory.specs.Places.{viewAt, holds-lt, record-holds, record-e
 use Rattle.rules.specs.SlotLaws.{slot-length, views-length, views-at}
 use Rattle.rules.specs.SeenLaws.{Seen, seen}
 use Rattle.theory.specs.Picture.{viewsOf, pictureOf, Said}
-use Rattle.theory.specs.Sound.{Bounds, Sound}
+use Rattle.theory.specs.Sound.{SmallFile, Sound}
 
 -- settings, lengths and table form as 1 asks for them
 pub record Tidy (w : World) : Type 0 where
@@ -35,14 +35,18 @@ pub record Tidy (w : World) : Type 0 where
   pub table-len : capacityOf (w .table) ≡ w .state .«table_len»
   pub form : inForm (w .table) ≡ true
 
--- what the files and the table of a store keep to
-abbrev pub boundsOf : World → Bounds
-boundsOf w = record { entries = capacityOf (w .table); object = w .settings .«max_object_size» }
+-- what the table of a store keeps to
+abbrev pub boundsOf : World → ℕ
+boundsOf w = capacityOf (w .table)
 
 -- told: what the plain engine says of each id
 pub record SoundWorld (w : World) (told : ℕ → Said) : Type 0 where
   pub tidy : Tidy w
   pub sound : Sound (boundsOf w) (pictureOf w) told
+
+-- what only 3 hangs on, and the invariant does not ask for: no object of any file is of max_object_size or more
+abbrev pub SmallWorld : World → Type 0
+SmallWorld w = (k : ℕ) (f : File) → viewAt (viewsOf w) k ≡ holds f → SmallFile (w .settings .«max_object_size») f
 
 -- a slot of the heap has S bytes
 pub slot-whole : (w : World) → Tidy w → (k : ℕ) → k < slotsOf w → length (slotBytes (w .settings .«slot_bytes») (w .heap) k) ≡ w .settings .«slot_bytes»

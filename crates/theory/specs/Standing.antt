@@ -2,7 +2,7 @@
 use mathlib.Core.Path.{_≡_}
 use Prim.Native.Nat.{_<_, _≤_}
 use native.Mathlib.Omega.{arith}
-use Rattle.rules.specs.Base.{List, [], _∷_, ℕ, _*_, _^_, length, set, drop}
+use Rattle.rules.specs.Base.{false, List, [], _∷_, ℕ, _*_, _^_, length, set, drop}
 use Rattle.numbers.specs.Parts.{putAt}
 use Rattle.disk_location.specs.Locations.{positionOf}
 use Rattle.rules.specs.Refusal.{NoneHolds}
@@ -11,6 +11,7 @@ use Rattle.rules.specs.Object.{storedAt}
 use Rattle.rules.specs.ObjectLaws.{storedObject}
 use Rattle.rules.specs.Ops.{put, Op, objectsOf, entriesOf, fileBytes}
 use Rattle.rules.specs.OpsLaws.{Stands, stands-entry, stands-inside, entries-of-inside}
+use Rattle.rules.specs.Batch.{anyTooLarge}
 use Rattle.rules.specs.SlotFile.{empty, holds}
 use Rattle.rules.specs.TableLaws.{Has}
 use Rattle.rules.specs.WrittenLaws.{slotFile, fileOfOps, slot-made, object-written, read-clear}
@@ -19,6 +20,8 @@ use Rattle.rules.specs.Install.{newSlot, newLsn, storesFor, installed}
 use Rattle.rules.specs.World.{World}
 use Rattle.theory.specs.Places.{viewAt}
 use Rattle.theory.specs.Picture.{viewsOf, Said}
+use Rattle.theory.specs.Sound.{SmallFile}
+use Rattle.theory.specs.Whole.{small-written}
 use Rattle.theory.specs.Told.{ids-fit}
 use Rattle.theory.specs.SoundWorld.{SoundWorld}
 use Rattle.theory.specs.Adding.{Fitting, free-slot, writable, views-after}
@@ -36,6 +39,8 @@ pub record Stood (bit g : ℕ) (w : World) (os : List Op) : Type 0 where
   -- each put is read at its position with its id and body, and none of 16, 10, 17 refuses it
   pub objects : (x : ℕ) (body : List ℕ) (p : ℕ) → Stands 0 os x (put body) p
       → (behind : ℕ) × (storedAt p (drop p (fileBytes os)) ≡ storedObject p x body behind) × NoneHolds (objectTests x (storedObject p x body behind))
+  -- no object is larger than the operations' bodies
+  pub small : (limit : ℕ) → anyTooLarge limit os ≡ false → SmallFile limit (fileOfOps (newLsn bit w) g os)
 
 -- file by file
 abbrev pub AllStood : ℕ → ℕ → World → List (List Op) → Type 0
@@ -63,4 +68,5 @@ module _ (w : World) (told : ℕ → Said) (s : SoundWorld w told) (bit g : ℕ)
         let n : length body < 2 ^ 64 = omega arith in
         let o = object-written os x body p h (ids-fit os (f .ids) 0 x _ (stands-entry 0 os x (put body) p h)) n in
         (o .0, o .1, read-clear p x body (o .0));
+    small = λ limit h. let c = f .positions in small-written limit (newLsn bit w) g os (f .ids) (omega arith) h;
   }

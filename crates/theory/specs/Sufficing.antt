@@ -14,6 +14,7 @@ use Rattle.rules.specs.Maintenance.{group, maintainCall}
 use Rattle.rules.specs.World.{World, maintainGiven}
 use Rattle.theory.specs.SoundWorld.{SoundWorld}
 use Rattle.theory.specs.Writing.{engine}
+use Rattle.theory.specs.Checked.{Oversized}
 use Rattle.theory.specs.Rewriting.{one-fewer, installed-numbers}
 use Rattle.theory.specs.Finished.{liveOf, before}
 use Rattle.theory.specs.FirstRefused.{generations, Due, newFiles, finishing, finishedFrom, NoneRefused, settings-finished, maintain-ends}
@@ -26,8 +27,9 @@ positionsOf files = sum (λ (f : List Op). length (objectsOf f) + 1) files
 abbrev pub ifDue : World → (List (List Op) → ℕ) → ℕ → ℕ
 ifDue w f g = pick (ltb (length (group w g)) (w .settings .«min_compaction_files»)) 0 (f (newFiles w g))
 
--- within the limits of a store, as the call starts: 4, 5 and 7 refuse no due generation
+-- within the limits of a store, as the call starts: 3, 4, 5 and 7 refuse no due generation
 pub record Suffices (w : World) : Type 0 where
+  pub small : (g : ℕ) → Among generations g → Due w g → Oversized w (group w g) → ⊥
   pub fits : (g : ℕ) → Among generations g → Due w g → All (λ (f : List Op). 64 + length (fileBytes f) ≤ w .settings .«slot_bytes») (newFiles w g)
   pub slots : sum (ifDue w length) generations ≤ emptyOf w
   pub positions : w .state .«next_position» + sum (ifDue w positionsOf) generations ≤ 2 ^ 62
@@ -42,7 +44,7 @@ all-positions : (g : ℕ) (files : List (List Op)) (w : World) → installedAll 
 unfolding installedAll sum
 all-positions g [] w = omega arith
 all-positions g (f ∷ fs) w =
-    let a = installed-numbers 0 [] g w f .1 in
+    let a = installed-numbers [] g w f .1 in
     let b = all-positions g fs (installed 0 g w f) in
     omega arith
 
@@ -84,11 +86,14 @@ none-refused w h g a due =
     let b = h .slots in
     let c = h .positions in
     record {
-      room = record {
-        fits = subst (λ (s : Settings). All (λ (f : List Op). 64 + length (fileBytes f) ≤ s .«slot_bytes») (newFiles w g)) (sym (settings-finished w (before g) w)) (h .fits g a due);
-        slots = omega arith;
+      sizes = h .small g a due;
+      enough = record {
+        room = record {
+          fits = subst (λ (s : Settings). All (λ (f : List Op). 64 + length (fileBytes f) ≤ s .«slot_bytes») (newFiles w g)) (sym (settings-finished w (before g) w)) (h .fits g a due);
+          slots = omega arith;
+        };
+        positions = λ some. omega arith;
       };
-      positions = λ some. omega arith;
     }
 
 -- LAW: then maintenance succeeds

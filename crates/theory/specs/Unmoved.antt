@@ -52,7 +52,7 @@ losing-other t (o ∷ os) rs k a =
     holding Unmapped = refl
     holding (Mapped l) = less-file (fileHolding rs (lookup t (o .id))) rs l
 
-module _ (limit : ℕ) (history : List Op) where
+module _ (history : List Op) where
   module _ (w : World) (s : SoundWorld w (engine history)) (k : ℕ) (some : 0 < recordAt (recordsOf w) k .lsn) (g : ℕ) (os : List Op) (f : Fitting 0 g w os) where
     file : (c : File) × (viewAt (viewsOf w) k ≡ holds c)
     file = let z = file-slot w (engine history) s k (not-empty (recordAt (recordsOf w) k) some) in (z .0, z .1)
@@ -102,23 +102,23 @@ module _ (limit : ℕ) (history : List Op) where
             (filed-added (boundsOf w) (pictureOf w) (engine history) (s .sound) (newSlot w) (newLsn 0 w) g os ad) (o .id) m (newSlot w) k t (file .0) v not-new
 
   -- LAW: so while files are rewritten one after another
-  pub unmoved : (g : ℕ) (files : List (List Op)) (w : World) → SoundWorld w (engine history) → g ≤ 255 → limit ≡ w .settings .«max_object_size» → All (Rewritable limit (engine history)) files
+  pub unmoved : (g : ℕ) (files : List (List Op)) (w : World) → SoundWorld w (engine history) → g ≤ 255 → All (Rewritable (engine history)) files
       → All (λ (f : List Op). 64 + length (fileBytes f) ≤ w .settings .«slot_bytes») files → length files ≤ emptyOf w
       → w .state .«next_position» + sum (λ (f : List Op). length (objectsOf f) + 1) files ≤ 2 ^ 62
       → (k : ℕ) → 0 < recordAt (recordsOf w) k .lsn → All (All (Elsewhere w k)) files → recordAt (recordsOf (installedAll 0 g w files)) k ≡ recordAt (recordsOf w) k
   unfolding installedAll sum
-  unmoved g [] w s aged same r slot free positions k some a = refl
-  unmoved g (f ∷ fs) w s aged same r slot free positions k some a =
-      let fit = fits-file limit history w s g f (r .0) aged same (slot .0) (omega arith) (omega arith) in
+  unmoved g [] w s aged r slot free positions k some a = refl
+  unmoved g (f ∷ fs) w s aged r slot free positions k some a =
+      let fit = fits-file history w s g f (r .0) aged (slot .0) (omega arith) (omega arith) in
       let n : length (objectsOf f) < 2 ^ 64 = omega arith in
-      let e = installed-numbers limit history g w f in
+      let e = installed-numbers history g w f in
       let e1 = e .1 in
       let d = one-fewer 0 g w f in
       let q : recordAt (recordsOf (installed 0 g w f)) k ≡ recordAt (recordsOf w) k = record-same w s k some g f fit (a .0) in
       unmoved g fs (installed 0 g w f)
       (sound-told (installed 0 g w f) (λ x. over (fileSays (fileOfOps (newLsn 0 w) g f) x) (engine history x)) (engine history)
-      (λ x. still-said limit history f (r .0) n (newLsn 0 w) g x) (sound-installed w (engine history) s 0 g f fit))
-      aged (same ∙ ap (λ (c : Settings). c .«max_object_size») (sym (e .0))) (r .1)
+      (λ x. still-said history f (r .0) n (newLsn 0 w) g x) (sound-installed w (engine history) s 0 g f fit))
+      aged (r .1)
       (subst (λ (c : Settings). All (λ (f : List Op). 64 + length (fileBytes f) ≤ c .«slot_bytes») fs) (sym (e .0)) (slot .1))
       (omega arith) (omega arith) k (subst (λ (c : Record). 0 < c .lsn) (sym q) some)
       (all-map (All (Elsewhere w k)) (All (Elsewhere (installed 0 g w f) k)) fs

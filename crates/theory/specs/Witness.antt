@@ -5,7 +5,8 @@ use Rattle.rules.specs.Base.{Bool, true, false, not, List, [], _∷_, map, take
 use Rattle.theory.specs.Types.{Record, Claim, Moved}
 use Rattle.rules.specs.Claims.{noClaims}
 use Rattle.rules.specs.World.{World, recordsOf, noState, Given, accepted, refused, maintainGiven, After}
-use Rattle.theory.specs.History.{Call, write, maintain, prune, claim, release, reopen, called}
+use Rattle.theory.specs.History.{Call, write, maintain, prune, reopen, quiet, called}
+use Rattle.theory.specs.Quiet.{claim, release}
 use Rattle.checksum.specs.Checksum.{shiftBit, shifts, crcFrom, crc32, objectSum}
 use Rattle.disk_location.specs.Locations.{maskedOf, digitsIn}
 use Rattle.numbers.specs.Groups.{groupsOf, readGroups, numberIn}
@@ -70,10 +71,10 @@ pub moves :
     write (0x07 ∷ 0x01 ∷ 0x01 ∷ 0x41 ∷ 0x08 ∷ 0x01 ∷ 0x01 ∷ 0x42 ∷ [])
     ∷ write (0x07 ∷ 0x00 ∷ 0x09 ∷ 0x01 ∷ 0x01 ∷ 0x43 ∷ [])
     ∷ write (0x09 ∷ 0x01 ∷ 0x01 ∷ 0x44 ∷ [])
-    ∷ claim 0
+    ∷ quiet (claim 0)
     ∷ maintain
     ∷ reopen
-    ∷ release 0
+    ∷ quiet (release 0)
     ∷ maintain
     ∷ write (0x09 ∷ 0x01 ∷ 0x01 ∷ 0x45 ∷ [])
     ∷ prune

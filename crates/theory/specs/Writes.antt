@@ -2,11 +2,10 @@
 use mathlib.Core.Path.{_≡_, refl, sym, ap, _∙_, subst}
 use Prim.Native.Nat.{_<_}
 use native.Mathlib.Omega.{arith}
-use Rattle.rules.specs.Base.{false, not, _||_, List, [], _∷_, _++_, ℕ, _^_, length}
-use Rattle.theory.specs.Types.{Refusal, Limits, Claim, Answer, Done, Refused, ReadAnswer, Found, Nothing, ReadRefused}
+use Rattle.rules.specs.Base.{false, List, [], _∷_, _++_, ℕ, _^_, length}
+use Rattle.theory.specs.Types.{Refusal, Limits, Answer, Done, Refused, ReadAnswer, Found, Nothing, ReadRefused}
 use Rattle.rules.specs.Refusal.{_gives_, decide, after}
 use Rattle.rules.specs.Condition1.{outOfRange, refused1}
-use Rattle.rules.specs.Claims.{isClaimed, notAFile, claimSet, claimCleared, withClaims, claimCall, releaseCall}
 use Rattle.rules.specs.Prune.{pruned, pruneCall}
 use Rattle.rules.specs.Ops.{put, delete, Op, settled}
 use Rattle.rules.specs.SettledLaws.{Last, silent, last, orEarlier, lastOn, last-append}
@@ -23,8 +22,9 @@ use Rattle.theory.specs.Standing.{Stood, fitting-stands}
 use Rattle.theory.specs.Writing.{engine, heard, fits-write, sound-write}
 use Rattle.theory.specs.Reading.{Reads, sound-read}
 use Rattle.theory.specs.Again.{reopen-accepted}
+use Rattle.theory.specs.Quiet.{undisturbed}
 use Rattle.theory.specs.Fresh.{Blank}
-use Rattle.theory.specs.History.{Call, write, maintain, prune, claim, release, reopen, called, hears, lived, born, sound-called, sound-history}
+use Rattle.theory.specs.History.{Call, write, maintain, prune, reopen, quiet, called, hears, Life, lived, Starts, sound-called, sound-lived, born, born-starts}
 
 -- what a read gives a host: nothing, the bytes of a part of the heap, or a refusal
 pub data Got : Type 0 where
@@ -112,43 +112,47 @@ write-means w history s batch e =
       same-records = ap (λ (a : After). recordsOf (a .world)) again;
     }
 
--- LAW: so it is on every store of demand 3
+-- LAW: so on any store of the invariant, whatever calls were made
+pub lived-write : (l : Life) → Starts l → (calls : List Call) (batch : List ℕ) → writeCall (lived l calls .world) batch .answer ≡ accepted [] → Wrote (lived l calls .world) batch
+lived-write l s calls batch e = write-means (lived l calls .world) (lived l calls .history) (sound-lived l s calls) batch e
+
+-- LAW: and on every store of demand 3 that began with no file
 pub any-write : (w : World) → outOfRange (w .settings) (length (w .heap)) (w .table) ≡ false → Blank w
     → (calls : List Call) (batch : List ℕ) → writeCall (lived (born w) calls .world) batch .answer ≡ accepted [] → Wrote (lived (born w) calls .world) batch
-any-write w range blank calls batch e =
-    write-means (lived (born w) calls .world) (lived (born w) calls .history) (sound-history w range blank calls) batch e
+any-write w range blank = lived-write (born w) (born-starts w range blank)
 
 -- ---- the other calls
 -- a call that brings no put and no delete
-abbrev pub Quiet : Call → Type 0
-Quiet (write batch) = ⊥
-Quiet maintain = Unit {0}
-Quiet prune = Unit {0}
-Quiet (claim slot) = Unit {0}
-Quiet (release slot) = Unit {0}
-Quiet reopen = Unit {0}
+abbrev pub Unheard : Call → Type 0
+Unheard (write batch) = ⊥
+Unheard maintain = Unit {0}
+Unheard prune = Unit {0}
+Unheard reopen = Unit {0}
+Unheard (quiet q) = Unit {0}
 
 -- so the engine hears nothing of it
-hears-nothing : (w : World) (history : List Op) (c : Call) → Quiet c → hears w history c ≡ history
+hears-nothing : (w : World) (history : List Op) (c : Call) → Unheard c → hears w history c ≡ history
 hears-nothing w history (write batch) q = absurd q
 hears-nothing w history maintain q = refl
 hears-nothing w history prune q = refl
-hears-nothing w history (claim slot) q = refl
-hears-nothing w history (release slot) q = refl
 hears-nothing w history reopen q = refl
+hears-nothing w history (quiet p) q = refl
 
 -- LAW: what is read stays as it was, whether the call is accepted or refused
-pub reads-stay : (w : World) (history : List Op) → SoundWorld w (engine history) → (c : Call) → Quiet c → (id : ℕ) → got (called w c .world) id ≡ got w id
+pub reads-stay : (w : World) (history : List Op) → SoundWorld w (engine history) → (c : Call) → Unheard c → (id : ℕ) → got (called w c .world) id ≡ got w id
 reads-stay w history s c q id =
     got-last (called w c .world) history
     (subst (λ (h : List Op). SoundWorld (called w c .world) (engine h)) (hears-nothing w history c q) (sound-called w history c s)) id
     ∙ sym (got-last w history s id)
 
--- LAW: so it is on every store of demand 3
+-- LAW: so on any store of the invariant, whatever calls were made
+pub lived-reads-stay : (l : Life) → Starts l → (calls : List Call) (c : Call) → Unheard c → (id : ℕ) → got (called (lived l calls .world) c .world) id ≡ got (lived l calls .world) id
+lived-reads-stay l s calls c = reads-stay (lived l calls .world) (lived l calls .history) (sound-lived l s calls) c
+
+-- LAW: and on every store of demand 3 that began with no file
 pub any-reads-stay : (w : World) → outOfRange (w .settings) (length (w .heap)) (w .table) ≡ false → Blank w
-    → (calls : List Call) (c : Call) → Quiet c → (id : ℕ) → got (called (lived (born w) calls .world) c .world) id ≡ got (lived (born w) calls .world) id
-any-reads-stay w range blank calls c =
-    reads-stay (lived (born w) calls .world) (lived (born w) calls .history) (sound-history w range blank calls) c
+    → (calls : List Call) (c : Call) → Unheard c → (id : ℕ) → got (called (lived (born w) calls .world) c .world) id ≡ got (lived (born w) calls .world) id
+any-reads-stay w range blank = lived-reads-stay (born w) (born-starts w range blank)
 
 -- ---- refused calls
 -- all but maintenance, which keeps finished groups, and reopening, which gives the old table up
@@ -156,9 +160,8 @@ abbrev pub Plain : Call → Type 0
 Plain (write batch) = Unit {0}
 Plain maintain = ⊥
 Plain prune = Unit {0}
-Plain (claim slot) = Unit {0}
-Plain (release slot) = Unit {0}
 Plain reopen = ⊥
+Plain (quiet q) = Unit {0}
 
 or-unchanged : (w v : World) (a : Answer) → (after a (unchanged w) (record { answer = accepted []; world = v }) .answer ≡ accepted [] → ⊥)
     → after a (unchanged w) (record { answer = accepted []; world = v }) .world ≡ w
@@ -167,12 +170,9 @@ or-unchanged w v (Refused r) n = refl
 
 -- LAW: "A refusal changes no state or buffer", on any world
 pub refused-unchanged : (w : World) (c : Call) → Plain c → (called w c .answer ≡ accepted [] → ⊥) → called w c .world ≡ w
-unfolding writeCall pruneCall claimCall releaseCall
+unfolding writeCall pruneCall
 refused-unchanged w (write batch) p n = or-unchanged w (written w (settled (opsOf (batchIn batch)))) (decide (writeTests w batch)) n
 refused-unchanged w maintain p n = absurd p
 refused-unchanged w prune p n = or-unchanged w (pruned w) (decide (refused1 w gives Limits ∷ [])) n
-refused-unchanged w (claim slot) p n =
-    or-unchanged w (withClaims w (claimSet (w .claims) slot)) (decide (refused1 w gives Limits ∷ (notAFile w slot || isClaimed (w .claims) slot) gives Claim ∷ [])) n
-refused-unchanged w (release slot) p n =
-    or-unchanged w (withClaims w (claimCleared (w .claims) slot)) (decide (refused1 w gives Limits ∷ (notAFile w slot || not (isClaimed (w .claims) slot)) gives Claim ∷ [])) n
 refused-unchanged w reopen p n = absurd p
+refused-unchanged w (quiet q) p n = undisturbed w q .refused n

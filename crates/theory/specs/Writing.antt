@@ -3,15 +3,14 @@ use mathlib.Core.Path.{_≡_, refl, sym, ap, _∙_, subst}
 use mathlib.Core.Logic.{inr}
 use Prim.Native.Nat.{_<_, zero-le}
 use native.Mathlib.Omega.{arith}
-use Rattle.rules.specs.Base.{Bool, false, List, [], _∷_, _++_, ℕ, _^_, length, eqb, pick}
+use Rattle.rules.specs.Base.{Bool, List, [], _∷_, _++_, ℕ, _^_, length, eqb, pick}
 use Rattle.theory.specs.Types.{Answer, Done, Refused}
 use Rattle.rules.specs.Refusal.{decide, after}
 use Rattle.rules.specs.Answers.{known}
 use Rattle.rules.specs.Ops.{Op, objectsOf, entriesOf, settled}
 use Rattle.rules.specs.SettledLaws.{Last, last, orEarlier, lastOn, settled-rising, settled-last, settled-all, last-append}
 use Rattle.rules.specs.WrittenLaws.{fileOfOps}
-use Rattle.rules.specs.Batch.{batchIn, opsOf, tooLarge, anyTooLarge}
-use Rattle.rules.specs.BaseLaws.{any-false, any-clear}
+use Rattle.rules.specs.Batch.{batchIn, opsOf}
 use Rattle.rules.specs.BatchLaws.{batch-ids}
 use Rattle.rules.specs.Install.{newLsn, installed, installedAll}
 use Rattle.rules.specs.Write.{writeTests, written, writeCall}
@@ -40,7 +39,7 @@ sound-told w told said h s =
       tidy = s .tidy;
       sound = record {
         filed = p .filed;
-        written = p .written;
+        whole = p .whole;
         sized = p .sized;
         started = p .started;
         above = p .above;
@@ -59,13 +58,6 @@ heard-batch history ops x =
     ∙ ap (λ (l : Last). lastSays (orEarlier l (lastOn history x))) (settled-last ops x)
     ∙ ap lastSays (sym (last-append history ops x))
 
--- 3 refuses none of those that count
-small-settled : (limit : ℕ) (ops : List Op) → anyTooLarge limit ops ≡ false → anyTooLarge limit (settled ops) ≡ false
-unfolding anyTooLarge
-small-settled limit ops h =
-    any-clear (λ (o : Op). tooLarge limit (o .content)) (settled ops)
-    (settled-all (λ (o : Op). tooLarge limit (o .content) ≡ false) ops (any-false (λ (o : Op). tooLarge limit (o .content)) ops h))
-
 module _ (w : World) (history : List Op) (s : SoundWorld w (engine history)) (bytes : List ℕ) where
   -- 4 to 7 as facts about the file of a batch
   pub fits-write : (o : Op) (os : List Op) → opsIn bytes ≡ o ∷ os → Accepted w bytes → Fitting (2 ^ 62) 0 w (o ∷ os)
@@ -81,7 +73,6 @@ module _ (w : World) (history : List Op) (s : SoundWorld w (engine history)) (by
         aged = zero-le;
         slot = a .fits some;
         free = a .slot some;
-        small = small-settled (w .settings .«max_object_size») (opsOf (batchIn bytes)) (a .small);
         room = omega arith;
         positions = a .last some;
       })
