@@ -221,7 +221,11 @@ module _ (w : World) (told : ℕ → Said) (s : SoundWorld w told) where
       go true (last (put b)) e = absurd (let z : _≡_ {A = ℕ} 0 1 = cc in omega arith)
       go false t e = slot-read x l (fileFor (recordsOf w) l) t e
 
--- LAW: a read gives the body of the last accepted put; nothing after a delete, or of an id never written
-pub sound-read : (w : World) (history : List Op) → SoundWorld w (engine history) → (x : ℕ) → Reads w (readOf w x) (lastOn history x)
+-- LAW: a read gives what is said
+pub told-read : (w : World) (told : ℕ → Said) → SoundWorld w told → (x : ℕ) (t : Last) → told x ≡ lastSays t → Reads w (readOf w x) t
 unfolding readOf decide pictureSays
-sound-read w history s x = rw (sound-fine w (engine history) s) (held-read w (engine history) s x (lookup (mappings w) x) (lastOn history x) (s .sound .says x))
+told-read w told s x t e = rw (sound-fine w told s) (held-read w told s x (lookup (mappings w) x) t (s .sound .says x ∙ e))
+
+-- LAW: so the body of the last accepted put; nothing after a delete, or of an id never written
+pub sound-read : (w : World) (history : List Op) → SoundWorld w (engine history) → (x : ℕ) → Reads w (readOf w x) (lastOn history x)
+sound-read w history s x = told-read w (engine history) s x (lastOn history x) refl
