@@ -61,18 +61,15 @@ finishedFrom w (g ∷ gs) v = finishedFrom w gs (finishing w g v)
 abbrev pub withFinished : World → List ℕ → World
 withFinished w gs = finishedFrom w gs w
 
--- the new files of generation g and the store that they find when its turn comes
-abbrev pub Turn : (World → List (List Op) → Type 0) → World → ℕ → Type 0
-Turn says w g = says (withFinished w (before g)) (newFiles w g)
-
--- generation g is not refused: no object of its files is of max_object_size or more, and its new files have room, empty slots and positions
+-- generation g is not refused: no object of its files is of max_object_size or more, and its new files have room, empty slots and positions when
+-- its turn comes
 pub record Clears (w : World) (g : ℕ) : Type 0 where
   pub sizes : Oversized w (group w g) → ⊥
-  pub enough : Turn Enough w g
+  pub enough : Enough (withFinished w (before g)) (newFiles w g)
 
--- it is refused with r: with 3 for such an object; else with 4, 5 or 7 by its own new files, the empty slots and the base
+-- it is refused with r: with 3 for such an object; else with 4, 5 or 7 by its own new files, the empty slots and the base then
 abbrev pub RefusedWith : World → ℕ → Refusal → Type 0
-RefusedWith w g r = ((r ≡ ObjectSize) × Oversized w (group w g)) ⊎ ((Oversized w (group w g) → ⊥) × Turn (λ v files. Lacks v files r) w g)
+RefusedWith w g r = ((r ≡ ObjectSize) × Oversized w (group w g)) ⊎ ((Oversized w (group w g) → ⊥) × Lacks (withFinished w (before g)) (newFiles w g) r)
 
 -- it is skipped, or not refused
 abbrev pub Passes : World → ℕ → Type 0
