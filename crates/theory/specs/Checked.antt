@@ -1,14 +1,14 @@
 -- On a store of the invariant a file of a group is refused with 3 only, where an object of it is of max_object_size or more.
 use mathlib.Core.Path.{_≡_, refl, sym, _∙_, subst}
 use mathlib.Core.Bool.{true≢false}
-use mathlib.Core.Logic.{_⊎_, inl, inr, ⊎-elim}
+use mathlib.Core.Logic.{_⊎_, inl, inr}
 use Prim.Native.Nat.{_<_}
 use native.Mathlib.Omega.{arith}
 use borrow.Author.Tests.{lt-leb}
 use Rattle.rules.specs.Base.{Bool, true, false, List, [], _∷_, _++_, ℕ, _+_, _*_, _^_, leb, any, keep, pick, each}
 use Rattle.theory.specs.Types.{Entry, Record, Refusal, ObjectSize, Refused, Held, Mapped, Unmapped}
 use Rattle.disk_location.specs.Locations.{maskedOf, positionOf, deleteOf, rawOf}
-use Rattle.rules.specs.BaseLaws.{All, all-map, all-append, any-clear, or-holds}
+use Rattle.rules.specs.BaseLaws.{All, all-append, any-clear, or-holds}
 use Rattle.rules.specs.Refusal.{Test, _gives_, decide, NoneHolds, none-append}
 use Rattle.rules.specs.Object.{Stored, objectsIn}
 use Rattle.rules.specs.Trailer.{trailerTests}
@@ -65,11 +65,6 @@ none-only : (X : Type 0) (ts : List Test) → NoneHolds ts → All (OnlySize X) 
 unfolding NoneHolds
 none-only X [] n = tt
 none-only X (b gives r ∷ ts) n = (inl (n .0), none-only X ts (n .1))
-
-only-none : (ts : List Test) → All (OnlySize ⊥) ts → NoneHolds ts
-unfolding NoneHolds
-only-none [] a = tt
-only-none (b gives r ∷ ts) a = (⊎-elim (λ e. e) (λ z. absurd (z .1)) (a .0), only-none ts (a .1))
 
 -- what comes before the others decides only with 3
 pub only-decides : (X : Type 0) (ts us : List Test) (r : Refusal) → All (OnlySize X) ts → decide (ts ++ us) ≡ Refused r → ((r ≡ ObjectSize) × X) ⊎ (decide us ≡ Refused r)
@@ -156,16 +151,3 @@ module _ (w : World) (history : List Op) (s : SoundWorld w (engine history)) whe
       (sym (record-holds (viewsOf w) (recordsOf w) (s .sound .filed) k (z .0) (z .1)))
       (shown-only k (z .0) (z .1) (Oversized w ks) (λ large. record { slot = k; among = a; file = z .0; shows = z .1; large = large }) (recordAt (recordsOf w) k .live)))
       files)
-
--- no object is so large: none is refused
-pub small-clear : (w : World) (history : List Op) → SoundWorld w (engine history) → SmallWorld w → (ks : List ℕ) → All (λ (k : ℕ). 0 < recordAt (recordsOf w) k .lsn) ks
-    → NoneHolds (each (λ (k : ℕ). fileTests (w .settings .«max_object_size») (mappings w) (recordAt (recordsOf w) k) (slotOf w k)) ks)
-small-clear w history s small ks files =
-    only-none tests (all-map (OnlySize (Oversized w ks)) (OnlySize ⊥) tests none (group-only w history s ks files))
-  where
-    tests : List Test
-    tests = each (λ (k : ℕ). fileTests (w .settings .«max_object_size») (mappings w) (recordAt (recordsOf w) k) (slotOf w k)) ks
-
-    none : (t : Test) → OnlySize (Oversized w ks) t → OnlySize ⊥ t
-    none (b gives r) (inl e) = inl e
-    none (b gives r) (inr (e, o)) = inr (e, not-oversized w small ks o)

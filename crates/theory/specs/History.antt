@@ -150,10 +150,6 @@ module _ (w : World) (range : outOfRange (w .settings) (length (w .heap)) (w .ta
   pub born-small : SmallWorld (born w .world)
   born-small = subst (λ (a : After). SmallWorld (a .world)) (sym (fresh-opens w range blank)) (λ k f e. absurd (not-empty (sym (views-blank w range blank k) ∙ e)))
 
-  -- so the invariant holds whatever calls were made
-  pub sound-history : (calls : List Call) → Starts (lived (born w) calls)
-  sound-history = sound-lived (born w) born-starts
-
   -- DEMAND 3: reopen a heap whose slots all begin with byte 0, in range; then make any calls, refused ones among them
   pub any-history : (calls : List Call) → Kept (lived (born w) calls .world) (lived (born w) calls .history)
   any-history = lived-kept (born w) born-starts

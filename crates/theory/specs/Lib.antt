@@ -53,5 +53,6 @@ pub mod Covered
 pub mod Arrived
 pub mod Afterwards
 pub mod Sufficing
--- a life worked out
+-- a life worked out, and a heap that another wrote
 pub mod Witness
+pub mod Foreign
