@@ -11,10 +11,11 @@ use Rattle.numbers.specs.GroupLaws.{either-way}
 use Rattle.rules.specs.Base.{Bool, true, false, List, [], _∷_, _++_, ℕ, zero, suc, _+_, _^_, length, getD, set, take, drop, ltb, eqb, pick}
 use Rattle.rules.specs.BaseLaws.{All, same?, zero-or-more, replicate-at}
 use Rattle.rules.specs.Ops.{Op, sizeOf, shardFor}
+use Rattle.rules.specs.OpsLaws.{shard-most}
 use Rattle.batch.specs.SizeLaws.{size-bound}
 use Rattle.gc_split.specs.Tally.{Tally, pieceNo, closing, cutting, entering, taking, tallyFrom, tallyOf, emptyTally, closedOf, restOf, restsFrom, orderOf, Within}
 use Rattle.gc_split.specs.BoundLaws.{cut-within, take-within, empty-within}
-use Rattle.gc_split.specs.PieceLaws.{shard-most, take-cuts}
+use Rattle.gc_split.specs.PieceLaws.{take-cuts}
 use Rattle.gc_split.specs.OrderLaws.{fragments-among, order-counted}
 use Rattle.gc_files.specs.Places.{Standing, movingAt, opAt, placedOps}
 use Rattle.gc_files.specs.PlaceLaws.{moving-told}

@@ -9,26 +9,14 @@ use native.Mathlib.Omega.{arith}
 use borrow.Author.Tests.{eq-eqb, ne-eqb}
 use lib.ListN.{length-set, length-replicate, getD-replicate}
 use lib.Seq.{set-out, getD-set-same, getD-set-other, take-suc-set}
-use Rattle.rules.specs.Base.{Bool, true, false, List, [], _∷_, _++_, map, ℕ, zero, suc, _+_, _/_, _%_, length, getD, set, replicate, take, ltb, eqb, pick, keep}
+use Rattle.rules.specs.Base.{Bool, true, false, List, [], _∷_, _++_, map, ℕ, suc, _+_, _/_, _%_, length, getD, set, replicate, take, ltb, eqb, pick, keep}
 use Rattle.rules.specs.BaseLaws.{All, all-map, same?, all-append}
-use Rattle.rules.specs.Ops.{Content, put, delete, Op, sizeOf, shardFor}
+use Rattle.rules.specs.Ops.{Op, sizeOf, shardFor}
+use Rattle.rules.specs.OpsLaws.{shard-most}
 use Rattle.rules.specs.Maintenance.{Shard, noEntries, Split, cutOff, joining, splitFrom, hasEntries, filesOf}
 use Rattle.numbers.specs.GroupLaws.{either-way}
-use Rattle.disk_location.specs.Locations.{digitsIn}
 use Rattle.gc_split.specs.TotalLaws.{shardCount, Told, size-at, either-has, cut-told, join-told, split-told, empty-told}
 use Rattle.gc_split.specs.Tally.{Tally, pieceNo, closing, cutting, entering, taking, tallyFrom, tallyOf, emptyTally, restOf, restsFrom, orderOf, piecesFrom, piecesOf, pieceIn, inPiece}
-
--- ---- 65 shards
-digits-most : (k x : ℕ) → digitsIn k x ≤ k
-unfolding digitsIn
-digits-most zero x = omega arith
-digits-most (suc k) zero = omega arith
-digits-most (suc k) (suc n) = omega (arith, digits-most k (suc n / 2))
-
--- "the shard number is how many bits the length needs": 64 at most
-pub shard-most : (c : Content) → shardFor c < 65
-shard-most (put body) = omega (arith, digits-most 64 (length body))
-shard-most delete = omega arith
 
 -- ---- what each piece holds so far
 -- an operation more in piece p

@@ -1,7 +1,7 @@
 -- Laws of tests and lists: no word of the paper is here.
 use mathlib.Core.Path.{_≡_, refl, sym, ap₂, _∙_}
 use mathlib.Core.Bool.{true≢false, false≢true}
-use mathlib.Core.Logic.{_⊎_, inl, inr}
+use mathlib.Core.Logic.{_⊎_, inl, inr, ⊎-elim}
 use Prim.Native.Nat.{_≤_, _<_}
 use native.Mathlib.Nat.{eq-or-lt-of-le, le-of-suc-le-suc, not-suc-le-zero}
 use native.Mathlib.Omega.{arith}
@@ -117,6 +117,24 @@ pub replicate-at : {A : Type 0} (n i : ℕ) (a : A) → getD (replicate n a) i a
 replicate-at zero i a = refl
 replicate-at (suc n) zero a = refl
 replicate-at (suc n) (suc i) a = replicate-at n i a
+
+-- some element is such
+abbrev pub Some : {A : Type 0} → (A → Type 0) → List A → Type 0
+Some P [] = ⊥
+Some P (x ∷ xs) = P x ⊎ Some P xs
+
+-- one passes
+pub any-true : {A : Type 0} (f : A → Bool) (P : A → Type 0) → ((x : A) → f x ≡ true → P x) → (xs : List A) → any f xs ≡ true → Some P xs
+unfolding any
+any-true f P h [] e = absurd (true≢false (sym e))
+any-true f P h (x ∷ xs) e = ⊎-elim (λ a. inl (h x a)) (λ a. inr (any-true f P h xs a)) (or-true (f x) (any f xs) e)
+
+-- and back
+pub any-holds : {A : Type 0} (f : A → Bool) (P : A → Type 0) → ((x : A) → P x → f x ≡ true) → (xs : List A) → Some P xs → any f xs ≡ true
+unfolding any
+any-holds f P h [] s = absurd s
+any-holds f P h (x ∷ xs) (inl a) = or-holds (f x) (any f xs) (inl (h x a))
+any-holds f P h (x ∷ xs) (inr a) = or-holds (f x) (any f xs) (inr (any-holds f P h xs a))
 
 -- none passes
 pub any-false : {A : Type 0} (f : A → Bool) (xs : List A) → any f xs ≡ false → All (λ (x : A). f x ≡ false) xs

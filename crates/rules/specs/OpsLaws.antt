@@ -5,9 +5,9 @@ use Prim.Native.Nat.{_≤_, _<_}
 use native.Mathlib.Omega.{arith}
 use lib.ListN.{length-append}
 use lib.Seq.{drop-append-add}
-use Rattle.rules.specs.Base.{Bool, true, false, List, [], _∷_, _++_, map, ℕ, zero, suc, _+_, _-_, _*_, _^_, length, drop, each}
+use Rattle.rules.specs.Base.{Bool, true, false, List, [], _∷_, _++_, map, ℕ, zero, suc, _+_, _-_, _*_, _/_, _^_, length, drop, each}
 use Rattle.rules.specs.Types.{Entry}
-use Rattle.disk_location.specs.Locations.{positionOf, rawOf}
+use Rattle.disk_location.specs.Locations.{positionOf, rawOf, digitsIn}
 use Rattle.disk_location.specs.LocationLaws.{position-raw}
 use Rattle.rules.specs.BaseLaws.{All}
 use Rattle.rules.specs.TableLaws.{Rising, rise, rise-end, Has}
@@ -15,7 +15,7 @@ use Rattle.rules.specs.Object.{objectBytes, Stored, objectsFrom, objects
 use Rattle.rules.specs.ObjectLaws.{object-length, storedObject, objects-none, objects-put}
 use Rattle.rules.specs.Trailer.{trailerBytes}
 use Rattle.rules.specs.TrailerLaws.{Fits, trailer-length}
-use Rattle.rules.specs.Ops.{Content, put, delete, Op, isDelete, sizeOf, contentBytes, objectsOf, entriesOf, fileBytes}
+use Rattle.rules.specs.Ops.{Content, put, delete, Op, isDelete, sizeOf, shardFor, contentBytes, objectsOf, entriesOf, fileBytes}
 
 -- ids strictly rising, from a least one on
 pub data RisingOps : ℕ → List Op → Type 0 where
@@ -183,3 +183,15 @@ stands-bytes q (o ∷ os) x body p (inr h) =
   where
     past : (xs ys : List ℕ) (n k : ℕ) → length xs ≡ n → drop (n + k) (xs ++ ys) ≡ drop k ys
     past xs ys n k e = rw (← e) (drop-append-add xs ys k)
+
+-- ---- 65 shards
+digits-most : (k x : ℕ) → digitsIn k x ≤ k
+unfolding digitsIn
+digits-most zero x = omega arith
+digits-most (suc k) zero = omega arith
+digits-most (suc k) (suc n) = omega (arith, digits-most k (suc n / 2))
+
+-- "the shard number is how many bits the length needs": 64 at most
+pub shard-most : (c : Content) → shardFor c < 65
+shard-most (put body) = omega (arith, digits-most 64 (length body))
+shard-most delete = omega arith

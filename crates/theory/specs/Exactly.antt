@@ -251,7 +251,8 @@ turn-adds start going g c n m = go (ltb (length (group start g)) (c .world .sett
     go true = omega arith
     go false = group-adds g (group start g) (c .moved) (c .world) ∙ ap (λ (k : ℕ). c .moved + pick (goesOn (rewriteGroup g (group start g) (c .moved) (c .world) .stop)) k 0) m
 
-is-one : {j k : ℕ} → Is j ≡ Is k → j ≡ k
+-- a slot's number
+pub is-one : {j k : ℕ} → Is j ≡ Is k → j ≡ k
 is-one h = cc
 
 -- the same ids are in these slots' files

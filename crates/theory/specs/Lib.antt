@@ -46,6 +46,13 @@ pub mod Unmoved
 pub mod Finished
 pub mod Relocated
 pub mod Exactly
+pub mod Halting
+pub mod Sizes
+pub mod FirstRefused
+pub mod Covered
+pub mod Arrived
+pub mod Afterwards
+pub mod Sufficing
 -- a life worked out, and a heap that another wrote
 pub mod Witness
 pub mod Foreign

@@ -43,7 +43,7 @@ module _ (w : World) (told : ℕ → Said) (s : SoundWorld w told) where
           (f, e, omega arith)
 
   -- the view of a slot after: empty where its file is dead
-  view-after : (k : ℕ) → k < slotsOf w → viewAt (viewsOf (pruned w)) k ≡ pick (isDead (w .claims) k (recordAt (recordsOf w) k)) empty (viewAt (viewsOf w) k)
+  pub view-after : (k : ℕ) → k < slotsOf w → viewAt (viewsOf (pruned w)) k ≡ pick (isDead (w .claims) k (recordAt (recordsOf w) k)) empty (viewAt (viewsOf w) k)
   unfolding pruned
   view-after k h =
       let n = heap-whole (w .settings) (length (w .heap)) (s .tidy .limits .heap) in
@@ -60,7 +60,8 @@ module _ (w : World) (told : ℕ → Said) (s : SoundWorld w told) where
       views-length (slotsOf (pruned w)) (w .settings .«slot_bytes») (pruned w .heap)
       ∙ ap (slotsIn (w .settings)) (made-length (pruneStores w) (w .heap))
 
-  record-after : (k : ℕ) → recordAt (recordsOf (pruned w)) k ≡ pick (isDead (w .claims) k (recordAt (recordsOf w) k)) emptyRecord (recordAt (recordsOf w) k)
+  -- its record: emptied there
+  pub record-after : (k : ℕ) → recordAt (recordsOf (pruned w)) k ≡ pick (isDead (w .claims) k (recordAt (recordsOf w) k)) emptyRecord (recordAt (recordsOf w) k)
   unfolding pruned
   record-after k = go (ltb k (length (recordsOf w))) refl
     where

@@ -142,7 +142,7 @@ anew-earlier w u v x h a = record { location = a .location; slot = a .slot; tabl
 
 module _ (history : List Op) where
   -- files one after another
-  files-relocate : (g : ℕ) (files : List (List Op)) (w : World) → SoundWorld w (engine history) → g ≤ 255 → All (Rewritable (engine history)) files
+  pub files-relocate : (g : ℕ) (files : List (List Op)) (w : World) → SoundWorld w (engine history) → g ≤ 255 → All (Rewritable (engine history)) files
       → All (λ (f : List Op). 64 + length (fileBytes f) ≤ w .settings .«slot_bytes») files → length files ≤ emptyOf w
       → w .state .«next_position» + sum (λ (f : List Op). length (objectsOf f) + 1) files ≤ 2 ^ 62
       → (x : ℕ) → Left w (installedAll 0 g w files) x ⊎ (Anew w (installedAll 0 g w files) x × (any (λ (f : List Op). heardIn f x) files ≡ true))

@@ -65,7 +65,7 @@ stood-all-remain bit g [] w t k f h = h
 stood-all-remain bit g (os ∷ oss) w t k f h = stood-all-remain bit g oss (installed bit g w os) (t .1) k f (stood-remain bit g w os (t .0) k f h)
 
 -- settings stay
-settings-all : (g : ℕ) (files : List (List Op)) (w : World) → installedAll 0 g w files .settings ≡ w .settings
+pub settings-all : (g : ℕ) (files : List (List Op)) (w : World) → installedAll 0 g w files .settings ≡ w .settings
 unfolding installedAll installed
 settings-all g [] w = refl
 settings-all g (f ∷ fs) w = settings-all g fs (installed 0 g w f)

@@ -47,7 +47,8 @@ heard-cons o os x h = go (lastOn os x) refl h
 heard-least : (f : ℕ) (os : List Op) → RisingOps f os → (x : ℕ) → heardIn os x ≡ true → x < f → ⊥
 heard-least f os r x h l = true≢false (sym h ∙ ap known (last-below f os r x l))
 
-heard-later : (o : Op) (os : List Op) (x : ℕ) → (o .id ≡ x → ⊥) → heardIn (o ∷ os) x ≡ heardIn os x
+-- not in the first, so in the rest
+pub heard-later : (o : Op) (os : List Op) (x : ℕ) → (o .id ≡ x → ⊥) → heardIn (o ∷ os) x ≡ heardIn os x
 unfolding lastOn
 heard-later o os x n = rw (ne-eqb (o .id) x n) (go (lastOn os x))
   where

@@ -6,7 +6,7 @@ use borrow.Author.Needs.{needs}
 use lib.ListN.{getD, set}
 use lib.Seq.{set-getD}
 use Rattle.gc_split.specs.Tally.{Tally, tally, taking, pieceNo}
-use Rattle.gc_split.specs.PieceLaws.{shard-most}
+use Rattle.rules.specs.OpsLaws.{shard-most}
 use Rattle.gc_split.specs.BoundLaws.{take-within}
 use Rattle.gc_files.specs.Places.{opAt, entryTaken, entryPiece}
 use Rattle.gc_files.specs.PlaceLaws.{moving-told, measured}
