@@ -1,3 +1,6 @@
 pub mod Unique
+pub mod Results
+pub mod Contracts
+pub mod Lives
 pub mod Maintaining
 pub mod Demands
