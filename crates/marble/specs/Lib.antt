@@ -3,4 +3,5 @@ pub mod Results
 pub mod Contracts
 pub mod Lives
 pub mod Maintaining
+pub mod Writers
 pub mod Demands
