@@ -1,5 +1,6 @@
--- a call's run of stores, and what a power cut leaves
+-- a call's run of stores, by its writers' runs; and what a power cut leaves
 pub mod Runs
+pub mod Jobs
 pub mod Cuts
 -- what stands on a heap, and that a reopening finds it
 pub mod Enduring

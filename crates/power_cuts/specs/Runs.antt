@@ -24,7 +24,7 @@ filesRun bit generation w [] = []
 filesRun bit generation w (f ∷ fs) = storesFor (newRecord (newLsn bit w) generation f) w f ++ filesRun bit generation (installed bit generation w f) fs
 
 -- a call that 1 or another number refuses stores nothing
-abbrev pub unlessRefused : Answer → List Store → List Store
+abbrev pub unlessRefused : {A : Type 0} → Answer → List A → List A
 unlessRefused a run = after a (λ (r : Refusal). []) run
 
 -- a write's: its file's, if it makes one

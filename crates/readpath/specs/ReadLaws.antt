@@ -37,7 +37,7 @@ use Rattle.rules.specs.Read.{objectTests, objectIn, readObject, readFile, readH
 use Rattle.slot_file.specs.declared.BodyAnswer.{BodyAnswer}
 use Rattle.slot_file.specs.declared.BodyAnswer.the-variants.{Body, Unread}
 use Rattle.slot_file.specs.Objects.{bodyOf}
-use Rattle.readpath.specs.Reads.{Lies, FilesLie, inHeap, Within}
+use Rattle.readpath.specs.Reads.{Lies, FilesLie, inHeap, Within, placeOf}
 
 -- once 1 is decided
 pub passed-lie : (s : Settings) (n : ℕ) (b : Buffers) (t : State) → Passed s n b t → FilesLie (s .«slot_bytes») (t .files .records) n
@@ -153,16 +153,18 @@ module _ (w : World) (id : ℕ) where
       go true e = rw (read-refused e) tt
       go false e = rw (read-held e) (held-named (lookup (mappings w) id))
 
--- ---- any two answers that a read's contract admits are equal, and any two parts
+-- ---- any two answers that a read's contract admits are equal, and any two parts: their bytes, and where they begin in memory
 module _ (s : Settings) (t : State) (heap ids locations : List ℕ) (id : ℕ) where
   abbrev pub Answers : ReadAnswer → Type 0
   Answers r = (c : Claims) → r ≡ readOf (world s t c heap ids locations) id
 
-  abbrev pub Parts : List ℕ → Type 0
-  Parts p = (c : Claims) → p ≡ partOf (readOf (world s t c heap ids locations) id) heap
+  -- of a heap that begins there
+  abbrev pub Parts : ℕ × ℕ → List ℕ → ℕ × ℕ → Type 0
+  Parts begins p place =
+      ((c : Claims) → p ≡ partOf (readOf (world s t c heap ids locations) id) heap) × ((c : Claims) → place ≡ placeOf (readOf (world s t c heap ids locations) id) begins)
 
   pub read-one : (a b : ReadAnswer) → Answers a → Answers b → a ≡ b
   read-one a b p q = p noClaims ∙ sym (q noClaims)
 
-  pub part-one : (a b : List ℕ) → Parts a → Parts b → a ≡ b
-  part-one a b p q = p noClaims ∙ sym (q noClaims)
+  pub part-one : (begins : ℕ × ℕ) (a b : List ℕ) (x y : ℕ × ℕ) → Parts begins a x → Parts begins b y → (a ≡ b) × (x ≡ y)
+  part-one begins a b x y p q = (p .0 noClaims ∙ sym (q .0 noClaims), p .1 noClaims ∙ sym (q .1 noClaims))

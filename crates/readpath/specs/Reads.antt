@@ -29,3 +29,9 @@ abbrev pub Within : ReadAnswer → ℕ → Type 0
 Within (Found start size) heapLen = start + size ≤ heapLen
 Within Nothing heapLen = Unit {0}
 Within (ReadRefused r) heapLen = Unit {0}
+
+-- "a part of the lent heap itself": where it begins, in the buffer whose first byte that place is; an empty part begins there
+abbrev pub placeOf : ReadAnswer → ℕ × ℕ → ℕ × ℕ
+placeOf (Found start size) heap = (heap .0, start + heap .1)
+placeOf Nothing heap = heap
+placeOf (ReadRefused r) heap = heap

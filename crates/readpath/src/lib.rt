@@ -20,7 +20,7 @@ ghost use Rattle.rules.specs.Object.{storedAt};
 ghost use Rattle.rules.specs.Read.{readOf, partOf};
 ghost use Rattle.rules.specs.World.{world};
 ghost use Rattle.slot_file.specs.Objects.{bodyOf};
-ghost use Rattle.readpath.specs.Reads.{Lies, inHeap, Within};
+ghost use Rattle.readpath.specs.Reads.{Lies, inHeap, Within, placeOf};
 
 // "a 64-byte label, then the file": the file of a slot, a part of the lent heap.
 fn file_part(heap: &[u8], slot_bytes: u64, slot: u64, r: Record) -> &[u8]
@@ -93,6 +93,7 @@ pub fn read_answer(
 fn part(heap: &[u8], answer: ReadAnswer) -> &[u8]
     requires { ⌜ Within answer (length (now heap)) ⌝ }
     ensures { λ r. ⌜ now r ≡ partOf answer (now (heap .entry)) ⌝ }
+    ensures { λ r. ⌜ r .ptr ≡ placeOf answer (heap .entry .ptr) ⌝ }
 {
     match answer {
         ReadAnswer::Found(at, size) => {
@@ -115,6 +116,7 @@ pub fn read<'a>(
     id: u64,
 ) -> &'a [u8]
     ensures { λ r. ⌜ ((c : Claims) → now r ≡ partOf (readOf (world settings state c (now (heap .entry)) (now (ids .entry)) (now (locations .entry))) id) (now (heap .entry))) ⌝ }
+    ensures { λ r. ⌜ ((c : Claims) → r .ptr ≡ placeOf (readOf (world settings state c (now (heap .entry)) (now (ids .entry)) (now (locations .entry))) id) (heap .entry .ptr)) ⌝ }
 {
     let answer = read_answer(settings, state, heap, ids, locations, id);
     part(heap, answer)

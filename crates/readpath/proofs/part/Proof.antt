@@ -1,10 +1,12 @@
 use mathlib.Core.Path.{_≡_, sym, ap, _∙_}
 use Prim.Native.Nat.{ℕ, _+_, _-_}
 use native.Mathlib.Omega.{arith}
+use native.Mathlib.Nat.{zero-add}
 use borrow.Author.Needs.{needs}
 use lib.ListN.{take, drop}
 use Rattle.rules.specs.declared.ReadAnswer.{ReadAnswer}
 use Rattle.rules.specs.Read.{partOf}
+use Rattle.readpath.specs.Reads.{placeOf}
 use Rattle.readpath.proofs.part.Statement.{statement}
 use Rattle.readpath.proofs.part.Tie as tie
 
@@ -57,14 +59,22 @@ returns c =
     let a = m .before .before .args in
     let start = m .answer .given .0 .0 in
     let n = m .answer .given .0 .1 .0 in
-    let size : start + n - start ≡ n = omega arith in
-    ap (λ (k : ℕ). take k (drop start (a .heap .now))) size ∙ ap (λ (r : ReadAnswer). partOf r (a .heap .now)) (sym (m .answer .given .1))
+    let size : start + n - start ≡ n = omega arith in (
+      ap (λ (k : ℕ). take k (drop start (a .heap .now))) size ∙ ap (λ (r : ReadAnswer). partOf r (a .heap .now)) (sym (m .answer .given .1)),
+      ap (λ (r : ReadAnswer). placeOf r (a .heap .ptr)) (sym (m .answer .given .1)),
+    )
 
 returns-2 : tie.Need-returns-2
-returns-2 c = search needs
+returns-2 c =
+    let m = c .before in
+    let a = m .before .before .args in
+    (search needs, rw (zero-add (a .heap .ptr .1)) (ap (λ (r : ReadAnswer). placeOf r (a .heap .ptr)) (sym (m .enum-told .given .1))))
 
 returns-3 : tie.Need-returns-3
-returns-3 c = search needs
+returns-3 c =
+    let m = c .before in
+    let a = m .before .before .args in
+    (search needs, rw (zero-add (a .heap .ptr .1)) (ap (λ (r : ReadAnswer). placeOf r (a .heap .ptr)) (sym (m .enum-told2 .given .1))))
 
 pub part-spec : {M : Type 1} → statement M
 part-spec =

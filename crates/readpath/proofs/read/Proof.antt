@@ -4,6 +4,7 @@ use Rattle.rules.specs.declared.ReadAnswer.{ReadAnswer}
 use Rattle.rules.specs.Claims.{noClaims}
 use Rattle.rules.specs.World.{world}
 use Rattle.rules.specs.Read.{partOf}
+use Rattle.readpath.specs.Reads.{placeOf}
 use Rattle.readpath.specs.ReadLaws.{read-named}
 use Rattle.readpath.proofs.read.Statement.{statement}
 use Rattle.readpath.proofs.read.Tie as tie
@@ -19,8 +20,10 @@ part-requires c κs =
 
 returns : tie.Need-returns
 returns c =
-    let a = c .before .before .before .before .before .args in
-    λ claims. c .part .ensures ∙ ap (λ (r : ReadAnswer). partOf r (a .heap .now)) (c .before .read-answer .ensures claims)
+    let a = c .before .before .before .before .before .args in (
+      λ claims. c .part .ensures .0 ∙ ap (λ (r : ReadAnswer). partOf r (a .heap .now)) (c .before .read-answer .ensures claims),
+      λ claims. c .part .ensures .1 ∙ ap (λ (r : ReadAnswer). placeOf r (a .heap .ptr)) (c .before .read-answer .ensures claims),
+    )
 
 pub read-spec : {M : Type 1} → statement M
 read-spec = tie.close (tie.spec read-answer-requires part-requires returns)

@@ -1,0 +1,129 @@
+-- A store's life by what its calls gave: each result one that the contract of its call admits (`Contracts`), and power cuts among them.
+use mathlib.Core.Path.{_≡_}
+use Rattle.rules.specs.Base.{false, List, [], _∷_, ℕ, length}
+use Rattle.rules.specs.declared.ReadAnswer.{ReadAnswer}
+use Rattle.rules.specs.declared.CountsAnswer.{CountsAnswer}
+use Rattle.rules.specs.Ops.{Op}
+use Rattle.rules.specs.Condition1.{outOfRange}
+use Rattle.rules.specs.Claims.{withClaims, claimCall, releaseCall}
+use Rattle.rules.specs.Counts.{countsCall}
+use Rattle.rules.specs.Read.{readOf, partOf}
+use Rattle.rules.specs.Reopen.{reopenCall}
+use Rattle.rules.specs.World.{World, world, leaving, answerGiven, countsGiven}
+use Rattle.theory.specs.Fresh.{Blank}
+use Rattle.theory.specs.Writing.{heard}
+use Rattle.theory.specs.History.{Call, Life}
+use Rattle.power_cuts.specs.Cuts.{CutAt, hearsCut}
+use Rattle.recovery.specs.declared.Reopened.{Reopened}
+use Rattle.recovery.specs.Reopening.{leaves}
+use Rattle.writepath.specs.declared.Written.{Written}
+use Rattle.writepath.specs.Unique.{Writes}
+use Rattle.claims.specs.declared.ClaimAnswer.{ClaimAnswer}
+use Rattle.gc.specs.declared.Maintained.{Maintained}
+use Rattle.gc.specs.Unique.{Maintains}
+use Rattle.prune.specs.declared.PruneAnswer.{PruneAnswer}
+use Rattle.prune.specs.CallLaws.{Prunes}
+use Rattle.marble.specs.Unique.{Claims-leaves}
+
+-- a call and what it gave: what was asked, what it returned, and the buffers that it may change, as it left them
+pub data Result : Type 0 where
+  -- batch; heap, ids, locations
+  wrote : List ℕ → Written → List ℕ → List ℕ → List ℕ → Result
+  -- heap, ids, locations
+  maintained : Maintained → List ℕ → List ℕ → List ℕ → Result
+  -- heap
+  pruned : PruneAnswer → List ℕ → Result
+  -- slot
+  claimed : ℕ → ClaimAnswer → Result
+  released : ℕ → ClaimAnswer → Result
+  -- ids, locations
+  reopened : Reopened → List ℕ → List ℕ → Result
+  -- id, by `read_answer` and by `read`
+  answered : ℕ → ReadAnswer → Result
+  read : ℕ → List ℕ → Result
+  counted : CountsAnswer → Result
+
+-- what the host has after it
+abbrev pub left : World → Result → World
+left w (wrote batch r heap ids locations) = world (w .settings) (r .state) (w .claims) heap ids locations
+left w (maintained r heap ids locations) = world (w .settings) (r .state) (w .claims) heap ids locations
+left w (pruned r heap) = world (w .settings) (r .state) (w .claims) heap (w .table .ids) (w .table .locations)
+left w (claimed slot r) = withClaims w (r .claims)
+left w (released slot r) = withClaims w (r .claims)
+left w (reopened r ids locations) = world (w .settings) (r .state) (r .claims) (w .heap) ids locations
+left w (answered id r) = w
+left w (read id part) = w
+left w (counted r) = w
+
+-- the contract of its call admits it, where the host had w and handed it on
+abbrev pub Admitted : World → Result → Type 0
+Admitted w (wrote batch r heap ids locations) = Writes (w .settings) w batch (w .claims) r heap ids locations
+Admitted w (maintained r heap ids locations) = Maintains (w .settings) (w .claims) w r heap ids locations
+Admitted w (pruned r heap) = Prunes (w .settings) (w .state) (w .claims) (w .heap) (w .table .ids) (w .table .locations) r heap
+Admitted w (claimed slot r) = Claims-leaves (w .settings) (w .state) (w .heap) (w .table .ids) (w .table .locations) (claimCall w slot) r
+Admitted w (released slot r) = Claims-leaves (w .settings) (w .state) (w .heap) (w .table .ids) (w .table .locations) (releaseCall w slot) r
+Admitted w (reopened r ids locations) = leaves (w .settings) r (w .heap) ids locations ≡ reopenCall w
+Admitted w (answered id r) = r ≡ readOf w id
+Admitted w (read id part) = part ≡ partOf (readOf w id) (w .heap)
+Admitted w (counted r) = leaving (countsGiven r) w ≡ countsCall w
+
+-- the plain engine hears the operations of a write whose result says `Done`, and nothing else
+abbrev pub hearing : List Op → Result → List Op
+hearing history (wrote batch r heap ids locations) = heard history batch (answerGiven (r .answer))
+hearing history (maintained r heap ids locations) = history
+hearing history (pruned r heap) = history
+hearing history (claimed slot r) = history
+hearing history (released slot r) = history
+hearing history (reopened r ids locations) = history
+hearing history (answered id r) = history
+hearing history (read id part) = history
+hearing history (counted r) = history
+
+-- ---- a life
+-- a call gave a result; or power was cut behind the first k stores of a call, the robot then has v, and reopening that gave a result
+pub data Event : Type 0 where
+  gave : Result → Event
+  cut : ℕ → Call → World → Reopened → List ℕ → List ℕ → Event
+
+-- it can happen where the host has w
+abbrev pub Happens : World → Event → Type 0
+Happens w (gave r) = Admitted w r
+Happens w (cut k c v r ids locations) = CutAt k w c v × Admitted v (reopened r ids locations)
+
+-- the store and the engine after it
+abbrev pub next : Life → Event → Life
+next l (gave r) = record { world = left (l .world) r; history = hearing (l .history) r }
+next l (cut k c v r ids locations) = record { world = left v (reopened r ids locations); history = hearsCut k (l .world) (l .history) c }
+
+-- event by event
+unfoldable pub lives : Life → List Event → Life
+lives l [] = l
+lives l (e ∷ es) = lives (next l e) es
+
+-- each of them can happen to what the others left
+unfoldable pub AllHappen : Life → List Event → Type 0
+AllHappen l [] = Unit {0}
+AllHappen l (e ∷ es) = Happens (l .world) e × AllHappen (next l e) es
+
+-- what the first reopening gave; nothing was heard yet
+abbrev pub begun : World → Reopened → List ℕ → List ℕ → Life
+begun w r ids locations = record { world = left w (reopened r ids locations); history = [] }
+
+-- a store of demand 3, by its life
+pub record Lived : Type 0 where
+  -- what the host begins with: settings and lengths in range, a heap whose slots all begin with byte 0; any state, any claims
+  pub start : World
+  pub range : outOfRange (start .settings) (length (start .heap)) (start .table) ≡ false
+  pub blank : Blank start
+  -- the first reopening
+  pub opening : Reopened
+  pub ids : List ℕ
+  pub locations : List ℕ
+  pub first : Admitted start (reopened opening ids locations)
+  -- and all that happened since
+  pub events : List Event
+  pub happen : AllHappen (begun start opening ids locations) events
+
+-- the store that is left, and what the engine has heard
+abbrev pub reached : Lived → Life
+reached l = lives (begun (l .start) (l .opening) (l .ids) (l .locations)) (l .events)
