@@ -22,6 +22,7 @@ use Rattle.rules.specs.Table.{lookup, unmapped}
 use Rattle.rules.specs.TableLaws.{Has, lookup-here, lookup-next, has-lookup}
 use Rattle.rules.specs.Layout.{capacityOf, laidOut, usedEntries}
 use Rattle.rules.specs.LayoutLaws.{laid-out-ids, laid-out-locations, used-laid-out, form-laid-out}
+use Rattle.rules.specs.Condition1.{outOfRange}
 use Rattle.rules.specs.FileMap.{recordAt, fileFor}
 use Rattle.rules.specs.Read.{objectTests, readOf, partOf}
 use Rattle.rules.specs.Reopen.{filesIn, tableOf, mappedInto, recordOf, opened, reopenCall}
@@ -29,7 +30,7 @@ use Rattle.rules.specs.ReopenLaws.{records-from-length}
 use Rattle.rules.specs.World.{World, recordsOf, mappings, slotsOf, accepted, After}
 use Rattle.rules.specs.SlotLaws.{views-length}
 use Rattle.theory.specs.Newest.{Newest}
-use Rattle.theory.specs.Places.{viewAt, rowsOf, Stands, has-stands, record-holds, own-file}
+use Rattle.theory.specs.Places.{viewAt, not-empty, rowsOf, Stands, has-stands, record-holds, own-file}
 use Rattle.theory.specs.Files.{next-positive, next-above, record-from}
 use Rattle.theory.specs.Picture.{viewsOf, pictureOf, Said, gone, body, broken, placeSays, viewSays, slotSays, heldSays, pictureSays, lastSays}
 use Rattle.theory.specs.Sound.{StartsAt, WholeFile, newest-table, rising-table, table-stands}
@@ -38,6 +39,8 @@ use Rattle.theory.specs.SoundWorld.{boundsOf, SoundWorld, shown}
 use Rattle.theory.specs.Writing.{engine, sound-told}
 use Rattle.theory.specs.Reading.{Reads, told-read}
 use Rattle.theory.specs.Moving.{StandsIn, objects-stand}
+use Rattle.theory.specs.Again.{reopen-accepted}
+use Rattle.theory.specs.Fresh.{Blank, views-blank, fresh-opens}
 use Rattle.theory.specs.History.{Call, Life, lived, Starts, Kept, lived-kept}
 
 -- its elements are bytes, a reopening with these settings and this table accepts it, and its files are whole
@@ -227,3 +230,16 @@ clean-starts w c =
 -- DEMAND 3: so reads, reopenings and whatever calls are made on it
 pub clean-history : (w : World) → Clean w → (calls : List Call) → Kept (lived (resumed w) calls .world) (lived (resumed w) calls .history)
 clean-history w c = lived-kept (resumed w) (clean-starts w c)
+
+-- ---- which heaps are clean
+-- LAW: that of any store of the invariant: whatever calls were made, wherever power was cut
+pub sound-clean : (w : World) (told : ℕ → Said) → SoundWorld w told → Bytes (w .heap) → Clean w
+sound-clean w told s bytes = record { bytes = bytes; reopens = ap (λ (a : After). a .answer) (reopen-accepted w told s); whole = s .sound .whole }
+
+-- LAW: one whose slots all begin with byte 0
+pub blank-clean : (w : World) → outOfRange (w .settings) (length (w .heap)) (w .table) ≡ false → Blank w → Bytes (w .heap) → Clean w
+blank-clean w range blank bytes = record {
+  bytes = bytes;
+  reopens = ap (λ (a : After). a .answer) (fresh-opens w range blank);
+  whole = λ k f e. absurd (not-empty (sym (views-blank w range blank k) ∙ e));
+}
