@@ -14,28 +14,28 @@ use Rattle.rules.specs.Maintenance.{worthIt, isCandidate}
 -- "file count ≥ threshold and file_size × min_compaction_files < target_file_size"
 pub record Small (s : Settings) (files : ℕ) (r : Record) : Type 0 where
   pub count : s .«small_file_cleanup_threshold» ≤ files
-  pub size : r .«file_size» * s .«min_compaction_files» < s .«target_file_size»
+  pub size : r .label .«file_size» * s .«min_compaction_files» < s .«target_file_size»
 
 -- "either live × 100 / max(present, 1), rounded down, strictly below the percentage, or both .."
 abbrev pub WorthIt : Settings → ℕ → Record → Type 0
-WorthIt s files r = (r .live * 100 / larger (r .«present_objects») 1 < s .«file_compaction_percent») ⊎ Small s files r
+WorthIt s files r = (r .live * 100 / larger (r .label .«present_objects») 1 < s .«file_compaction_percent») ⊎ Small s files r
 
 -- worth it: one of the two
 pub worth-it : (s : Settings) (files : ℕ) (r : Record) → worthIt s files r ≡ true → WorthIt s files r
 unfolding worthIt
 worth-it s files r e = go (or-true _ _ e)
   where
-    go : (ltb (r .live * 100 / larger (r .«present_objects») 1) (s .«file_compaction_percent») ≡ true)
-        ⊎ ((leb (s .«small_file_cleanup_threshold») files && ltb (r .«file_size» * s .«min_compaction_files») (s .«target_file_size»)) ≡ true) → WorthIt s files r
+    go : (ltb (r .live * 100 / larger (r .label .«present_objects») 1) (s .«file_compaction_percent») ≡ true)
+        ⊎ ((leb (s .«small_file_cleanup_threshold») files && ltb (r .label .«file_size» * s .«min_compaction_files») (s .«target_file_size»)) ≡ true) → WorthIt s files r
     go (inl h) = inl (ltb-true _ _ h)
     go (inr h) = let w = and-true _ _ h in inr (record { count = leb-true _ _ (w .0); size = ltb-true _ _ (w .1) })
 
 -- and back
 pub is-worth-it : (s : Settings) (files : ℕ) (r : Record) → WorthIt s files r → worthIt s files r ≡ true
 unfolding worthIt
-is-worth-it s files r (inl h) = rw (lt-ltb (r .live * 100 / larger (r .«present_objects») 1) (s .«file_compaction_percent») h)
+is-worth-it s files r (inl h) = rw (lt-ltb (r .live * 100 / larger (r .label .«present_objects») 1) (s .«file_compaction_percent») h)
 is-worth-it s files r (inr w) =
-    or-holds (ltb (r .live * 100 / larger (r .«present_objects») 1) (s .«file_compaction_percent»)) _
+    or-holds (ltb (r .live * 100 / larger (r .label .«present_objects») 1) (s .«file_compaction_percent»)) _
     (inr (and-holds (leb (s .«small_file_cleanup_threshold») files) _ (le-leb _ _ (w .count)) (lt-ltb _ _ (w .size))))
 
 -- "unclaimed files with live not 0, and .."
