@@ -1,4 +1,4 @@
-use mathlib.Core.Path.{sym, ap, refl, _∙_}
+use mathlib.Core.Path.{sym, ap, _∙_}
 use Rattle.rules.specs.FileMap.{recorded}
 use borrow.Author.Needs.{needs}
 use Rattle.rebuild.proofs.counts.counted.Statement.{statement}
@@ -7,8 +7,11 @@ use Rattle.rebuild.proofs.counts.counted.Tie as tie
 no-file-requires : tie.Need-no-file-requires
 no-file-requires c κs = search needs
 
+empty-requires : tie.Need-empty-requires
+empty-requires c κs = search needs
+
 returns : tie.Need-returns
-returns c = rw (sym (c .before .no-file .ensures) ∙ c .if1 .taken) refl
+returns c = rw (sym (c .before .before .no-file .ensures) ∙ c .before .if1 .taken) (c .empty .ensures)
 
 mapped-into-requires : tie.Need-mapped-into-requires
 mapped-into-requires c κs = search needs
@@ -22,4 +25,4 @@ returns-2 c = rw (sym (c .before .before .before .no-file .ensures) ∙ c .befor
 pub counted-spec : {M : Type 1} → statement M
 counted-spec =
     tie.close
-    (tie.spec no-file-requires returns mapped-into-requires recorded-requires returns-2)
+    (tie.spec no-file-requires empty-requires returns mapped-into-requires recorded-requires returns-2)
