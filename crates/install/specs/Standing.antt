@@ -31,7 +31,7 @@ use Rattle.rules.specs.StoreLaws.{made-length, file-made}
 use Rattle.rules.specs.Install.{newLabel, newRecord, installed, recordsWith, storesFor, tableWith, nextWith, newSlot}
 use Rattle.rules.specs.World.{World, stateWith}
 use Rattle.location_table.specs.Tables.{Formed}
-use Rattle.file_map.specs.Records.{labelled, fresh, new-label}
+use Rattle.file_map.specs.Records.{labelled, fresh, new-label, new-record}
 use Rattle.file_map.specs.Lists.{lsnsOf, livesOf, withLives}
 use Rattle.install.specs.Losing.{losingBy, losingLives, losing-entries, losing-lives}
 use Rattle.install.specs.Adding.{taken, Placed, trailerAt, Installable}
@@ -91,6 +91,10 @@ module _ {bit : ℕ} {ops : List Op} {s : Settings} {t : State} {heap : List ℕ
     -- the label is the new file's
     label-new : new ≡ newLabel (t .«next_position» + bit) generation ops
     label-new = numbers ∙ rw (base, sizes-small .0, f .objects, f .entries) (sym (new-label (t .«next_position» + bit) generation ops))
+
+    -- and so is its record
+    record-new : fresh new ≡ newRecord (t .«next_position» + bit) generation ops
+    record-new = ap fresh label-new ∙ sym (new-record (t .«next_position» + bit) generation ops)
 
     -- its trailer stands behind its objects
     trailer-there : trailerAt after (slot * s .«slot_bytes») count total ≡ trailerBytes (entriesOf 0 ops)
@@ -154,7 +158,7 @@ module _ {bit : ℕ} {ops : List Op} {s : Settings} {t : State} {heap : List ℕ
           let state : r ≡ stateWith t (recordsWith n w ops) (nextWith w ops) =
           q
           ∙ ap (λ (rs : List Record). stateWith t (set rs slot (fresh new)) (t .«next_position» + (new .«trailer_offset» + 1))) lost
-          ∙ ap₂ (λ (k : ℕ) (m : Label). stateWith t (set (losingBy (usedEntries b) es (t .files .records)) k (fresh m)) (t .«next_position» + (m .«trailer_offset» + 1))) (f .lowest) e
+          ∙ ap₂ (λ (k : ℕ) (m : Record). stateWith t (set (losingBy (usedEntries b) es (t .files .records)) k m) (t .«next_position» + (m .label .«trailer_offset» + 1))) (f .lowest) record-new
           ∙ ap (λ (rs : List Record). stateWith t (set rs (newSlot w) n) (nextWith w ops)) (sym (losing-entries (usedEntries b) 0 ops (t .files .records))) in
           let stores : after ≡ made (storesFor (newLabel (t .«next_position» + bit) generation ops) w ops) heap =
           written ∙ ap₂ (λ (k : ℕ) (m : Label). made (fileStores (k * s .«slot_bytes») (labelBytes m) (fileBytes ops)) heap) (f .lowest) e in

@@ -18,7 +18,7 @@ use Rattle.rules.specs.Batch.{tooLarge, anyTooLarge}
 use Rattle.rules.specs.SlotFile.{objectPart, trailerPart, trailerEntries, File, holds}
 use Rattle.rules.specs.Table.{lookup, unmapped}
 use Rattle.rules.specs.TableLaws.{Has}
-use Rattle.rules.specs.FileMap.{isEmpty, recordAt, withLive}
+use Rattle.rules.specs.FileMap.{isEmpty, recordAt}
 use Rattle.rules.specs.Maintenance.{movedTests, deleteTests, deletesOf, fileTests, slotOf}
 use Rattle.rules.specs.World.{World, recordsOf, mappings}
 use Rattle.theory.specs.Newest.{Newest}
@@ -103,9 +103,9 @@ module _ (w : World) (history : List Op) (s : SoundWorld w (engine history)) whe
       (λ x c p t. mentioned-mapped k f h x (rawOf p (isDelete c)) (subst (λ (es : List Entry). Has es x (rawOf p (isDelete c))) (sym (o .entries)) (stands-entry 0 (o .ops) x c p t))))
 
   -- LAW: 9, 10, 11, 16, 3, 18 and 20 refuse no file
-  shown-clear : (k : ℕ) (f : File) → viewAt (viewsOf w) k ≡ holds f → (n : ℕ) → NoneHolds (fileTests (w .settings .«max_object_size») (mappings w) (withLive (f .label) n) (slotOf w k))
+  shown-clear : (k : ℕ) (f : File) → viewAt (viewsOf w) k ≡ holds f → NoneHolds (fileTests (w .settings .«max_object_size») (mappings w) (f .label) (slotOf w k))
   unfolding fileTests deletesOf
-  shown-clear k f h n =
+  shown-clear k f h =
       none-append (trailerTests (trailerPart (f .label) (slotOf w k))) _ (shown w k f h .1 .trailer) (
       none-append (each (movedTests (w .settings .«max_object_size») (mappings w)) (objectsIn (objectPart (f .label) (slotOf w k)))) _
       (none-each (movedTests (w .settings .«max_object_size») (mappings w)) (objectsIn (objectPart (f .label) (slotOf w k))) (objects-clear k f h))
@@ -115,8 +115,8 @@ module _ (w : World) (history : List Op) (s : SoundWorld w (engine history)) whe
 
   -- the same, by the record
   pub file-clear : (k : ℕ) → isEmpty (recordAt (recordsOf w) k) ≡ false
-      → NoneHolds (fileTests (w .settings .«max_object_size») (mappings w) (recordAt (recordsOf w) k) (slotOf w k))
+      → NoneHolds (fileTests (w .settings .«max_object_size») (mappings w) (recordAt (recordsOf w) k .label) (slotOf w k))
   file-clear k some =
       let z = file-slot w (engine history) s k some in
-      subst (λ (r : Record). NoneHolds (fileTests (w .settings .«max_object_size») (mappings w) r (slotOf w k)))
-      (sym (record-holds (viewsOf w) (recordsOf w) (s .sound .filed) k (z .0) (z .1))) (shown-clear k (z .0) (z .1) (recordAt (recordsOf w) k .live))
+      subst (λ (r : Record). NoneHolds (fileTests (w .settings .«max_object_size») (mappings w) (r .label) (slotOf w k)))
+      (sym (record-holds (viewsOf w) (recordsOf w) (s .sound .filed) k (z .0) (z .1))) (shown-clear k (z .0) (z .1))

@@ -40,7 +40,7 @@ spent-tests false false false r e = absurd (let z : _≡_ {A = ℕ} 0 1 = cc in 
 -- ---- files stay
 -- a slot with a file keeps one
 abbrev pub Stay : World → World → Type 0
-Stay w v = (k : ℕ) → 0 < recordAt (recordsOf w) k .lsn → 0 < recordAt (recordsOf v) k .lsn
+Stay w v = (k : ℕ) → 0 < recordAt (recordsOf w) k .label .lsn → 0 < recordAt (recordsOf v) k .label .lsn
 
 next-installed : (bit g : ℕ) (w : World) (os : List Op) → 0 < w .state .«next_position» → 0 < installed bit g w os .state .«next_position»
 unfolding installed nextWith
@@ -52,20 +52,20 @@ stay-all g [] w h k l = l
 stay-all g (f ∷ fs) w h k l = stay-all g fs (installed 0 g w f) (next-installed 0 g w f h) k (installed-lsn 0 g w f h k l)
 
 -- ---- the slots of a group are files', as the call starts and when the group's turn comes
-file-lsn : (w : World) (history : List Op) → SoundWorld w (engine history) → (k : ℕ) → isEmpty (recordAt (recordsOf w) k) ≡ false → 0 < recordAt (recordsOf w) k .lsn
+file-lsn : (w : World) (history : List Op) → SoundWorld w (engine history) → (k : ℕ) → isEmpty (recordAt (recordsOf w) k) ≡ false → 0 < recordAt (recordsOf w) k .label .lsn
 file-lsn w history s k h =
     let f = file-slot w (engine history) s k h in
-    let e : recordAt (recordsOf w) k .lsn ≡ f .0 .label .lsn = ap (λ (r : Record). r .lsn) (record-holds (viewsOf w) (recordsOf w) (s .sound .filed) k (f .0) (f .1)) in
+    let e : recordAt (recordsOf w) k .label .lsn ≡ f .0 .label .lsn = ap (λ (r : Record). r .label .lsn) (record-holds (viewsOf w) (recordsOf w) (s .sound .filed) k (f .0) (f .1)) in
     let p = masked-pos (f .0 .label .lsn) (s .sound .filed .made k (f .0) (f .1) .placed) in
     omega arith
 
 -- candidates are files
-pub group-files : (w : World) (history : List Op) → SoundWorld w (engine history) → (g : ℕ) → All (λ (k : ℕ). 0 < recordAt (recordsOf w) k .lsn) (group w g)
+pub group-files : (w : World) (history : List Op) → SoundWorld w (engine history) → (g : ℕ) → All (λ (k : ℕ). 0 < recordAt (recordsOf w) k .label .lsn) (group w g)
 unfolding group
-group-files w history s g = among-all (λ (k : ℕ). 0 < recordAt (recordsOf w) k .lsn) (group w g) (λ k a.
-    let p = slot-passes (λ (i : ℕ) (r : Record). isCandidate (w .settings) (w .claims) (fileCount (recordsOf w)) i r && eqb (newGeneration (r .generation)) g) 0 (recordsOf w) k a in
+group-files w history s g = among-all (λ (k : ℕ). 0 < recordAt (recordsOf w) k .label .lsn) (group w g) (λ k a.
+    let p = slot-passes (λ (i : ℕ) (r : Record). isCandidate (w .settings) (w .claims) (fileCount (recordsOf w)) i r && eqb (newGeneration (r .label .generation)) g) 0 (recordsOf w) k a in
     let c = candidate (w .settings) (w .claims) (fileCount (recordsOf w)) (0 + p .off) (recordAt (recordsOf w) (p .off)) (and-true _ _ (p .passes) .0) in
-    subst (λ (i : ℕ). 0 < recordAt (recordsOf w) i .lsn) (sym (p .is ∙ zero-add (p .off))) (file-lsn w history s (p .off) (c .file)))
+    subst (λ (i : ℕ). 0 < recordAt (recordsOf w) i .label .lsn) (sym (p .is ∙ zero-add (p .off))) (file-lsn w history s (p .off) (c .file)))
 
 -- where the call may stand
 abbrev pub StopsWell : Stop → Type 0
@@ -80,15 +80,15 @@ pub record Underway (history : List Op) (start : World) (c : Course) : Type 0 wh
 
 module _ (history : List Op) where
   -- a group of files is rewritten, or refused with 4, 5 or 7
-  group-well : (g : ℕ) (slots : List ℕ) (moved : ℕ) (w : World) → SoundWorld w (engine history) → All (λ (k : ℕ). 0 < recordAt (recordsOf w) k .lsn) slots
+  group-well : (g : ℕ) (slots : List ℕ) (moved : ℕ) (w : World) → SoundWorld w (engine history) → All (λ (k : ℕ). 0 < recordAt (recordsOf w) k .label .lsn) slots
       → StopsWell (rewriteGroup g slots moved w .stop) × Stay w (rewriteGroup g slots moved w .world)
   unfolding rewriteGroup groupTests roomTests positionTests
   group-well g slots moved w s files = go (decide (groupTests w slots (filesOf (w .settings .«target_file_size») (found w slots)))) refl
     where
-      clear : NoneHolds (each (λ (k : ℕ). fileTests (w .settings .«max_object_size») (mappings w) (recordAt (recordsOf w) k) (slotOf w k)) slots)
+      clear : NoneHolds (each (λ (k : ℕ). fileTests (w .settings .«max_object_size») (mappings w) (recordAt (recordsOf w) k .label) (slotOf w k)) slots)
       clear =
-          none-each (λ (k : ℕ). fileTests (w .settings .«max_object_size») (mappings w) (recordAt (recordsOf w) k) (slotOf w k)) slots
-          (all-map (λ (k : ℕ). 0 < recordAt (recordsOf w) k .lsn) (λ (k : ℕ). NoneHolds (fileTests (w .settings .«max_object_size») (mappings w) (recordAt (recordsOf w) k) (slotOf w k))) slots
+          none-each (λ (k : ℕ). fileTests (w .settings .«max_object_size») (mappings w) (recordAt (recordsOf w) k .label) (slotOf w k)) slots
+          (all-map (λ (k : ℕ). 0 < recordAt (recordsOf w) k .label .lsn) (λ (k : ℕ). NoneHolds (fileTests (w .settings .«max_object_size») (mappings w) (recordAt (recordsOf w) k .label) (slotOf w k))) slots
           (λ k h. file-clear w history s k (not-empty (recordAt (recordsOf w) k) h)) files)
 
       go : (a : Answer) → decide (groupTests w slots (filesOf (w .settings .«target_file_size») (found w slots))) ≡ a
@@ -97,10 +97,10 @@ module _ (history : List Op) where
           × Stay w (after {A = Course} a (λ (r : Refusal). record { stop = stopped r g; moved = moved; world = w })
           (record { stop = going; moved = moved + length (found w slots); world = installedAll 0 g w (filesOf (w .settings .«target_file_size») (found w slots)) }) .world)
       go Done e = (tt, stay-all g (filesOf (w .settings .«target_file_size») (found w slots)) w (s .sound .started))
-      go (Refused r) e = (spent-tests _ _ _ r (sym (decide-append (each (λ (k : ℕ). fileTests (w .settings .«max_object_size») (mappings w) (recordAt (recordsOf w) k) (slotOf w k)) slots) _ clear) ∙ e), λ k h. h)
+      go (Refused r) e = (spent-tests _ _ _ r (sym (decide-append (each (λ (k : ℕ). fileTests (w .settings .«max_object_size») (mappings w) (recordAt (recordsOf w) k .label) (slotOf w k)) slots) _ clear) ∙ e), λ k h. h)
 
   -- one generation
-  pub onward-well : (start : World) (stop : Stop) (g : ℕ) → g ≤ 255 → (slots : List ℕ) → All (λ (k : ℕ). 0 < recordAt (recordsOf start) k .lsn) slots → (c : Course)
+  pub onward-well : (start : World) (stop : Stop) (g : ℕ) → g ≤ 255 → (slots : List ℕ) → All (λ (k : ℕ). 0 < recordAt (recordsOf start) k .label .lsn) slots → (c : Course)
       → c .stop ≡ stop → Underway history start c → Underway history start (onward stop g slots c)
   onward-well start (stopped r n) g aged slots files c e u = u
   onward-well start going g aged slots files c e u = record { sound = sound-onward history going g aged slots c (u .sound); stay = stays .1; stop = stays .0 }
@@ -109,7 +109,7 @@ module _ (history : List Op) where
       at true = (u .stop, u .stay)
       at false =
           let z = group-well g slots (c .moved) (c .world) (u .sound)
-          (all-map (λ (k : ℕ). 0 < recordAt (recordsOf start) k .lsn) (λ (k : ℕ). 0 < recordAt (recordsOf (c .world)) k .lsn) slots (λ k h. u .stay k h) files) in
+          (all-map (λ (k : ℕ). 0 < recordAt (recordsOf start) k .label .lsn) (λ (k : ℕ). 0 < recordAt (recordsOf (c .world)) k .label .lsn) slots (λ k h. u .stay k h) files) in
           (z .0, λ k h. z .1 k (u .stay k h))
 
       stays : StopsWell (onward going g slots c .stop) × Stay start (onward going g slots c .world)

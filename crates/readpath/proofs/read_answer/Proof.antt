@@ -106,7 +106,7 @@ found s =
 
 lies : (s : tie.After-slot)
     → let a = begun (sought (at s)) .args in
-    Lies (a .settings .«slot_bytes») (recordAt (a .state .files .records) (s .slot .given .0 .0)) (s .slot .given .0 .0) (length (a .heap .now))
+    Lies (a .settings .«slot_bytes») (recordAt (a .state .files .records) (s .slot .given .0 .0) .label) (s .slot .given .0 .0) (length (a .heap .now))
 lies s =
     let a = begun (sought (at s)) .args in
     let k = s .slot .given .0 .0 in
@@ -198,7 +198,7 @@ returns-5 c =
     let a = begun p .args in
     let l = at s .location .given .0 .0 in
     let k = s .slot .given .0 .0 in
-    let r = recordAt (a .state .files .records) k in
+    let r = recordAt (a .state .files .records) k .label in
     let size = a .settings .«slot_bytes» in
     let file = fileIn r (slotBytes size (a .heap .now) k) in
     λ claims.
