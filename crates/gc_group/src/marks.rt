@@ -173,7 +173,8 @@ pub fn mark_group(
     unmark(marks);
     let mut i: usize = 0;
     while i < 256 {
-        let l = m.records[i].label;
+        let r = m.records[i];
+        let l = r.label;
         lsns[i] = l.lsn;
         if plan[i] == generation {
             let slot = slot_at(heap, s.slot_bytes as usize, i);

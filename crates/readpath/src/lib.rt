@@ -84,7 +84,8 @@ pub fn read_answer(
         return ReadAnswer::ReadRefused(Refusal::NotThere);
     };
     let i = slot as usize;
-    let l = files.records[i].label;
+    let r = files.records[i];
+    let l = r.label;
     let position = DiskLocation(location).position() - l.lsn;
     object_at(heap, settings.slot_bytes, slot, l, position, id)
 }

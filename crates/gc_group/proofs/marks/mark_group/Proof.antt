@@ -57,11 +57,11 @@ loop-holds c =
       copied-start (λ (r : Record). r .label .lsn) (a .t3 .records) (a .lsns .now),
     )
 
-mul-l : tie.Need-mul-l Inv-loop μ-loop
-mul-l c = search needs
+mul-r : tie.Need-mul-r Inv-loop μ-loop
+mul-r c = search needs
 
-element-copy-out-l : tie.Need-element-copy-out-l Inv-loop μ-loop
-element-copy-out-l c = search needs
+element-copy-out-r : tie.Need-element-copy-out-r Inv-loop μ-loop
+element-copy-out-r c = search needs
 
 mul-lsns : tie.Need-mul-lsns Inv-loop μ-loop
 mul-lsns c = search needs
@@ -77,14 +77,14 @@ shared-slice-read-if1 c = search needs
 
 slot-at-requires : tie.Need-slot-at-requires Inv-loop μ-loop
 slot-at-requires c κs =
-    let at = c .before .before .before .before in
+    let at = c .before .before .before .before .before in
     let start = at .before .before .before .before .before .before .before .before .before .before .before in
     start .pre .0 .standing (at .loop .i) (c .if1 .taken)
 
 check-file-requires : tie.Need-check-file-requires Inv-loop μ-loop
 check-file-requires c κs =
     let chosen = c .before in
-    let at = chosen .before .before .before .before in
+    let at = chosen .before .before .before .before .before in
     let start = at .before .before .before .before .before .before .before .before .before .before .before in
     let a = start .args in
     let i = at .loop .i in
@@ -93,11 +93,11 @@ check-file-requires c κs =
     (subst (λ (n : ℕ). Lies n (recordAt (a .t3 .records) i .label)) (sym whole) (start .pre .0 .files i), start .pre .1 .0)
 
 -- what is decided of the file in a slot
-checked : (c : tie.After-check-file Inv-loop μ-loop) → let at = c .before .before .before .before .before .before in
+checked : (c : tie.After-check-file Inv-loop μ-loop) → let at = c .before .before .before .before .before .before .before in
     let a = at .before .before .before .before .before .before .before .before .before .before .before .args in
     decide (fileTests (a .s .«max_object_size») (used (a .ids .now) (a .locations .now)) (recordAt (a .t3 .records) (at .loop .i) .label) (slotBytes (a .s .«slot_bytes») (a .heap .now) (at .loop .i))) ≡ c .check-file .result
 checked c =
-    let at = c .before .before .before .before .before .before in
+    let at = c .before .before .before .before .before .before .before in
     let a = at .before .before .before .before .before .before .before .before .before .before .before .args in
     ap (λ (bytes : List ℕ). decide (fileTests (a .s .«max_object_size») (used (a .ids .now) (a .locations .now)) (recordAt (a .t3 .records) (at .loop .i) .label) bytes)) (sym (c .before .slot-at .ensures))
     ∙ sym (c .check-file .ensures)
@@ -110,7 +110,7 @@ same-length c = search needs
 
 same-length-2 : tie.Need-same-length-2 Inv-loop μ-loop
 same-length-2 c =
-    let at = c .before .before .before .before .before .before .before .before .before in
+    let at = c .before .before .before .before .before .before .before .before .before .before in
     let start = at .before .before .before .before .before .before .before .before .before .before .before in
     length-set (at .loop .lsns) (at .loop .i) _ ∙ at .loop .inv .2 ∙ sym (start .pre .1 .1 .1)
 
@@ -118,7 +118,7 @@ returns : tie.Need-returns Inv-loop μ-loop
 returns c =
     let done = c .before .before .before in
     let chosen = done .before .before in
-    let at = chosen .before .before .before .before in
+    let at = chosen .before .before .before .before .before in
     let start = at .before .before .before .before .before .before .before .before .before .before .before in
     let a = start .args in
     let from = source (a .s .«slot_bytes») (a .heap .now) (a .t3 .records) (used (a .ids .now) (a .locations .now)) in
@@ -143,7 +143,7 @@ mark-file-requires : tie.Need-mark-file-requires Inv-loop μ-loop
 mark-file-requires c κs =
     let done = c .before .before .before in
     let chosen = done .before .before in
-    let at = chosen .before .before .before .before in
+    let at = chosen .before .before .before .before .before in
     let blank = at .before .before .before in
     let start = blank .before .before .before .before .before .before .before .before in
     let a = start .args in
@@ -169,7 +169,7 @@ loop-less c = search needs
 
 loop-again : tie.Need-loop-again Inv-loop μ-loop
 loop-again c =
-    let at = c .before .before .before .before in
+    let at = c .before .before .before .before .before in
     let start = at .before .before .before .before .before .before .before .before .before .before .before in
     let a = start .args in
     let i = at .loop .i in
@@ -245,8 +245,8 @@ mark-group-spec =
     μ-loop
     unmark-requires
     loop-holds
-    mul-l
-    element-copy-out-l
+    mul-r
+    element-copy-out-r
     mul-lsns
     slice-write-lsns
     mul-if1
