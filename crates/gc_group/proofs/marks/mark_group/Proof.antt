@@ -124,7 +124,7 @@ returns c =
     let from = source (a .s .«slot_bytes») (a .heap .now) (a .t3 .records) (used (a .ids .now) (a .locations .now)) in
     let i = at .loop .i in (
       sym (
-          ap (λ (ks : List ℕ). decide (groupChecks (a .s .«max_object_size») from ks)) (planned-here (a .plan .now) (a .generation) i (omega (arith, start .pre .0 .slots)) (chosen .if1 .taken))
+          ap (λ (ks : List ℕ). decide (groupChecks (a .s .«max_object_size») from ks)) (planned-here (a .plan .now) (a .generation) i (omega (arith, start .pre .0 .slots, chosen .before .before .before .before .loop-test .taken)) (chosen .if1 .taken))
           ∙ group-refused (a .s .«max_object_size») from i _ _ (checked done ∙ c .before .refusal .given .1))
           ∙ at .loop .inv .3,
       ((λ e. absurd (let z : _≡_ {A = ℕ} 0 1 = cc in omega arith)), (λ e. absurd (let z : _≡_ {A = ℕ} 0 1 = cc in omega arith))),
