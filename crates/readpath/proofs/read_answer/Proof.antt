@@ -184,16 +184,16 @@ position-requires c κs = search needs
 
 sub-position : tie.Need-sub-position
 sub-position c =
-    let low = found (c .before .before .before .before) .low in
+    let low = found (c .before .before .before .before .before) .low in
     let half = c .before .position .ensures in
     omega arith
 
 object-at-requires : tie.Need-object-at-requires
-object-at-requires c κs = lies (c .before .before .before .before)
+object-at-requires c κs = lies (c .before .before .before .before .before)
 
 returns-5 : tie.Need-returns-5
 returns-5 c =
-    let s = c .before .before .before .before .before in
+    let s = c .before .before .before .before .before .before in
     let p = sought (at s) in
     let a = begun p .args in
     let l = at s .location .given .0 .0 in
