@@ -20,7 +20,7 @@ pub record-back : (xs ys : List ℕ) (r : Record) → recordAt (xs ++ (recordWor
 unfolding recordAt recordWords
 record-back xs ys r =
     rw (
-      getD-append-seam xs (r .lsn) ((r .«trailer_offset» ∷ r .«file_size» ∷ r .«present_objects» ∷ r .generation ∷ r .live ∷ []) ++ ys) 0,
+      getD-append-seam xs (r .label .lsn) ((r .label .«trailer_offset» ∷ r .label .«file_size» ∷ r .label .«present_objects» ∷ r .label .generation ∷ r .live ∷ []) ++ ys) 0,
       getD-append-add xs (recordWords r ++ ys) 1 0,
       getD-append-add xs (recordWords r ++ ys) 2 0,
       getD-append-add xs (recordWords r ++ ys) 3 0,

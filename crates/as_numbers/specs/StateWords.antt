@@ -3,18 +3,14 @@ use Rattle.rules.specs.Base.{List, [], _∷_, _++_, ℕ, zero, suc, _+_, getD}
 use Rattle.rules.specs.declared.Settings.{Settings}
 use Rattle.rules.specs.declared.Record.{Record}
 use Rattle.rules.specs.declared.State.{State}
+use Rattle.rules.specs.FileMap.{recorded}
+use Rattle.file_map.specs.Records.{labelled}
 
 -- ---- from words
 -- the record whose first word stands at a place
 unfoldable pub recordAt : List ℕ → ℕ → Record
-recordAt ws at = record {
-  lsn = getD ws at 0;
-  «trailer_offset» = getD ws (at + 1) 0;
-  «file_size» = getD ws (at + 2) 0;
-  «present_objects» = getD ws (at + 3) 0;
-  generation = getD ws (at + 4) 0;
-  live = getD ws (at + 5) 0;
-}
+recordAt ws at =
+    recorded (labelled (getD ws at 0) (getD ws (at + 1) 0) (getD ws (at + 2) 0) (getD ws (at + 3) 0) (getD ws (at + 4) 0)) (getD ws (at + 5) 0)
 
 -- n records from a place on
 unfoldable pub recordsFrom : ℕ → List ℕ → ℕ → List Record
@@ -45,7 +41,7 @@ stateIn ws = record {
 -- ---- to words
 -- a record's six
 unfoldable pub recordWords : Record → List ℕ
-recordWords r = r .lsn ∷ r .«trailer_offset» ∷ r .«file_size» ∷ r .«present_objects» ∷ r .generation ∷ r .live ∷ []
+recordWords r = r .label .lsn ∷ r .label .«trailer_offset» ∷ r .label .«file_size» ∷ r .label .«present_objects» ∷ r .label .generation ∷ r .live ∷ []
 
 -- of records, one after the other
 unfoldable pub recordsWords : List Record → List ℕ

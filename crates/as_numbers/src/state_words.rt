@@ -1,5 +1,7 @@
 // The state as 1,545 lent words: the fields of `State` in their order, of each record its six.
+use file_map::labelled;
 use file_map::no_files;
+use file_map::recorded;
 use rules::FileMap;
 use rules::Record;
 use rules::Settings;
@@ -16,14 +18,14 @@ fn record_at(words: &[u64], at: usize) -> Record
     requires { ⌜ at + 6 ≤ length (now words) ⌝ }
     ensures { λ r. ⌜ r ≡ recordAt (now (words .entry)) at ⌝ }
 {
-    Record {
-        lsn: words[at],
-        trailer_offset: words[at + 1],
-        file_size: words[at + 2],
-        present_objects: words[at + 3],
-        generation: words[at + 4],
-        live: words[at + 5],
-    }
+    let label = labelled(
+        words[at],
+        words[at + 1],
+        words[at + 2],
+        words[at + 3],
+        words[at + 4],
+    );
+    recorded(label, words[at + 5])
 }
 
 // "a file map of 256 records"
@@ -76,11 +78,11 @@ fn put_record(words: &mut [u64], at: usize, r: Record)
     requires { ⌜ at + 6 ≤ length (now words) ⌝ }
     ensures { λ _. ⌜ now (words .exit) ≡ putAt (now (words .entry)) at (recordWords r) ⌝ }
 {
-    words[at] = r.lsn;
-    words[at + 1] = r.trailer_offset;
-    words[at + 2] = r.file_size;
-    words[at + 3] = r.present_objects;
-    words[at + 4] = r.generation;
+    words[at] = r.label.lsn;
+    words[at + 1] = r.label.trailer_offset;
+    words[at + 2] = r.label.file_size;
+    words[at + 3] = r.label.present_objects;
+    words[at + 4] = r.label.generation;
     words[at + 5] = r.live;
 }
 

@@ -5,7 +5,7 @@ use Prim.Native.Nat.{ℕ, suc, _+_, _≤_}
 use native.Mathlib.Omega.{arith}
 use lib.ListN.{length, take, drop, length-append, length-drop}
 use lib.Seq.{length-take-le}
-use Rattle.rules.specs.declared.Record.{Record}
+use Rattle.rules.specs.declared.Label.{Label}
 use Rattle.rules.specs.Label.{labelBytes}
 use Rattle.rules.specs.Stores.{made, storesOf, fileStores}
 use Rattle.rules.specs.StoreLaws.{stores-length}
@@ -13,7 +13,7 @@ use Rattle.rules.specs.LabelLaws.{label-length}
 use Rattle.stores.specs.Runs.{Made, made-whole}
 
 -- its file's bytes, and the label's 64
-pub run-length : (start : ℕ) (new : Record) (file : List ℕ) → length (fileStores start (labelBytes new) file) ≡ length file + 64
+pub run-length : (start : ℕ) (new : Label) (file : List ℕ) → length (fileStores start (labelBytes new) file) ≡ length file + 64
 unfolding fileStores
 run-length start new file =
     let label = labelBytes new in
@@ -32,6 +32,6 @@ run-length start new file =
     )
 
 -- so many stores make the whole of it
-pub file-whole : (start : ℕ) (new : Record) (file : List ℕ) {k left : ℕ} {heap after : List ℕ} → length file + 64 ≤ k
+pub file-whole : (start : ℕ) (new : Label) (file : List ℕ) {k left : ℕ} {heap after : List ℕ} → length file + 64 ≤ k
     → Made k (fileStores start (labelBytes new) file) heap after left → after ≡ made (fileStores start (labelBytes new) file) heap
 file-whole start new file h m = made-whole (omega (arith, run-length start new file)) m

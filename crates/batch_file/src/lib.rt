@@ -4,7 +4,7 @@ use batch::Operation;
 use batch::Step;
 use disk_location::RelativeDiskLocation;
 use rules::Entry;
-use rules::Record;
+use rules::Label;
 use trailer::write;
 ghost use mathlib.Core.Path.{_≡_};
 ghost use Prim.Native.Nat.{_+_, _*_, _≤_, _<_, _^_};
@@ -138,7 +138,7 @@ pub fn write_file(
     heap: &mut [u8],
     start: usize,
     batch: &[u8],
-    new: Record,
+    new: Label,
     count: u64,
     total: u64,
     k: u64,

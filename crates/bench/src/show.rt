@@ -14,11 +14,11 @@ fn file_line(slot: u64, r: Record) {
         return;
     }
     io::print_decimal(libc::STDOUT_FILENO, slot);
-    say::number(r.lsn);
-    say::number(r.generation);
-    say::number(r.present_objects);
+    say::number(r.label.lsn);
+    say::number(r.label.generation);
+    say::number(r.label.present_objects);
     say::number(r.live);
-    say::number(r.file_size);
+    say::number(r.label.file_size);
     say::end();
 }
 
@@ -62,11 +62,11 @@ fn record_line(slot: u64, r: Record) {
     }
     say::text(b"record");
     say::number(slot);
-    say::number(r.lsn);
-    say::number(r.trailer_offset);
-    say::number(r.file_size);
-    say::number(r.present_objects);
-    say::number(r.generation);
+    say::number(r.label.lsn);
+    say::number(r.label.trailer_offset);
+    say::number(r.label.file_size);
+    say::number(r.label.present_objects);
+    say::number(r.label.generation);
     say::number(r.live);
     say::end();
 }

@@ -1,5 +1,6 @@
 -- What each command of the console does.
 use Rattle.rules.specs.Base.{_||_, List, ℕ, _+_, length, getD, set, replicate, leb, ltb, pick}
+use Rattle.rules.specs.FileMap.{recorded}
 use Rattle.rules.specs.Layout.{Buffers}
 use Rattle.rules.specs.Settings.{defaults}
 use Rattle.rules.specs.Claims.{noClaims, claimCall, releaseCall}
@@ -11,6 +12,7 @@ use Rattle.rules.specs.Reopen.{reopenCall}
 use Rattle.rules.specs.TableCalls.{loadCall, storeCall, compareCall, greaterCall}
 use Rattle.rules.specs.World.{World, noState}
 use Rattle.rules.specs.Write.{writeCall}
+use Rattle.file_map.specs.Records.{labelled}
 use Rattle.numbers.specs.Parts.{putAt}
 use Rattle.script.specs.declared.Keyword.the-variants as key
 use Rattle.desk.specs.Types.{Settings, Record, State, Claims, Keyword, Bench, Comment, Help, Listing, Dump, BadLine, Turn}
@@ -38,7 +40,7 @@ stateFrom n s = record { settings = settingsFrom n; «heap_len» = nth n 6; «ta
 
 -- `record SLOT LSN T SIZE PRESENT GEN LIVE`
 abbrev pub recordFrom : List ℕ → Record
-recordFrom n = record { lsn = nth n 1; «trailer_offset» = nth n 2; «file_size» = nth n 3; «present_objects» = nth n 4; generation = nth n 5; live = nth n 6 }
+recordFrom n = recorded (labelled (nth n 1) (nth n 2) (nth n 3) (nth n 4) (nth n 5)) (nth n 6)
 
 -- `claims A B C D`
 abbrev pub claimsFrom : List ℕ → Claims

@@ -131,7 +131,7 @@ pub fn state(b: Bench, n: [u64; 9]) -> Turn
 fn record_of(n: [u64; 9]) -> Record
     ensures { λ r. ⌜ r ≡ recordFrom n ⌝ }
 {
-    file_map::with_live(file_map::labelled(n[1], n[2], n[3], n[4], n[5]), n[6])
+    file_map::recorded(file_map::labelled(n[1], n[2], n[3], n[4], n[5]), n[6])
 }
 
 pub fn record(b: Bench, n: [u64; 9]) -> Turn

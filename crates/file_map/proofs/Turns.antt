@@ -98,8 +98,8 @@ lead-same p q = rw (p, q)
 unfoldable pub countsFrom : ℕ → ℕ → ℕ → ℕ → List Record → Counts
 countsFrom a b p l rs = record {
   files = a + fileCount rs;
-  bytes = b + sum (λ (r : Record). r .«file_size») rs;
-  present = p + sum (λ (r : Record). r .«present_objects») rs;
+  bytes = b + sum (λ (r : Record). r .label .«file_size») rs;
+  present = p + sum (λ (r : Record). r .label .«present_objects») rs;
   live = l + sum (λ (r : Record). r .live) rs;
 }
 
@@ -109,14 +109,14 @@ counts-start rs = simp zero-add
 
 pub counts-next : (rs : List Record) (i a b p l files : ℕ) → i < length rs → files ≡ a + pick (isEmpty (recordAt rs i)) 0 1
     → countsFrom a b p l (drop i rs)
-    ≡ countsFrom files (b + recordAt rs i .«file_size») (p + recordAt rs i .«present_objects») (l + recordAt rs i .live) (drop (i + 1) rs)
+    ≡ countsFrom files (b + recordAt rs i .label .«file_size») (p + recordAt rs i .label .«present_objects») (l + recordAt rs i .live) (drop (i + 1) rs)
 unfolding countsFrom fileCount
 counts-next rs i a b p l files h e =
     rw e
     (simp (
       sum-next rs i emptyRecord h (λ (r : Record). pick (isEmpty r) 0 1),
-      sum-next rs i emptyRecord h (λ (r : Record). r .«file_size»),
-      sum-next rs i emptyRecord h (λ (r : Record). r .«present_objects»),
+      sum-next rs i emptyRecord h (λ (r : Record). r .label .«file_size»),
+      sum-next rs i emptyRecord h (λ (r : Record). r .label .«present_objects»),
       sum-next rs i emptyRecord h (λ (r : Record). r .live),
       add-assoc,
     ))
@@ -126,8 +126,8 @@ unfolding countsFrom fileCount
 counts-end rs i a b p l h =
     simp (
       sum-end rs i h (λ (r : Record). pick (isEmpty r) 0 1),
-      sum-end rs i h (λ (r : Record). r .«file_size»),
-      sum-end rs i h (λ (r : Record). r .«present_objects»),
+      sum-end rs i h (λ (r : Record). r .label .«file_size»),
+      sum-end rs i h (λ (r : Record). r .label .«present_objects»),
       sum-end rs i h (λ (r : Record). r .live),
       add-zero,
     )

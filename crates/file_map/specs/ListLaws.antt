@@ -30,7 +30,7 @@ pub lsns-with-lives : (rs : List Record) (ls : List ℕ) → lsnsOf (withLives r
 unfolding withLives
 lsns-with-lives [] ls = refl
 lsns-with-lives (r ∷ rs) [] = refl
-lsns-with-lives (r ∷ rs) (l ∷ ls) = ap (λ (ns : List ℕ). r .lsn ∷ ns) (lsns-with-lives rs ls)
+lsns-with-lives (r ∷ rs) (l ∷ ls) = ap (λ (ns : List ℕ). r .label .lsn ∷ ns) (lsns-with-lives rs ls)
 
 -- so the same files are found
 pub file-for-with-lives : (rs : List Record) (ls : List ℕ) (location : ℕ) → fileFor (withLives rs ls) location ≡ lsnAt (lsnsOf rs) location

@@ -6,7 +6,7 @@ use Rattle.rules.specs.declared.Slot.the-variants.{Is, NoSlot}
 use Rattle.rules.specs.FileMap.{withLive, Lead}
 
 abbrev pub lsnsOf : List Record → List ℕ
-lsnsOf rs = map (λ (r : Record). r .lsn) rs
+lsnsOf rs = map (λ (r : Record). r .label .lsn) rs
 
 abbrev pub livesOf : List Record → List ℕ
 livesOf rs = map (λ (r : Record). r .live) rs

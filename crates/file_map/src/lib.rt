@@ -1,38 +1,56 @@
 // The file map (`src/file_map.rs`): 256 records by value, and the flat lists of lsns and live counts that a call on many ids works on.
 use rules::Counts;
 use rules::FileMap;
+use rules::Label;
 use rules::Record;
 use rules::Slot;
 ghost use mathlib.Core.Path.{_≡_};
 ghost use Prim.Native.Nat.{ℕ, _-_, _<_, _≤_};
 ghost use lib.ListN.{set, length};
-ghost use Rattle.rules.specs.FileMap.{emptyRecord, isEmpty, withLive, noFiles, lowestEmpty, fileFor, lessLive};
+ghost use Rattle.rules.specs.FileMap.{emptyLabel, recorded, emptyRecord, isEmpty, withLive, noFiles, lowestEmpty, fileFor, lessLive};
 ghost use Rattle.rules.specs.Label.{outOfBounds};
 ghost use Rattle.rules.specs.Counts.{countsOf};
 ghost use Rattle.rules.specs.declared.Slot.the-variants.{Is};
 ghost use Rattle.file_map.specs.Records.{labelled, fresh, Bounded};
 ghost use Rattle.file_map.specs.Lists.{lsnsOf, livesOf, withLives, lsnAt, lessAt};
 
-// ---- a record: made in one place for each origin
-// "An empty record is all zeros."
-pub fn empty() -> Record
-    ensures { λ r. ⌜ r ≡ emptyRecord ⌝ }
+// ---- a label
+// A label's five numbers.
+pub fn labelled(lsn: u64, offset: u64, size: u64, present: u64, generation: u64) -> Label
+    ensures { λ l. ⌜ l ≡ labelled lsn offset size present generation ⌝ }
 {
-    labelled(0, 0, 0, 0, 0)
-}
-
-// A label's five numbers, no live count yet.
-pub fn labelled(lsn: u64, offset: u64, size: u64, present: u64, generation: u64) -> Record
-    ensures { λ r. ⌜ r ≡ labelled lsn offset size present generation ⌝ }
-{
-    Record {
+    Label {
         lsn: lsn,
         trailer_offset: offset,
         file_size: size,
         present_objects: present,
         generation: generation,
-        live: 0,
     }
+}
+
+// What stands for a slot without a file.
+pub fn no_label() -> Label
+    ensures { λ l. ⌜ l ≡ emptyLabel ⌝ }
+{
+    labelled(0, 0, 0, 0, 0)
+}
+
+// ---- a record: made in one place for each origin
+// "A record holds the label's five numbers and the live count".
+pub fn recorded(label: Label, live: u64) -> Record
+    ensures { λ r. ⌜ r ≡ recorded label live ⌝ }
+{
+    Record {
+        label: label,
+        live: live,
+    }
+}
+
+// "An empty record is all zeros."
+pub fn empty() -> Record
+    ensures { λ r. ⌜ r ≡ emptyRecord ⌝ }
+{
+    recorded(no_label(), 0)
 }
 
 // The same file with another live count.
@@ -45,28 +63,28 @@ pub fn with_live(r: Record, live: u64) -> Record
 }
 
 // "the new file has all its entries live"
-pub fn fresh(lsn: u64, offset: u64, size: u64, entries: u64, generation: u64) -> Record
-    ensures { λ r. ⌜ r ≡ fresh lsn offset size entries generation ⌝ }
+pub fn fresh(label: Label) -> Record
+    ensures { λ r. ⌜ r ≡ fresh label ⌝ }
 {
-    with_live(labelled(lsn, offset, size, entries, generation), entries)
+    recorded(label, label.present_objects)
 }
 
 pub fn is_empty(r: Record) -> bool
     ensures { λ b. ⌜ b ≡ isEmpty r ⌝ }
 {
-    if r.lsn != 0 {
+    if r.label.lsn != 0 {
         return false;
     }
-    if r.trailer_offset != 0 {
+    if r.label.trailer_offset != 0 {
         return false;
     }
-    if r.file_size != 0 {
+    if r.label.file_size != 0 {
         return false;
     }
-    if r.present_objects != 0 {
+    if r.label.present_objects != 0 {
         return false;
     }
-    if r.generation != 0 {
+    if r.label.generation != 0 {
         return false;
     }
     r.live == 0
@@ -83,26 +101,26 @@ fn room(slot_bytes: u64) -> u64
 }
 
 // 8's bounds; a sum is only held against what is left of its bound, so that it cannot wrap.
-pub fn out_of_bounds(slot_bytes: u64, r: Record) -> bool
-    ensures { λ b. ⌜ b ≡ outOfBounds «slot_bytes» r ⌝ }
+pub fn out_of_bounds(slot_bytes: u64, l: Label) -> bool
+    ensures { λ b. ⌜ b ≡ outOfBounds «slot_bytes» l ⌝ }
 {
-    if room(slot_bytes) < r.file_size {
+    if room(slot_bytes) < l.file_size {
         return true;
     }
-    if r.file_size < r.trailer_offset {
+    if l.file_size < l.trailer_offset {
         return true;
     }
-    let at = disk_location::masked(r.lsn);
+    let at = disk_location::masked(l.lsn);
     if at == 0 {
         return true;
     }
-    if 9223372036854775808 <= r.lsn {
+    if 9223372036854775808 <= l.lsn {
         return true;
     }
-    if 4611686018427387904 - at <= r.trailer_offset {
+    if 4611686018427387904 - at <= l.trailer_offset {
         return true;
     }
-    255 < r.generation
+    255 < l.generation
 }
 
 // ---- the map
@@ -154,8 +172,8 @@ pub fn counts(m: FileMap) -> Counts
         if !is_empty(r) {
             files += 1;
         }
-        bytes += r.file_size;
-        present += r.present_objects;
+        bytes += r.label.file_size;
+        present += r.label.present_objects;
         live += r.live;
         i += 1;
     }
@@ -174,7 +192,7 @@ pub fn lsns(m: FileMap) -> [u64; 256]
     let mut r = [0u64; 256];
     let mut i: usize = 0;
     while i < 256 {
-        r[i] = m.records[i].lsn;
+        r[i] = m.records[i].label.lsn;
         i += 1;
     }
     r

@@ -13,7 +13,7 @@ use Rattle.rules.specs.Base.{true, false, List, _++_, ℕ, _+_, _-_, _*_, _^_, 
 use Rattle.rules.specs.Ops.{put, delete}
 use Rattle.rules.specs.Object.{storedAt}
 use Rattle.rules.specs.SlotFile.{slotBytes, objectPart}
-use Rattle.rules.specs.declared.Record.{Record}
+use Rattle.rules.specs.declared.Label.{Label}
 use Rattle.gc_files.specs.Places.{lengthAt, movingAt, opAt, Whole, placeFor, Placeable}
 
 -- n bytes of a part that stands in the heap from `at` on
@@ -51,7 +51,7 @@ front-of : (xs rest ys more zs : List ℕ) → xs ++ rest ≡ ys → ys ++ more 
 front-of xs rest ys more zs e f = sym (append-assoc xs rest more) ∙ ap (λ (l : List ℕ). l ++ more) e ∙ f
 
 -- the object bytes of slot k's file stand in the heap, from behind its label on
-pub object-part-stands : (r : Record) (size : ℕ) (heap : List ℕ) (k : ℕ) → 64 ≤ size → k * size + size ≤ length heap
+pub object-part-stands : (r : Label) (size : ℕ) (heap : List ℕ) (k : ℕ) → 64 ≤ size → k * size + size ≤ length heap
     → (rest : List ℕ) × (objectPart r (slotBytes size heap k) ++ rest ≡ drop (k * size + 64) heap)
 unfolding slotBytes
 object-part-stands r size heap k wide whole =
@@ -83,7 +83,7 @@ module _ (size : ℕ) (heap lsns : List ℕ) (location k : ℕ) (mark : ℕ) (e 
   place-delete id d = rw (e, ne-eqb (k + 1) 0 (λ z. omega arith), d) refl
 
   -- an object of the file in slot k, which lies within its object bytes
-  pub place-object : (id : ℕ) (r : Record) → deleteOf location ≡ false → 64 ≤ size → k * size + size ≤ length heap
+  pub place-object : (id : ℕ) (r : Label) → deleteOf location ≡ false → 64 ≤ size → k * size + size ≤ length heap
       → let o = storedAt (positionOf location - getD lsns k 0) (drop (positionOf location - getD lsns k 0) (objectPart r (slotBytes size heap k))) in
       20 + o .size ≤ o .room → o .size < 2 ^ 20
       → (opAt heap id (placeFor size lsns location mark) ≡ record { id = id; content = put (o .body) }) × Whole heap (placeFor size lsns location mark)

@@ -9,7 +9,7 @@ use lib.ListN.{length-drop}
 use Rattle.numbers.specs.GroupLaws.{either-way}
 use Rattle.rules.specs.Base.{List, [], _∷_, _++_, ℕ, _+_, _^_, length, drop, pick, keep, each}
 use Rattle.rules.specs.declared.Entry.{Entry}
-use Rattle.rules.specs.declared.Record.{Record}
+use Rattle.rules.specs.declared.Label.{Label}
 use Rattle.rules.specs.declared.Refusal.{Refusal}
 use Rattle.rules.specs.declared.Refusal.the-variants.{ObjectSize, NotThere, CutShort, Checksum, Location}
 use Rattle.rules.specs.declared.Answer.{Answer}
@@ -59,7 +59,7 @@ each-keep p f (x ∷ xs) = go (p x) (each-keep p f xs)
     go false ih = ih
 
 -- a file's tests, in the order that they are made
-pub file-tests : (limit : ℕ) (table : List Entry) (r : Record) (slot : List ℕ)
+pub file-tests : (limit : ℕ) (table : List Entry) (r : Label) (slot : List ℕ)
     → fileTests limit table r slot
     ≡ trailerTests (trailerPart r slot)
     ++ (each (movedTests limit table) (objectsIn (objectPart r slot)) ++ each (entryTests (r .lsn) table) (entriesIn (trailerPart r slot)))
@@ -214,7 +214,7 @@ located-number p = go (either-way p (2 ^ 63))
     )
 
 -- ---- a file, part by part
-module _ (limit : ℕ) (table : List Entry) (r : Record) (slot : List ℕ) where
+module _ (limit : ℕ) (table : List Entry) (r : Label) (slot : List ℕ) where
   pub file-trailer : (n : Refusal) → decide (trailerTests (trailerPart r slot)) ≡ Refused n → decide (fileTests limit table r slot) ≡ Refused n
   file-trailer n e = ap decide (file-tests limit table r slot) ∙ decide-early _ _ n e
 

@@ -8,7 +8,7 @@ use borrow.Author.Tests.{leb-false}
 use Rattle.rules.specs.Base.{List, [], _∷_, _++_, ℕ, _+_, _*_, _^_, length, pick, each}
 use Rattle.rules.specs.BaseLaws.{All, all-map}
 use Rattle.rules.specs.declared.Entry.{Entry}
-use Rattle.rules.specs.declared.Record.{Record}
+use Rattle.rules.specs.declared.Label.{Label}
 use Rattle.rules.specs.declared.Refusal.{Refusal}
 use Rattle.rules.specs.declared.Answer.the-variants.{Done, Refused}
 use Rattle.disk_location.specs.Locations.{positionOf, deleteOf}
@@ -43,7 +43,7 @@ abbrev pub SumFits : ℕ → Entry → Type 0
 SumFits lsn e = deleteOf (e .location) ≡ true → positionOf (e .location) + lsn < 2 ^ 63
 
 -- what the walks over a file rely on
-pub record Clear (r : Record) (slot : List ℕ) : Type 0 where
+pub record Clear (r : Label) (slot : List ℕ) : Type 0 where
   pub entries : 12 + 16 * countIn (trailerPart r slot) ≤ length (trailerPart r slot)
   pub objects : All Inside (objectsIn (objectPart r slot))
   pub deletes : All (SumFits (r .lsn)) (entriesIn (trailerPart r slot))
@@ -53,7 +53,7 @@ unfolding entryTests deleteTests NoneHolds
 entry-clear lsn table e h d = leb-false _ _ (clear-when (deleteTests lsn table e) (ap (λ (t : Bool). decide (pick t (deleteTests lsn table e) [])) (sym d) ∙ h) .0)
 
 -- a file that passes
-module _ (limit : ℕ) (table : List Entry) (r : Record) (slot : List ℕ) (e : decide (fileTests limit table r slot) ≡ Done) where
+module _ (limit : ℕ) (table : List Entry) (r : Label) (slot : List ℕ) (e : decide (fileTests limit table r slot) ≡ Done) where
   parts : (decide (trailerTests (trailerPart r slot)) ≡ Done)
       × (decide (each (movedTests limit table) (objectsIn (objectPart r slot)) ++ each (entryTests (r .lsn) table) (entriesIn (trailerPart r slot))) ≡ Done)
   parts = clear-both (trailerTests (trailerPart r slot)) _ (ap decide (sym (file-tests limit table r slot)) ∙ e)

@@ -9,7 +9,7 @@ use borrow.Author.Tests.{eq-eqb, ne-eqb}
 use Rattle.rules.specs.Base.{Bool, true, false, _||_, List, [], _∷_, _++_, map, ℕ, zero, suc, _+_, _-_, _^_, length, getD, drop, set, replicate, eqb, pick, any, keep, each, sum}
 use Rattle.rules.specs.BaseLaws.{All, all-map, same?, all-append, any-append}
 use Rattle.rules.specs.declared.Entry.{Entry}
-use Rattle.rules.specs.declared.Record.{Record}
+use Rattle.rules.specs.declared.Label.{Label}
 use Rattle.rules.specs.declared.Held.{Held}
 use Rattle.rules.specs.declared.Held.the-variants.{Mapped, Unmapped}
 use Rattle.disk_location.specs.declared.Located.{Located}
@@ -56,7 +56,7 @@ module _ (s : Source) (k : ℕ) (P : Op → Type 0) (Q : Stored → Type 0) wher
   abbrev table : List Entry
   table = s .table
 
-  abbrev r : Record
+  abbrev r : Label
   r = fileAt s k
 
   abbrev slot : List ℕ
@@ -429,11 +429,11 @@ ids-kept f g (x ∷ xs) = go (f x) (ids-kept f g xs)
     go true ih = ap (λ (l : List ℕ). g x .id ∷ l) ih
     go false ih = ih
 
-pub object-ids : (table : List Entry) (r : Record) (slot : List ℕ) → idsOf (objectsFound table r slot) ≡ each (objectId (r .lsn) table) (objectsIn (objectPart r slot))
+pub object-ids : (table : List Entry) (r : Label) (slot : List ℕ) → idsOf (objectsFound table r slot) ≡ each (objectId (r .lsn) table) (objectsIn (objectPart r slot))
 unfolding objectsFound objectId current
 object-ids table r slot = ids-kept (λ (o : Stored). mappedTo (lookup table (o .id)) (rawOf (r .lsn + o .position) false)) (λ (o : Stored). record { id = o .id; content = put (o .body) }) (objectsIn (objectPart r slot))
 
-pub delete-ids : (table : List Entry) (r : Record) (slot : List ℕ) → idsOf (deletesFound table r slot) ≡ each (deleteId (r .lsn) table) (trailerEntries r slot)
+pub delete-ids : (table : List Entry) (r : Label) (slot : List ℕ) → idsOf (deletesFound table r slot) ≡ each (deleteId (r .lsn) table) (trailerEntries r slot)
 unfolding deletesFound deletesOf deleteId current
 delete-ids table r slot =
     ids-kept (λ (e : Entry). mappedTo (lookup table (e .id)) (absolute (r .lsn) e .location)) (λ (e : Entry). record { id = e .id; content = delete })
@@ -445,7 +445,7 @@ ids-append [] ys = refl
 ids-append (x ∷ xs) ys = ap (λ (l : List ℕ). x .id ∷ l) (ids-append xs ys)
 
 -- a file: its objects, then its deletes
-pub mark-file : (m : ℕ) (table : List Entry) (r : Record) (slot ms : List ℕ)
+pub mark-file : (m : ℕ) (table : List Entry) (r : Label) (slot ms : List ℕ)
     → marked m (idsOf (foundFile table r slot)) table ms
     ≡ marked m (each (deleteId (r .lsn) table) (trailerEntries r slot)) table (marked m (each (objectId (r .lsn) table) (objectsIn (objectPart r slot))) table ms)
 mark-file m table r slot ms =

@@ -1,7 +1,7 @@
 -- What a group found, remembered as one mark for each entry of the table: 0, or the slot where it was found last, plus 1.
 use Rattle.rules.specs.Base.{Bool, false, List, [], _∷_, _++_, map, ℕ, suc, _+_, _-_, drop, replicate, eqb, pick, any, sum}
 use Rattle.rules.specs.declared.Entry.{Entry}
-use Rattle.rules.specs.declared.Record.{Record}
+use Rattle.rules.specs.declared.Label.{Label}
 use Rattle.disk_location.specs.Locations.{positionOf, deleteOf, rawOf}
 use Rattle.rules.specs.Table.{lookup, mappedTo}
 use Rattle.rules.specs.Trailer.{absolute}
@@ -12,7 +12,7 @@ use Rattle.rules.specs.Maintenance.{objectsFound, deletesFound}
 use Rattle.gc_group.specs.Source.{Source, fileAt, bytesAt}
 
 -- "Objects and deletes at their id's current location", of one file
-abbrev pub foundFile : List Entry → Record → List ℕ → List Op
+abbrev pub foundFile : List Entry → Label → List ℕ → List Op
 foundFile table r slot = objectsFound table r slot ++ deletesFound table r slot
 
 -- the same, of the file in slot k

@@ -20,7 +20,7 @@ use Rattle.rules.specs.World.{World, recordsOf}
 
 -- a candidate's new generation; 0 for any other slot
 unfoldable pub planFor : Settings → Claims → ℕ → ℕ → Record → ℕ
-planFor s claims files slot r = pick (isCandidate s claims files slot r) (newGeneration (r .generation)) 0
+planFor s claims files slot r = pick (isCandidate s claims files slot r) (newGeneration (r .label .generation)) 0
 
 -- of the records from slot i on
 unfoldable pub planFrom : Settings → Claims → ℕ → ℕ → List Record → List ℕ
@@ -46,12 +46,12 @@ for-group true n generation h = refl
 for-group false n generation h = sym (ne-eqb 0 generation (λ e. omega arith))
 
 from-group : (s : Settings) (claims : Claims) (files generation i : ℕ) (rs : List Record) → 0 < generation
-    → slotsWhere (λ (k : ℕ) (r : Record). isCandidate s claims files k r && eqb (newGeneration (r .generation)) generation) i rs
+    → slotsWhere (λ (k : ℕ) (r : Record). isCandidate s claims files k r && eqb (newGeneration (r .label .generation)) generation) i rs
     ≡ plannedFrom i (planFrom s claims files i rs) generation
 unfolding slotsWhere plannedFrom planFrom planFor
 from-group s claims files generation i [] h = refl
 from-group s claims files generation i (r ∷ rs) h =
-    rw (from-group s claims files generation (suc i) rs h, for-group (isCandidate s claims files i r) (newGeneration (r .generation)) generation h) refl
+    rw (from-group s claims files generation (suc i) rs h, for-group (isCandidate s claims files i r) (newGeneration (r .label .generation)) generation h) refl
 
 -- "They are grouped by new generation"
 pub group-planned : (w : World) (generation : ℕ) → 0 < generation → group w generation ≡ planned (planOf (w .settings) (w .claims) (recordsOf w)) generation

@@ -11,13 +11,14 @@ use Rattle.numbers.specs.GroupLaws.{either-way}
 use Rattle.disk_location.specs.Locations.{maskedOf}
 use Rattle.rules.specs.Base.{List, ℕ, _+_, _-_, _*_, _^_, length, getD, pick}
 use Rattle.rules.specs.declared.Entry.{Entry}
+use Rattle.rules.specs.declared.Label.{Label}
 use Rattle.rules.specs.declared.Record.{Record}
 use Rattle.rules.specs.declared.Settings.{Settings}
 use Rattle.rules.specs.declared.State.{State}
 use Rattle.rules.specs.declared.Claims.{Claims}
 use Rattle.rules.specs.Layout.{Buffers}
 use Rattle.rules.specs.SlotFile.{slotBytes, fileIn, objectPart}
-use Rattle.rules.specs.FileMap.{emptyRecord, isEmpty, recordAt, fileCount}
+use Rattle.rules.specs.FileMap.{emptyLabel, isEmpty, recordAt, fileCount}
 use Rattle.rules.specs.FileMapLaws.{empty-is, empty-or-not}
 use Rattle.rules.specs.LabelLaws.{InBounds}
 use Rattle.rules.specs.SettingsLaws.{slot-within}
@@ -42,45 +43,45 @@ source size heap records table = record { size = size; heap = heap; records = re
 abbrev pub sourceIn : World → Source
 sourceIn w = source (w .settings .«slot_bytes») (w .heap) (recordsOf w) (mappings w)
 
--- slot k's record and bytes
-abbrev pub fileAt : Source → ℕ → Record
-fileAt s k = recordAt (s .records) k
+-- slot k's label and bytes
+abbrev pub fileAt : Source → ℕ → Label
+fileAt s k = recordAt (s .records) k .label
 
 abbrev pub bytesAt : Source → ℕ → List ℕ
 bytesAt s k = slotBytes (s .size) (s .heap) k
 
--- ---- what refusal 1 leaves of a record: its file lies in a slot of that size, its positions below 2^63
-pub record Lies (size : ℕ) (r : Record) : Type 0 where
-  pub offset : r .«trailer_offset» ≤ r .«file_size»
-  pub inside : r .«file_size» ≤ size - 64
-  pub positions : r .lsn + r .«trailer_offset» < 2 ^ 63
+-- ---- what refusal 1 leaves of a label: its file lies in a slot of that size, its positions below 2^63
+pub record Lies (size : ℕ) (l : Label) : Type 0 where
+  pub offset : l .«trailer_offset» ≤ l .«file_size»
+  pub inside : l .«file_size» ≤ size - 64
+  pub positions : l .lsn + l .«trailer_offset» < 2 ^ 63
 
-pub bounds-lie : (size : ℕ) (r : Record) → InBounds size r → Lies size r
+pub bounds-lie : (size : ℕ) (l : Label) → InBounds size l → Lies size l
 unfolding maskedOf
-bounds-lie size r b = record { offset = b .offset; inside = b .size; positions = omega (arith, b .lsn, b .end) }
+bounds-lie size l b = record { offset = b .offset; inside = b .size; positions = omega (arith, b .lsn, b .end) }
 
--- an empty record, too
-pub empty-lies : (size : ℕ) → Lies size emptyRecord
+-- an empty one, too
+pub empty-lies : (size : ℕ) → Lies size emptyLabel
 empty-lies size = record { offset = zero-le; inside = zero-le; positions = lit< tt }
 
 -- what a group's loops over the slots ask for
 pub record Ready (size heapLen : ℕ) (records : List Record) (plan : List ℕ) (generation : ℕ) : Type 0 where
   pub slots : length plan ≡ 256
-  pub files : (k : ℕ) → Lies size (recordAt records k)
+  pub files : (k : ℕ) → Lies size (recordAt records k .label)
   pub standing : (k : ℕ) → getD plan k 0 ≡ generation → k * size + size ≤ heapLen
 
 -- as the call starts
-pub passed-lie : (s : Settings) (heapLen : ℕ) (b : Buffers) (t : State) → Passed s heapLen b t → (k : ℕ) → Lies (s .«slot_bytes») (recordAt (t .files .records) k)
+pub passed-lie : (s : Settings) (heapLen : ℕ) (b : Buffers) (t : State) → Passed s heapLen b t → (k : ℕ) → Lies (s .«slot_bytes») (recordAt (t .files .records) k .label)
 passed-lie s heapLen b t w k = ⊎-elim
     (λ e. rw (empty-is (recordAt (t .files .records) k) e) (empty-lies (s .«slot_bytes»)))
-    (λ e. bounds-lie (s .«slot_bytes») (recordAt (t .files .records) k) (w .records k e .bounds))
+    (λ e. bounds-lie (s .«slot_bytes») (recordAt (t .files .records) k .label) (w .records k e .bounds))
     (empty-or-not (recordAt (t .files .records) k))
 
 plan-some : (s : Settings) (claims : Claims) (files slot : ℕ) (r : Record) → 0 < planFor s claims files slot r → isEmpty r ≡ false
 unfolding planFor
 plan-some s claims files slot r h = go (isCandidate s claims files slot r) refl h
   where
-    go : (t : Bool) → isCandidate s claims files slot r ≡ t → 0 < pick t (newGeneration (r .generation)) 0 → isEmpty r ≡ false
+    go : (t : Bool) → isCandidate s claims files slot r ≡ t → 0 < pick t (newGeneration (r .label .generation)) 0 → isEmpty r ≡ false
     go true e h = candidate s claims files slot r e .file
     go false e h = absurd (omega arith)
 
@@ -109,6 +110,6 @@ ready s claims heapLen b t generation w n g = record {
   standing = λ k e. planned-within s claims heapLen b t w k (omega arith);
 }
 
--- a file has no more object bytes than its record says
-pub part-length : (r : Record) (slot : List ℕ) → length (objectPart r slot) ≤ r .«trailer_offset»
-part-length r slot = rw (length-take (r .«trailer_offset») (fileIn r slot)) (min-le-left (r .«trailer_offset») (length (fileIn r slot)))
+-- a file has no more object bytes than its label says
+pub part-length : (l : Label) (slot : List ℕ) → length (objectPart l slot) ≤ l .«trailer_offset»
+part-length l slot = rw (length-take (l .«trailer_offset») (fileIn l slot)) (min-le-left (l .«trailer_offset») (length (fileIn l slot)))

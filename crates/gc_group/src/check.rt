@@ -3,7 +3,7 @@ use location_table::load_in;
 use rules::Answer;
 use rules::Entry;
 use rules::Held;
-use rules::Record;
+use rules::Label;
 use rules::Refusal;
 use slot_file::Header;
 use slot_file::Step;
@@ -122,19 +122,19 @@ fn check_deletes(trailer: &[u8], lsn: u64, ids: &[u64], locations: &[u64]) -> An
 }
 
 // "trailer (9, 10, 11), then each object .. then delete entries"
-pub fn check_file(slot: &[u8], r: Record, ids: &[u64], locations: &[u64], limit: u64) -> Answer
-    requires { ⌜ Lies (length (now slot)) r ⌝ }
+pub fn check_file(slot: &[u8], l: Label, ids: &[u64], locations: &[u64], limit: u64) -> Answer
+    requires { ⌜ Lies (length (now slot)) l ⌝ }
     requires { ⌜ Formed (table (now ids) (now locations)) ⌝ }
-    ensures { λ a. ⌜ a ≡ decide (fileTests limit (used (now (ids .entry)) (now (locations .entry))) r (now (slot .entry))) ⌝ }
+    ensures { λ a. ⌜ a ≡ decide (fileTests limit (used (now (ids .entry)) (now (locations .entry))) l (now (slot .entry))) ⌝ }
 {
-    let trailer = trailer_part(slot, r);
+    let trailer = trailer_part(slot, l);
     match trailer::check(trailer) {
         Answer::Refused(refusal) => return Answer::Refused(refusal),
         Answer::Done => {}
     }
-    match check_objects(object_part(slot, r), ids, locations, limit) {
+    match check_objects(object_part(slot, l), ids, locations, limit) {
         Answer::Refused(refusal) => return Answer::Refused(refusal),
         Answer::Done => {}
     }
-    check_deletes(trailer, r.lsn, ids, locations)
+    check_deletes(trailer, l.lsn, ids, locations)
 }

@@ -7,7 +7,7 @@ use location_table::location_at;
 use rules::Answer;
 use rules::Entry;
 use rules::FileMap;
-use rules::Record;
+use rules::Label;
 use rules::Settings;
 use slot_file::Step;
 use slot_file::object;
@@ -123,20 +123,20 @@ fn mark_deletes(
 // Everything that is found in one file of a group whose checks are clear.
 pub fn mark_file(
     slot: &[u8],
-    r: Record,
+    l: Label,
     ids: &[u64],
     locations: &[u64],
     marks: &mut [u32],
     mark: u32,
 )
-    requires { ⌜ Lies (length (now slot)) r ⌝ }
-    requires { ⌜ Clear r (now slot) ⌝ }
+    requires { ⌜ Lies (length (now slot)) l ⌝ }
+    requires { ⌜ Clear l (now slot) ⌝ }
     requires { ⌜ Formed (table (now ids) (now locations)) ⌝ }
     requires { ⌜ length (now ids) ≤ length (now marks) ⌝ }
-    ensures { λ _. ⌜ now (marks .exit) ≡ marked mark (idsOf (foundFile (used (now (ids .entry)) (now (locations .entry))) r (now (slot .entry)))) (used (now (ids .entry)) (now (locations .entry))) (now (marks .entry)) ⌝ }
+    ensures { λ _. ⌜ now (marks .exit) ≡ marked mark (idsOf (foundFile (used (now (ids .entry)) (now (locations .entry))) l (now (slot .entry)))) (used (now (ids .entry)) (now (locations .entry))) (now (marks .entry)) ⌝ }
 {
-    mark_objects(object_part(slot, r), r.lsn, ids, locations, marks, mark);
-    mark_deletes(trailer_part(slot, r), r.lsn, ids, locations, marks, mark);
+    mark_objects(object_part(slot, l), l.lsn, ids, locations, marks, mark);
+    mark_deletes(trailer_part(slot, l), l.lsn, ids, locations, marks, mark);
 }
 
 fn unmark(marks: &mut [u32])
@@ -174,14 +174,15 @@ pub fn mark_group(
     let mut i: usize = 0;
     while i < 256 {
         let r = m.records[i];
-        lsns[i] = r.lsn;
+        let l = r.label;
+        lsns[i] = l.lsn;
         if plan[i] == generation {
             let slot = slot_at(heap, s.slot_bytes as usize, i);
-            match check_file(slot, r, ids, locations, s.max_object_size) {
+            match check_file(slot, l, ids, locations, s.max_object_size) {
                 Answer::Refused(refusal) => return Answer::Refused(refusal),
                 Answer::Done => {}
             }
-            mark_file(slot, r, ids, locations, marks, i as u32 + 1);
+            mark_file(slot, l, ids, locations, marks, i as u32 + 1);
         }
         i += 1;
     }

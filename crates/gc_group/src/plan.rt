@@ -29,14 +29,14 @@ pub fn worth_it(s: Settings, files: u64, r: Record) -> bool
     requires { ⌜ Small r ⌝ }
     ensures { λ b. ⌜ b ≡ worthIt s files r ⌝ }
 {
-    let share = r.live * 100 / at_least_one(r.present_objects);
+    let share = r.live * 100 / at_least_one(r.label.present_objects);
     if share < s.file_compaction_percent {
         return true;
     }
     if files < s.small_file_cleanup_threshold {
         return false;
     }
-    r.file_size * s.min_compaction_files < s.target_file_size
+    r.label.file_size * s.min_compaction_files < s.target_file_size
 }
 
 // "min(g + 1, 3)"
@@ -76,7 +76,7 @@ fn plan_for(s: Settings, claims: Claims, files: u64, slot: u64, r: Record) -> u6
     ensures { λ n. ⌜ n ≡ planFor s claims files slot r ⌝ }
 {
     if is_candidate(s, claims, files, slot, r) {
-        return new_generation(r.generation);
+        return new_generation(r.label.generation);
     }
     0
 }

@@ -17,7 +17,7 @@ use Rattle.rules.specs.FileMap.{isEmpty, recordAt, emptySlots, lowestEmpty}
 use Rattle.rules.specs.FileMapLaws.{Lowest, lowest-empty}
 use Rattle.rules.specs.Condition1Laws.{Passed}
 use Rattle.rules.specs.Stores.{Store, made, fileStores}
-use Rattle.rules.specs.Install.{newRecord, newLsn, installed, storesFor}
+use Rattle.rules.specs.Install.{newLabel, newLsn, installed, storesFor}
 use Rattle.rules.specs.World.{World, world}
 use Rattle.stores.specs.Runs.{Made}
 use Rattle.location_table.specs.Tables.{table}
@@ -130,7 +130,7 @@ module _ (s : Settings) (t : State) (heap ids locations places pieces : List ℕ
     unfolding installed storesFor
     elsewhere =
         let ops = filedOps piece heap ids places pieces in
-        let new = newRecord (newLsn 0 (world s t noClaims heap ids locations)) generation ops in
+        let new = newLabel (newLsn 0 (world s t noClaims heap ids locations)) generation ops in
         let start = lowestEmpty (slotsIn s (length heap)) (t .files .records) * s .«slot_bytes» in
         let run = fileStores start (labelBytes new) (fileBytes ops) in
         let whole : Made (length run) run heap heap′ (length run - length run) =

@@ -7,38 +7,30 @@ use native.Mathlib.Omega.{arith}
 use lib.ListN.{length-set, length-take}
 use lib.Seq.{getD-set-same, getD-set-other, getD-take}
 use Rattle.rules.specs.Base.{Bool, true, false, List, [], _∷_, ℕ, zero, suc, _+_, _-_, length, set, take, pick}
+use Rattle.rules.specs.declared.Label.{Label}
 use Rattle.rules.specs.declared.Record.{Record}
 use Rattle.rules.specs.declared.Settings.{Settings}
 use Rattle.rules.specs.LabelLaws.{InBounds, lsn-some}
 use Rattle.rules.specs.Layout.{Buffers, capacityOf}
-use Rattle.rules.specs.FileMap.{emptyRecord, isEmpty, recordAt, withLive, slotsWhere, emptySlots, lowestEmpty}
+use Rattle.rules.specs.FileMap.{recorded, emptyRecord, isEmpty, recordAt, slotsWhere, emptySlots, lowestEmpty}
 use Rattle.rules.specs.FileMapLaws.{empty-is, is-empty, not-empty, empty-or-not, lowest-empty}
-use Rattle.rules.specs.InstallLaws.{fiveOf}
 use Rattle.rules.specs.Condition1Laws.{GoodRecord}
 
 -- ---- a record that may lose live ones: still a file's, or still empty
--- the bounds go by the other five numbers
-bounds-five : (size : ℕ) (r q : Record) → fiveOf q ≡ fiveOf r → InBounds size r → InBounds size q
-bounds-five size r q e w =
-    let five : InBounds size (fiveOf r) =
-    record { size = w .size; offset = w .offset; masked = w .masked; lsn = w .lsn; end = w .end; generation = w .generation } in
-    let v = subst (InBounds size) (sym e) five in
-    record { size = v .size; offset = v .offset; masked = v .masked; lsn = v .lsn; end = v .end; generation = v .generation }
-
 module _ (s : Settings) (heapLen : ℕ) (b after : Buffers) (same : capacityOf after ≡ capacityOf b) (slot : ℕ) (r q : Record)
-    (five : fiveOf q ≡ fiveOf r) (less : q .live ≤ r .live) (good : isEmpty r ≡ false → GoodRecord s heapLen b slot r) where
+    (label : q .label ≡ r .label) (less : q .live ≤ r .live) (good : isEmpty r ≡ false → GoodRecord s heapLen b slot r) where
   -- an empty one
   pub still-empty : isEmpty r ≡ true → isEmpty q ≡ true
   still-empty e =
       let none = empty-is r e in
       let lost : q .live ≡ 0 = omega (arith, ap (λ (x : Record). x .live) none) in
-      ap isEmpty (ap₂ (λ (x : Record) (n : ℕ). withLive x n) (five ∙ ap fiveOf none) lost) ∙ is-empty
+      ap isEmpty (ap₂ recorded (label ∙ ap (λ (x : Record). x .label) none) lost) ∙ is-empty
 
   -- a file's
   pub still-file : isEmpty r ≡ false → isEmpty q ≡ false
   still-file e =
-      let some = lsn-some (s .«slot_bytes») r (good e .bounds) in
-      not-empty q (omega (arith, ap (λ (x : Record). x .lsn) five))
+      let some = lsn-some (s .«slot_bytes») (r .label) (good e .bounds) in
+      not-empty q (omega (arith, ap (λ (l : Label). l .lsn) label))
 
   -- no more and no fewer
   pub still : isEmpty q ≡ isEmpty r
@@ -48,11 +40,11 @@ module _ (s : Settings) (heapLen : ℕ) (b after : Buffers) (same : capacityOf a
   pub still-good : isEmpty q ≡ false → GoodRecord s heapLen after slot q
   still-good e =
       let g = good (sym still ∙ e) in
-      let size = ap (λ (x : Record). x .«file_size») five in
-      let present = ap (λ (x : Record). x .«present_objects») five in
+      let size = ap (λ (l : Label). l .«file_size») label in
+      let present = ap (λ (l : Label). l .«present_objects») label in
       record {
         place = g .place;
-        bounds = bounds-five (s .«slot_bytes») r q five (g .bounds);
+        bounds = subst (InBounds (s .«slot_bytes»)) (sym label) (g .bounds);
         present = omega (arith, g .present);
         live = omega (arith, g .live);
       }

@@ -15,8 +15,8 @@ use Rattle.rules.specs.FileMap.{emptyRecord, isEmpty, recordAt, emptySlots}
 use Rattle.rules.specs.FileMapLaws.{not-empty, Lowest, lowest-empty}
 use Rattle.rules.specs.Condition1Laws.{GoodRecord, Passed}
 use Rattle.rules.specs.StoreLaws.{made-length}
-use Rattle.rules.specs.Install.{newRecord, newLsn, newSlot, losing, recordsWith, storesFor, tableWith, nextWith, installed, emptyOf}
-use Rattle.rules.specs.InstallLaws.{losing-length, losing-five, plain-lsn, losing-record, installed-lsn}
+use Rattle.rules.specs.Install.{newLabel, newRecord, newLsn, newSlot, losing, recordsWith, storesFor, tableWith, nextWith, installed, emptyOf}
+use Rattle.rules.specs.InstallLaws.{losing-length, losing-label, plain-lsn, losing-record, installed-lsn}
 use Rattle.rules.specs.World.{World, recordsOf, slotsOf, mappings, stateWith}
 use Rattle.rules.specs.LabelLaws.{lsn-some}
 use Rattle.limits.specs.Settled.{passed-formed}
@@ -56,12 +56,12 @@ module _ (generation : ℕ) (w : World) (ops : List Op) (f : Rewritable generati
 
   -- its record is a file's
   new-some : isEmpty (newRecord (newLsn 0 w) generation ops) ≡ false
-  unfolding newRecord
+  unfolding newRecord newLabel
   new-some = not-empty (newRecord (newLsn 0 w) generation ops) (omega (arith, f .passed .next))
 
   -- that refusal 1 lets pass
   new-good : GoodRecord (w .settings) (length (w .heap)) (tableWith (newLsn 0 w) w ops) (newSlot w) (newRecord (newLsn 0 w) generation ops)
-  unfolding newRecord
+  unfolding newRecord newLabel
   new-good =
       let base = w .state .«next_position» in
       let lsn = plain-lsn base (omega (arith, f .last)) in
@@ -84,7 +84,7 @@ module _ (generation : ℕ) (w : World) (ops : List Op) (f : Rewritable generati
   others : (j : ℕ) → isEmpty (recordAt (losing (mappings w) ops (recordsOf w)) j) ≡ isEmpty (recordAt (recordsOf w) j)
   others j =
       still (w .settings) (length (w .heap)) (w .table) (w .table) refl j (recordAt (recordsOf w) j) (recordAt (losing (mappings w) ops (recordsOf w)) j)
-      (losing-five (mappings w) ops (recordsOf w) j) (losing-record (mappings w) ops (recordsOf w) j .less) (f .passed .records j)
+      (losing-label (mappings w) ops (recordsOf w) j) (losing-record (mappings w) ops (recordsOf w) j .less) (f .passed .records j)
 
   -- and passes refusal 1, as the new one does
   records-good : (k : ℕ) → isEmpty (recordAt (recordsWith (newRecord (newLsn 0 w) generation ops) w ops) k) ≡ false
@@ -106,7 +106,7 @@ module _ (generation : ℕ) (w : World) (ops : List Op) (f : Rewritable generati
       go (inr d) =
           let same = getD-set-other old (newSlot w) k new emptyRecord d in
           rw same (still-good (w .settings) (length (w .heap)) (w .table) (tableWith (newLsn 0 w) w ops) (ap length (same-ids .ids)) k (recordAt (recordsOf w) k) (recordAt old k)
-          (losing-five (mappings w) ops (recordsOf w) k) (losing-record (mappings w) ops (recordsOf w) k .less) (f .passed .records k) (ap isEmpty (sym same) ∙ e))
+          (losing-label (mappings w) ops (recordsOf w) k) (losing-record (mappings w) ops (recordsOf w) k .less) (f .passed .records k) (ap isEmpty (sym same) ∙ e))
 
   -- refusal 1 does not hold
   passed-with : Passed (w .settings) (length (w .heap)) (tableWith (newLsn 0 w) w ops)
@@ -133,7 +133,7 @@ module _ (generation : ℕ) (w : World) (ops : List Op) (f : Rewritable generati
   -- the heap is as long as before
   heap-after : length (installed 0 generation w ops .heap) ≡ length (w .heap)
   unfolding installed
-  heap-after = made-length (storesFor (newRecord (newLsn 0 w) generation ops) w ops) (w .heap)
+  heap-after = made-length (storesFor (newLabel (newLsn 0 w) generation ops) w ops) (w .heap)
 
   -- LAW: all of it
   pub passed-installed : Rewritten w ops (installed 0 generation w ops)
@@ -147,7 +147,7 @@ module _ (generation : ℕ) (w : World) (ops : List Op) (f : Rewritable generati
         ids = same-ids .ids;
         used = same-ids .used;
         files = λ k e. not-empty (recordAt (recordsOf (installed 0 generation w ops)) k)
-            (installed-lsn 0 generation w ops (f .passed .next) k (lsn-some (w .settings .«slot_bytes») (recordAt (recordsOf w) k) (f .passed .records k e .bounds)));
+            (installed-lsn 0 generation w ops (f .passed .next) k (lsn-some (w .settings .«slot_bytes») (recordAt (recordsOf w) k .label) (f .passed .records k e .bounds)));
         empty =
             empty-rest (slotsOf w) (recordsOf w) old new (losing-length (mappings w) ops (recordsOf w)) new-some others (f .free)
             ∙ ap (λ (n : ℕ). newSlot w ∷ emptySlots (slotsIn (w .settings) n) (set old (newSlot w) new)) (sym heap-after);

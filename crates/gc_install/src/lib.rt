@@ -1,6 +1,6 @@
 // One file of a group of maintenance (`src/gc.rs`) written and added, and what stays as it was for the group's other files.
 
-use rules::Record;
+use rules::Label;
 use rules::Settings;
 use rules::State;
 ghost use mathlib.Core.Path.{_≡_};
@@ -30,7 +30,7 @@ fn put_piece(
     places: &[u32],
     pieces: &[u32],
     piece: u32,
-    new: Record,
+    new: Label,
     count: u64,
     total: u64,
 )
@@ -74,7 +74,7 @@ fn add_at(
 {
     // "lsn = base without the batch bit", the new generation
     let base = state.next_position;
-    let new = install::new_record(base, count, total, generation);
+    let new = install::new_label(base, count, total, generation);
     let slot_bytes = settings.slot_bytes;
     let start = slot * slot_bytes as usize;
     put_piece(

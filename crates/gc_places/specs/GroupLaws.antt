@@ -13,6 +13,7 @@ use Rattle.disk_location.specs.Locations.{positionOf, deleteOf}
 use Rattle.rules.specs.Base.{Bool, true, false, List, [], _∷_, _++_, ℕ, zero, suc, _+_, _-_, _*_, _^_, length, getD, drop, replicate, each}
 use Rattle.rules.specs.TurnLaws.{left-next}
 use Rattle.rules.specs.declared.Entry.{Entry}
+use Rattle.rules.specs.declared.Label.{Label}
 use Rattle.rules.specs.declared.Record.{Record}
 use Rattle.rules.specs.declared.Settings.{Settings}
 use Rattle.rules.specs.declared.Answer.the-variants.{Done}
@@ -129,13 +130,13 @@ module _ (heap xs ps : List ℕ) (i : ℕ) (h : i < length xs) (g : i < length p
 
 -- ---- an object of a file
 -- an object in the file of slot k, from position p of its object bytes on
-record Lying (size : ℕ) (heap : List ℕ) (r : Record) (k p : ℕ) : Type 0 where
+record Lying (size : ℕ) (heap : List ℕ) (r : Label) (k p : ℕ) : Type 0 where
   high : p ≤ 2 ^ 20
   short : storedAt p (drop p (objectPart r (slotBytes size heap k))) .size < 2 ^ 20
   inside : InSlot size heap k (k * size + 64 + p)
 
 -- one that lies within its file's object bytes
-object-lies : (size : ℕ) (heap : List ℕ) (r : Record) (k p : ℕ) → 64 ≤ size → size ≤ 2 ^ 20 → k * size + size ≤ length heap → r .«trailer_offset» ≤ size - 64
+object-lies : (size : ℕ) (heap : List ℕ) (r : Label) (k p : ℕ) → 64 ≤ size → size ≤ 2 ^ 20 → k * size + size ≤ length heap → r .«trailer_offset» ≤ size - 64
     → let o = storedAt p (drop p (objectPart r (slotBytes size heap k))) in
     20 + o .size ≤ o .room → Lying size heap r k p
 unfolding storedAt
@@ -207,8 +208,8 @@ module _ (limit size : ℕ) (heap : List ℕ) (records : List Record) (plan : Li
     unfolding contentAt
     stood-object i k h few chosen d moves =
         let location = getD ls i 0 in
-        let r = recordAt records k in
-        let lsn : getD lsns k 0 ≡ r .lsn = List·getD-map (λ (q : Record). q .lsn) records k emptyRecord in
+        let r = recordAt records k .label in
+        let lsn : getD lsns k 0 ≡ r .lsn = List·getD-map (λ (q : Record). q .label .lsn) records k emptyRecord in
         let at : location ≡ entryAt i .location = used-location is ls i h in
         let p = positionOf location - getD lsns k 0 in
         let same : positionOf (entryAt i .location) - r .lsn ≡ p = ap₂ (λ (l m : ℕ). positionOf l - m) (sym at) (sym lsn) in

@@ -161,7 +161,7 @@ module _ (s : Settings) (generation : ℕ) (places pieces order : List ℕ) (t :
           ap (λ (v : World). isEmpty (recordAt (recordsOf v) k)) (a .worlds noClaims)
           ∙ not-empty (recordAt (recordsOf (installed 0 generation (world s r noClaims heap′ ids′ locations′) (filedOps p heap′ ids′ places pieces))) k)
           (installed-lsn 0 generation (world s r noClaims heap′ ids′ locations′) (filedOps p heap′ ids′ places pieces) (w .placing .limits .next) k
-          (lsn-some (s .«slot_bytes») (recordAt (r .files .records) k) (w .placing .limits .records k (w .kept k some) .bounds)));
+          (lsn-some (s .«slot_bytes») (recordAt (r .files .records) k .label) (w .placing .limits .records k (w .kept k some) .bounds)));
       sameHeap = a .sameHeap ∙ w .sameHeap;
       sameIds = a .sameIds ∙ w .sameIds;
     }

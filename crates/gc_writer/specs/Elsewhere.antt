@@ -14,7 +14,7 @@ use Rattle.rules.specs.PartLaws.{drop-take}
 use Rattle.rules.specs.Label.{labelBytes}
 use Rattle.rules.specs.Ops.{Op, put}
 use Rattle.rules.specs.Stores.{Store, made, storesOf, fileStores}
-use Rattle.rules.specs.declared.Record.{Record}
+use Rattle.rules.specs.declared.Label.{Label}
 use Rattle.rules.specs.LabelLaws.{label-length}
 use Rattle.stores.specs.Runs.{Made}
 use Rattle.gc_files.specs.Places.{lengthAt, movingAt, opAt, filedOps, Whole, InSlot}
@@ -71,7 +71,7 @@ among-stores start size at [] low high = tt
 among-stores start size at (b ∷ bs) low high = ((low, omega arith), among-stores start size (suc at) bs (omega arith) (omega arith))
 
 -- a file and its label
-pub among-file : (start size : ℕ) (new : Record) (file : List ℕ) → 64 + length file ≤ size → Among start size (fileStores start (labelBytes new) file)
+pub among-file : (start size : ℕ) (new : Label) (file : List ℕ) → 64 + length file ≤ size → Among start size (fileStores start (labelBytes new) file)
 unfolding fileStores
 among-file start size new file room =
     let label = labelBytes new in
@@ -83,7 +83,7 @@ among-file start size new file room =
     (among-stores start size (suc start) (drop 1 label) (omega arith) others)
     (among-stores start size start (take 1 label) (omega arith) first))
 
-pub file-elsewhere : (start size : ℕ) (new : Record) (file : List ℕ) {k left : ℕ} {heap after : List ℕ} → 64 + length file ≤ size
+pub file-elsewhere : (start size : ℕ) (new : Label) (file : List ℕ) {k left : ℕ} {heap after : List ℕ} → 64 + length file ≤ size
     → Made k (fileStores start (labelBytes new) file) heap after left → Elsewhere start size heap after
 file-elsewhere start size new file room m = made-elsewhere start size (among-file start size new file room) m
 

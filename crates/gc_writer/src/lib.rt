@@ -4,7 +4,7 @@ use batch::Operation;
 use batch::size_of;
 use batch_file::entry_of;
 use gc_files::places::moving_at;
-use rules::Record;
+use rules::Label;
 use trailer::write;
 ghost use mathlib.Core.Logic.{_⊎_};
 ghost use mathlib.Core.Path.{_≡_};
@@ -213,7 +213,7 @@ pub fn write_piece(
     places: &[u32],
     pieces: &[u32],
     piece: u32,
-    new: Record,
+    new: Label,
     count: u64,
     total: u64,
     k: u64,

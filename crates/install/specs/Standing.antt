@@ -10,6 +10,7 @@ use Rattle.disk_location.specs.LocationLaws.{position-raw}
 use Rattle.rules.specs.Base.{List, [], _∷_, _++_, ℕ, zero, suc, _+_, _*_, _^_, length, getD, set}
 use Rattle.rules.specs.declared.Settings.{Settings}
 use Rattle.rules.specs.declared.Entry.{Entry}
+use Rattle.rules.specs.declared.Label.{Label}
 use Rattle.rules.specs.declared.Record.{Record}
 use Rattle.rules.specs.declared.State.{State}
 use Rattle.rules.specs.declared.Claims.{Claims}
@@ -27,10 +28,10 @@ use Rattle.rules.specs.FileMap.{lowestEmpty}
 use Rattle.rules.specs.Condition1Laws.{Passed}
 use Rattle.rules.specs.Stores.{made, fileStores}
 use Rattle.rules.specs.StoreLaws.{made-length, file-made}
-use Rattle.rules.specs.Install.{newRecord, installed, recordsWith, storesFor, tableWith, nextWith, newSlot}
+use Rattle.rules.specs.Install.{newLabel, newRecord, installed, recordsWith, storesFor, tableWith, nextWith, newSlot}
 use Rattle.rules.specs.World.{World, stateWith}
 use Rattle.location_table.specs.Tables.{Formed}
-use Rattle.file_map.specs.Records.{fresh, new-record}
+use Rattle.file_map.specs.Records.{labelled, fresh, new-label, new-record}
 use Rattle.file_map.specs.Lists.{lsnsOf, livesOf, withLives}
 use Rattle.install.specs.Losing.{losingBy, losingLives, losing-entries, losing-lives}
 use Rattle.install.specs.Adding.{taken, Placed, trailerAt, Installable}
@@ -78,18 +79,22 @@ module _ {bit : ℕ} {ops : List Op} {s : Settings} {t : State} {heap : List ℕ
   entries-placed k = omega (arith, position-within 0 ops k, f .objects, f .last, f .plain)
 
   -- its record has a slot, and a next position
-  pub record-fits : {lsn size generation : ℕ} {new : Record} → new ≡ fresh lsn total size count generation
+  pub record-fits : {lsn size generation : ℕ} {new : Label} → new ≡ labelled lsn total size count generation
       → (slot < 256) × (t .«next_position» + (new .«trailer_offset» + 1) < 2 ^ 64)
   record-fits numbers =
-      (omega (arith, f .free, f .limits .limits .heap .most), omega (arith, f .last, ap (λ (r : Record). r .«trailer_offset») numbers))
+      (omega (arith, f .free, f .limits .limits .heap .most), omega (arith, f .last, ap (λ (l : Label). l .«trailer_offset») numbers))
 
   -- once its label, its objects and its trailer are written
-  module _ {lsn generation : ℕ} {new : Record} {after : List ℕ} (base : lsn ≡ t .«next_position» + bit)
-      (numbers : new ≡ fresh lsn total (total + (12 + 16 * count)) count generation)
+  module _ {lsn generation : ℕ} {new : Label} {after : List ℕ} (base : lsn ≡ t .«next_position» + bit)
+      (numbers : new ≡ labelled lsn total (total + (12 + 16 * count)) count generation)
       (written : after ≡ made (fileStores (slot * s .«slot_bytes») (labelBytes new) (fileBytes ops)) heap) where
-    -- the record is the new file's
-    record-new : new ≡ newRecord (t .«next_position» + bit) generation ops
-    record-new = numbers ∙ rw (base, sizes-small .0, f .objects, f .entries) (sym (new-record (t .«next_position» + bit) generation ops))
+    -- the label is the new file's
+    label-new : new ≡ newLabel (t .«next_position» + bit) generation ops
+    label-new = numbers ∙ rw (base, sizes-small .0, f .objects, f .entries) (sym (new-label (t .«next_position» + bit) generation ops))
+
+    -- and so is its record
+    record-new : fresh new ≡ newRecord (t .«next_position» + bit) generation ops
+    record-new = ap fresh label-new ∙ sym (new-record (t .«next_position» + bit) generation ops)
 
     -- its trailer stands behind its objects
     trailer-there : trailerAt after (slot * s .«slot_bytes») count total ≡ trailerBytes (entriesOf 0 ops)
@@ -124,10 +129,10 @@ module _ {bit : ℕ} {ops : List Op} {s : Settings} {t : State} {heap : List ℕ
       pub installable : Formed b → Installable lsns lives b after (slot * s .«slot_bytes») count total (new .lsn)
       installable formed =
           let rs = t .files .records in
-          let there = ap (λ (r : Record). r .lsn) numbers ∙ base in
+          let there = ap (λ (l : Label). l .lsn) numbers ∙ base in
           record {
             formed = formed;
-            even = omega (arith, ap length x, ap length y, length-map rs (λ (r : Record). r .lsn), length-map rs (λ (r : Record). r .live));
+            even = omega (arith, ap length x, ap length y, length-map rs (λ (r : Record). r .label .lsn), length-map rs (λ (r : Record). r .live));
             inside = omega (arith, slot-inside, sizes-small .0, ap length written, made-length (fileStores (slot * s .«slot_bytes») (labelBytes new) (fileBytes ops)) heap);
             counted = count-there;
             placed = rw (there, entries-there) entries-placed;
@@ -139,26 +144,26 @@ module _ {bit : ℕ} {ops : List Op} {s : Settings} {t : State} {heap : List ℕ
       pub added : {r : State} {b′ : Buffers} {left : List ℕ}
           → (left ≡ losingLives lsns (usedEntries b) (entriesIn (trailerAt after (slot * s .«slot_bytes») count total)) lives)
           × (b′ ≡ laidOut (capacityOf b) (insertAll (usedEntries b) (taken (new .lsn) (entriesIn (trailerAt after (slot * s .«slot_bytes») count total)))))
-          → r ≡ stateWith t (set (withLives (t .files .records) left) slot new) (t .«next_position» + (new .«trailer_offset» + 1))
+          → r ≡ stateWith t (set (withLives (t .files .records) left) slot (fresh new)) (t .«next_position» + (new .«trailer_offset» + 1))
           → (c : Claims) → worldOf s r c after b′ ≡ installed bit generation (worldOf s t c heap b) ops
-      unfolding installed recordsWith storesFor tableWith nextWith newRecord
+      unfolding installed recordsWith storesFor tableWith nextWith newLabel newRecord
       added {r} {b′} {left} z q c =
           let es = entriesOf 0 ops in
           let there = entries-there in
-          let e = record-new in
+          let e = label-new in
           let lost : withLives (t .files .records) left ≡ losingBy (usedEntries b) es (t .files .records) =
           ap (withLives (t .files .records)) (z .0 ∙ rw (x, y, there) refl) ∙ losing-lives (usedEntries b) es (t .files .records) in
           let w = worldOf s t c heap b in
           let n = newRecord (t .«next_position» + bit) generation ops in
           let state : r ≡ stateWith t (recordsWith n w ops) (nextWith w ops) =
           q
-          ∙ ap (λ (rs : List Record). stateWith t (set rs slot new) (t .«next_position» + (new .«trailer_offset» + 1))) lost
-          ∙ ap₂ (λ (k : ℕ) (m : Record). stateWith t (set (losingBy (usedEntries b) es (t .files .records)) k m) (t .«next_position» + (m .«trailer_offset» + 1))) (f .lowest) e
+          ∙ ap (λ (rs : List Record). stateWith t (set rs slot (fresh new)) (t .«next_position» + (new .«trailer_offset» + 1))) lost
+          ∙ ap₂ (λ (k : ℕ) (m : Record). stateWith t (set (losingBy (usedEntries b) es (t .files .records)) k m) (t .«next_position» + (m .label .«trailer_offset» + 1))) (f .lowest) record-new
           ∙ ap (λ (rs : List Record). stateWith t (set rs (newSlot w) n) (nextWith w ops)) (sym (losing-entries (usedEntries b) 0 ops (t .files .records))) in
-          let stores : after ≡ made (storesFor n w ops) heap =
-          written ∙ ap₂ (λ (k : ℕ) (m : Record). made (fileStores (k * s .«slot_bytes») (labelBytes m) (fileBytes ops)) heap) (f .lowest) e in
+          let stores : after ≡ made (storesFor (newLabel (t .«next_position» + bit) generation ops) w ops) heap =
+          written ∙ ap₂ (λ (k : ℕ) (m : Label). made (fileStores (k * s .«slot_bytes») (labelBytes m) (fileBytes ops)) heap) (f .lowest) e in
           let entries : b′ ≡ tableWith (t .«next_position» + bit) w ops =
-          z .1 ∙ ap₂ (λ (m : Record) (xs : List Entry). laidOut (capacityOf b) (insertAll (usedEntries b) (taken (m .lsn) xs))) e there in
+          z .1 ∙ ap₂ (λ (m : Label) (xs : List Entry). laidOut (capacityOf b) (insertAll (usedEntries b) (taken (m .lsn) xs))) e there in
           same-world state stores entries
         where
           same-world : {r q : State} {h k : List ℕ} {x y : Buffers} → r ≡ q → h ≡ k → x ≡ y

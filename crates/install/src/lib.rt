@@ -3,7 +3,7 @@ use disk_location::RelativeDiskLocation;
 use rules::Entry;
 use rules::FileMap;
 use rules::Held;
-use rules::Record;
+use rules::Label;
 use rules::State;
 ghost use mathlib.Core.Path.{_≡_};
 ghost use mathlib.Core.Bool.{false};
@@ -18,7 +18,7 @@ ghost use Rattle.rules.specs.World.{stateWith};
 ghost use Rattle.location_table.specs.Tables.{table, Formed};
 ghost use Rattle.file_map.specs.Lists.{lessAt, withLives};
 ghost use Rattle.install.specs.Losing.{slotHolding, losingLives};
-ghost use Rattle.file_map.specs.Records.{fresh};
+ghost use Rattle.file_map.specs.Records.{labelled, fresh};
 ghost use Rattle.install.specs.Adding.{taken, Placed, trailerAt, Installable};
 
 // "loses one live": the file of the location that the table has for the id.
@@ -107,12 +107,12 @@ fn next_after(next_position: u64, total: u64) -> u64
     next_position + (total + 1)
 }
 
-// A new file's record, by its lsn, its count of entries, T and its generation.
-pub fn new_record(lsn: u64, count: u64, total: u64, generation: u64) -> Record
+// A new file's label, by its lsn, its count of entries, T and its generation.
+pub fn new_label(lsn: u64, count: u64, total: u64, generation: u64) -> Label
     requires { ⌜ total + (12 + 16 * count) < 2 ^ 63 ⌝ }
-    ensures { λ r. ⌜ r ≡ fresh lsn total (total + (12 + 16 * count)) count generation ⌝ }
+    ensures { λ l. ⌜ l ≡ labelled lsn total (total + (12 + 16 * count)) count generation ⌝ }
 {
-    file_map::fresh(lsn, total, total + (12 + 16 * count), count, generation)
+    file_map::labelled(lsn, total, total + (12 + 16 * count), count, generation)
 }
 
 // The entries of a trailer: live counts, then table.
@@ -151,14 +151,14 @@ pub fn install(
     by_trailer(lsns, lives, ids, locations, &heap[from..end], lsn);
 }
 
-// The state with the live counts that are left and the file's record in its slot.
-pub fn with_file(state: State, lives: &[u64], slot: usize, new: Record) -> State
+// The state with the live counts that are left and the new file's record in its slot.
+pub fn with_file(state: State, lives: &[u64], slot: usize, new: Label) -> State
     requires { ⌜ (length (now lives) ≡ 256) × (slot < 256) × (state .«next_position» + (new .«trailer_offset» + 1) < 2 ^ 64) ⌝ }
-    ensures { λ r. ⌜ r ≡ stateWith state (set (withLives (state .files .records) (now (lives .entry))) slot new) (state .«next_position» + (new .«trailer_offset» + 1)) ⌝ }
+    ensures { λ r. ⌜ r ≡ stateWith state (set (withLives (state .files .records) (now (lives .entry))) slot (fresh new)) (state .«next_position» + (new .«trailer_offset» + 1)) ⌝ }
 {
     let before = state.files;
     let fewer = file_map::with_lives(before, lives);
-    let files = file_map::with_record(fewer, slot, new);
+    let files = file_map::with_record(fewer, slot, file_map::fresh(new));
     let total = new.trailer_offset;
     let next = next_after(state.next_position, total);
     state_with(state, files, next)

@@ -131,10 +131,10 @@ fn bad_record(s: Settings, heap: u64, ids: &[u64], locations: &[u64], slot: u64,
     if heap / s.slot_bytes <= slot {
         return true;
     }
-    if out_of_bounds(s.slot_bytes, r) {
+    if out_of_bounds(s.slot_bytes, r.label) {
         return true;
     }
-    if r.file_size < r.present_objects {
+    if r.label.file_size < r.label.present_objects {
         return true;
     }
     (ids.len() as u64) < r.live

@@ -1,5 +1,7 @@
 use crate::ranges::defaults;
 use crate::show::counted;
+use file_map::recorded;
+use rules::Label;
 use rules::Record;
 use rules::Settings;
 use rules::State;
@@ -13,15 +15,12 @@ pub fn settings() -> Settings {
     s
 }
 
+fn label() -> Label {
+    file_map::labelled(5, 20, 64, 2, 255)
+}
+
 fn file() -> Record {
-    Record {
-        lsn: 5,
-        trailer_offset: 20,
-        file_size: 64,
-        present_objects: 2,
-        generation: 255,
-        live: 2,
-    }
+    recorded(label(), 2)
 }
 
 fn with(slot: usize, r: Record) -> State
@@ -83,28 +82,26 @@ fn records() {
     counts(b"slot 0:", with(0, file()));
     counts(b"slot N:", with(2, file()));
     counts(b"slot 255:", with(255, file()));
-    let mut large = file();
+    let mut large = label();
     large.file_size = 65;
-    counts(b"file_size over S - 64:", with(1, large));
-    let mut offset = file();
+    counts(b"file_size over S - 64:", with(1, recorded(large, 2)));
+    let mut offset = label();
     offset.trailer_offset = 65;
-    counts(b"T over file_size:", with(1, offset));
-    let mut present = file();
+    counts(b"T over file_size:", with(1, recorded(offset, 2)));
+    let mut present = label();
     present.present_objects = 65;
-    counts(b"present over file_size:", with(1, present));
-    let mut live = file();
-    live.live = 3;
-    counts(b"live over the table:", with(1, live));
-    let mut generation = file();
+    counts(b"present over file_size:", with(1, recorded(present, 2)));
+    counts(b"live over the table:", with(1, recorded(label(), 3)));
+    let mut generation = label();
     generation.generation = 256;
-    counts(b"generation 256:", with(1, generation));
+    counts(b"generation 256:", with(1, recorded(generation, 2)));
 }
 
 // "masked lsn 0, lsn of 2^63 or more, or masked lsn + T of 2^62 or more"
 fn lsn(word: &[u8], n: u64) {
-    let mut r = file();
-    r.lsn = n;
-    counts(word, with(1, r));
+    let mut l = label();
+    l.lsn = n;
+    counts(word, with(1, recorded(l, 2)));
 }
 
 fn lsns() {
@@ -118,9 +115,10 @@ fn lsns() {
 // "An empty record is all zeros.": a record with one number is not empty.
 fn empty() {
     counts(b"all zeros:", with(1, file_map::empty()));
-    let mut live = file_map::empty();
-    live.live = 1;
-    counts(b"zeros but live 1:", with(1, live));
+    counts(
+        b"zeros but live 1:",
+        with(1, recorded(file_map::no_label(), 1)),
+    );
 }
 
 pub fn condition_one() {

@@ -19,11 +19,11 @@ fn show_file(slot: u64, r: Record) {
         return;
     }
     number(slot, b" ");
-    number(r.lsn, b" ");
-    number(r.generation, b" ");
-    number(r.present_objects, b" ");
+    number(r.label.lsn, b" ");
+    number(r.label.generation, b" ");
+    number(r.label.present_objects, b" ");
     number(r.live, b" ");
-    number(r.file_size, b"\n");
+    number(r.label.file_size, b"\n");
 }
 
 fn show_files(files: FileMap) {

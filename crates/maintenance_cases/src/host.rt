@@ -78,7 +78,7 @@ fn aged(state: State, slot: usize, generation: u64) -> State {
     }
     let mut n = state;
     let mut m = state.files;
-    m.records[slot].generation = generation;
+    m.records[slot].label.generation = generation;
     n.files = m;
     n
 }
@@ -105,7 +105,7 @@ fn resized(state: State, size: u64) -> State {
     }
     let mut n = state;
     let mut m = state.files;
-    m.records[1].file_size = size;
+    m.records[1].label.file_size = size;
     n.files = m;
     n
 }

@@ -12,7 +12,8 @@ use Rattle.theory.specs.SoundWorld.{SoundWorld}
 use Rattle.theory.specs.Writing.{engine, heard}
 use Rattle.theory.specs.Reading.{Reads}
 use Rattle.theory.specs.Reopened.{Opened, reopened-means}
-use Rattle.theory.specs.History.{Call, write, maintain, prune, claim, release, reopen, called, hears, Life, born, Kept}
+use Rattle.theory.specs.Quiet.{claim, release}
+use Rattle.theory.specs.History.{Call, write, maintain, prune, reopen, quiet, called, hears, Life, born, Kept}
 use Rattle.theory.specs.Writes.{got, leftBy, write-means}
 use Rattle.power_cuts.specs.Cuts.{CutAt, Survived, hearsCut, done, happened, livedOn}
 use Rattle.power_cuts.specs.Cuts as cuts
@@ -33,8 +34,8 @@ abbrev theCalls : Event → List cuts.Event → List cuts.Event
 theCalls (gave (wrote batch r heap ids locations)) es = done (write batch) ∷ es
 theCalls (gave (maintained r heap ids locations)) es = done maintain ∷ es
 theCalls (gave (pruned r heap)) es = done prune ∷ es
-theCalls (gave (claimed slot r)) es = done (claim slot) ∷ es
-theCalls (gave (released slot r)) es = done (release slot) ∷ es
+theCalls (gave (claimed slot r)) es = done (quiet (claim slot)) ∷ es
+theCalls (gave (released slot r)) es = done (quiet (release slot)) ∷ es
 theCalls (gave (reopened r ids locations)) es = done reopen ∷ es
 theCalls (gave (answered id r)) es = es
 theCalls (gave (read id part)) es = es
@@ -80,9 +81,9 @@ alike l (e ∷ es) h = go e (h .0) (alike (next l e) es (h .1))
         alike-then l (gave (maintained r heap ids locations)) (done maintain) es (calls es) (alike-left l (maintained r heap ids locations) maintain (ap (λ (x : After). x .world) a) refl) b
     go (gave (pruned r heap)) a b = alike-then l (gave (pruned r heap)) (done prune) es (calls es) (alike-left l (pruned r heap) prune (ap (λ (x : After). x .world) a) refl) b
     go (gave (claimed slot r)) a b =
-        alike-then l (gave (claimed slot r)) (done (claim slot)) es (calls es) (alike-left l (claimed slot r) (claim slot) (ap (λ (x : After). x .world) a) refl) b
+        alike-then l (gave (claimed slot r)) (done (quiet (claim slot))) es (calls es) (alike-left l (claimed slot r) (quiet (claim slot)) (ap (λ (x : After). x .world) a) refl) b
     go (gave (released slot r)) a b =
-        alike-then l (gave (released slot r)) (done (release slot)) es (calls es) (alike-left l (released slot r) (release slot) (ap (λ (x : After). x .world) a) refl) b
+        alike-then l (gave (released slot r)) (done (quiet (release slot))) es (calls es) (alike-left l (released slot r) (quiet (release slot)) (ap (λ (x : After). x .world) a) refl) b
     go (gave (reopened r ids locations)) a b =
         alike-then l (gave (reopened r ids locations)) (done reopen) es (calls es) (alike-left l (reopened r ids locations) reopen (ap (λ (x : After). x .world) a) refl) b
     go (gave (answered id r)) a b = record { happen = b .happen; same = b .same }

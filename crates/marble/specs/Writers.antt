@@ -5,7 +5,7 @@ use denote.Ref.{now}
 use Prim.Native.Nat.{_≤_}
 use lib.Seq.{take-all}
 use Rattle.rules.specs.Base.{true, List, [], _∷_, _++_, ℕ, _-_, length, each, take}
-use Rattle.rules.specs.declared.Record.{Record}
+use Rattle.rules.specs.declared.Label.{Label}
 use Rattle.rules.specs.declared.Claims.{Claims}
 use Rattle.rules.specs.declared.FileMap.{FileMap}
 use Rattle.rules.specs.Ops.{settled}
@@ -28,13 +28,13 @@ use Rattle.marble.specs.Lives.{life-survives}
 
 -- ---- the three contracts: of the run of its job each makes the first k stores
 -- `batch_file::write_file`: a batch's file
-pub write-file-contract : (κs : Lfts 2) (heap batch : Lent) (start : ℕ) (new : Record) (count total k rest : ℕ) (heap′ : Lent)
+pub write-file-contract : (κs : Lfts 2) (heap batch : Lent) (start : ℕ) (new : Label) (count total k rest : ℕ) (heap′ : Lent)
     → batchFile.Learnt κs (heap, (start, (batch, (new, (count, (total, (k, tt))))))) rest (heap′, (start, (batch, (new, (count, (total, (k, tt)))))))
     ≡ Made k (jobRun (file start new (settled (opsIn (now batch))))) (now heap) (now heap′) rest
 write-file-contract κs heap batch start new count total k rest heap′ = refl
 
 -- `gc_writer::write_piece`: a file that maintenance rewrites, its operations where their objects stand in the heap
-pub write-piece-contract : (κs : Lfts 4) (heap ids places pieces : Lent) (start size number : ℕ) (new : Record) (count total k rest : ℕ) (heap′ : Lent)
+pub write-piece-contract : (κs : Lfts 4) (heap ids places pieces : Lent) (start size number : ℕ) (new : Label) (count total k rest : ℕ) (heap′ : Lent)
     → piece.Learnt κs (heap, (start, (size, (ids, (places, (pieces, (number, (new, (count, (total, (k, tt))))))))))) rest
     (heap′, (start, (size, (ids, (places, (pieces, (number, (new, (count, (total, (k, tt)))))))))))
     ≡ Made k (jobRun (file start new (filedOps number (now heap) (now ids) (now places) (now pieces)))) (now heap) (now heap′) rest

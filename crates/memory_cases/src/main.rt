@@ -87,8 +87,8 @@ fn forms() {
 
 // A batch file of base 101 in slot 0, the same one in slot 2, a rewritten one of base 205 in slot 1: raw locations decide, the lowest slot of equals.
 fn files() -> FileMap {
-    let batch = file_map::fresh(4611686018427388005, 21, 65, 2, 0);
-    let rewritten = file_map::fresh(205, 21, 65, 2, 1);
+    let batch = file_map::fresh(file_map::labelled(4611686018427388005, 21, 65, 2, 0));
+    let rewritten = file_map::fresh(file_map::labelled(205, 21, 65, 2, 1));
     let a = file_map::with_record(file_map::no_files(), 0, batch);
     let b = file_map::with_record(a, 1, rewritten);
     file_map::with_record(b, 2, batch)

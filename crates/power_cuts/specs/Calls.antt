@@ -10,7 +10,7 @@ use Rattle.rules.specs.Refusal.{decide, after}
 use Rattle.rules.specs.Ops.{Op, settled}
 use Rattle.rules.specs.Batch.{batchIn, opsOf}
 use Rattle.rules.specs.Stores.{Store, made}
-use Rattle.rules.specs.Install.{newRecord, newLsn, storesFor, installedAll}
+use Rattle.rules.specs.Install.{newLabel, newLsn, storesFor, installedAll}
 use Rattle.rules.specs.Write.{newFiles, writeTests, written, writeCall}
 use Rattle.rules.specs.WriteLaws.{opsIn, write-accepted}
 use Rattle.rules.specs.World.{World, accepted, unchanged}
@@ -50,7 +50,7 @@ module _ (w : World) (history : List Op) (s : SoundWorld w (engine history)) whe
             → StandsOn w (made (take k (filesRun (2 ^ 62) 0 w (newFiles os))) (w .heap)) (engine history)
         files e [] q h = absurd (not-suc-le-zero h)
         files e (o ∷ os) q h =
-            let n : storesFor (newRecord (newLsn (2 ^ 62) w) 0 (o ∷ os)) w (o ∷ os) ++ [] ≡ storesFor (newRecord (newLsn (2 ^ 62) w) 0 (o ∷ os)) w (o ∷ os) = append-nil _ in
+            let n : storesFor (newLabel (newLsn (2 ^ 62) w) 0 (o ∷ os)) w (o ∷ os) ++ [] ≡ storesFor (newLabel (newLsn (2 ^ 62) w) 0 (o ∷ os)) w (o ∷ os) = append-nil _ in
             subst (λ (ss : List Store). StandsOn w (made (take k ss) (w .heap)) (engine history)) (sym n)
             (file-hidden w (engine history) s (2 ^ 62) 0 (o ∷ os) (fits-write w history s bytes o os q (write-accepted w bytes e)) k
             (subst (λ (ss : List Store). k < length ss) n h))

@@ -4,7 +4,7 @@ use native.Mathlib.Omega.{arith}
 use borrow.Author.Tests.{eqb-true}
 use lib.Seq.{getD-take}
 use Rattle.rules.specs.Base.{Bool, true, false, List, ℕ, getD, take, drop, eqb, pick, zeros}
-use Rattle.theory.specs.Types.{Record, Refusal, Answer, Done, Refused, Label, Vacant, Five, Wrong}
+use Rattle.theory.specs.Types.{Label, Refusal, Answer, Done, Refused, LabelAnswer, Vacant, Five, Wrong}
 use Rattle.numbers.specs.declared.Number.{Number}
 use Rattle.numbers.specs.declared.Number.the-variants.{Said, Malformed}
 use Rattle.numbers.specs.Groups.{numberIn, saying}
@@ -20,11 +20,11 @@ module _ (slot : List ℕ) where
   after-not Done v n e = n e
   after-not (Refused r) v n e = damaged-not e
 
-  saying-not : (n : Number) (f : ℕ → ℕ → Label) → ((v p : ℕ) → viewBy (f v p) slot ≡ empty → ⊥) → viewBy (saying Wrong n f) slot ≡ empty → ⊥
+  saying-not : (n : Number) (f : ℕ → ℕ → LabelAnswer) → ((v p : ℕ) → viewBy (f v p) slot ≡ empty → ⊥) → viewBy (saying Wrong n f) slot ≡ empty → ⊥
   saying-not (Said v p) f h e = h v p e
   saying-not Malformed f h e = damaged-not e
 
-  five-not : (b : Bool) (r : Record) → viewBy (pick b (Five r) Wrong) slot ≡ empty → ⊥
+  five-not : (b : Bool) (r : Label) → viewBy (pick b (Five r) Wrong) slot ≡ empty → ⊥
   five-not true r e = after-not (decide (slotTests r slot)) _ (λ q. let z : _≡_ {A = ℕ} 0 1 = cc in omega arith) e
   five-not false r e = damaged-not e
 

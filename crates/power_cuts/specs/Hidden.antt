@@ -17,7 +17,7 @@ use Rattle.rules.specs.SlotLaws.{slot-length, slots-apart, views-length, views-
 use Rattle.rules.specs.Ops.{Op, fileBytes}
 use Rattle.rules.specs.Stores.{Store, made, storesOf, fileStores}
 use Rattle.rules.specs.StoreLaws.{made-length, stores-length}
-use Rattle.rules.specs.Install.{newRecord, newSlot, newLsn, storesFor}
+use Rattle.rules.specs.Install.{newLabel, newSlot, newLsn, storesFor}
 use Rattle.rules.specs.World.{World, recordsOf, mappings, slotsOf}
 use Rattle.theory.specs.Picture.{viewsOf, Said}
 use Rattle.theory.specs.Sound.{Sound}
@@ -139,13 +139,13 @@ behind-first start size label file l fit =
 
 module _ (w : World) (told : ℕ → Said) (s : SoundWorld w told) (bit g : ℕ) (os : List Op) (f : Fitting bit g w os) where
   -- LAW: a file's run cut before its last store leaves the store that was there
-  pub file-hidden : (k : ℕ) → k < length (storesFor (newRecord (newLsn bit w) g os) w os)
-      → StandsOn w (made (take k (storesFor (newRecord (newLsn bit w) g os) w os)) (w .heap)) told
+  pub file-hidden : (k : ℕ) → k < length (storesFor (newLabel (newLsn bit w) g os) w os)
+      → StandsOn w (made (take k (storesFor (newLabel (newLsn bit w) g os) w os)) (w .heap)) told
   unfolding storesFor
   file-hidden k h =
       let S = w .settings .«slot_bytes» in
       let start = newSlot w * S in
-      let new = newRecord (newLsn bit w) g os in
+      let new = newLabel (newLsn bit w) g os in
       let run = take k (fileStores start (labelBytes new) (fileBytes os)) in
       let free = free-slot w told s (f .free) in
       let low = s .tidy .limits .settings .slot-low in

@@ -2,7 +2,7 @@
 use mathlib.Core.Path.{_≡_, refl, sym, ap, ap₂, _∙_}
 use mathlib.Core.List.{append-assoc, append-nil}
 use Rattle.rules.specs.Base.{Bool, true, false, List, [], _∷_, _++_, each, ℕ, _*_, _^_, length, ltb, pick}
-use Rattle.theory.specs.Types.{Record, Claims, Limits, Answer, Done, Refused}
+use Rattle.theory.specs.Types.{Label, Record, Claims, Limits, Answer, Done, Refused}
 use Rattle.rules.specs.Refusal.{_gives_, decide, after}
 use Rattle.rules.specs.Ops.{Op, fileBytes, settled}
 use Rattle.rules.specs.Batch.{batchIn, opsOf}
@@ -10,19 +10,19 @@ use Rattle.rules.specs.Condition1.{refused1}
 use Rattle.rules.specs.FileMap.{slotsWhere}
 use Rattle.rules.specs.Label.{labelBytes}
 use Rattle.rules.specs.Stores.{Store, fileStores}
-use Rattle.rules.specs.Install.{newSlot, newRecord, newLsn, storesFor, installed}
+use Rattle.rules.specs.Install.{newSlot, newLabel, newLsn, storesFor, installed}
 use Rattle.rules.specs.Write.{newFiles, writeTests}
 use Rattle.rules.specs.Prune.{isDead, pruneStores}
 use Rattle.rules.specs.PruneLaws.{emptying}
 use Rattle.rules.specs.Maintenance.{found, filesOf, Stop, going, stopped, Course, group, groupTests, onward, courseOf}
 use Rattle.rules.specs.World.{World, recordsOf}
-use Rattle.theory.specs.History.{Call, write, maintain, prune, claim, release, reopen}
+use Rattle.theory.specs.History.{Call, write, maintain, prune, reopen, quiet}
 use Rattle.power_cuts.specs.Runs.{filesRun, unlessRefused, writeRun, pruneRun, groupRun, onwardRun, groupsRun, endRun, maintainRun, runOf}
 
 -- what a writer is given
 pub data Job : Type 0 where
-  -- `write_file`, `write_piece`: where the slot starts, the record of the label, the operations of the file
-  file : ℕ → Record → List Op → Job
+  -- `write_file`, `write_piece`: where the slot starts, the label, the operations of the file
+  file : ℕ → Label → List Op → Job
   -- `prune_stores`: slot size, claims, records
   empties : ℕ → Claims → List Record → Job
 
@@ -40,7 +40,7 @@ jobsRun js = each jobRun js
 unfoldable pub fileJobs : ℕ → ℕ → World → List (List Op) → List Job
 fileJobs bit generation w [] = []
 fileJobs bit generation w (f ∷ fs) =
-    file (newSlot w * w .settings .«slot_bytes») (newRecord (newLsn bit w) generation f) f ∷ fileJobs bit generation (installed bit generation w f) fs
+    file (newSlot w * w .settings .«slot_bytes») (newLabel (newLsn bit w) generation f) f ∷ fileJobs bit generation (installed bit generation w f) fs
 
 -- a rewritten group's
 unfoldable pub groupJobs : ℕ → List ℕ → World → List Job
@@ -74,9 +74,8 @@ jobsOf w maintain =
     unlessRefused (decide (refused1 w gives Limits ∷ []))
     (groupsJobs (1 ∷ 2 ∷ 3 ∷ []) w (record { stop = going; moved = 0; world = w }) ++ endJobs (courseOf w .stop) (courseOf w .world))
 jobsOf w prune = unlessRefused (decide (refused1 w gives Limits ∷ [])) (pruneJobs w)
-jobsOf w (claim slot) = []
-jobsOf w (release slot) = []
 jobsOf w reopen = []
+jobsOf w (quiet q) = []
 
 -- ---- their runs are the call's
 runs-append : (xs ys : List Job) → jobsRun (xs ++ ys) ≡ jobsRun xs ++ jobsRun ys
@@ -93,7 +92,7 @@ refused-run Done js run e = e
 file-runs : (bit g : ℕ) (w : World) (files : List (List Op)) → jobsRun (fileJobs bit g w files) ≡ filesRun bit g w files
 unfolding each fileJobs filesRun storesFor
 file-runs bit g w [] = refl
-file-runs bit g w (f ∷ fs) = ap (λ (ss : List Store). storesFor (newRecord (newLsn bit w) g f) w f ++ ss) (file-runs bit g (installed bit g w f) fs)
+file-runs bit g w (f ∷ fs) = ap (λ (ss : List Store). storesFor (newLabel (newLsn bit w) g f) w f ++ ss) (file-runs bit g (installed bit g w f) fs)
 
 prune-runs : (w : World) → jobsRun (pruneJobs w) ≡ pruneStores w
 unfolding each pruneStores
@@ -136,6 +135,5 @@ jobs-run w maintain =
     (runs-append (groupsJobs (1 ∷ 2 ∷ 3 ∷ []) w begin) (endJobs (courseOf w .stop) (courseOf w .world))
     ∙ ap₂ (λ (xs ys : List Store). xs ++ ys) (groups-runs (1 ∷ 2 ∷ 3 ∷ []) w begin) (end-runs (courseOf w .stop) (courseOf w .world)))
 jobs-run w prune = refused-run (decide (refused1 w gives Limits ∷ [])) (pruneJobs w) (pruneStores w) (prune-runs w)
-jobs-run w (claim slot) = refl
-jobs-run w (release slot) = refl
 jobs-run w reopen = refl
+jobs-run w (quiet q) = refl

@@ -15,7 +15,7 @@ use Rattle.rules.specs.LayoutLaws.{laid-out-ids, laid-out-locations}
 use Rattle.rules.specs.WrittenLaws.{fileOfOps}
 use Rattle.rules.specs.FileMap.{recordAt}
 use Rattle.rules.specs.Stores.{Store, made}
-use Rattle.rules.specs.Install.{newRecord, newLsn, storesFor, tableWith, installed, installedAll, roomTests, emptyOf, positionTests}
+use Rattle.rules.specs.Install.{newLabel, newLsn, storesFor, tableWith, installed, installedAll, roomTests, emptyOf, positionTests}
 use Rattle.rules.specs.InstallLaws.{room-clear, positions-clear}
 use Rattle.rules.specs.Maintenance.{found, filesOf, fileTests, slotOf, Stop, going, stopped, Course, group, groupTests, rewriteGroup, onward, groupsFrom, courseOf, ended, maintainCall}
 use Rattle.rules.specs.World.{World, recordsOf, mappings}
@@ -44,23 +44,23 @@ module _ (w : World) (told : ℕ → Said) (s : SoundWorld w told) (bit g : ℕ)
   }
 
   -- LAW: a file's run made whole leaves the store with the file
-  pub file-whole : (said : ℕ → Said) → SoundWorld (installed bit g w os) said → (k : ℕ) → length (storesFor (newRecord (newLsn bit w) g os) w os) ≤ k
-      → StandsOn w (made (take k (storesFor (newRecord (newLsn bit w) g os) w os)) (w .heap)) said
+  pub file-whole : (said : ℕ → Said) → SoundWorld (installed bit g w os) said → (k : ℕ) → length (storesFor (newLabel (newLsn bit w) g os) w os) ≤ k
+      → StandsOn w (made (take k (storesFor (newLabel (newLsn bit w) g os) w os)) (w .heap)) said
   unfolding installed
   file-whole said whole k h = record {
     store = installed bit g w os;
     alike = alike-installed;
-    bytes = ap (λ (ss : List Store). made ss (w .heap)) (sym (take-all k (storesFor (newRecord (newLsn bit w) g os) w os) h));
+    bytes = ap (λ (ss : List Store). made ss (w .heap)) (sym (take-all k (storesFor (newLabel (newLsn bit w) g os) w os) h));
     sound = whole;
   }
 
   -- LAW: a file of which the engine says nothing new, cut anywhere
-  pub file-endured : SoundWorld (installed bit g w os) told → Endured w (installed bit g w os) (storesFor (newRecord (newLsn bit w) g os) w os) told
+  pub file-endured : SoundWorld (installed bit g w os) told → Endured w (installed bit g w os) (storesFor (newLabel (newLsn bit w) g os) w os) told
   unfolding installed
-  file-endured whole = record { alike = alike-installed; bytes = refl; sound = whole; cut = λ k. go k (either-way k (length (storesFor (newRecord (newLsn bit w) g os) w os))) }
+  file-endured whole = record { alike = alike-installed; bytes = refl; sound = whole; cut = λ k. go k (either-way k (length (storesFor (newLabel (newLsn bit w) g os) w os))) }
     where
-      go : (k : ℕ) → (k < length (storesFor (newRecord (newLsn bit w) g os) w os)) ⊎ (length (storesFor (newRecord (newLsn bit w) g os) w os) ≤ k)
-          → StandsOn w (made (take k (storesFor (newRecord (newLsn bit w) g os) w os)) (w .heap)) told
+      go : (k : ℕ) → (k < length (storesFor (newLabel (newLsn bit w) g os) w os)) ⊎ (length (storesFor (newLabel (newLsn bit w) g os) w os) ≤ k)
+          → StandsOn w (made (take k (storesFor (newLabel (newLsn bit w) g os) w os)) (w .heap)) told
       go k (inl h) = file-hidden w told s bit g os f k h
       go k (inr h) = file-whole told whole k h
 
@@ -80,7 +80,7 @@ module _ (history : List Op) where
       let one : SoundWorld (installed 0 g w f) (engine history)
       = sound-told (installed 0 g w f) (λ x. over (fileSays (fileOfOps (newLsn 0 w) g f) x) (engine history x)) (engine history)
       (λ x. still-said history f (r .0) n (newLsn 0 w) g x) (sound-installed w (engine history) s 0 g f fit) in
-      endured-on w (installed 0 g w f) (installedAll 0 g (installed 0 g w f) fs) (storesFor (newRecord (newLsn 0 w) g f) w f) (filesRun 0 g (installed 0 g w f) fs) (engine history)
+      endured-on w (installed 0 g w f) (installedAll 0 g (installed 0 g w f) fs) (storesFor (newLabel (newLsn 0 w) g f) w f) (filesRun 0 g (installed 0 g w f) fs) (engine history)
       (file-endured w (engine history) s 0 g f fit one)
       (files-endured g fs (installed 0 g w f) one
       aged (r .1)
@@ -112,7 +112,7 @@ module _ (history : List Op) where
       go (Refused r) e = endured-none w (engine history) s
       go Done e =
           room-endured w s g aged (filesOf (w .settings .«target_file_size») (found w slots)) (files-rewritable history w s slots (w .settings .«target_file_size»))
-          (none-rest (each (λ (k : ℕ). fileTests (w .settings .«max_object_size») (mappings w) (recordAt (recordsOf w) k) (slotOf w k)) slots) _
+          (none-rest (each (λ (k : ℕ). fileTests (w .settings .«max_object_size») (mappings w) (recordAt (recordsOf w) k .label) (slotOf w k)) slots) _
           (clear-when (groupTests w slots (filesOf (w .settings .«target_file_size») (found w slots))) e))
 
   -- ---- group by group

@@ -8,7 +8,7 @@ use Rattle.rules.specs.Batch.{batchIn, opsOf}
 use Rattle.rules.specs.Condition1.{outOfRange, refused1}
 use Rattle.rules.specs.Stores.{Store, made}
 use Rattle.rules.specs.StoreLaws.{made-append}
-use Rattle.rules.specs.Install.{newRecord, newLsn, storesFor, installed, installedAll}
+use Rattle.rules.specs.Install.{newLabel, newLsn, storesFor, installed, installedAll}
 use Rattle.rules.specs.Write.{newFiles, writeTests, written, writeCall}
 use Rattle.rules.specs.Prune.{pruneStores, pruned, pruneCall}
 use Rattle.rules.specs.Maintenance.{found, filesOf, Stop, going, stopped, Course, group, groupTests, rewriteGroup, onward, groupsFrom, courseOf, ended, finished, maintainCall}
@@ -21,7 +21,7 @@ use Rattle.theory.specs.History.{Call, write, maintain, prune, reopen, quiet, c
 -- file by file: "file, then label bytes 2 to 64, then label byte 1" of each (`Stores.fileStores`)
 unfoldable pub filesRun : ℕ → ℕ → World → List (List Op) → List Store
 filesRun bit generation w [] = []
-filesRun bit generation w (f ∷ fs) = storesFor (newRecord (newLsn bit w) generation f) w f ++ filesRun bit generation (installed bit generation w f) fs
+filesRun bit generation w (f ∷ fs) = storesFor (newLabel (newLsn bit w) generation f) w f ++ filesRun bit generation (installed bit generation w f) fs
 
 -- a call that 1 or another number refuses stores nothing
 abbrev pub unlessRefused : {A : Type 0} → Answer → List A → List A
@@ -77,7 +77,7 @@ unfolding installedAll filesRun installed made
 files-made bit g w [] = refl
 files-made bit g w (f ∷ fs) =
     files-made bit g (installed bit g w f) fs
-    ∙ sym (made-append (storesFor (newRecord (newLsn bit w) g f) w f) (filesRun bit g (installed bit g w f) fs) (w .heap))
+    ∙ sym (made-append (storesFor (newLabel (newLsn bit w) g f) w f) (filesRun bit g (installed bit g w f) fs) (w .heap))
 
 write-made : (w : World) (bytes : List ℕ) → writeCall w bytes .world .heap ≡ made (writeRun w bytes) (w .heap)
 unfolding writeCall writeRun written made

@@ -8,7 +8,7 @@ use lib.ListN.{length-drop, length-take}
 use lib.Seq.{take-take, drop-drop, length-take-le}
 use Rattle.rules.specs.Base.{Bool, true, false, List, ℕ, _+_, _-_, _*_, length, take, drop, pick}
 use Rattle.rules.specs.declared.Settings.{Settings}
-use Rattle.rules.specs.declared.Record.{Record}
+use Rattle.rules.specs.declared.Label.{Label}
 use Rattle.rules.specs.declared.State.{State}
 use Rattle.rules.specs.declared.Claims.{Claims}
 use Rattle.rules.specs.declared.Refusal.the-variants.{Limits}
@@ -50,7 +50,7 @@ passed-lie s n b t w k e =
     }
 
 -- a slot's file as a part of the heap
-pub file-part : (size : ℕ) (r : Record) (k : ℕ) (heap : List ℕ) → Lies size r k (length heap)
+pub file-part : (size : ℕ) (r : Label) (k : ℕ) (heap : List ℕ) → Lies size r k (length heap)
     → take (r .«file_size») (drop (k * size + 64) heap) ≡ fileIn r (slotBytes size heap k)
 unfolding slotBytes
 file-part size r k heap w =
@@ -63,7 +63,7 @@ file-part size r k heap w =
     ∙ ap (take n) (sym (drop-take 64 size slot (omega arith) (omega (arith, length-drop (k * size) heap))))
 
 -- it has file_size bytes
-pub file-length : (size : ℕ) (r : Record) (k : ℕ) (heap : List ℕ) → Lies size r k (length heap) → length (fileIn r (slotBytes size heap k)) ≡ r .«file_size»
+pub file-length : (size : ℕ) (r : Label) (k : ℕ) (heap : List ℕ) → Lies size r k (length heap) → length (fileIn r (slotBytes size heap k)) ≡ r .«file_size»
 file-length size r k heap w =
     let fit = w .file in
     let low = w .slot in
@@ -102,7 +102,7 @@ body-in id position file at size = go (decide (objectTests id (storedAt position
         record { header = omega arith; body = omega (arith, length-drop position file) }
 
 -- a slot's file ends within the heap
-file-within : (size : ℕ) (r : Record) (k : ℕ) (heap : List ℕ) → length (fileIn r (slotBytes size heap k)) ≤ length heap - (k * size + 64)
+file-within : (size : ℕ) (r : Label) (k : ℕ) (heap : List ℕ) → length (fileIn r (slotBytes size heap k)) ≤ length heap - (k * size + 64)
 unfolding slotBytes
 file-within size r k heap =
     let rest = drop (k * size) heap in
@@ -125,7 +125,7 @@ module _ (w : World) (id : ℕ) where
   object-named : (k position : ℕ) (b : BodyAnswer) → bodyOf id (objectIn w k position) ≡ b → Within (inHeap (k * w .settings .«slot_bytes» + 64) b) (length (w .heap))
   object-named k position (Unread r) e = tt
   object-named k position (Body at size) e =
-      let r = recordAt (recordsOf w) k in
+      let r = recordAt (recordsOf w) k .label in
       let v = body-in id position (fileIn r (slotBytes (w .settings .«slot_bytes») (w .heap) k)) at size e in
       let head = v .header in
       let body = v .body in
@@ -134,7 +134,7 @@ module _ (w : World) (id : ℕ) where
   file-named : (l : ℕ) (k : Slot) → Within (readFile w id l k) (length (w .heap))
   file-named l NoSlot = tt
   file-named l (Is k) =
-      let position = positionOf l - recordAt (recordsOf w) k .lsn in
+      let position = positionOf l - recordAt (recordsOf w) k .label .lsn in
       rw (read-object w id k (objectIn w k position)) (object-named k position (bodyOf id (objectIn w k position)) refl)
 
   held-named : (h : Held) → Within (readHeld w id h) (length (w .heap))

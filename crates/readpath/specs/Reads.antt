@@ -2,6 +2,7 @@
 use mathlib.Core.Path.{_≡_}
 use Prim.Native.Nat.{_≤_, _<_}
 use Rattle.rules.specs.Base.{false, List, ℕ, _+_, _*_}
+use Rattle.rules.specs.declared.Label.{Label}
 use Rattle.rules.specs.declared.Record.{Record}
 use Rattle.rules.specs.declared.ReadAnswer.{ReadAnswer}
 use Rattle.rules.specs.declared.ReadAnswer.the-variants.{Found, Nothing, ReadRefused}
@@ -9,15 +10,15 @@ use Rattle.rules.specs.FileMap.{isEmpty, recordAt}
 use Rattle.slot_file.specs.declared.BodyAnswer.{BodyAnswer}
 use Rattle.slot_file.specs.declared.BodyAnswer.the-variants.{Body, Unread}
 
--- a record's file lies behind the label of slot k, and the slot, one of 256, in the heap
-pub record Lies (size : ℕ) (r : Record) (k heapLen : ℕ) : Type 0 where
+-- a label's file lies behind the label of slot k, and the slot, one of 256, in the heap
+pub record Lies (size : ℕ) (l : Label) (k heapLen : ℕ) : Type 0 where
   pub place : k < 256
-  pub file : 64 + r .«file_size» ≤ size
+  pub file : 64 + l .«file_size» ≤ size
   pub slot : k * size + size ≤ heapLen
 
 -- every file does, once 1 is decided
 abbrev pub FilesLie : ℕ → List Record → ℕ → Type 0
-FilesLie size rs heapLen = (k : ℕ) → isEmpty (recordAt rs k) ≡ false → Lies size (recordAt rs k) k heapLen
+FilesLie size rs heapLen = (k : ℕ) → isEmpty (recordAt rs k) ≡ false → Lies size (recordAt rs k .label) k heapLen
 
 -- a body of the file that starts there in the heap
 abbrev pub inHeap : ℕ → BodyAnswer → ReadAnswer

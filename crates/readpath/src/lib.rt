@@ -4,8 +4,8 @@ use limits::bad_files;
 use limits::refused_apart;
 use limits::rest_of;
 use rules::Held;
+use rules::Label;
 use rules::ReadAnswer;
-use rules::Record;
 use rules::Refusal;
 use rules::Settings;
 use rules::Slot;
@@ -23,12 +23,12 @@ ghost use Rattle.slot_file.specs.Objects.{bodyOf};
 ghost use Rattle.readpath.specs.Reads.{Lies, inHeap, Within, placeOf};
 
 // "a 64-byte label, then the file": the file of a slot, a part of the lent heap.
-fn file_part(heap: &[u8], slot_bytes: u64, slot: u64, r: Record) -> &[u8]
-    requires { ⌜ Lies «slot_bytes» r slot (length (now heap)) ⌝ }
-    ensures { λ x. ⌜ now x ≡ fileIn r (slotBytes «slot_bytes» (now (heap .entry)) slot) ⌝ }
+fn file_part(heap: &[u8], slot_bytes: u64, slot: u64, l: Label) -> &[u8]
+    requires { ⌜ Lies «slot_bytes» l slot (length (now heap)) ⌝ }
+    ensures { λ x. ⌜ now x ≡ fileIn l (slotBytes «slot_bytes» (now (heap .entry)) slot) ⌝ }
 {
     let start = (slot * slot_bytes) as usize + 64;
-    let end = start + r.file_size as usize;
+    let end = start + l.file_size as usize;
     &heap[start..end]
 }
 
@@ -37,14 +37,14 @@ fn object_at(
     heap: &[u8],
     slot_bytes: u64,
     slot: u64,
-    r: Record,
+    l: Label,
     position: u64,
     id: u64,
 ) -> ReadAnswer
-    requires { ⌜ Lies «slot_bytes» r slot (length (now heap)) ⌝ }
-    ensures { λ x. ⌜ x ≡ inHeap (slot * «slot_bytes» + 64) (bodyOf id (storedAt position (drop position (fileIn r (slotBytes «slot_bytes» (now (heap .entry)) slot))))) ⌝ }
+    requires { ⌜ Lies «slot_bytes» l slot (length (now heap)) ⌝ }
+    ensures { λ x. ⌜ x ≡ inHeap (slot * «slot_bytes» + 64) (bodyOf id (storedAt position (drop position (fileIn l (slotBytes «slot_bytes» (now (heap .entry)) slot))))) ⌝ }
 {
-    match slot_file::object::read(file_part(heap, slot_bytes, slot, r), position, id) {
+    match slot_file::object::read(file_part(heap, slot_bytes, slot, l), position, id) {
         BodyAnswer::Body(start, size) => { ReadAnswer::Found(slot * slot_bytes + 64 + start, size) }
         BodyAnswer::Unread(refusal) => ReadAnswer::ReadRefused(refusal),
     }
@@ -85,8 +85,9 @@ pub fn read_answer(
     };
     let i = slot as usize;
     let r = files.records[i];
-    let position = DiskLocation(location).position() - r.lsn;
-    object_at(heap, settings.slot_bytes, slot, r, position, id)
+    let l = r.label;
+    let position = DiskLocation(location).position() - l.lsn;
+    object_at(heap, settings.slot_bytes, slot, l, position, id)
 }
 
 // The part of the heap that an answer names; an empty part where it names none.

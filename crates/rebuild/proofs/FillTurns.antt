@@ -19,7 +19,7 @@ use Rattle.rules.specs.Reopen.{fileOf, filesIn}
 use Rattle.rules.specs.Table.{noEntry}
 use Rattle.location_table.specs.Tables.{Formed}
 use Rattle.reopen_tests.specs.Shown.{FileAt, Sound, file-of}
-use Rattle.rebuild.specs.Types.{Record, Entry}
+use Rattle.rebuild.specs.Types.{Label, Entry}
 use Rattle.rebuild.specs.Latest.{InUse}
 use Rattle.rebuild.specs.Filled.{rowsOf, Placed, Filled, filled-then, filled-stop, rows-in-use}
 use Rattle.rebuild.proofs.Turns.{taken, taken-map}
@@ -50,24 +50,24 @@ pub entry-end : (lsn : ℕ) (es : List Entry) (k : ℕ) → length es ≤ k → 
 entry-end lsn es k h = take-all k (map (absolute lsn) es) (omega (arith, length-map es (absolute lsn)))
 
 -- 8's and 12's bounds keep every absolute position below 2^63
-pub file-placed : (slot : List ℕ) (r : Record) → FileAt slot r → Placed (r .lsn) (trailerEntries r slot)
+pub file-placed : (slot : List ℕ) (l : Label) → FileAt slot l → Placed (l .lsn) (trailerEntries l slot)
 unfolding maskedOf
-file-placed slot r w = record {
-  some = lsn-some (length slot) r (w .bounds);
-  low = all-map (λ (e : Entry). ltb (r .«trailer_offset») (positionOf (e .location)) ≡ false) (λ (e : Entry). positionOf (e .location) + r .lsn < 2 ^ 63) (trailerEntries r slot)
-      (λ e q. low (positionOf (e .location)) (ltb-false _ _ q)) (any-false _ (trailerEntries r slot) (w .positions));
+file-placed slot l w = record {
+  some = lsn-some (length slot) l (w .bounds);
+  low = all-map (λ (e : Entry). ltb (l .«trailer_offset») (positionOf (e .location)) ≡ false) (λ (e : Entry). positionOf (e .location) + l .lsn < 2 ^ 63) (trailerEntries l slot)
+      (λ e q. low (positionOf (e .location)) (ltb-false _ _ q)) (any-false _ (trailerEntries l slot) (w .positions));
 }
   where
-    low : (p : ℕ) → p ≤ r .«trailer_offset» → p + r .lsn < 2 ^ 63
+    low : (p : ℕ) → p ≤ l .«trailer_offset» → p + l .lsn < 2 ^ 63
     low p h =
         let end = w .bounds .end in
         let most = w .bounds .lsn in
         omega arith
 
 -- ---- the entries of a slot
-pub slot-rows : (slot : List ℕ) (r : Record) → FileAt slot r → each rowsOf (fileOf (viewIn slot)) ≡ map (absolute (r .lsn)) (trailerEntries r slot)
+pub slot-rows : (slot : List ℕ) (l : Label) → FileAt slot l → each rowsOf (fileOf (viewIn slot)) ≡ map (absolute (l .lsn)) (trailerEntries l slot)
 unfolding each
-slot-rows slot r w = ap (each rowsOf) (file-of slot r w) ∙ append-nil _
+slot-rows slot l w = ap (each rowsOf) (file-of slot l w) ∙ append-nil _
 
 each-append : {A B : Type 0} (f : A → List B) (xs ys : List A) → each f (xs ++ ys) ≡ each f xs ++ each f ys
 unfolding each

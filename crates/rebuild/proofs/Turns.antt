@@ -2,21 +2,22 @@
 use mathlib.Core.Path.{_≡_, refl, sym, ap, _∙_}
 use mathlib.Core.Bool.{true, false}
 use mathlib.Core.Logic.{_⊎_, inl, inr}
-use mathlib.Core.List.{List, [], _∷_, _++_, map}
+use mathlib.Core.List.{List, [], _∷_, _++_, map, append-nil}
 use Prim.Native.Nat.{ℕ, zero, suc, _+_, _<_, _≤_, zero-le}
 use native.Mathlib.Omega.{arith}
 use native.Mathlib.Nat.{not-suc-le-zero, le-of-suc-le-suc}
 use native.Mathlib.Numerals.{add-one}
 use borrow.Author.Tests.{le-leb, lt-leb}
 use lib.ListN.{length, getD, set, take, drop, drop-of-length-le}
-use lib.Seq.{take-suc}
+use lib.Seq.{take-suc, take-all}
 use Rattle.numbers.specs.GroupLaws.{either-way}
 use Rattle.rules.specs.Base.{keep, larger, greatest}
-use Rattle.rules.specs.FileMap.{emptyRecord, recordAt}
+use Rattle.rules.specs.FileMap.{emptyLabel}
 use Rattle.rules.specs.Reopen.{inRange, maskedPosition, mappedInto}
 use Rattle.rules.specs.Table.{noEntry}
 use Rattle.rules.specs.TurnLaws.{left-next}
-use Rattle.rebuild.specs.Types.{Record, Entry}
+use Rattle.reopen_tests.specs.Labels.{labelAt}
+use Rattle.rebuild.specs.Types.{Label, Record, Entry}
 
 module _ {A : Type 0} (default : A) (xs : List A) (i : ℕ) where
   pub taken : i < length xs → take (i + 1) xs ≡ take i xs ++ (getD xs i default ∷ [])
@@ -32,42 +33,35 @@ taken-map {A = A} {B = B} f default xs i h = rw (add-one i) (go xs i h)
     go (y ∷ ys) (suc j) q = ap (λ (zs : List B). f y ∷ zs) (go ys j (le-of-suc-le-suc q))
 
 -- ---- ids mapped into a file
-module _ (es : List Entry) (r : Record) (i : ℕ) where
-  pub count-here : i < length es → inRange r (maskedPosition (getD es i noEntry)) ≡ true → mappedInto (drop i es) r ≡ suc (mappedInto (drop (i + 1) es) r)
+module _ (es : List Entry) (l : Label) (i : ℕ) where
+  pub count-here : i < length es → inRange l (maskedPosition (getD es i noEntry)) ≡ true → mappedInto (drop i es) l ≡ suc (mappedInto (drop (i + 1) es) l)
   unfolding mappedInto keep
   count-here h e = rw (left-next es i noEntry h, e) refl
 
-  pub count-later : i < length es → inRange r (maskedPosition (getD es i noEntry)) ≡ false → mappedInto (drop i es) r ≡ mappedInto (drop (i + 1) es) r
+  pub count-later : i < length es → inRange l (maskedPosition (getD es i noEntry)) ≡ false → mappedInto (drop i es) l ≡ mappedInto (drop (i + 1) es) l
   unfolding mappedInto keep
   count-later h e = rw (left-next es i noEntry h, e) refl
 
-  pub count-end : length es ≤ i → mappedInto (drop i es) r ≡ 0
+  pub count-end : length es ≤ i → mappedInto (drop i es) l ≡ 0
   unfolding mappedInto keep
   count-end h = rw (drop-of-length-le es {i = i} h) refl
 
--- ---- each record once
-abbrev pub mapTo : (Record → Record) → ℕ → List Record → List Record
-mapTo f k rs = map f (take k rs) ++ drop k rs
+-- ---- each label once: the records up to k are made, those behind are as they were
+abbrev pub mapTo : (Label → Record) → ℕ → List Label → List Record → List Record
+mapTo f k ls rs = map f (take k ls) ++ drop k rs
 
-module _ (f : Record → Record) where
-  pub map-read : (rs : List Record) (k : ℕ) → k < length rs → recordAt (mapTo f k rs) k ≡ recordAt rs k
-  map-read [] k h = absurd (not-suc-le-zero h)
-  map-read (r ∷ rs) zero h = refl
-  map-read (r ∷ rs) (suc k) h = map-read rs k (le-of-suc-le-suc h)
-
-  pub map-next : (rs : List Record) (k : ℕ) → k < length rs → set (mapTo f k rs) k (f (recordAt rs k)) ≡ mapTo f (k + 1) rs
-  map-next rs k h = rw (add-one k) (go rs k h)
+module _ (f : Label → Record) where
+  pub map-next : (ls : List Label) (rs : List Record) (k : ℕ) → k < length ls → k < length rs → set (mapTo f k ls rs) k (f (labelAt ls k)) ≡ mapTo f (k + 1) ls rs
+  map-next ls rs k h m = rw (add-one k) (go ls rs k h m)
     where
-      go : (ys : List Record) (j : ℕ) → j < length ys → set (mapTo f j ys) j (f (recordAt ys j)) ≡ mapTo f (suc j) ys
-      go [] j q = absurd (not-suc-le-zero q)
-      go (y ∷ ys) zero q = refl
-      go (y ∷ ys) (suc j) q = ap (λ (zs : List Record). f y ∷ zs) (go ys j (le-of-suc-le-suc q))
+      go : (xs : List Label) (ys : List Record) (j : ℕ) → j < length xs → j < length ys → set (mapTo f j xs ys) j (f (labelAt xs j)) ≡ mapTo f (suc j) xs ys
+      go [] ys j q w = absurd (not-suc-le-zero q)
+      go (x ∷ xs) [] j q w = absurd (not-suc-le-zero w)
+      go (x ∷ xs) (y ∷ ys) zero q w = refl
+      go (x ∷ xs) (y ∷ ys) (suc j) q w = ap (λ (zs : List Record). f x ∷ zs) (go xs ys j (le-of-suc-le-suc q) (le-of-suc-le-suc w))
 
-  pub map-end : (rs : List Record) (k : ℕ) → length rs ≤ k → mapTo f k rs ≡ map f rs
-  map-end [] zero h = refl
-  map-end [] (suc k) h = refl
-  map-end (r ∷ rs) zero h = absurd (not-suc-le-zero h)
-  map-end (r ∷ rs) (suc k) h = ap (λ (zs : List Record). f r ∷ zs) (map-end rs k (le-of-suc-le-suc h))
+  pub map-end : (ls : List Label) (rs : List Record) (k : ℕ) → length ls ≤ k → length rs ≤ k → mapTo f k ls rs ≡ map f ls
+  map-end ls rs k h m = rw (take-all k ls h, drop-of-length-le rs {i = k} m) (append-nil (map f ls))
 
 -- ---- the greatest
 larger-upper : (a b : ℕ) → a ≤ b → larger a b ≡ b
@@ -89,14 +83,14 @@ larger-assoc a b c = go (either-way a b) (either-way b c)
     go (inr p) (inl q) = ap (λ (x : ℕ). larger x c) (larger-lower a b p) ∙ sym (ap (larger a) (larger-upper b c (omega arith)))
     go (inr p) (inr q) = ap (λ (x : ℕ). larger x c) (larger-lower a b p) ∙ larger-lower a c (omega arith) ∙ sym (ap (larger a) (larger-lower b c q) ∙ larger-lower a b p)
 
-module _ (f : Record → ℕ) (rs : List Record) where
-  pub greatest-start : larger 0 (greatest f rs) ≡ greatest f rs
-  greatest-start = larger-upper 0 (greatest f rs) zero-le
+module _ (f : Label → ℕ) (ls : List Label) where
+  pub greatest-start : larger 0 (greatest f ls) ≡ greatest f ls
+  greatest-start = larger-upper 0 (greatest f ls) zero-le
 
-  pub greatest-next : (k most : ℕ) → k < length rs → larger (larger most (f (recordAt rs k))) (greatest f (drop (k + 1) rs)) ≡ larger most (greatest f (drop k rs))
+  pub greatest-next : (k most : ℕ) → k < length ls → larger (larger most (f (labelAt ls k))) (greatest f (drop (k + 1) ls)) ≡ larger most (greatest f (drop k ls))
   unfolding greatest
-  greatest-next k most h = larger-assoc most (f (recordAt rs k)) (greatest f (drop (k + 1) rs)) ∙ sym (ap (λ (ys : List Record). larger most (greatest f ys)) (left-next rs k emptyRecord h))
+  greatest-next k most h = larger-assoc most (f (labelAt ls k)) (greatest f (drop (k + 1) ls)) ∙ sym (ap (λ (ys : List Label). larger most (greatest f ys)) (left-next ls k emptyLabel h))
 
-  pub greatest-end : (k most : ℕ) → length rs ≤ k → larger most (greatest f (drop k rs)) ≡ most
+  pub greatest-end : (k most : ℕ) → length ls ≤ k → larger most (greatest f (drop k ls)) ≡ most
   unfolding greatest
-  greatest-end k most h = ap (λ (ys : List Record). larger most (greatest f ys)) (drop-of-length-le rs {i = k} h) ∙ larger-lower most 0 zero-le
+  greatest-end k most h = ap (λ (ys : List Label). larger most (greatest f ys)) (drop-of-length-le ls {i = k} h) ∙ larger-lower most 0 zero-le

@@ -8,78 +8,51 @@ use mathlib.Core.Logic.{_⊎_, inl, inr}
 use Rattle.numbers.specs.GroupLaws.{either-way}
 use Rattle.rules.specs.Base.{Bool, true, false, List, [], _∷_, _++_, map, ℕ, zero, suc, _+_, _-_, _^_, length, replicate, pick, each, larger, greatest}
 use Rattle.rules.specs.BaseLaws.{All, all-map}
-use Rattle.rules.specs.FileMap.{emptyRecord, isEmpty, withLive}
-use Rattle.rules.specs.FileMapLaws.{is-empty}
+use Rattle.rules.specs.FileMap.{emptyLabel, recorded, emptyRecord}
 use Rattle.disk_location.specs.Locations.{maskedOf}
 use Rattle.rules.specs.SlotFile.{File, View, empty, damaged, holds}
 use Rattle.rules.specs.Reopen.{filesIn, mappedInto, recordOf, recordsFrom, nextAfter}
-use Rattle.reopen_tests.specs.Labels.{labelOf, labelsOf}
-use Rattle.reopen_tests.specs.Shown.{Sound}
-use Rattle.reopen_tests.specs.Overlaps.{label-some}
-use Rattle.rebuild.specs.Types.{Record, Entry}
+use Rattle.reopen_tests.specs.Labels.{noFile, labelOf, labelsOf}
+use Rattle.reopen_tests.specs.Shown.{label-some, Sound}
+use Rattle.rebuild.specs.Types.{Label, Record, Entry}
 
 -- "the label's five numbers and the live count": of a file's label
-abbrev pub counted : List Entry → Record → Record
-counted table r = pick (isEmpty r) r (withLive r (mappedInto table r))
+abbrev pub counted : List Entry → Label → Record
+counted table l = pick (noFile l) emptyRecord (recorded l (mappedInto table l))
 
-abbrev pub maskedLsn : Record → ℕ
-maskedLsn r = maskedOf (r .lsn)
+abbrev pub maskedLsn : Label → ℕ
+maskedLsn l = maskedOf (l .lsn)
 
-abbrev pub sizeOf : Record → ℕ
-sizeOf r = r .«file_size»
+abbrev pub sizeOf : Label → ℕ
+sizeOf l = l .«file_size»
 
--- "greatest masked lsn + greatest file_size + 1"; an empty record counts 0
-unfoldable pub nextFrom : List Record → ℕ
-nextFrom rs = greatest maskedLsn rs + (greatest sizeOf rs + 1)
+-- "greatest masked lsn + greatest file_size + 1"; a slot without a file counts 0
+unfoldable pub nextFrom : List Label → ℕ
+nextFrom ls = greatest maskedLsn ls + (greatest sizeOf ls + 1)
 
 -- ---- live counts
-blank-counted : (table : List Entry) (m : ℕ) → map (counted table) (replicate m emptyRecord) ≡ replicate m emptyRecord
+blank-counted : (table : List Entry) (m : ℕ) → map (counted table) (replicate m emptyLabel) ≡ replicate m emptyRecord
 blank-counted table zero = refl
 blank-counted table (suc m) = ap₂ (λ (r : Record) (rs : List Record). r ∷ rs) one (blank-counted table m)
   where
-    one : counted table emptyRecord ≡ emptyRecord
-    one = rw is-empty refl
+    one : counted table emptyLabel ≡ emptyRecord
+    one = refl
 
 views-counted : (size : ℕ) (table : List Entry) (vs : List View) → All (Sound size) vs → map (counted table) (map labelOf vs) ≡ map (recordOf table) vs
 views-counted size table [] a = refl
-views-counted size table (empty ∷ vs) a = ap₂ (λ (r : Record) (rs : List Record). r ∷ rs) (rw is-empty refl) (views-counted size table vs (a .1))
+views-counted size table (empty ∷ vs) a = ap₂ (λ (r : Record) (rs : List Record). r ∷ rs) refl (views-counted size table vs (a .1))
 views-counted size table (damaged n ∷ vs) a = absurd (a .0)
 views-counted size table (holds f ∷ vs) a = ap₂ (λ (r : Record) (rs : List Record). r ∷ rs) one (views-counted size table vs (a .1))
   where
-    one : counted table (f .label) ≡ withLive (f .label) (mappedInto table (f .label))
+    one : counted table (f .label) ≡ recorded (f .label) (mappedInto table (f .label))
     one = rw (label-some size (f .label) (a .0)) refl
 
 -- each label with its live count is the slot's record
 pub records-counted : (size : ℕ) (table : List Entry) (vs : List View) → All (Sound size) vs → map (counted table) (labelsOf vs) ≡ recordsFrom table vs
 unfolding labelsOf recordsFrom
 records-counted size table vs a =
-    map-append (counted table) (map labelOf vs) (replicate (256 - length vs) emptyRecord)
+    map-append (counted table) (map labelOf vs) (replicate (256 - length vs) emptyLabel)
     ∙ ap₂ _++_ (views-counted size table vs a) (blank-counted table (256 - length vs))
-
--- ---- a live count changes no position
-module _ (table : List Entry) where
-  greatest-counted : (f : Record → ℕ) → ((r : Record) → f (counted table r) ≡ f r) → (rs : List Record) → greatest f (map (counted table) rs) ≡ greatest f rs
-  unfolding greatest
-  greatest-counted f stays [] = refl
-  greatest-counted f stays (r ∷ rs) = ap₂ larger (stays r) (greatest-counted f stays rs)
-
-  lsn-stays : (r : Record) → maskedLsn (counted table r) ≡ maskedLsn r
-  lsn-stays r = go (isEmpty r)
-    where
-      go : (t : Bool) → maskedLsn (pick t r (withLive r (mappedInto table r))) ≡ maskedLsn r
-      go true = refl
-      go false = refl
-
-  size-stays : (r : Record) → sizeOf (counted table r) ≡ sizeOf r
-  size-stays r = go (isEmpty r)
-    where
-      go : (t : Bool) → sizeOf (pick t r (withLive r (mappedInto table r))) ≡ sizeOf r
-      go true = refl
-      go false = refl
-
-  pub next-counted : (rs : List Record) → nextFrom (map (counted table) rs) ≡ nextFrom rs
-  unfolding nextFrom
-  next-counted rs = ap₂ (λ (a b : ℕ). a + (b + 1)) (greatest-counted maskedLsn lsn-stays rs) (greatest-counted sizeOf size-stays rs)
 
 -- ---- the greatest
 larger-none : (n : ℕ) → larger 0 n ≡ n
@@ -92,26 +65,26 @@ larger-most a b most p q = go (either-way b a)
     go (inl h) = rw (lt-leb a b h) p
     go (inr h) = rw (le-leb a b h) q
 
-module _ (f : Record → ℕ) (none : f emptyRecord ≡ 0) where
-  greatest-blank : (m : ℕ) → greatest f (replicate m emptyRecord) ≡ 0
+module _ (f : Label → ℕ) (none : f emptyLabel ≡ 0) where
+  greatest-blank : (m : ℕ) → greatest f (replicate m emptyLabel) ≡ 0
   unfolding greatest
   greatest-blank zero = refl
-  greatest-blank (suc m) = rw none (larger-none (greatest f (replicate m emptyRecord)) ∙ greatest-blank m)
+  greatest-blank (suc m) = rw none (larger-none (greatest f (replicate m emptyLabel)) ∙ greatest-blank m)
 
   -- over the files it is that over the labels
-  greatest-labels : (m : ℕ) (vs : List View) → greatest (λ (g : File). f (g .label)) (filesIn vs) ≡ greatest f (map labelOf vs ++ replicate m emptyRecord)
+  greatest-labels : (m : ℕ) (vs : List View) → greatest (λ (g : File). f (g .label)) (filesIn vs) ≡ greatest f (map labelOf vs ++ replicate m emptyLabel)
   unfolding greatest filesIn each
   greatest-labels m [] = sym (greatest-blank m)
-  greatest-labels m (empty ∷ vs) = rw none (greatest-labels m vs ∙ sym (larger-none (greatest f (map labelOf vs ++ replicate m emptyRecord))))
-  greatest-labels m (damaged r ∷ vs) = rw none (greatest-labels m vs ∙ sym (larger-none (greatest f (map labelOf vs ++ replicate m emptyRecord))))
+  greatest-labels m (empty ∷ vs) = rw none (greatest-labels m vs ∙ sym (larger-none (greatest f (map labelOf vs ++ replicate m emptyLabel))))
+  greatest-labels m (damaged r ∷ vs) = rw none (greatest-labels m vs ∙ sym (larger-none (greatest f (map labelOf vs ++ replicate m emptyLabel))))
   greatest-labels m (holds g ∷ vs) = ap (larger (f (g .label))) (greatest-labels m vs)
 
-  greatest-most : (most m : ℕ) (vs : List View) → All (λ (v : View). f (labelOf v) ≤ most) vs → greatest f (map labelOf vs ++ replicate m emptyRecord) ≤ most
+  greatest-most : (most m : ℕ) (vs : List View) → All (λ (v : View). f (labelOf v) ≤ most) vs → greatest f (map labelOf vs ++ replicate m emptyLabel) ≤ most
   unfolding greatest
   greatest-most most m [] a = rw (greatest-blank m) zero-le
-  greatest-most most m (v ∷ vs) a = larger-most (f (labelOf v)) (greatest f (map labelOf vs ++ replicate m emptyRecord)) most (a .0) (greatest-most most m vs (a .1))
+  greatest-most most m (v ∷ vs) a = larger-most (f (labelOf v)) (greatest f (map labelOf vs ++ replicate m emptyLabel)) most (a .0) (greatest-most most m vs (a .1))
 
-masked-none : maskedLsn emptyRecord ≡ 0
+masked-none : maskedLsn emptyLabel ≡ 0
 unfolding maskedOf
 masked-none = refl
 

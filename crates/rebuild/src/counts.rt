@@ -1,11 +1,15 @@
 use crate::table::masked_position;
 use disk_location::masked;
-use file_map::is_empty;
-use file_map::with_live;
+use file_map::empty;
+use file_map::no_files;
+use file_map::recorded;
 use location_table::location_at;
 use location_table::used;
+use reopen_tests::Labels;
 use reopen_tests::overlap::in_range;
+use reopen_tests::slots::no_file;
 use rules::FileMap;
+use rules::Label;
 use rules::Record;
 ghost use mathlib.Core.Path.{_≡_};
 ghost use mathlib.Core.List.{map};
@@ -17,15 +21,15 @@ ghost use Rattle.location_table.specs.Tables.{table, Formed};
 ghost use Rattle.rebuild.specs.Records.{counted, nextFrom};
 
 // "a file's live count is the ids mapped into it, deletes included"
-fn mapped_into(ids: &[u64], locations: &[u64], r: Record) -> u64
+fn mapped_into(ids: &[u64], locations: &[u64], l: Label) -> u64
     requires { ⌜ Formed (table (now ids) (now locations)) ⌝ }
-    ensures { λ n. ⌜ n ≡ mappedInto (usedEntries (table (now (ids .entry)) (now (locations .entry)))) r ⌝ }
+    ensures { λ n. ⌜ n ≡ mappedInto (usedEntries (table (now (ids .entry)) (now (locations .entry)))) l ⌝ }
 {
     let all = used(ids, locations);
     let mut n: u64 = 0;
     let mut i: usize = 0;
     while i < all {
-        if in_range(r, masked_position(location_at(locations, i))) {
+        if in_range(l, masked_position(location_at(locations, i))) {
             n += 1;
         }
         i += 1;
@@ -33,25 +37,25 @@ fn mapped_into(ids: &[u64], locations: &[u64], r: Record) -> u64
     n
 }
 
-// A file's record with its live count; an empty one stays.
-fn counted(ids: &[u64], locations: &[u64], r: Record) -> Record
+// A slot's record: its file's label and live count; empty for a slot without a file.
+fn counted(ids: &[u64], locations: &[u64], l: Label) -> Record
     requires { ⌜ Formed (table (now ids) (now locations)) ⌝ }
-    ensures { λ s. ⌜ s ≡ counted (usedEntries (table (now (ids .entry)) (now (locations .entry)))) r ⌝ }
+    ensures { λ r. ⌜ r ≡ counted (usedEntries (table (now (ids .entry)) (now (locations .entry)))) l ⌝ }
 {
-    if is_empty(r) {
-        return r;
+    if no_file(l) {
+        return empty();
     }
-    with_live(r, mapped_into(ids, locations, r))
+    recorded(l, mapped_into(ids, locations, l))
 }
 
-pub fn with_live_counts(ids: &[u64], locations: &[u64], files: FileMap) -> FileMap
+pub fn with_live_counts(ids: &[u64], locations: &[u64], slots: Labels) -> FileMap
     requires { ⌜ Formed (table (now ids) (now locations)) ⌝ }
-    ensures { λ m. ⌜ m .records ≡ map (counted (usedEntries (table (now (ids .entry)) (now (locations .entry))))) (files .records) ⌝ }
+    ensures { λ m. ⌜ m .records ≡ map (counted (usedEntries (table (now (ids .entry)) (now (locations .entry))))) (slots .labels) ⌝ }
 {
-    let mut m = files;
+    let mut m = no_files();
     let mut k: usize = 0;
     while k < 256 {
-        m.records[k] = counted(ids, locations, m.records[k]);
+        m.records[k] = counted(ids, locations, slots.labels[k]);
         k += 1;
     }
     m
@@ -67,17 +71,17 @@ fn larger(a: u64, b: u64) -> u64
 }
 
 // "Next position is greatest masked lsn + greatest file_size + 1, or 1 for no files."
-pub fn next_position(files: FileMap) -> u64
-    requires { ⌜ nextFrom (files .records) < 2 ^ 63 ⌝ }
-    ensures { λ n. ⌜ n ≡ nextFrom (files .records) ⌝ }
+pub fn next_position(slots: Labels) -> u64
+    requires { ⌜ nextFrom (slots .labels) < 2 ^ 63 ⌝ }
+    ensures { λ n. ⌜ n ≡ nextFrom (slots .labels) ⌝ }
 {
     let mut lsn: u64 = 0;
     let mut size: u64 = 0;
     let mut k: usize = 0;
     while k < 256 {
-        let r = files.records[k];
-        lsn = larger(lsn, masked(r.lsn));
-        size = larger(size, r.file_size);
+        let l = slots.labels[k];
+        lsn = larger(lsn, masked(l.lsn));
+        size = larger(size, l.file_size);
         k += 1;
     }
     lsn + (size + 1)

@@ -1,13 +1,13 @@
 use disk_location::DiskLocation;
 use disk_location::masked;
-use file_map::is_empty;
 use install::absolute;
 use location_table::clear;
 use location_table::load_in;
 use location_table::store_in;
-use rules::FileMap;
+use reopen_tests::Labels;
+use reopen_tests::slots::no_file;
 use rules::Held;
-use rules::Record;
+use rules::Label;
 use slot_file::slot::slot_at;
 use slot_file::slot::trailer_part;
 ghost use mathlib.Core.Path.{_≡_};
@@ -73,14 +73,14 @@ fn fill_file(trailer: &[u8], lsn: u64, ids: &mut [u64], locations: &mut [u64]) -
 }
 
 // The entries of a slot's file, if there is one.
-fn fill_slot(slot: &[u8], r: Record, ids: &mut [u64], locations: &mut [u64]) -> bool
-    requires { ⌜ Formed (table (now ids) (now locations)) × Shown (now slot) r ⌝ }
+fn fill_slot(slot: &[u8], l: Label, ids: &mut [u64], locations: &mut [u64]) -> bool
+    requires { ⌜ Formed (table (now ids) (now locations)) × Shown (now slot) l ⌝ }
     ensures { λ b. ⌜ Filled (table (now (ids .entry)) (now (locations .entry))) (each rowsOf (fileOf (viewIn (now (slot .entry))))) b (table (now (ids .exit)) (now (locations .exit))) ⌝ }
 {
-    if is_empty(r) {
+    if no_file(l) {
         return true;
     }
-    fill_file(trailer_part(slot, r), r.lsn, ids, locations)
+    fill_file(trailer_part(slot, l), l.lsn, ids, locations)
 }
 
 // "Each id maps to its entry of greatest masked position"; without room for all ids both buffers are cleared.
@@ -88,16 +88,16 @@ pub fn fill(
     heap: &[u8],
     size: usize,
     n: usize,
-    files: FileMap,
+    slots: Labels,
     ids: &mut [u64],
     locations: &mut [u64],
 ) -> bool
-    requires { ⌜ Formed (table (now ids) (now locations)) × Surveyed n size (now heap) (files .records) ⌝ }
+    requires { ⌜ Formed (table (now ids) (now locations)) × Surveyed n size (now heap) (slots .labels) ⌝ }
     ensures { λ b. ⌜ Filled (table (now (ids .entry)) (now (locations .entry))) (each rowsOf (filesIn (viewsIn n size (now (heap .entry))))) b (table (now (ids .exit)) (now (locations .exit))) ⌝ }
 {
     let mut k: usize = 0;
     while k < n {
-        if !fill_slot(slot_at(heap, size, k), files.records[k], ids, locations) {
+        if !fill_slot(slot_at(heap, size, k), slots.labels[k], ids, locations) {
             return false;
         }
         k += 1;

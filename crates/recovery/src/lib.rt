@@ -6,6 +6,7 @@ use location_table::clear;
 use rebuild::counts::next_position;
 use rebuild::counts::with_live_counts;
 use rebuild::table::fill;
+use reopen_tests::Labels;
 use reopen_tests::over_all::check;
 use reopen_tests::slots::survey;
 use rules::Answer;
@@ -61,28 +62,22 @@ fn rebuilt(
     heap: &[u8],
     size: usize,
     n: usize,
-    files: FileMap,
+    slots: Labels,
     ids: &mut [u64],
     locations: &mut [u64],
 ) -> Reopened
-    requires { ⌜ Surveyed n size (now heap) (files .records) × (size ≤ 1048576) × Blank (table (now ids) (now locations)) ⌝ }
+    requires { ⌜ Surveyed n size (now heap) (slots .labels) × (size ≤ 1048576) × Blank (table (now ids) (now locations)) ⌝ }
     ensures { λ r. ⌜ leaves settings r (now (heap .entry)) (now (ids .exit)) (now (locations .exit)) ≡ pastTests (bare settings (now (heap .entry)) (now (ids .entry)) (now (locations .entry))) (viewsIn n size (now (heap .entry))) ⌝ }
 {
     let heap_len = heap.len() as u64;
     let table_len = ids.len() as u64;
-    if !fill(heap, size, n, files, ids, locations) {
+    if !fill(heap, size, n, slots, ids, locations) {
         return given_up(settings, heap_len, table_len, Refusal::TableRoom);
     }
-    let counted = with_live_counts(ids, locations, files);
+    let files = with_live_counts(ids, locations, slots);
     Reopened {
         answer: Answer::Done,
-        state: state_of(
-            settings,
-            heap_len,
-            table_len,
-            counted,
-            next_position(counted),
-        ),
+        state: state_of(settings, heap_len, table_len, files, next_position(slots)),
         claims: no_claims(),
     }
 }
@@ -93,16 +88,16 @@ fn tested(
     heap: &[u8],
     size: usize,
     n: usize,
-    files: FileMap,
+    slots: Labels,
     ids: &mut [u64],
     locations: &mut [u64],
 ) -> Reopened
-    requires { ⌜ Surveyed n size (now heap) (files .records) × (size ≤ 1048576) × Blank (table (now ids) (now locations)) ⌝ }
+    requires { ⌜ Surveyed n size (now heap) (slots .labels) × (size ≤ 1048576) × Blank (table (now ids) (now locations)) ⌝ }
     ensures { λ r. ⌜ leaves settings r (now (heap .entry)) (now (ids .exit)) (now (locations .exit)) ≡ pastSlots (bare settings (now (heap .entry)) (now (ids .entry)) (now (locations .entry))) (viewsIn n size (now (heap .entry))) ⌝ }
 {
-    match check(heap, size, n, files) {
+    match check(heap, size, n, slots) {
         Answer::Refused(r) => given_up(settings, heap.len() as u64, ids.len() as u64, r),
-        Answer::Done => rebuilt(settings, heap, size, n, files, ids, locations),
+        Answer::Done => rebuilt(settings, heap, size, n, slots, ids, locations),
     }
 }
 
@@ -119,8 +114,8 @@ fn recovered(settings: Settings, heap: &[u8], ids: &mut [u64], locations: &mut [
     match answer {
         Answer::Refused(r) => given_up(settings, heap.len() as u64, ids.len() as u64, r),
         Answer::Done => {
-            let files = found.files;
-            tested(settings, heap, size, n, files, ids, locations)
+            let slots = found.slots;
+            tested(settings, heap, size, n, slots, ids, locations)
         }
     }
 }

@@ -8,15 +8,15 @@ use lib.ListN.{length, getD, set, take, drop, replicate, length-map, drop-of-len
 use lib.Seq.{take-suc, set-at, append-snoc, length-take-le, take-all}
 use Rattle.rules.specs.Base.{each}
 use Rattle.rules.specs.Refusal.{decide, decide-none, decide-early, decide-late}
-use Rattle.rules.specs.FileMap.{emptyRecord, noFiles}
+use Rattle.rules.specs.FileMap.{emptyLabel}
 use Rattle.rules.specs.SlotFile.{View, empty, damaged, holds, slotBytes, viewIn, viewsIn}
 use Rattle.rules.specs.SlotLaws.{views-at}
-use Rattle.rules.specs.declared.FileMap.{FileMap}
+use Rattle.reopen_tests.specs.declared.Labels.{Labels}
 use Rattle.slot_file.specs.declared.SlotAnswer.{SlotAnswer}
 use Rattle.rules.specs.Reopen.{viewTests}
 use Rattle.slot_file.specs.Slots.{shownBy}
-use Rattle.reopen_tests.specs.Types.{Record, Refusal, Done, Refused}
-use Rattle.reopen_tests.specs.Labels.{refusalShown, labelShown, labelOf, labelsOf, surveyBy, surveyed}
+use Rattle.reopen_tests.specs.Types.{Label, Refusal, Done, Refused}
+use Rattle.reopen_tests.specs.Labels.{noLabels, refusalShown, labelShown, labelOf, labelsOf, surveyBy, surveyed}
 use Rattle.rules.specs.TurnLaws.{left-next}
 
 -- what a slot answers is what its view says
@@ -32,25 +32,25 @@ label-shown (damaged r) = refl
 label-shown (holds f) = refl
 
 -- ---- the labels of the first k slots
-abbrev pub labelsTo : ℕ → List View → List Record
-labelsTo k views = map labelOf (take k views) ++ replicate (256 - k) emptyRecord
+abbrev pub labelsTo : ℕ → List View → List Label
+labelsTo k views = map labelOf (take k views) ++ replicate (256 - k) emptyLabel
 
-pub labels-start : (views : List View) → labelsTo 0 views ≡ noFiles
-unfolding noFiles
+pub labels-start : (views : List View) → labelsTo 0 views ≡ noLabels
+unfolding noLabels
 labels-start views = refl
 
-pub labels-next : (views : List View) (k : ℕ) (r : Record) → k < length views → k < 256 → r ≡ labelOf (getD views k empty)
-    → set (labelsTo k views) k r ≡ labelsTo (k + 1) views
-labels-next views k r h low e =
+pub labels-next : (views : List View) (k : ℕ) (l : Label) → k < length views → k < 256 → l ≡ labelOf (getD views k empty)
+    → set (labelsTo k views) k l ≡ labelsTo (k + 1) views
+labels-next views k l h low e =
     let p = map labelOf (take k views) in
-    let rest = replicate (256 - (k + 1)) emptyRecord in
+    let rest = replicate (256 - (k + 1)) emptyLabel in
     let more : 256 - k ≡ suc (256 - (k + 1)) = omega arith in
     let here : take (k + 1) views ≡ take k views ++ (getD views k empty ∷ []) = rw (add-one k) (take-suc views k empty h) in
-    rw more (set-at p emptyRecord rest r k (length-map (take k views) labelOf ∙ length-take-le k views (omega arith)))
-    ∙ sym (append-snoc p r rest)
-    ∙ ap (λ (x : Record). (p ++ (x ∷ [])) ++ rest) e
-    ∙ ap (λ (l : List Record). l ++ rest) (sym (map-append labelOf (take k views) (getD views k empty ∷ [])))
-    ∙ ap (λ (l : List View). map labelOf l ++ rest) (sym here)
+    rw more (set-at p emptyLabel rest l k (length-map (take k views) labelOf ∙ length-take-le k views (omega arith)))
+    ∙ sym (append-snoc p l rest)
+    ∙ ap (λ (x : Label). (p ++ (x ∷ [])) ++ rest) e
+    ∙ ap (λ (ls : List Label). ls ++ rest) (sym (map-append labelOf (take k views) (getD views k empty ∷ [])))
+    ∙ ap (λ (vs : List View). map labelOf vs ++ rest) (sym here)
 
 pub labels-end : (views : List View) (k : ℕ) → length views ≡ k → labelsTo k views ≡ labelsOf views
 unfolding labelsOf
@@ -89,6 +89,6 @@ module _ (views : List View) where
   unfolding surveyed
   surveyed-refused r e = rw e refl
 
-  pub surveyed-clear : (files : FileMap) → decide (each viewTests views) ≡ Done → files .records ≡ labelsOf views → record { answer = Done; files = files } ≡ surveyed views
+  pub surveyed-clear : (slots : Labels) → decide (each viewTests views) ≡ Done → slots .labels ≡ labelsOf views → record { answer = Done; slots = slots } ≡ surveyed views
   unfolding surveyed
-  surveyed-clear files e f = rw e (ap (λ (rs : List Record). record { answer = Done; files = record { records = rs } }) f)
+  surveyed-clear slots e f = rw e (ap (λ (ls : List Label). record { answer = Done; slots = record { labels = ls } }) f)

@@ -30,8 +30,8 @@ module _ (a : Answer) (views : List View) (s : Survey) (is : s ≡ surveyBy a vi
       go Done q = q
       go (Refused n) q = q
 
-  pub told-labels : s .answer ≡ Done → s .files .records ≡ labelsOf views
-  told-labels e = ap (λ (x : Survey). x .files .records) is ∙ ap (λ (b : Answer). surveyBy b views .files .records) (told-clear e)
+  pub told-labels : s .answer ≡ Done → s .slots .labels ≡ labelsOf views
+  told-labels e = ap (λ (x : Survey). x .slots .labels) is ∙ ap (λ (b : Answer). surveyBy b views .slots .labels) (told-clear e)
 
 -- ---- 8 to 13, then 14 and 15
 module _ (views : List View) where

@@ -6,11 +6,16 @@ pub mod rising;
 pub mod slots;
 
 use rules::Answer;
-use rules::FileMap;
+use rules::Label;
 
-// The first refusal and an empty file map, or the labels of all slots. The records stand first: behind an answer's few bytes they would be
+// The labels of the 256 slots: zeros for a slot without a file.
+pub struct Labels {
+    pub labels: [Label; 256],
+}
+
+// The first refusal and no labels, or the labels of all slots. The labels stand first: behind an answer's few bytes they would be
 // copied once more.
 pub struct Survey {
-    pub files: FileMap,
+    pub slots: Labels,
     pub answer: Answer,
 }

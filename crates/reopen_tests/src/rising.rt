@@ -1,8 +1,8 @@
+use crate::Labels;
+use crate::slots::no_file;
 use disk_location::RelativeDiskLocation;
-use file_map::is_empty;
 use rules::Entry;
-use rules::FileMap;
-use rules::Record;
+use rules::Label;
 use slot_file::slot::slot_at;
 use slot_file::slot::trailer_part;
 ghost use mathlib.Core.Path.{_≡_};
@@ -91,24 +91,24 @@ fn falls(trailer: &[u8]) -> bool
 }
 
 // Slot's file, if there is one.
-fn slot_falls(slot: &[u8], r: Record) -> bool
-    requires { ⌜ Shown (now slot) r ⌝ }
+fn slot_falls(slot: &[u8], l: Label) -> bool
+    requires { ⌜ Shown (now slot) l ⌝ }
     ensures { λ b. ⌜ b ≡ any fileFalls (fileOf (viewIn (now (slot .entry)))) ⌝ }
 {
-    if is_empty(r) {
+    if no_file(l) {
         return false;
     }
-    falls(trailer_part(slot, r))
+    falls(trailer_part(slot, l))
 }
 
 // 15, over the files of all slots.
-pub fn not_rising(heap: &[u8], size: usize, n: usize, files: FileMap) -> bool
-    requires { ⌜ Surveyed n size (now heap) (files .records) ⌝ }
+pub fn not_rising(heap: &[u8], size: usize, n: usize, slots: Labels) -> bool
+    requires { ⌜ Surveyed n size (now heap) (slots .labels) ⌝ }
     ensures { λ b. ⌜ b ≡ any fileFalls (filesIn (viewsIn n size (now (heap .entry)))) ⌝ }
 {
     let mut k: usize = 0;
     while k < n {
-        if slot_falls(slot_at(heap, size, k), files.records[k]) {
+        if slot_falls(slot_at(heap, size, k), slots.labels[k]) {
             return true;
         }
         k += 1;

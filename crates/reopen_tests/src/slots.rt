@@ -1,8 +1,8 @@
+use crate::Labels;
 use crate::Survey;
-use file_map::empty;
-use file_map::no_files;
+use file_map::no_label;
 use rules::Answer;
-use rules::Record;
+use rules::Label;
 use rules::Refusal;
 use slot_file::SlotAnswer;
 use slot_file::slot;
@@ -12,7 +12,21 @@ ghost use Prim.Native.Nat.{_+_, _*_, _≤_};
 ghost use lib.ListN.{length};
 ghost use Rattle.rules.specs.declared.Answer.the-variants.{Refused};
 ghost use Rattle.rules.specs.SlotFile.{viewsIn};
-ghost use Rattle.reopen_tests.specs.Labels.{refusalShown, labelShown, surveyBy, surveyed};
+ghost use Rattle.reopen_tests.specs.Labels.{noFile, noLabels, refusalShown, labelShown, surveyBy, surveyed};
+
+// A slot without a file: no file has lsn 0.
+pub fn no_file(l: Label) -> bool
+    ensures { λ b. ⌜ b ≡ noFile l ⌝ }
+{
+    l.lsn == 0
+}
+
+fn no_labels() -> Labels
+    ensures { λ s. ⌜ s .labels ≡ noLabels ⌝ }
+{
+    let l = no_label();
+    Labels { labels: [l; 256] }
+}
 
 fn refusal(shown: SlotAnswer) -> Answer
     ensures { λ r. ⌜ r ≡ refusalShown shown ⌝ }
@@ -24,23 +38,23 @@ fn refusal(shown: SlotAnswer) -> Answer
     }
 }
 
-fn label(shown: SlotAnswer) -> Record
-    ensures { λ r. ⌜ r ≡ labelShown shown ⌝ }
+fn label(shown: SlotAnswer) -> Label
+    ensures { λ l. ⌜ l ≡ labelShown shown ⌝ }
 {
     match shown {
-        SlotAnswer::Holds(r) => r,
-        SlotAnswer::Empty => empty(),
-        SlotAnswer::Damaged(_) => empty(),
+        SlotAnswer::Holds(l) => l,
+        SlotAnswer::Empty => no_label(),
+        SlotAnswer::Damaged(_) => no_label(),
     }
 }
 
-// With a refusal goes an empty file map.
+// With a refusal go no labels.
 pub fn refused(r: Refusal) -> Survey
     ensures { λ s. ⌜ s ≡ surveyBy (Refused r) [] ⌝ }
 {
     Survey {
         answer: Answer::Refused(r),
-        files: no_files(),
+        slots: no_labels(),
     }
 }
 
@@ -49,18 +63,18 @@ pub fn survey(heap: &[u8], size: usize, n: usize) -> Survey
     requires { ⌜ (n * size ≤ length (now heap)) × (n ≤ 256) ⌝ }
     ensures { λ r. ⌜ r ≡ surveyed (viewsIn n size (now (heap .entry))) ⌝ }
 {
-    let mut files = no_files();
+    let mut slots = no_labels();
     let mut k: usize = 0;
     while k < n {
         let shown = slot::check(slot::slot_at(heap, size, k));
         if let Answer::Refused(r) = refusal(shown) {
             return refused(r);
         }
-        files.records[k] = label(shown);
+        slots.labels[k] = label(shown);
         k += 1;
     }
     Survey {
         answer: Answer::Done,
-        files: files,
+        slots: slots,
     }
 }

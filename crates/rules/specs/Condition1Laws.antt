@@ -40,8 +40,8 @@ limits-in s heapLen b w = rw (ranges-in s (w .settings), range-heap-in s heapLen
 -- a record that 1 lets pass
 pub record GoodRecord (s : Settings) (heapLen : ℕ) (b : Buffers) (slot : ℕ) (r : Record) : Type 0 where
   pub place : slot < slotsIn s heapLen
-  pub bounds : InBounds (s .«slot_bytes») r
-  pub present : r .«present_objects» ≤ r .«file_size»
+  pub bounds : InBounds (s .«slot_bytes») (r .label)
+  pub present : r .label .«present_objects» ≤ r .label .«file_size»
   pub live : r .live ≤ capacityOf b
 
 -- a record that is not bad, and not empty, is good
@@ -52,7 +52,7 @@ good-record s heapLen b slot r some e =
     let w4 = or-false _ _ f in
     let w3 = or-false _ _ (w4 .0) in
     let w2 = or-false _ _ (w3 .0) in
-    record { place = leb-false _ _ (w2 .0); bounds = in-bounds (s .«slot_bytes») r (w2 .1); present = ltb-false _ _ (w3 .1); live = ltb-false _ _ (w4 .1) }
+    record { place = leb-false _ _ (w2 .0); bounds = in-bounds (s .«slot_bytes») (r .label) (w2 .1); present = ltb-false _ _ (w3 .1); live = ltb-false _ _ (w4 .1) }
 
 -- and back
 pub record-good : (s : Settings) (heapLen : ℕ) (b : Buffers) (slot : ℕ) (r : Record) → (isEmpty r ≡ false → GoodRecord s heapLen b slot r) → badRecord s heapLen b slot r ≡ false
@@ -61,7 +61,7 @@ record-good s heapLen b slot r good = ⊎-elim
     (λ e. rw e)
     (λ e.
     let w = good e in
-    rw (e, lt-leb (slotsIn s heapLen) slot (w .place), bounds-in (s .«slot_bytes») r (w .bounds), le-ltb (r .«file_size») (r .«present_objects») (w .present), le-ltb (capacityOf b) (r .live) (w .live)))
+    rw (e, lt-leb (slotsIn s heapLen) slot (w .place), bounds-in (s .«slot_bytes») (r .label) (w .bounds), le-ltb (r .label .«file_size») (r .label .«present_objects») (w .present), le-ltb (capacityOf b) (r .live) (w .live)))
     (empty-or-not r)
 
 -- every record passes

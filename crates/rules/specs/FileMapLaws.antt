@@ -12,7 +12,7 @@ use Rattle.numbers.specs.GroupLaws.{either-way}
 use Rattle.rules.specs.Base.{Bool, true, false, _&&_, List, [], _∷_, ℕ, zero, suc, _+_, _-_, _*_, _^_, length, getD, take, drop, leb, ltb, eqb, pick, any, zeros}
 use Rattle.rules.specs.Types.{Record, Slot, Is, NoSlot}
 use Rattle.rules.specs.BaseLaws.{zeros-true, zeros-cons, order}
-use Rattle.rules.specs.FileMap.{emptyRecord, isEmpty, recordAt, slotsWhere, emptySlots, lowestEmpty, Lead, leads, leadFrom, fileFor, lessLive}
+use Rattle.rules.specs.FileMap.{recorded, emptyRecord, isEmpty, recordAt, slotsWhere, emptySlots, lowestEmpty, Lead, leads, leadFrom, fileFor, lessLive}
 
 -- "An empty record is all zeros.", and only that one
 pub empty-is : (r : Record) → isEmpty r ≡ true → r ≡ emptyRecord
@@ -24,7 +24,7 @@ empty-is r e =
     let d = zeros-true _ _ (c .1) in
     let f = zeros-true _ _ (d .1) in
     let g = zeros-true _ _ (f .1) in
-    λ i. record { lsn = a .0 i; «trailer_offset» = b .0 i; «file_size» = c .0 i; «present_objects» = d .0 i; generation = f .0 i; live = g .0 i }
+    λ i. recorded (record { lsn = a .0 i; «trailer_offset» = b .0 i; «file_size» = c .0 i; «present_objects» = d .0 i; generation = f .0 i }) (g .0 i)
 
 -- it is one
 pub is-empty : isEmpty emptyRecord ≡ true
@@ -32,9 +32,9 @@ unfolding isEmpty zeros any
 is-empty = refl
 
 -- a record with an lsn is a file's
-pub not-empty : (r : Record) → 0 < r .lsn → isEmpty r ≡ false
+pub not-empty : (r : Record) → 0 < r .label .lsn → isEmpty r ≡ false
 unfolding isEmpty
-not-empty r h = zeros-cons (r .lsn) _ ∙ rw (ne-eqb (r .lsn) 0 (λ z. omega arith))
+not-empty r h = zeros-cons (r .label .lsn) _ ∙ rw (ne-eqb (r .label .lsn) 0 (λ z. omega arith))
 
 -- by cases on a record
 pub empty-or-not : (r : Record) → (isEmpty r ≡ true) ⊎ (isEmpty r ≡ false)
@@ -46,7 +46,7 @@ empty-or-not r = go (isEmpty r) refl
 
 -- ---- "File lookup"
 -- on "raw, unmasked locations": a batch file of masked lsn 1 is above location 2
-pub lookup-is-raw : fileFor (record { lsn = 2 ^ 62 + 1; «trailer_offset» = 0; «file_size» = 0; «present_objects» = 0; generation = 0; live = 0 } ∷ []) 2 ≡ NoSlot
+pub lookup-is-raw : fileFor (recorded (record { lsn = 2 ^ 62 + 1; «trailer_offset» = 0; «file_size» = 0; «present_objects» = 0; generation = 0 }) 0 ∷ []) 2 ≡ NoSlot
 unfolding fileFor leadFrom leads
 lookup-is-raw = refl
 
@@ -62,58 +62,58 @@ unfolding leadFrom
 lead-end rs i location b h = rw (drop-of-length-le rs h)
 
 -- a later file takes the lead with a greater own location that is not above the one sought
-pub lead-taken : (r : Record) (i location : ℕ) (b : Lead) → b .lsn < r .lsn → 2 * r .lsn ≤ location → leads r i location b ≡ record { lsn = r .lsn; slot = i }
+pub lead-taken : (r : Record) (i location : ℕ) (b : Lead) → b .lsn < r .label .lsn → 2 * r .label .lsn ≤ location → leads r i location b ≡ record { lsn = r .label .lsn; slot = i }
 unfolding leads
-lead-taken r i location b h k = rw (lt-ltb (b .lsn) (r .lsn) h, le-leb (2 * r .lsn) location k)
+lead-taken r i location b h k = rw (lt-ltb (b .lsn) (r .label .lsn) h, le-leb (2 * r .label .lsn) location k)
 
 -- and not otherwise
-pub lead-kept : (r : Record) (i location : ℕ) (b : Lead) → (r .lsn ≤ b .lsn) ⊎ (location < 2 * r .lsn) → leads r i location b ≡ b
+pub lead-kept : (r : Record) (i location : ℕ) (b : Lead) → (r .label .lsn ≤ b .lsn) ⊎ (location < 2 * r .label .lsn) → leads r i location b ≡ b
 unfolding leads
-lead-kept r i location b (inl h) = rw (le-ltb (b .lsn) (r .lsn) h)
-lead-kept r i location b (inr h) = rw (lt-leb (2 * r .lsn) location h) (go (ltb (b .lsn) (r .lsn)))
+lead-kept r i location b (inl h) = rw (le-ltb (b .lsn) (r .label .lsn) h)
+lead-kept r i location b (inr h) = rw (lt-leb (2 * r .label .lsn) location h) (go (ltb (b .lsn) (r .label .lsn)))
   where
-    go : (t : Bool) → pick (t && false) (record { lsn = r .lsn; slot = i }) b ≡ b
+    go : (t : Bool) → pick (t && false) (record { lsn = r .label .lsn; slot = i }) b ≡ b
     go true = refl
     go false = refl
 
 -- b leads the first i of the records
 record Leads (rs : List Record) (location i : ℕ) (b : Lead) : Type 0 where
-  most : (j : ℕ) → j < i → 2 * recordAt rs j .lsn ≤ location → recordAt rs j .lsn ≤ b .lsn
-  first : (j : ℕ) → j < b .slot → 0 < b .lsn → 2 * recordAt rs j .lsn ≤ location → recordAt rs j .lsn < b .lsn
-  held : 0 < b .lsn → (b .slot < i) × (recordAt rs (b .slot) .lsn ≡ b .lsn) × (2 * b .lsn ≤ location)
+  most : (j : ℕ) → j < i → 2 * recordAt rs j .label .lsn ≤ location → recordAt rs j .label .lsn ≤ b .lsn
+  first : (j : ℕ) → j < b .slot → 0 < b .lsn → 2 * recordAt rs j .label .lsn ≤ location → recordAt rs j .label .lsn < b .lsn
+  held : 0 < b .lsn → (b .slot < i) × (recordAt rs (b .slot) .label .lsn ≡ b .lsn) × (2 * b .lsn ≤ location)
 
 -- one record more
 next : (rs : List Record) (location i : ℕ) (b : Lead) → Leads rs location i b → Leads rs location (suc i) (leads (recordAt rs i) i location b)
-next rs location i b l = go (either-way (b .lsn) (recordAt rs i .lsn)) (either-way location (2 * recordAt rs i .lsn))
+next rs location i b l = go (either-way (b .lsn) (recordAt rs i .label .lsn)) (either-way location (2 * recordAt rs i .label .lsn))
   where
     split : (j : ℕ) → j < suc i → (j ≡ i) ⊎ (j < i)
     split j h = eq-or-lt-of-le (le-of-suc-le-suc h)
 
     -- a record that does not take the lead
-    stays : (2 * recordAt rs i .lsn ≤ location → recordAt rs i .lsn ≤ b .lsn) → Leads rs location (suc i) b
+    stays : (2 * recordAt rs i .label .lsn ≤ location → recordAt rs i .label .lsn ≤ b .lsn) → Leads rs location (suc i) b
     stays low = record {
       most = λ j m e. old j (split j m) e;
       first = l .first;
       held = λ z. (omega (arith, l .held z .0), l .held z .1, l .held z .2);
     }
       where
-        old : (j : ℕ) → (j ≡ i) ⊎ (j < i) → 2 * recordAt rs j .lsn ≤ location → recordAt rs j .lsn ≤ b .lsn
+        old : (j : ℕ) → (j ≡ i) ⊎ (j < i) → 2 * recordAt rs j .label .lsn ≤ location → recordAt rs j .label .lsn ≤ b .lsn
         old j (inl w) e = rw w (low (rw w at e))
         old j (inr w) e = l .most j w e
 
     -- one that does
-    takes : b .lsn < recordAt rs i .lsn → 2 * recordAt rs i .lsn ≤ location → Leads rs location (suc i) (record { lsn = recordAt rs i .lsn; slot = i })
+    takes : b .lsn < recordAt rs i .label .lsn → 2 * recordAt rs i .label .lsn ≤ location → Leads rs location (suc i) (record { lsn = recordAt rs i .label .lsn; slot = i })
     takes h k = record {
       most = λ j m e. new j (split j m) e;
       first = λ j m z e. let w = l .most j m e in omega arith;
       held = λ z. (omega arith, refl, k);
     }
       where
-        new : (j : ℕ) → (j ≡ i) ⊎ (j < i) → 2 * recordAt rs j .lsn ≤ location → recordAt rs j .lsn ≤ recordAt rs i .lsn
+        new : (j : ℕ) → (j ≡ i) ⊎ (j < i) → 2 * recordAt rs j .label .lsn ≤ location → recordAt rs j .label .lsn ≤ recordAt rs i .label .lsn
         new j (inl w) e = rw w (omega arith)
         new j (inr w) e = let u = l .most j w e in omega arith
 
-    go : (b .lsn < recordAt rs i .lsn) ⊎ (recordAt rs i .lsn ≤ b .lsn) → (location < 2 * recordAt rs i .lsn) ⊎ (2 * recordAt rs i .lsn ≤ location)
+    go : (b .lsn < recordAt rs i .label .lsn) ⊎ (recordAt rs i .label .lsn ≤ b .lsn) → (location < 2 * recordAt rs i .label .lsn) ⊎ (2 * recordAt rs i .label .lsn ≤ location)
         → Leads rs location (suc i) (leads (recordAt rs i) i location b)
     go (inl h) (inr k) = rw (lead-taken (recordAt rs i) i location b h k) (takes h k)
     go (inl h) (inl k) = rw (lead-kept (recordAt rs i) i location b (inr k)) (stays (λ e. absurd (omega arith)))
@@ -135,10 +135,10 @@ start rs location = record {
 -- "the file with the greatest own location not above the one sought, the lowest slot of equals"
 pub record IsFile (rs : List Record) (location k : ℕ) : Type 0 where
   pub place : k < length rs
-  pub used : 0 < recordAt rs k .lsn
-  pub low : 2 * recordAt rs k .lsn ≤ location
-  pub most : (j : ℕ) → j < length rs → 2 * recordAt rs j .lsn ≤ location → recordAt rs j .lsn ≤ recordAt rs k .lsn
-  pub first : (j : ℕ) → j < k → 2 * recordAt rs j .lsn ≤ location → recordAt rs j .lsn < recordAt rs k .lsn
+  pub used : 0 < recordAt rs k .label .lsn
+  pub low : 2 * recordAt rs k .label .lsn ≤ location
+  pub most : (j : ℕ) → j < length rs → 2 * recordAt rs j .label .lsn ≤ location → recordAt rs j .label .lsn ≤ recordAt rs k .label .lsn
+  pub first : (j : ℕ) → j < k → 2 * recordAt rs j .label .lsn ≤ location → recordAt rs j .label .lsn < recordAt rs k .label .lsn
 
 -- what is found is that file
 pub file-at : (rs : List Record) (location k : ℕ) → fileFor rs location ≡ Is k → IsFile rs location k
@@ -154,7 +154,7 @@ file-at rs location k h =
         let z : 0 < b .lsn = omega (arith, n) in
         let q : b .slot ≡ k = cc in
         let w = l .held z in
-        let v : recordAt rs k .lsn ≡ b .lsn = ap (λ (n : ℕ). recordAt rs n .lsn) (sym q) ∙ w .1 in
+        let v : recordAt rs k .label .lsn ≡ b .lsn = ap (λ (n : ℕ). recordAt rs n .label .lsn) (sym q) ∙ w .1 in
         record {
           place = omega (arith, w .0);
           used = omega arith;
@@ -164,14 +164,14 @@ file-at rs location k h =
         }
 
 -- none is found where every file is above
-pub file-none : (rs : List Record) (location : ℕ) → fileFor rs location ≡ NoSlot → (j : ℕ) → j < length rs → 0 < recordAt rs j .lsn → location < 2 * recordAt rs j .lsn
+pub file-none : (rs : List Record) (location : ℕ) → fileFor rs location ≡ NoSlot → (j : ℕ) → j < length rs → 0 < recordAt rs j .label .lsn → location < 2 * recordAt rs j .label .lsn
 unfolding fileFor
 file-none rs location h j m u =
     go (leadFrom rs 0 location (record { lsn = 0; slot = 0 })) (all rs location (length rs) 0 (record { lsn = 0; slot = 0 }) (omega arith) (start rs location))
-    (eqb (leadFrom rs 0 location (record { lsn = 0; slot = 0 }) .lsn) 0) refl h (leb (2 * recordAt rs j .lsn) location) refl
+    (eqb (leadFrom rs 0 location (record { lsn = 0; slot = 0 }) .lsn) 0) refl h (leb (2 * recordAt rs j .label .lsn) location) refl
   where
     go : (b : Lead) → Leads rs location (length rs) b → (t : Bool) → eqb (b .lsn) 0 ≡ t → pick t NoSlot (Is (b .slot)) ≡ NoSlot
-        → (s : Bool) → leb (2 * recordAt rs j .lsn) location ≡ s → location < 2 * recordAt rs j .lsn
+        → (s : Bool) → leb (2 * recordAt rs j .label .lsn) location ≡ s → location < 2 * recordAt rs j .label .lsn
     go b l false p e s q = absurd (let z : _≡_ {A = ℕ} 0 1 = cc in omega arith)
     go b l true p e false q = leb-false _ _ q
     go b l true p e true q =
@@ -200,7 +200,7 @@ file-is rs location k w = go (fileFor rs location) refl
             let b = w .most j (v .place) (v .low) in
             absurd (omega arith)
 
-lead-same : (rs qs : List Record) → length rs ≡ length qs → ((j : ℕ) → recordAt rs j .lsn ≡ recordAt qs j .lsn)
+lead-same : (rs qs : List Record) → length rs ≡ length qs → ((j : ℕ) → recordAt rs j .label .lsn ≡ recordAt qs j .label .lsn)
     → (i location : ℕ) (b : Lead) → leadFrom rs i location b ≡ leadFrom qs i location b
 unfolding leadFrom leads
 lead-same [] [] n e i location b = refl
@@ -211,7 +211,7 @@ lead-same (r ∷ rs) (q ∷ qs) n e i location b =
     ∙ lead-same rs qs (omega arith) (λ j. e (suc j)) (suc i) location (leads q i location b)
 
 -- the lookup goes by the own locations alone
-pub file-same : (rs qs : List Record) → length rs ≡ length qs → ((j : ℕ) → recordAt rs j .lsn ≡ recordAt qs j .lsn)
+pub file-same : (rs qs : List Record) → length rs ≡ length qs → ((j : ℕ) → recordAt rs j .label .lsn ≡ recordAt qs j .label .lsn)
     → (location : ℕ) → fileFor rs location ≡ fileFor qs location
 unfolding fileFor
 file-same rs qs n e location =

@@ -1,26 +1,29 @@
 -- Adding files: what write and maintenance share.
 use Rattle.rules.specs.Base.{_&&_, List, [], _∷_, map, ℕ, _+_, _*_, _^_, length, set, ltb, any, sum}
-use Rattle.rules.specs.Types.{Entry, Record, Slot, NoSlot, Held, Mapped, Unmapped, SlotRoom, NoEmptySlot, PositionsSpent}
+use Rattle.rules.specs.Types.{Entry, Label, Record, Slot, NoSlot, Held, Mapped, Unmapped, SlotRoom, NoEmptySlot, PositionsSpent}
 use Rattle.rules.specs.Refusal.{Test, _gives_}
 use Rattle.rules.specs.Trailer.{absolute}
 use Rattle.rules.specs.Ops.{Op, objectsOf, entriesOf, fileBytes}
 use Rattle.rules.specs.Label.{labelBytes}
 use Rattle.rules.specs.Table.{lookup, insertAll}
 use Rattle.rules.specs.Layout.{Buffers, laidOut, capacityOf}
-use Rattle.rules.specs.FileMap.{emptySlots, lowestEmpty, fileFor, lessLive}
+use Rattle.rules.specs.FileMap.{recorded, emptySlots, lowestEmpty, fileFor, lessLive}
 use Rattle.rules.specs.Stores.{Store, made, fileStores}
 use Rattle.rules.specs.World.{World, recordsOf, slotsOf, mappings, stateWith}
 
--- the record of a new file: "the new file has all its entries live", "present_objects is the entry count, deletes included"
-unfoldable pub newRecord : ℕ → ℕ → List Op → Record
-newRecord lsn generation ops = record {
+-- the label of a new file: "present_objects is the entry count, deletes included"
+unfoldable pub newLabel : ℕ → ℕ → List Op → Label
+newLabel lsn generation ops = record {
   lsn = lsn;
   «trailer_offset» = length (objectsOf ops);
   «file_size» = length (fileBytes ops);
   «present_objects» = length ops;
   generation = generation;
-  live = length ops;
 }
+
+-- its record: "the new file has all its entries live"
+unfoldable pub newRecord : ℕ → ℕ → List Op → Record
+newRecord lsn generation ops = recorded (newLabel lsn generation ops) (length ops)
 
 -- the file of a location held, if any
 abbrev pub fileHolding : List Record → Held → Slot
@@ -45,7 +48,7 @@ unfoldable pub recordsWith : Record → World → List Op → List Record
 recordsWith new w ops = set (losing (mappings w) ops (recordsOf w)) (newSlot w) new
 
 -- the stores that write it
-unfoldable pub storesFor : Record → World → List Op → List Store
+unfoldable pub storesFor : Label → World → List Op → List Store
 storesFor new w ops = fileStores (newSlot w * w .settings .«slot_bytes») (labelBytes new) (fileBytes ops)
 
 -- "Each id takes its new location"
@@ -59,13 +62,13 @@ nextWith w ops = w .state .«next_position» + (length (objectsOf ops) + 1)
 -- a file of these operations added
 unfoldable pub installed : ℕ → ℕ → World → List Op → World
 installed bit generation w ops =
-    let new = newRecord (newLsn bit w) generation ops in
+    let lsn = newLsn bit w in
     record {
       settings = w .settings;
-      state = stateWith (w .state) (recordsWith new w ops) (nextWith w ops);
+      state = stateWith (w .state) (recordsWith (newRecord lsn generation ops) w ops) (nextWith w ops);
       claims = w .claims;
-      heap = made (storesFor new w ops) (w .heap);
-      table = tableWith (newLsn bit w) w ops;
+      heap = made (storesFor (newLabel lsn generation ops) w ops) (w .heap);
+      table = tableWith lsn w ops;
     }
 
 -- file by file

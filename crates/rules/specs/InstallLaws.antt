@@ -8,7 +8,7 @@ use borrow.Author.Tests.{ltb-false, lt-ltb, eq-eqb, ne-eqb}
 use lib.ListN.{List·getD-eq-default}
 use lib.Seq.{getD-set-same, getD-set-other, set-out}
 use Rattle.rules.specs.Base.{List, [], _∷_, ℕ, _+_, _-_, _*_, _^_, length, set, ltb, sum, Bool, false, eqb}
-use Rattle.rules.specs.Types.{Entry, Record, Slot, Is, NoSlot}
+use Rattle.rules.specs.Types.{Entry, Label, Record, Slot, Is, NoSlot}
 use Rattle.rules.specs.BaseLaws.{All, all-map, any-false, same?}
 use Rattle.numbers.specs.GroupLaws.{either-way}
 use Rattle.disk_location.specs.Locations.{maskedOf, bitOf}
@@ -22,7 +22,7 @@ use Rattle.rules.specs.OpsLaws.{IdsFit, file-length}
 use Rattle.rules.specs.SlotFile.{holds, viewsIn}
 use Rattle.rules.specs.WrittenLaws.{Writable, fileOfOps, views-made}
 use Rattle.rules.specs.World.{World, recordsOf, slotsOf, mappings}
-use Rattle.rules.specs.Install.{newRecord, fileHolding, losing, newSlot, newLsn, recordsWith, storesFor, installed, roomTests, positionTests}
+use Rattle.rules.specs.Install.{newLabel, newRecord, fileHolding, losing, newSlot, newLsn, recordsWith, storesFor, installed, roomTests, positionTests}
 
 -- ---- 4, 5, 7 do not hold
 -- every file fits its slot, and there are slots for all
@@ -48,7 +48,7 @@ positions-clear base files n some =
 -- ---- so the file can be written
 pub new-writable : (slotSize base lsn generation : ℕ) (ops : List Op) → 0 < length ops → IdsFit ops → slotSize < 2 ^ 64 → 64 + length (fileBytes ops) ≤ slotSize
     → 0 < base → base + (length (objectsOf ops) + 1) ≤ 2 ^ 62 → maskedOf lsn ≡ base → lsn < 2 ^ 63 → generation ≤ 255 → Writable slotSize lsn generation ops
-unfolding newRecord
+unfolding newLabel
 new-writable slotSize base lsn generation ops some ids large fits start last masked low young = record {
   some = some;
   ids = ids;
@@ -77,10 +77,6 @@ unfolding losing
 losing-length table [] rs = refl
 losing-length table (o ∷ os) rs =
     losing-length table os (lessLive (fileHolding rs (lookup table (o .id))) rs) ∙ less-live-length (fileHolding rs (lookup table (o .id))) rs
-
--- a record but for its live count
-abbrev pub fiveOf : Record → Record
-fiveOf r = withLive r 0
 
 -- slot k is the one found
 abbrev pub isAt : ℕ → Slot → Bool
@@ -126,19 +122,19 @@ losing-record table (o ∷ os) rs j =
         let z = w .less in
         record { same = w .same ∙ ap (λ (s : Record). withLive s (q .live)) u; less = omega arith }
 
--- the other five numbers stay
-pub losing-five : (table : List Entry) (ops : List Op) (rs : List Record) (j : ℕ) → fiveOf (recordAt (losing table ops rs) j) ≡ fiveOf (recordAt rs j)
-losing-five table ops rs j = ap fiveOf (losing-record table ops rs j .same)
+-- the labels stay
+pub losing-label : (table : List Entry) (ops : List Op) (rs : List Record) (j : ℕ) → recordAt (losing table ops rs) j .label ≡ recordAt rs j .label
+losing-label table ops rs j = ap (λ (r : Record). r .label) (losing-record table ops rs j .same)
 
 -- so that every location's file is as before
 pub losing-file : (table : List Entry) (ops : List Op) (rs : List Record) (location : ℕ) → fileFor (losing table ops rs) location ≡ fileFor rs location
 losing-file table ops rs location =
-    file-same (losing table ops rs) rs (losing-length table ops rs) (λ j. ap (λ (r : Record). r .lsn) (losing-five table ops rs j)) location
+    file-same (losing table ops rs) rs (losing-length table ops rs) (λ j. ap (λ (l : Label). l .lsn) (losing-label table ops rs j)) location
 
 -- a slot with a file keeps one
-pub installed-lsn : (bit generation : ℕ) (w : World) (ops : List Op) → 0 < w .state .«next_position» → (k : ℕ) → 0 < recordAt (recordsOf w) k .lsn
-    → 0 < recordAt (recordsOf (installed bit generation w ops)) k .lsn
-unfolding installed recordsWith newRecord
+pub installed-lsn : (bit generation : ℕ) (w : World) (ops : List Op) → 0 < w .state .«next_position» → (k : ℕ) → 0 < recordAt (recordsOf w) k .label .lsn
+    → 0 < recordAt (recordsOf (installed bit generation w ops)) k .label .lsn
+unfolding installed recordsWith newRecord newLabel
 installed-lsn bit generation w ops next k some = go (same? k (newSlot w)) (either-way (newSlot w) (length rs))
   where
     rs : List Record
@@ -147,10 +143,10 @@ installed-lsn bit generation w ops next k some = go (same? k (newSlot w)) (eithe
     new : Record
     new = newRecord (newLsn bit w) generation ops
 
-    same : recordAt rs k .lsn ≡ recordAt (recordsOf w) k .lsn
-    same = ap (λ (r : Record). r .lsn) (losing-five (mappings w) ops (recordsOf w) k)
+    same : recordAt rs k .label .lsn ≡ recordAt (recordsOf w) k .label .lsn
+    same = ap (λ (l : Label). l .lsn) (losing-label (mappings w) ops (recordsOf w) k)
 
-    go : (k ≡ newSlot w) ⊎ (k ≡ newSlot w → ⊥) → (newSlot w < length rs) ⊎ (length rs ≤ newSlot w) → 0 < recordAt (set rs (newSlot w) new) k .lsn
+    go : (k ≡ newSlot w) ⊎ (k ≡ newSlot w → ⊥) → (newSlot w < length rs) ⊎ (length rs ≤ newSlot w) → 0 < recordAt (set rs (newSlot w) new) k .label .lsn
     go (inr d) h = rw (getD-set-other rs (newSlot w) k new emptyRecord d) (omega (arith, same))
     go (inl e) (inl h) = rw (e, getD-set-same rs (newSlot w) new emptyRecord h) (omega arith)
     go (inl e) (inr h) = rw (set-out rs (newSlot w) new h) (omega (arith, same))

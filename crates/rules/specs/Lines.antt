@@ -19,11 +19,11 @@ use Rattle.rules.specs.Table.{lookup, insert, insertAll}
 use Rattle.rules.specs.Layout.{lengthsInRange, formFrom, inForm, usedIn, usedEntries, laidOut}
 use Rattle.rules.specs.World.{World, recordsOf, noState, Given}
 use Rattle.rules.specs.Positions.{relativeGiven, absoluteGiven}
-use Rattle.rules.specs.FileMap.{isEmpty, recordAt, noFiles, slotsWhere, emptySlots, lowestEmpty, leads, leadFrom, fileFor, fileCount}
+use Rattle.rules.specs.FileMap.{recorded, isEmpty, recordAt, noFiles, slotsWhere, emptySlots, lowestEmpty, leads, leadFrom, fileFor, fileCount}
 use Rattle.rules.specs.Condition1.{outOfRange, notTheStates, badRecord, badFrom, conditionOne}
 use Rattle.rules.specs.Batch.{putOperation, operationAt, batchFrom, batchIn, anyTooLarge}
 use Rattle.rules.specs.Stores.{made, storesOf, fileStores}
-use Rattle.rules.specs.Install.{newRecord, losing, recordsWith, storesFor, tableWith, nextWith, installed, installedAll, roomTests, positionTests}
+use Rattle.rules.specs.Install.{newLabel, newRecord, losing, recordsWith, storesFor, tableWith, nextWith, installed, installedAll, roomTests, positionTests}
 use Rattle.rules.specs.Write.{tooManyIds, writeTests, written, writeCall}
 use Rattle.rules.specs.Maintenance.{livePercent, worthIt, newGeneration, cutOff, joining, splitFrom, filesOf}
 use Rattle.rules.specs.Claims.{noClaims}
@@ -55,7 +55,7 @@ mapping id location = record { id = id; location = location }
 
 -- a file with so many live of so many
 abbrev pub lived : ℕ → ℕ → Record
-lived live present = record { lsn = 1; «trailer_offset» = 0; «file_size» = 0; «present_objects» = present; generation = 0; live = live }
+lived live present = recorded (record { lsn = 1; «trailer_offset» = 0; «file_size» = 0; «present_objects» = present; generation = 0 }) live
 
 -- a put of so many bytes
 abbrev pub object : ℕ → ℕ → Op
@@ -86,7 +86,7 @@ wrote = writeCall fresh batch10 .world
 
 -- the entries that stand in slot 0 of its heap
 abbrev pub entries10 : World → List Entry
-entries10 w = trailerEntries (recordAt (recordsOf w) 0) (slotBytes (w .settings .«slot_bytes») (w .heap) 0)
+entries10 w = trailerEntries (recordAt (recordsOf w) 0 .label) (slotBytes (w .settings .«slot_bytes») (w .heap) 0)
 
 -- the table
 unfoldable pub lines : List Line
@@ -120,7 +120,7 @@ lines =
     }
     -- P10 "T 21, entries (7, 0) and (9, 43), file_size 65, next position 23; after reopening 67"
     ∷ record {
-      ours = recordAt (recordsOf wrote) 0 .«trailer_offset» ∷ (pairs (entries10 wrote) ++ (recordAt (recordsOf wrote) 0 .«file_size» ∷ wrote .state .«next_position» ∷ reopenCall wrote .world .state .«next_position» ∷ []));
+      ours = recordAt (recordsOf wrote) 0 .label .«trailer_offset» ∷ (pairs (entries10 wrote) ++ (recordAt (recordsOf wrote) 0 .label .«file_size» ∷ wrote .state .«next_position» ∷ reopenCall wrote .world .state .«next_position» ∷ []));
       paper = 21 ∷ 7 ∷ 0 ∷ 9 ∷ 43 ∷ 65 ∷ 23 ∷ 67 ∷ [];
     }
     -- "The listing program prints for P10 exactly"
@@ -139,5 +139,5 @@ agree (m ∷ ms) (n ∷ ns) = eqb m n && agree ms ns
 
 -- no line differs
 pub lines-hold : any (λ (l : Line). not (agree (l .ours) (l .paper))) lines ≡ false
-unfolding lines relativeGiven absoluteGiven any zeros keep each sum greatest padded putOperation operationAt batchFrom batchIn anyTooLarge outOfRange notTheStates badRecord badFrom conditionOne isEmpty noFiles slotsWhere emptySlots lowestEmpty leads leadFrom fileFor fileCount newRecord losing recordsWith storesFor tableWith nextWith installed installedAll roomTests positionTests labelBytes fiveIn labelIn outOfBounds lengthsInRange formFrom inForm usedIn usedEntries laidOut decimal listing worthIt cutOff joining splitFrom filesOf objectBytes storedAt objectsOf entriesOf fileBytes joined settled decide filesIn overlapping notRising latest latestFrom tableOf reopenTests mappedInto recordsFrom nextAfter opened reopenCall inRanges heapInRange sameSettings slotBytes slotTests viewIn viewsIn made storesOf fileStores lookup insert insertAll listed trailerBytes trailerTests entriesFrom entriesIn tooManyIds writeTests written writeCall leBytes leValue groupsOf readGroups numberIn shiftBit shifts crcFrom crc32 objectSum maskedOf digitsIn
+unfolding lines relativeGiven absoluteGiven any zeros keep each sum greatest padded putOperation operationAt batchFrom batchIn anyTooLarge outOfRange notTheStates badRecord badFrom conditionOne isEmpty noFiles slotsWhere emptySlots lowestEmpty leads leadFrom fileFor fileCount newLabel newRecord losing recordsWith storesFor tableWith nextWith installed installedAll roomTests positionTests labelBytes fiveIn labelIn outOfBounds lengthsInRange formFrom inForm usedIn usedEntries laidOut decimal listing worthIt cutOff joining splitFrom filesOf objectBytes storedAt objectsOf entriesOf fileBytes joined settled decide filesIn overlapping notRising latest latestFrom tableOf reopenTests mappedInto recordsFrom nextAfter opened reopenCall inRanges heapInRange sameSettings slotBytes slotTests viewIn viewsIn made storesOf fileStores lookup insert insertAll listed trailerBytes trailerTests entriesFrom entriesIn tooManyIds writeTests written writeCall leBytes leValue groupsOf readGroups numberIn shiftBit shifts crcFrom crc32 objectSum maskedOf digitsIn
 lines-hold = refl

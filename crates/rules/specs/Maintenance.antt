@@ -1,6 +1,6 @@
 -- "Maintenance"
 use Rattle.rules.specs.Base.{Bool, true, false, not, _&&_, _||_, List, [], _∷_, _++_, map, ℕ, suc, _+_, _*_, _/_, _^_, length, getD, set, replicate, leb, ltb, eqb, pick, keep, each, larger}
-use Rattle.rules.specs.Types.{Entry, Record, Settings, Claims, Refusal, Limits, ObjectSize, Checksum, CutShort, NotThere, Location, Moved, Stopped}
+use Rattle.rules.specs.Types.{Entry, Label, Record, Settings, Claims, Refusal, Limits, ObjectSize, Checksum, CutShort, NotThere, Location, Moved, Stopped}
 use Rattle.disk_location.specs.Locations.{positionOf, deleteOf, rawOf}
 use Rattle.rules.specs.Refusal.{Test, _gives_, decide, after}
 use Rattle.rules.specs.Object.{Stored, objectsIn, badChecksum}
@@ -18,14 +18,14 @@ use Rattle.rules.specs.World.{World, recordsOf, mappings, maintainGiven,
 -- ---- which files
 -- "live × 100 / max(present, 1), rounded down"
 abbrev pub livePercent : Record → ℕ
-livePercent r = r .live * 100 / larger (r .«present_objects») 1
+livePercent r = r .live * 100 / larger (r .label .«present_objects») 1
 
 -- "live × 100 / max(present, 1), rounded down, strictly below the percentage, or both file count ≥ threshold and
 -- file_size × min_compaction_files < target_file_size"
 unfoldable pub worthIt : Settings → ℕ → Record → Bool
 worthIt s files r =
     ltb (livePercent r) (s .«file_compaction_percent»)
-    || (leb (s .«small_file_cleanup_threshold») files && ltb (r .«file_size» * s .«min_compaction_files») (s .«target_file_size»))
+    || (leb (s .«small_file_cleanup_threshold») files && ltb (r .label .«file_size» * s .«min_compaction_files») (s .«target_file_size»))
 
 -- "new generation min(g + 1, 3)"
 abbrev pub newGeneration : ℕ → ℕ
@@ -39,9 +39,9 @@ isCandidate s claims files slot r = not (isEmpty r) && not (isClaimed claims slo
 unfoldable pub group : World → ℕ → List ℕ
 group w generation =
     let files = fileCount (recordsOf w) in
-    slotsWhere (λ (i : ℕ) (r : Record). isCandidate (w .settings) (w .claims) files i r && eqb (newGeneration (r .generation)) generation) 0 (recordsOf w)
+    slotsWhere (λ (i : ℕ) (r : Record). isCandidate (w .settings) (w .claims) files i r && eqb (newGeneration (r .label .generation)) generation) 0 (recordsOf w)
 
--- ---- one file of a group: the table, its record and its slot's bytes
+-- ---- one file of a group: the table, its label and its slot's bytes
 -- "each object: header past T (16), length ≥ max_object_size (3), id unmapped (18), body past T (16), checksum (10)"
 unfoldable pub movedTests : ℕ → List Entry → Stored → List Test
 movedTests limit table o =
@@ -59,31 +59,31 @@ deleteTests lsn table e =
     ∷ unmapped (lookup table (e .id)) gives NotThere
     ∷ []
 
--- its objects, by the record's T
-abbrev pub storedObjects : Record → List ℕ → List Stored
-storedObjects r slot = objectsIn (objectPart r slot)
+-- its objects, by the label's T
+abbrev pub storedObjects : Label → List ℕ → List Stored
+storedObjects l slot = objectsIn (objectPart l slot)
 
 -- its delete entries, in entry order
-unfoldable pub deletesOf : Record → List ℕ → List Entry
-deletesOf r slot = keep (λ (e : Entry). deleteOf (e .location)) (trailerEntries r slot)
+unfoldable pub deletesOf : Label → List ℕ → List Entry
+deletesOf l slot = keep (λ (e : Entry). deleteOf (e .location)) (trailerEntries l slot)
 
 -- "trailer (9, 10, 11), then each object .. then delete entries"
-unfoldable pub fileTests : ℕ → List Entry → Record → List ℕ → List Test
-fileTests limit table r slot =
-    trailerTests (trailerPart r slot)
-    ++ (each (movedTests limit table) (storedObjects r slot) ++ each (deleteTests (r .lsn) table) (deletesOf r slot))
+unfoldable pub fileTests : ℕ → List Entry → Label → List ℕ → List Test
+fileTests limit table l slot =
+    trailerTests (trailerPart l slot)
+    ++ (each (movedTests limit table) (storedObjects l slot) ++ each (deleteTests (l .lsn) table) (deletesOf l slot))
 
 -- "Objects .. at their id's current location"
-unfoldable pub objectsFound : List Entry → Record → List ℕ → List Op
-objectsFound table r slot =
+unfoldable pub objectsFound : List Entry → Label → List ℕ → List Op
+objectsFound table l slot =
     map (λ (o : Stored). record { id = o .id; content = put (o .body) })
-    (keep (λ (o : Stored). mappedTo (lookup table (o .id)) (rawOf (r .lsn + o .position) false)) (storedObjects r slot))
+    (keep (λ (o : Stored). mappedTo (lookup table (o .id)) (rawOf (l .lsn + o .position) false)) (storedObjects l slot))
 
 -- ".. and deletes at their id's current location"
-unfoldable pub deletesFound : List Entry → Record → List ℕ → List Op
-deletesFound table r slot =
+unfoldable pub deletesFound : List Entry → Label → List ℕ → List Op
+deletesFound table l slot =
     map (λ (e : Entry). record { id = e .id; content = delete })
-    (keep (λ (e : Entry). mappedTo (lookup table (e .id)) (absolute (r .lsn) e .location)) (deletesOf r slot))
+    (keep (λ (e : Entry). mappedTo (lookup table (e .id)) (absolute (l .lsn) e .location)) (deletesOf l slot))
 
 -- ---- a group
 -- the bytes of slot k
@@ -92,7 +92,7 @@ slotOf w k = slotBytes (w .settings .«slot_bytes») (w .heap) k
 
 -- objects, then deletes, of the file in slot k
 abbrev pub foundIn : World → ℕ → List Op
-foundIn w k = objectsFound (mappings w) (recordAt (recordsOf w) k) (slotOf w k) ++ deletesFound (mappings w) (recordAt (recordsOf w) k) (slotOf w k)
+foundIn w k = objectsFound (mappings w) (recordAt (recordsOf w) k .label) (slotOf w k) ++ deletesFound (mappings w) (recordAt (recordsOf w) k .label) (slotOf w k)
 
 -- ".. are rewritten, ascending by id (one found twice only once, as last found)"
 unfoldable pub found : World → List ℕ → List Op
@@ -161,7 +161,7 @@ pub record Course : Type 0 where
 -- "All files of a group are checked before it writes, ascending by slot"; "4, 5, 7 are decided first, for the whole group"
 unfoldable pub groupTests : World → List ℕ → List (List Op) → List Test
 groupTests w slots files =
-    each (λ (k : ℕ). fileTests (w .settings .«max_object_size») (mappings w) (recordAt (recordsOf w) k) (slotOf w k)) slots
+    each (λ (k : ℕ). fileTests (w .settings .«max_object_size») (mappings w) (recordAt (recordsOf w) k .label) (slotOf w k)) slots
     ++ (roomTests (w .settings .«slot_bytes») (emptyOf w) files ++ positionTests (w .state .«next_position») files)
 
 -- a group rewritten, or refused and nothing changed; "lsn = base without the batch bit";

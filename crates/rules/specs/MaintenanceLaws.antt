@@ -20,28 +20,28 @@ use Rattle.rules.specs.Maintenance.{worthIt, isCandidate, fileTests, slo
 -- "file count ≥ threshold and file_size × min_compaction_files < target_file_size"
 pub record Small (s : Settings) (files : ℕ) (r : Record) : Type 0 where
   pub count : s .«small_file_cleanup_threshold» ≤ files
-  pub size : r .«file_size» * s .«min_compaction_files» < s .«target_file_size»
+  pub size : r .label .«file_size» * s .«min_compaction_files» < s .«target_file_size»
 
 -- "either live × 100 / max(present, 1), rounded down, strictly below the percentage, or both .."
 abbrev pub WorthIt : Settings → ℕ → Record → Type 0
-WorthIt s files r = (r .live * 100 / larger (r .«present_objects») 1 < s .«file_compaction_percent») ⊎ Small s files r
+WorthIt s files r = (r .live * 100 / larger (r .label .«present_objects») 1 < s .«file_compaction_percent») ⊎ Small s files r
 
 -- worth it: one of the two
 pub worth-it : (s : Settings) (files : ℕ) (r : Record) → worthIt s files r ≡ true → WorthIt s files r
 unfolding worthIt
 worth-it s files r e = go (or-true _ _ e)
   where
-    go : (ltb (r .live * 100 / larger (r .«present_objects») 1) (s .«file_compaction_percent») ≡ true)
-        ⊎ ((leb (s .«small_file_cleanup_threshold») files && ltb (r .«file_size» * s .«min_compaction_files») (s .«target_file_size»)) ≡ true) → WorthIt s files r
+    go : (ltb (r .live * 100 / larger (r .label .«present_objects») 1) (s .«file_compaction_percent») ≡ true)
+        ⊎ ((leb (s .«small_file_cleanup_threshold») files && ltb (r .label .«file_size» * s .«min_compaction_files») (s .«target_file_size»)) ≡ true) → WorthIt s files r
     go (inl h) = inl (ltb-true _ _ h)
     go (inr h) = let w = and-true _ _ h in inr (record { count = leb-true _ _ (w .0); size = ltb-true _ _ (w .1) })
 
 -- and back
 pub is-worth-it : (s : Settings) (files : ℕ) (r : Record) → WorthIt s files r → worthIt s files r ≡ true
 unfolding worthIt
-is-worth-it s files r (inl h) = rw (lt-ltb (r .live * 100 / larger (r .«present_objects») 1) (s .«file_compaction_percent») h)
+is-worth-it s files r (inl h) = rw (lt-ltb (r .live * 100 / larger (r .label .«present_objects») 1) (s .«file_compaction_percent») h)
 is-worth-it s files r (inr w) =
-    or-holds (ltb (r .live * 100 / larger (r .«present_objects») 1) (s .«file_compaction_percent»)) _
+    or-holds (ltb (r .live * 100 / larger (r .label .«present_objects») 1) (s .«file_compaction_percent»)) _
     (inr (and-holds (leb (s .«small_file_cleanup_threshold») files) _ (le-leb _ _ (w .count)) (lt-ltb _ _ (w .size))))
 
 -- "unclaimed files with live not 0, and .."
@@ -96,7 +96,7 @@ DecidedBy w files (Refused r) = Lacks w files r
 
 -- no file of the group is refused
 abbrev pub SourcesPass : World → List ℕ → Type 0
-SourcesPass w slots = NoneHolds (each (λ (k : ℕ). fileTests (w .settings .«max_object_size») (mappings w) (recordAt (recordsOf w) k) (slotOf w k)) slots)
+SourcesPass w slots = NoneHolds (each (λ (k : ℕ). fileTests (w .settings .«max_object_size») (mappings w) (recordAt (recordsOf w) k .label) (slotOf w k)) slots)
 
 -- the three tests of these files
 abbrev limitTests : World → List (List Op) → List Test
@@ -166,7 +166,7 @@ decided-one w files a b d e = sym (decided-limits w files a d) ∙ decided-limit
 -- LAW: where no file of a group is refused, the sizes of the new files, the empty slots and the base decide it, and nothing else
 pub group-decided : (w : World) (slots : List ℕ) (files : List (List Op)) → SourcesPass w slots → DecidedBy w files (decide (groupTests w slots files))
 unfolding groupTests
-group-decided w slots files pass = rw (decide-append (each (λ (k : ℕ). fileTests (w .settings .«max_object_size») (mappings w) (recordAt (recordsOf w) k) (slotOf w k)) slots) (limitTests w files) pass) (limits-decided w files)
+group-decided w slots files pass = rw (decide-append (each (λ (k : ℕ). fileTests (w .settings .«max_object_size») (mappings w) (recordAt (recordsOf w) k .label) (slotOf w k)) slots) (limitTests w files) pass) (limits-decided w files)
 
 -- LAW: "a group rewritten": its files are added and its operations counted
 pub group-added : (generation : ℕ) (slots : List ℕ) (moved : ℕ) (w : World)

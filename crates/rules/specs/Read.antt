@@ -21,7 +21,7 @@ objectTests id o =
 
 -- the object at a position of the file in slot k
 abbrev pub objectIn : World → ℕ → ℕ → Stored
-objectIn w k position = storedAt position (drop position (fileIn (recordAt (recordsOf w) k) (slotBytes (w .settings .«slot_bytes») (w .heap) k)))
+objectIn w k position = storedAt position (drop position (fileIn (recordAt (recordsOf w) k .label) (slotBytes (w .settings .«slot_bytes») (w .heap) k)))
 
 -- "the found bytes are a part of the lent heap itself": their start in the heap and their length
 abbrev pub readObject : World → ℕ → ℕ → Stored → ReadAnswer
@@ -30,7 +30,7 @@ readObject w id k o = after (decide (objectTests id o)) ReadRefused (Found (k * 
 -- 18 where no file is at or below the location
 abbrev pub readFile : World → ℕ → ℕ → Slot → ReadAnswer
 readFile w id l NoSlot = ReadRefused NotThere
-readFile w id l (Is k) = readObject w id k (objectIn w k (positionOf l - recordAt (recordsOf w) k .lsn))
+readFile w id l (Is k) = readObject w id k (objectIn w k (positionOf l - recordAt (recordsOf w) k .label .lsn))
 
 -- "Unmapped or deleted: nothing."
 abbrev pub readHeld : World → ℕ → Held → ReadAnswer

@@ -1,12 +1,12 @@
 -- "Reopen": on the views of the slots.
 use Rattle.rules.specs.Base.{Bool, true, false, _&&_, _||_, List, [], _∷_, _++_, map, ℕ, _+_, _-_, length, replicate, leb, ltb, eqb, pick, any, keep, each, greatest, within}
-use Rattle.rules.specs.Types.{Entry, Record, State, Refusal, Limits, TableRoom, Overlap, NotRising}
+use Rattle.rules.specs.Types.{Entry, Label, Record, State, Refusal, Limits, TableRoom, Overlap, NotRising}
 use Rattle.disk_location.specs.Locations.{maskedOf, positionOf}
 use Rattle.rules.specs.Refusal.{Test, _gives_, decide, after}
 use Rattle.rules.specs.Trailer.{absolute}
 use Rattle.rules.specs.SlotFile.{File, View, empty, damaged, holds, viewsIn}
 use Rattle.rules.specs.Layout.{capacityOf, laidOut, cleared}
-use Rattle.rules.specs.FileMap.{emptyRecord, withLive, noFiles}
+use Rattle.rules.specs.FileMap.{recorded, emptyRecord, noFiles}
 use Rattle.rules.specs.Claims.{noClaims}
 use Rattle.rules.specs.Condition1.{outOfRange}
 use Rattle.rules.specs.World.{World, slotsOf, accepted, refused, After, unchanged}
@@ -28,12 +28,12 @@ unfoldable pub filesIn : List View → List File
 filesIn views = each fileOf views
 
 -- "masked ranges lsn..lsn+T, both ends counted"
-abbrev pub inRange : Record → ℕ → Bool
-inRange r position = within (maskedOf (r .lsn)) (maskedOf (r .lsn) + r .«trailer_offset») position
+abbrev pub inRange : Label → ℕ → Bool
+inRange l position = within (maskedOf (l .lsn)) (maskedOf (l .lsn) + l .«trailer_offset») position
 
 -- two ranges that share a position
-abbrev pub meets : Record → Record → Bool
-meets r s = leb (maskedOf (r .lsn)) (maskedOf (s .lsn) + s .«trailer_offset») && leb (maskedOf (s .lsn)) (maskedOf (r .lsn) + r .«trailer_offset»)
+abbrev pub meets : Label → Label → Bool
+meets l m = leb (maskedOf (l .lsn)) (maskedOf (m .lsn) + m .«trailer_offset») && leb (maskedOf (m .lsn)) (maskedOf (l .lsn) + l .«trailer_offset»)
 
 -- "Files' masked ranges .. must be disjoint": some two are not
 unfoldable pub overlapping : List File → Bool
@@ -79,12 +79,12 @@ reopenTests w views =
     ∷ [])
 
 -- "a file's live count is the ids mapped into it, deletes included"
-unfoldable pub mappedInto : List Entry → Record → ℕ
-mappedInto table r = length (keep (λ (e : Entry). inRange r (maskedPosition e)) table)
+unfoldable pub mappedInto : List Entry → Label → ℕ
+mappedInto table l = length (keep (λ (e : Entry). inRange l (maskedPosition e)) table)
 
 -- a slot's record: "the label's five numbers and the live count"
 abbrev pub recordOf : List Entry → View → Record
-recordOf table (holds f) = withLive (f .label) (mappedInto table (f .label))
+recordOf table (holds f) = recorded (f .label) (mappedInto table (f .label))
 recordOf table empty = emptyRecord
 recordOf table (damaged r) = emptyRecord
 

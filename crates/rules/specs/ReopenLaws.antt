@@ -6,7 +6,7 @@ use native.Mathlib.Omega.{arith}
 use borrow.Author.Tests.{leb-false, lt-ltb, le-ltb, lt-leb, eq-eqb, ne-eqb}
 use lib.ListN.{length-append, length-map, length-replicate}
 use Rattle.rules.specs.Base.{Bool, true, false, _&&_, List, [], _∷_, map, ℕ, suc, _+_, _-_, length, replicate, leb, ltb, eqb, any, pick}
-use Rattle.rules.specs.Types.{Entry, Record}
+use Rattle.rules.specs.Types.{Entry, Label}
 use Rattle.disk_location.specs.Locations.{maskedOf, positionOf}
 use Rattle.rules.specs.BaseLaws.{All, all-map, any-false, any-clear, or-false, or-clear, and-false, order}
 use Rattle.rules.specs.TableLaws.{Rising, rise, rise-end}
@@ -59,7 +59,7 @@ latest-of-rising es = from-rising [] es rise-end
 
 -- ---- 14 and 15 do not hold
 -- masked ranges that share no position
-abbrev pub Disjoint : Record → Record → Type 0
+abbrev pub Disjoint : Label → Label → Type 0
 Disjoint r s = (maskedOf (s .lsn) + s .«trailer_offset» < maskedOf (r .lsn)) ⊎ (maskedOf (r .lsn) + r .«trailer_offset» < maskedOf (s .lsn))
 
 -- every two files are so
@@ -67,14 +67,14 @@ abbrev pub Apart : List File → Type 0
 Apart [] = Unit {0}
 Apart (f ∷ fs) = All (λ (g : File). Disjoint (f .label) (g .label)) fs × Apart fs
 
-disjoint : (r s : Record) → meets r s ≡ false → Disjoint r s
+disjoint : (r s : Label) → meets r s ≡ false → Disjoint r s
 disjoint r s e = go (and-false _ _ e)
   where
     go : (leb (maskedOf (r .lsn)) (maskedOf (s .lsn) + s .«trailer_offset») ≡ false) ⊎ (leb (maskedOf (s .lsn)) (maskedOf (r .lsn) + r .«trailer_offset») ≡ false) → Disjoint r s
     go (inl h) = inl (leb-false _ _ h)
     go (inr h) = inr (leb-false _ _ h)
 
-meets-not : (r s : Record) → Disjoint r s → meets r s ≡ false
+meets-not : (r s : Label) → Disjoint r s → meets r s ≡ false
 meets-not r s (inl h) = rw (lt-leb (maskedOf (r .lsn)) (maskedOf (s .lsn) + s .«trailer_offset») h)
 meets-not r s (inr h) = rw (lt-leb (maskedOf (s .lsn)) (maskedOf (r .lsn) + r .«trailer_offset») h) (go (leb (maskedOf (r .lsn)) (maskedOf (s .lsn) + s .«trailer_offset»)))
   where

@@ -5,7 +5,7 @@ use Prim.Native.Nat.{_≤_}
 use native.Mathlib.Omega.{arith}
 use borrow.Author.Tests.{ltb-false, eqb-true, not-false}
 use Rattle.rules.specs.Base.{false, not, List, [], _∷_, ℕ, length, take, ltb, eqb, any}
-use Rattle.rules.specs.Types.{Entry, Record, Label, Vacant, Five, Wrong, Answer, Done, Refused, EntryPosition, PresentCount}
+use Rattle.rules.specs.Types.{Entry, Label, LabelAnswer, Vacant, Five, Wrong, Answer, Done, Refused, EntryPosition, PresentCount}
 use Rattle.disk_location.specs.Locations.{positionOf}
 use Rattle.rules.specs.Refusal.{_gives_, decide, after, NoneHolds, clear-when, none-first, none-rest}
 use Rattle.rules.specs.BaseLaws.{All, any-false}
@@ -34,7 +34,7 @@ inside-all offset es e = go es (any-false (λ (d : Entry). ltb offset (positionO
     go (d ∷ ds) a x l (inl (p, q)) = let w = ltb-false offset (positionOf (d .location)) (a .0) in let s : positionOf (d .location) ≡ positionOf l = ap positionOf q in omega arith
     go (d ∷ ds) a x l (inr h) = go ds (a .1) x l h
 
-seen-by : (slot : List ℕ) (r : Record) → labelIn (take 64 slot) ≡ Five r → decide (slotTests r slot) ≡ Done
+seen-by : (slot : List ℕ) (r : Label) → labelIn (take 64 slot) ≡ Five r → decide (slotTests r slot) ≡ Done
     → Seen slot (record { label = r; entries = trailerEntries r slot; objects = objectPart r slot })
 unfolding slotTests NoneHolds
 seen-by slot r is clear =
@@ -62,14 +62,14 @@ seen slot f e = go (labelIn (take 64 slot)) refl e
     empty-not : empty ≡ holds f → ⊥
     empty-not p = let z : _≡_ {A = ℕ} 0 1 = cc in omega arith
 
-    by : (r : Record) → labelIn (take 64 slot) ≡ Five r → (a : Answer) → decide (slotTests r slot) ≡ a
+    by : (r : Label) → labelIn (take 64 slot) ≡ Five r → (a : Answer) → decide (slotTests r slot) ≡ a
         → after a damaged (holds (record { label = r; entries = trailerEntries r slot; objects = objectPart r slot })) ≡ holds f → Seen slot f
     by r is (Refused q) d p = absurd (let z : _≡_ {A = ℕ} 0 1 = cc in omega arith)
     by r is Done d p =
         let same : record { label = r; entries = trailerEntries r slot; objects = objectPart r slot } ≡ f = cc in
         rw same at (seen-by slot r is d)
 
-    go : (l : Label) → labelIn (take 64 slot) ≡ l → viewBy l slot ≡ holds f → Seen slot f
+    go : (l : LabelAnswer) → labelIn (take 64 slot) ≡ l → viewBy l slot ≡ holds f → Seen slot f
     go Vacant is p = absurd (empty-not p)
     go Wrong is p = absurd (let z : _≡_ {A = ℕ} 0 1 = cc in omega arith)
     go (Five r) is p = by r is (decide (slotTests r slot)) refl p

@@ -1,5 +1,6 @@
 -- The declared types, in one place.
 pub use Rattle.rules.specs.declared.Settings.{Settings}
+pub use Rattle.rules.specs.declared.Label.{Label}
 pub use Rattle.rules.specs.declared.Record.{Record}
 pub use Rattle.rules.specs.declared.Entry.{Entry}
 pub use Rattle.rules.specs.declared.FileMap.{FileMap}
@@ -24,5 +25,5 @@ pub use Rattle.rules.specs.declared.Held.{Held}
 pub use Rattle.rules.specs.declared.Held.the-variants.{Mapped, Unmapped}
 pub use Rattle.rules.specs.declared.Slot.{Slot}
 pub use Rattle.rules.specs.declared.Slot.the-variants.{Is, NoSlot}
-pub use Rattle.rules.specs.declared.Label.{Label}
-pub use Rattle.rules.specs.declared.Label.the-variants.{Vacant, Five, Wrong}
+pub use Rattle.rules.specs.declared.LabelAnswer.{LabelAnswer}
+pub use Rattle.rules.specs.declared.LabelAnswer.the-variants.{Vacant, Five, Wrong}

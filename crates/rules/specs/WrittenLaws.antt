@@ -22,13 +22,12 @@ use Rattle.rules.specs.Ops.{put, Op, objectsOf, entriesOf, fileBytes}
 use Rattle.rules.specs.OpsLaws.{IdsFit, file-length, entries-of-length, entries-of-fits, entries-of-inside, Stands, stands-bytes, stands-inside}
 use Rattle.rules.specs.Label.{labelBytes, outOfBounds}
 use Rattle.rules.specs.LabelLaws.{InBounds, bounds-in, lsn-some, LabelFits, label-length, label-back}
-use Rattle.rules.specs.FileMap.{withLive}
 use Rattle.rules.specs.SlotFile.{slotBytes, File, empty, holds, slotTests, viewIn, viewsIn}
 use Rattle.rules.specs.SlotLaws.{slot-length, slots-apart, views-written, view-emptied}
 use Rattle.rules.specs.PartLaws.{put-one}
 use Rattle.rules.specs.Stores.{made, fileStores}
 use Rattle.rules.specs.StoreLaws.{file-made}
-use Rattle.rules.specs.Install.{newRecord}
+use Rattle.rules.specs.Install.{newLabel}
 use Rattle.rules.specs.Read.{objectTests}
 
 -- operations that make a file in a slot of S bytes
@@ -36,15 +35,15 @@ pub record Writable (S lsn generation : ℕ) (ops : List Op) : Type 0 where
   pub some : 0 < length ops
   pub ids : IdsFit ops
   pub slot : S < 2 ^ 64
-  pub bounds : InBounds S (newRecord lsn generation ops)
+  pub bounds : InBounds S (newLabel lsn generation ops)
 
 -- label and file, as they are written into a slot
 abbrev pub slotFile : ℕ → ℕ → List Op → List ℕ
-slotFile lsn generation ops = labelBytes (newRecord lsn generation ops) ++ fileBytes ops
+slotFile lsn generation ops = labelBytes (newLabel lsn generation ops) ++ fileBytes ops
 
 -- the file that is seen there
 abbrev pub fileOfOps : ℕ → ℕ → List Op → File
-fileOfOps lsn generation ops = record { label = withLive (newRecord lsn generation ops) 0; entries = entriesOf 0 ops; objects = objectsOf ops }
+fileOfOps lsn generation ops = record { label = newLabel lsn generation ops; entries = entriesOf 0 ops; objects = objectsOf ops }
 
 -- 12 does not hold where no entry is over T
 none-over : (offset : ℕ) (es : List Entry) → ((x l : ℕ) → Has es x l → positionOf l ≤ 0 + offset) → any (λ (e : Entry). ltb offset (positionOf (e .location))) es ≡ false
@@ -57,14 +56,14 @@ none-over offset (e ∷ es) low =
 module _ (S lsn generation : ℕ) (ops : List Op) (w : Writable S lsn generation ops) where
   -- it fits: "64 + file_size" is not over S
   pub written-fits : length (slotFile lsn generation ops) ≤ S
-  unfolding newRecord
+  unfolding newLabel
   written-fits =
       let size = w .bounds .size in
       let many = w .some in
-      omega (arith, length-append (labelBytes (newRecord lsn generation ops)) (fileBytes ops), label-length (newRecord lsn generation ops), file-length ops)
+      omega (arith, length-append (labelBytes (newLabel lsn generation ops)) (fileBytes ops), label-length (newLabel lsn generation ops), file-length ops)
 
-  label-fits : LabelFits (newRecord lsn generation ops)
-  unfolding newRecord
+  label-fits : LabelFits (newLabel lsn generation ops)
+  unfolding newLabel
   label-fits =
       let size = w .bounds .size in
       let offset = w .bounds .offset in
@@ -78,17 +77,17 @@ module _ (S lsn generation : ℕ) (ops : List Op) (w : Writable S lsn generation
     behind : List ℕ
     behind = drop (length (slotFile lsn generation ops)) slot
 
-    whole : front (slotFile lsn generation ops) slot ≡ labelBytes (newRecord lsn generation ops) ++ (fileBytes ops ++ behind)
+    whole : front (slotFile lsn generation ops) slot ≡ labelBytes (newLabel lsn generation ops) ++ (fileBytes ops ++ behind)
     unfolding front behind
-    whole = append-assoc (labelBytes (newRecord lsn generation ops)) (fileBytes ops) _
+    whole = append-assoc (labelBytes (newLabel lsn generation ops)) (fileBytes ops) _
 
-    label-part : take 64 (front (slotFile lsn generation ops) slot) ≡ labelBytes (newRecord lsn generation ops)
-    label-part = ap (take 64) whole ∙ take-at (labelBytes (newRecord lsn generation ops)) (fileBytes ops ++ behind) 64 (label-length (newRecord lsn generation ops))
+    label-part : take 64 (front (slotFile lsn generation ops) slot) ≡ labelBytes (newLabel lsn generation ops)
+    label-part = ap (take 64) whole ∙ take-at (labelBytes (newLabel lsn generation ops)) (fileBytes ops ++ behind) 64 (label-length (newLabel lsn generation ops))
 
     -- "a 64-byte label, then the file"
     pub file-part : take (length (fileBytes ops)) (drop 64 (front (slotFile lsn generation ops) slot)) ≡ fileBytes ops
     file-part =
-        ap (take (length (fileBytes ops))) (ap (drop 64) whole ∙ drop-at (labelBytes (newRecord lsn generation ops)) (fileBytes ops ++ behind) 64 (label-length (newRecord lsn generation ops)))
+        ap (take (length (fileBytes ops))) (ap (drop 64) whole ∙ drop-at (labelBytes (newLabel lsn generation ops)) (fileBytes ops ++ behind) 64 (label-length (newLabel lsn generation ops)))
         ∙ take-append-seam (fileBytes ops) behind
 
     object-part : take (length (objectsOf ops)) (take (length (fileBytes ops)) (drop 64 (front (slotFile lsn generation ops) slot))) ≡ objectsOf ops
@@ -100,23 +99,23 @@ module _ (S lsn generation : ℕ) (ops : List Op) (w : Writable S lsn generation
     trailer-part = ap (drop (length (objectsOf ops))) file-part ∙ drop-append-seam (objectsOf ops) (trailerBytes (entriesOf 0 ops))
 
     few : length (entriesOf 0 ops) < 2 ^ 64
-    unfolding newRecord
+    unfolding newLabel
     few = let n : length ops < 2 ^ 64 = label-fits .present in omega (arith, entries-of-length 0 ops)
 
     entries-part : entriesIn (drop (length (objectsOf ops)) (take (length (fileBytes ops)) (drop 64 (front (slotFile lsn generation ops) slot)))) ≡ entriesOf 0 ops
-    unfolding newRecord
+    unfolding newLabel
     entries-part =
         let end = w .bounds .end in
         ap entriesIn trailer-part ∙ trailer-back (entriesOf 0 ops) few (entries-of-fits 0 ops (w .ids) (omega arith))
 
     -- none of 8 to 13 refuses it
-    slot-clear : NoneHolds (slotTests (withLive (newRecord lsn generation ops) 0) (front (slotFile lsn generation ops) slot))
-    unfolding slotTests NoneHolds newRecord outOfBounds
+    slot-clear : NoneHolds (slotTests (newLabel lsn generation ops) (front (slotFile lsn generation ops) slot))
+    unfolding slotTests NoneHolds newLabel outOfBounds
     slot-clear =
         let n : length (front (slotFile lsn generation ops) slot) ≡ S = front-length slot (slotFile lsn generation ops) (omega (arith, written-fits)) ∙ l in
         let many = w .some in
         let t = drop (length (objectsOf ops)) (take (length (fileBytes ops)) (drop 64 (front (slotFile lsn generation ops) slot))) in (
-          rw n (bounds-in S (newRecord lsn generation ops) (w .bounds)),
+          rw n (bounds-in S (newLabel lsn generation ops) (w .bounds)),
           none-append (trailerTests t) _ (rw trailer-part (trailer-clear (entriesOf 0 ops) (omega (arith, entries-of-length 0 ops)) few)) (
             rw entries-part (none-over (length (objectsOf ops)) (entriesOf 0 ops) (λ x k h. entries-of-inside 0 ops x k h .1)),
             (rw (entries-part, eq-eqb (length ops) (length (entriesOf 0 ops)) (sym (entries-of-length 0 ops))), tt),
@@ -125,11 +124,11 @@ module _ (S lsn generation : ℕ) (ops : List Op) (w : Writable S lsn generation
 
     -- the slot holds the file that was written
     pub view-written : viewIn (front (slotFile lsn generation ops) slot) ≡ holds (fileOfOps lsn generation ops)
-    unfolding viewIn newRecord
+    unfolding viewIn newLabel
     view-written =
         rw (
           label-part,
-          label-back (newRecord lsn generation ops) (lsn-some S (newRecord lsn generation ops) (w .bounds)) label-fits,
+          label-back (newLabel lsn generation ops) (lsn-some S (newLabel lsn generation ops) (w .bounds)) label-fits,
           decide-clear _ slot-clear,
           entries-part,
           object-part,
@@ -138,15 +137,15 @@ module _ (S lsn generation : ℕ) (ops : List Op) (w : Writable S lsn generation
 -- ---- in the heap
 -- a file's stores put label and file at the front of its slot
 pub slot-made : (size : ℕ) (heap : List ℕ) (k lsn generation : ℕ) (ops : List Op) → k * size + size ≤ length heap → Writable size lsn generation ops
-    → made (fileStores (k * size) (labelBytes (newRecord lsn generation ops)) (fileBytes ops)) heap ≡ putAt heap (k * size) (slotFile lsn generation ops)
+    → made (fileStores (k * size) (labelBytes (newLabel lsn generation ops)) (fileBytes ops)) heap ≡ putAt heap (k * size) (slotFile lsn generation ops)
 slot-made size heap k lsn generation ops within w =
-    let label = labelBytes (newRecord lsn generation ops) in
+    let label = labelBytes (newLabel lsn generation ops) in
     let fit = written-fits size lsn generation ops w in
-    file-made (k * size) label (fileBytes ops) heap (label-length (newRecord lsn generation ops)) (omega (arith, length-append label (fileBytes ops), label-length (newRecord lsn generation ops)))
+    file-made (k * size) label (fileBytes ops) heap (label-length (newLabel lsn generation ops)) (omega (arith, length-append label (fileBytes ops), label-length (newLabel lsn generation ops)))
 
 -- a file's stores change the view of its slot alone, to the file that was written
 pub views-made : (n size : ℕ) (heap : List ℕ) (k lsn generation : ℕ) (ops : List Op) → k < n → n * size ≤ length heap → Writable size lsn generation ops
-    → viewsIn n size (made (fileStores (k * size) (labelBytes (newRecord lsn generation ops)) (fileBytes ops)) heap)
+    → viewsIn n size (made (fileStores (k * size) (labelBytes (newLabel lsn generation ops)) (fileBytes ops)) heap)
     ≡ set (viewsIn n size heap) k (holds (fileOfOps lsn generation ops))
 views-made n size heap k lsn generation ops low whole w =
     let fit = written-fits size lsn generation ops w in

@@ -11,14 +11,20 @@ pub struct Settings {
     pub max_object_size: u64,
 }
 
-// "A record holds the label's five numbers and the live count"; all zeros: empty.
+// A slot's label: its five numbers.
 #[repr(C)]
-pub struct Record {
+pub struct Label {
     pub lsn: u64,
     pub trailer_offset: u64,
     pub file_size: u64,
     pub present_objects: u64,
     pub generation: u64,
+}
+
+// "A record holds the label's five numbers and the live count"; all zeros: empty.
+#[repr(C)]
+pub struct Record {
+    pub label: Label,
     pub live: u64,
 }
 
@@ -135,9 +141,9 @@ pub enum Slot {
     NoSlot,
 }
 
-// A slot's label: empty, five numbers (live 0), or no label.
-pub enum Label {
+// What the label's bytes of a slot say: empty, five numbers, or no label.
+pub enum LabelAnswer {
     Vacant,
-    Five(Record),
+    Five(Label),
     Wrong,
 }

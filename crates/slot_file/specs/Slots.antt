@@ -7,7 +7,7 @@ use native.Mathlib.Omega.{arith}
 use lib.Dec.{eqb}
 use lib.ListN.{length, drop, length-drop}
 use lib.Seq.{length-take-le}
-use Rattle.rules.specs.declared.Record.{Record}
+use Rattle.rules.specs.declared.Label.{Label}
 use Rattle.rules.specs.declared.Refusal.the-variants.{EntryPosition, PresentCount}
 use Rattle.rules.specs.declared.Refusal.{Refusal}
 use Rattle.rules.specs.declared.Answer.the-variants.{Done, Refused}
@@ -26,26 +26,26 @@ shownBy (damaged r) = Damaged r
 shownBy (holds f) = Holds (f .label)
 
 -- 9 to 13, of a file's trailer bytes
-unfoldable pub entryTests : Record → List ℕ → List Test
-entryTests r trailer =
+unfoldable pub entryTests : Label → List ℕ → List Test
+entryTests l trailer =
     trailerTests trailer
-    ++ (someOver (r .«trailer_offset») (entriesIn trailer) gives EntryPosition
-    ∷ not (eqb (r .«present_objects») (length (entriesIn trailer))) gives PresentCount
+    ++ (someOver (l .«trailer_offset») (entriesIn trailer) gives EntryPosition
+    ∷ not (eqb (l .«present_objects») (length (entriesIn trailer))) gives PresentCount
     ∷ [])
 
-module _ (r : Record) (trailer : List ℕ) where
-  pub entry-refused : (n : Refusal) → decide (trailerTests trailer) ≡ Refused n → decide (entryTests r trailer) ≡ Refused n
+module _ (l : Label) (trailer : List ℕ) where
+  pub entry-refused : (n : Refusal) → decide (trailerTests trailer) ≡ Refused n → decide (entryTests l trailer) ≡ Refused n
   unfolding entryTests
   entry-refused n e = decide-early (trailerTests trailer) _ n e
 
   -- 9, 10 and 11 are clear: 12 and 13 decide
   pub entry-clear : decide (trailerTests trailer) ≡ Done
-      → decide (entryTests r trailer)
-      ≡ pick (someOver (r .«trailer_offset») (entriesIn trailer)) (Refused EntryPosition)
-      (pick (not (eqb (r .«present_objects») (countIn trailer))) (Refused PresentCount) Done)
+      → decide (entryTests l trailer)
+      ≡ pick (someOver (l .«trailer_offset») (entriesIn trailer)) (Refused EntryPosition)
+      (pick (not (eqb (l .«present_objects») (countIn trailer))) (Refused PresentCount) Done)
   unfolding entryTests decide
   entry-clear e = decide-append (trailerTests trailer) _ (clear-when (trailerTests trailer) e) ∙ rw (entries-count trailer (clear-fits trailer e)) refl
 
 -- a file within its slot has its size
-pub file-length : (r : Record) (slot : List ℕ) → r .«file_size» ≤ length slot - 64 → length (fileIn r slot) ≡ r .«file_size»
-file-length r slot h = length-take-le (r .«file_size») (drop 64 slot) (omega (arith, length-drop 64 slot))
+pub file-length : (l : Label) (slot : List ℕ) → l .«file_size» ≤ length slot - 64 → length (fileIn l slot) ≡ l .«file_size»
+file-length l slot h = length-take-le (l .«file_size») (drop 64 slot) (omega (arith, length-drop 64 slot))

@@ -1,7 +1,7 @@
 use file_map::labelled;
 use numbers::Number;
 use numbers::groups;
-use rules::Label;
+use rules::LabelAnswer;
 ghost use mathlib.Core.Path.{_≡_};
 ghost use lib.ListN.{take, drop};
 ghost use Rattle.rules.specs.Base.{zeros};
@@ -22,45 +22,45 @@ fn rest_zero(s: &[u8], from: usize) -> bool
 }
 
 // Five numbers one behind the other, zeros behind them.
-fn five(s: &[u8]) -> Label
+fn five(s: &[u8]) -> LabelAnswer
     ensures { λ r. ⌜ r ≡ fiveIn (now (s .entry)) ⌝ }
 {
     let Number::Said(lsn, a) = groups::decode(s, 0) else {
-        return Label::Wrong;
+        return LabelAnswer::Wrong;
     };
     let Number::Said(offset, b) = groups::decode(s, a) else {
-        return Label::Wrong;
+        return LabelAnswer::Wrong;
     };
     let Number::Said(size, c) = groups::decode(s, b) else {
-        return Label::Wrong;
+        return LabelAnswer::Wrong;
     };
     let Number::Said(present, d) = groups::decode(s, c) else {
-        return Label::Wrong;
+        return LabelAnswer::Wrong;
     };
     let Number::Said(generation, e) = groups::decode(s, d) else {
-        return Label::Wrong;
+        return LabelAnswer::Wrong;
     };
     if rest_zero(s, e) {
-        return Label::Five(labelled(lsn, offset, size, present, generation));
+        return LabelAnswer::Five(labelled(lsn, offset, size, present, generation));
     }
-    Label::Wrong
+    LabelAnswer::Wrong
 }
 
 // "First byte 0 means the slot is empty, whatever follows."
-fn in_label(s: &[u8]) -> Label
+fn in_label(s: &[u8]) -> LabelAnswer
     ensures { λ r. ⌜ r ≡ labelIn (now (s .entry)) ⌝ }
 {
     if s.len() == 0 {
-        return Label::Vacant;
+        return LabelAnswer::Vacant;
     }
     if s[0] == 0 {
-        return Label::Vacant;
+        return LabelAnswer::Vacant;
     }
     five(s)
 }
 
 // The label in a slot's first 64 bytes; bytes too few for one are read as they are.
-pub fn read(slot: &[u8]) -> Label
+pub fn read(slot: &[u8]) -> LabelAnswer
     ensures { λ r. ⌜ r ≡ labelIn (take 64 (now (slot .entry))) ⌝ }
 {
     if slot.len() < 64 {

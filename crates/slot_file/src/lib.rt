@@ -4,14 +4,14 @@ pub mod label;
 pub mod object;
 pub mod slot;
 
-use rules::Record;
+use rules::Label;
 use rules::Refusal;
 
-// What a slot shows: nothing, the first refusal of 8 to 13, or a file with its label's numbers (live 0).
+// What a slot shows: nothing, the first refusal of 8 to 13, or a file with its label.
 pub enum SlotAnswer {
     Empty,
     Damaged(Refusal),
-    Holds(Record),
+    Holds(Label),
 }
 
 // An object's header, and how many bytes there are from it on.

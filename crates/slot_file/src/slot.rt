@@ -3,12 +3,12 @@ use crate::label;
 use file_map::out_of_bounds;
 use rules::Answer;
 use rules::Label;
-use rules::Record;
+use rules::LabelAnswer;
 use rules::Refusal;
 ghost use mathlib.Core.Path.{_≡_};
 ghost use Prim.Native.Nat.{_+_, _*_, _-_, _≤_};
 ghost use lib.ListN.{length, drop};
-ghost use Rattle.rules.specs.declared.Label.the-variants.{Five};
+ghost use Rattle.rules.specs.declared.LabelAnswer.the-variants.{Five};
 ghost use Rattle.rules.specs.Refusal.{decide};
 ghost use Rattle.rules.specs.SlotFile.{slotBytes, fileIn, objectPart, trailerPart, slotTests, viewBy, viewIn};
 ghost use Rattle.slot_file.specs.Labels.{Inside};
@@ -34,47 +34,47 @@ fn behind_label(slot: &[u8]) -> &[u8]
     &slot[64..]
 }
 
-// The file that a record describes, a part of the lent slot.
-pub fn file_part(slot: &[u8], r: Record) -> &[u8]
-    requires { ⌜ r .«file_size» ≤ length (now slot) - 64 ⌝ }
-    ensures { λ x. ⌜ now x ≡ fileIn r (now (slot .entry)) ⌝ }
+// The file that a label describes, a part of the lent slot.
+pub fn file_part(slot: &[u8], l: Label) -> &[u8]
+    requires { ⌜ l .«file_size» ≤ length (now slot) - 64 ⌝ }
+    ensures { λ x. ⌜ now x ≡ fileIn l (now (slot .entry)) ⌝ }
 {
     let behind = behind_label(slot);
-    let end = r.file_size as usize;
+    let end = l.file_size as usize;
     &behind[..end]
 }
 
 // Its object bytes.
-pub fn object_part(slot: &[u8], r: Record) -> &[u8]
-    requires { ⌜ Inside (length (now slot)) r ⌝ }
-    ensures { λ x. ⌜ now x ≡ objectPart r (now (slot .entry)) ⌝ }
+pub fn object_part(slot: &[u8], l: Label) -> &[u8]
+    requires { ⌜ Inside (length (now slot)) l ⌝ }
+    ensures { λ x. ⌜ now x ≡ objectPart l (now (slot .entry)) ⌝ }
 {
-    let file = file_part(slot, r);
-    let end = r.trailer_offset as usize;
+    let file = file_part(slot, l);
+    let end = l.trailer_offset as usize;
     &file[..end]
 }
 
 // Its trailer.
-pub fn trailer_part(slot: &[u8], r: Record) -> &[u8]
-    requires { ⌜ Inside (length (now slot)) r ⌝ }
-    ensures { λ x. ⌜ now x ≡ trailerPart r (now (slot .entry)) ⌝ }
+pub fn trailer_part(slot: &[u8], l: Label) -> &[u8]
+    requires { ⌜ Inside (length (now slot)) l ⌝ }
+    ensures { λ x. ⌜ now x ≡ trailerPart l (now (slot .entry)) ⌝ }
 {
-    let file = file_part(slot, r);
-    let start = r.trailer_offset as usize;
+    let file = file_part(slot, l);
+    let start = l.trailer_offset as usize;
     &file[start..]
 }
 
 // 9 to 13, in order.
-fn check_trailer(bytes: &[u8], r: Record) -> Answer
-    ensures { λ x. ⌜ x ≡ decide (entryTests r (now (bytes .entry))) ⌝ }
+fn check_trailer(bytes: &[u8], l: Label) -> Answer
+    ensures { λ x. ⌜ x ≡ decide (entryTests l (now (bytes .entry))) ⌝ }
 {
     match trailer::check(bytes) {
         Answer::Refused(refusal) => Answer::Refused(refusal),
         Answer::Done => {
-            if trailer::some_over(bytes, r.trailer_offset) {
+            if trailer::some_over(bytes, l.trailer_offset) {
                 return Answer::Refused(Refusal::EntryPosition);
             }
-            if r.present_objects != trailer::count(bytes) {
+            if l.present_objects != trailer::count(bytes) {
                 return Answer::Refused(Refusal::PresentCount);
             }
             Answer::Done
@@ -83,21 +83,21 @@ fn check_trailer(bytes: &[u8], r: Record) -> Answer
 }
 
 // 8 to 13, in order, for a label's five numbers.
-fn check_file(slot: &[u8], r: Record) -> Answer
-    ensures { λ x. ⌜ x ≡ decide (slotTests r (now (slot .entry))) ⌝ }
+fn check_file(slot: &[u8], l: Label) -> Answer
+    ensures { λ x. ⌜ x ≡ decide (slotTests l (now (slot .entry))) ⌝ }
 {
-    if out_of_bounds(slot.len() as u64, r) {
+    if out_of_bounds(slot.len() as u64, l) {
         return Answer::Refused(Refusal::LabelBytes);
     }
-    check_trailer(trailer_part(slot, r), r)
+    check_trailer(trailer_part(slot, l), l)
 }
 
 // What the five numbers show of their slot.
-fn shown(slot: &[u8], r: Record) -> SlotAnswer
-    ensures { λ x. ⌜ x ≡ shownBy (viewBy (Five r) (now (slot .entry))) ⌝ }
+fn shown(slot: &[u8], l: Label) -> SlotAnswer
+    ensures { λ x. ⌜ x ≡ shownBy (viewBy (Five l) (now (slot .entry))) ⌝ }
 {
-    match check_file(slot, r) {
-        Answer::Done => SlotAnswer::Holds(r),
+    match check_file(slot, l) {
+        Answer::Done => SlotAnswer::Holds(l),
         Answer::Refused(refusal) => SlotAnswer::Damaged(refusal),
     }
 }
@@ -107,8 +107,8 @@ pub fn check(slot: &[u8]) -> SlotAnswer
     ensures { λ x. ⌜ x ≡ shownBy (viewIn (now (slot .entry))) ⌝ }
 {
     match label::read(slot) {
-        Label::Vacant => SlotAnswer::Empty,
-        Label::Wrong => SlotAnswer::Damaged(Refusal::LabelBytes),
-        Label::Five(r) => shown(slot, r),
+        LabelAnswer::Vacant => SlotAnswer::Empty,
+        LabelAnswer::Wrong => SlotAnswer::Damaged(Refusal::LabelBytes),
+        LabelAnswer::Five(l) => shown(slot, l),
     }
 }

@@ -2,7 +2,7 @@
 
 use as_numbers::answers::refusal_number;
 use rules::Entry;
-use rules::Record;
+use rules::Label;
 use slot_file::BodyAnswer;
 use slot_file::SlotAnswer;
 use slot_file::Step;
@@ -22,13 +22,13 @@ fn end_line() {
     io::write_all(1, b"\n");
 }
 
-fn show_record(r: Record) {
+fn show_label(l: Label) {
     word(b"holds");
-    number(r.lsn);
-    number(r.trailer_offset);
-    number(r.file_size);
-    number(r.present_objects);
-    number(r.generation);
+    number(l.lsn);
+    number(l.trailer_offset);
+    number(l.file_size);
+    number(l.present_objects);
+    number(l.generation);
 }
 
 fn show_slot(slot: &[u8]) {
@@ -38,7 +38,7 @@ fn show_slot(slot: &[u8]) {
             word(b"damaged");
             number(refusal_number(refusal));
         }
-        SlotAnswer::Holds(r) => show_record(r),
+        SlotAnswer::Holds(l) => show_label(l),
     }
     end_line();
 }
@@ -88,7 +88,7 @@ fn show_bytes(slot: &[u8], n: usize)
 }
 
 // The file of object 7 ("A") and of the delete of 9: 65 bytes behind the label, 129 stores.
-fn write_file(heap: &mut [u8], count: u64, raw: u64, r: Record, left: u64) -> u64
+fn write_file(heap: &mut [u8], count: u64, raw: u64, l: Label, left: u64) -> u64
     requires { ⌜ 192 ≤ length (now heap) ⌝ }
 {
     let object = Entry { id: 7, location: 0 };
@@ -102,23 +102,16 @@ fn write_file(heap: &mut [u8], count: u64, raw: u64, r: Record, left: u64) -> u6
     let b = trailer::write::put_head(heap, 85, sum, count, a);
     let c = trailer::write::put_entry(heap, 97, object, b);
     let d = trailer::write::put_entry(heap, 113, delete, c);
-    slot_writer::label::put(heap, 0, r, d)
+    slot_writer::label::put(heap, 0, l, d)
 }
 
-fn p10() -> Record {
-    Record {
-        lsn: 4611686018427387905,
-        trailer_offset: 21,
-        file_size: 65,
-        present_objects: 2,
-        generation: 0,
-        live: 2,
-    }
+fn p10() -> Label {
+    file_map::labelled(4611686018427387905, 21, 65, 2, 0)
 }
 
-fn show_written(count: u64, raw: u64, r: Record) {
+fn show_written(count: u64, raw: u64, l: Label) {
     let mut heap = [0u8; 192];
-    write_file(&mut heap, count, raw, r, 129);
+    write_file(&mut heap, count, raw, l, 129);
     show_slot(&heap);
 }
 
@@ -169,23 +162,23 @@ fn whole() {
 }
 
 fn wrong_numbers() {
-    let r = p10();
-    show_written(3, 43, r);
-    show_written(2, 45, r);
-    let mut s = r;
+    let l = p10();
+    show_written(3, 43, l);
+    show_written(2, 45, l);
+    let mut s = l;
     s.present_objects = 3;
     show_written(2, 43, s);
-    s = r;
+    s = l;
     s.file_size = 40;
     show_written(2, 43, s);
     s.file_size = 128;
     show_written(2, 43, s);
     s.file_size = 129;
     show_written(2, 43, s);
-    s = r;
+    s = l;
     s.trailer_offset = 66;
     show_written(2, 43, s);
-    s = r;
+    s = l;
     s.lsn = 4611686018427387904;
     show_written(2, 43, s);
     s.lsn = 9223372036854775809;
@@ -194,7 +187,7 @@ fn wrong_numbers() {
     show_written(2, 43, s);
     s.lsn = 9223372036854775786;
     show_written(2, 43, s);
-    s = r;
+    s = l;
     s.generation = 255;
     show_written(2, 43, s);
     s.generation = 256;

@@ -7,19 +7,19 @@ use native.Mathlib.Nat.{sub-zero, suc-sub-suc}
 use lib.ListN.{length, take, drop, replicate}
 use Rattle.numbers.specs.Groups.{groupsOf}
 use Rattle.numbers.specs.Parts.{front}
-use Rattle.rules.specs.declared.Record.{Record}
+use Rattle.rules.specs.declared.Label.{Label}
 use Rattle.rules.specs.Base.{padded}
 use Rattle.rules.specs.Label.{labelBytes}
 use Rattle.rules.specs.Stores.{Store, storesOf}
 
 -- "lsn, trailer_offset, file_size, present_objects, generation as numbers in groups of seven bits"
-unfoldable pub fiveGroups : Record → List ℕ
-fiveGroups r =
-    (((groupsOf 10 (r .lsn)
-    ++ groupsOf 10 (r .«trailer_offset»))
-    ++ groupsOf 10 (r .«file_size»))
-    ++ groupsOf 10 (r .«present_objects»))
-    ++ groupsOf 10 (r .generation)
+unfoldable pub fiveGroups : Label → List ℕ
+fiveGroups l =
+    (((groupsOf 10 (l .lsn)
+    ++ groupsOf 10 (l .«trailer_offset»))
+    ++ groupsOf 10 (l .«file_size»))
+    ++ groupsOf 10 (l .«present_objects»))
+    ++ groupsOf 10 (l .generation)
 
 -- "label bytes 2 to 64, then label byte 1"
 unfoldable pub labelStores : ℕ → List ℕ → List Store
@@ -35,13 +35,13 @@ front-zeros : (n : ℕ) (ns : List ℕ) → front ns (replicate n 0) ≡ padded 
 unfolding front padded
 front-zeros n ns = ap (λ (zs : List ℕ). ns ++ zs) (drop-same (length ns) n 0)
 
-five-nested : (r : Record) → labelBytes r ≡ padded 64 (fiveGroups r)
+five-nested : (l : Label) → labelBytes l ≡ padded 64 (fiveGroups l)
 unfolding labelBytes fiveGroups
-five-nested r = ap (padded 64) (nested (groupsOf 10 (r .lsn)) (groupsOf 10 (r .«trailer_offset»)) (groupsOf 10 (r .«file_size»)) (groupsOf 10 (r .«present_objects»)) (groupsOf 10 (r .generation)))
+five-nested l = ap (padded 64) (nested (groupsOf 10 (l .lsn)) (groupsOf 10 (l .«trailer_offset»)) (groupsOf 10 (l .«file_size»)) (groupsOf 10 (l .«present_objects»)) (groupsOf 10 (l .generation)))
   where
     nested : (a b c d e : List ℕ) → a ++ (b ++ (c ++ (d ++ e))) ≡ (((a ++ b) ++ c) ++ d) ++ e
     nested a b c d e = simp append-assoc
 
 -- five numbers put in front of 64 zeros are a label
-pub label-made : (r : Record) → front (fiveGroups r) (replicate 64 0) ≡ labelBytes r
-label-made r = front-zeros 64 (fiveGroups r) ∙ sym (five-nested r)
+pub label-made : (l : Label) → front (fiveGroups l) (replicate 64 0) ≡ labelBytes l
+label-made l = front-zeros 64 (fiveGroups l) ∙ sym (five-nested l)

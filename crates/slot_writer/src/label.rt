@@ -1,5 +1,5 @@
 use numbers::groups;
-use rules::Record;
+use rules::Label;
 ghost use mathlib.Core.Path.{_≡_};
 ghost use Prim.Native.Nat.{_+_, _≤_};
 ghost use lib.ListN.{length};
@@ -18,32 +18,32 @@ fn put_groups(label: &mut [u8], at: usize, x: u64) -> usize
 }
 
 // "lsn, trailer_offset, file_size, present_objects, generation as numbers in groups of seven bits"
-fn put_five(label: &mut [u8], r: Record)
+fn put_five(label: &mut [u8], l: Label)
     requires { ⌜ 64 ≤ length (now label) ⌝ }
-    ensures { λ _. ⌜ now (label .exit) ≡ front (fiveGroups r) (now (label .entry)) ⌝ }
+    ensures { λ _. ⌜ now (label .exit) ≡ front (fiveGroups l) (now (label .entry)) ⌝ }
 {
-    let a = put_groups(label, 0, r.lsn);
-    let b = put_groups(label, a, r.trailer_offset);
-    let c = put_groups(label, b, r.file_size);
-    let d = put_groups(label, c, r.present_objects);
-    put_groups(label, d, r.generation);
+    let a = put_groups(label, 0, l.lsn);
+    let b = put_groups(label, a, l.trailer_offset);
+    let c = put_groups(label, b, l.file_size);
+    let d = put_groups(label, c, l.present_objects);
+    put_groups(label, d, l.generation);
 }
 
 // "Zeros fill the 64 bytes."
-fn bytes_of(r: Record) -> [u8; 64]
-    ensures { λ x. ⌜ x ≡ labelBytes r ⌝ }
+fn bytes_of(l: Label) -> [u8; 64]
+    ensures { λ x. ⌜ x ≡ labelBytes l ⌝ }
 {
     let mut label = [0u8; 64];
-    put_five(&mut label, r);
+    put_five(&mut label, l);
     label
 }
 
 // A label at the start of its slot: bytes 2 to 64, then byte 1, as far as `left` stores reach.
-pub fn put(heap: &mut [u8], start: usize, r: Record, left: u64) -> u64
+pub fn put(heap: &mut [u8], start: usize, l: Label, left: u64) -> u64
     requires { ⌜ start + 64 ≤ length (now heap) ⌝ }
-    ensures { λ x. ⌜ Made left (labelStores start (labelBytes r)) (now (heap .entry)) (now (heap .exit)) x ⌝ }
+    ensures { λ x. ⌜ Made left (labelStores start (labelBytes l)) (now (heap .entry)) (now (heap .exit)) x ⌝ }
 {
-    let label = bytes_of(r);
+    let label = bytes_of(l);
     let second = start + 1;
     let behind = stores::put_bytes(heap, second, &label[1..64], left);
     stores::put_bytes(heap, start, &label[0..1], behind)

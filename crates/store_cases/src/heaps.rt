@@ -2,7 +2,7 @@
 use crate::host;
 use crate::show;
 use rules::Entry;
-use rules::Record;
+use rules::Label;
 ghost use Prim.Native.Nat.{_+_, _≤_};
 ghost use lib.ListN.{length};
 
@@ -14,15 +14,8 @@ pub struct TwoEntries {
     pub second: Entry,
 }
 
-fn record_of(lsn: u64) -> Record {
-    Record {
-        lsn: lsn,
-        trailer_offset: 21,
-        file_size: 65,
-        present_objects: 2,
-        generation: 0,
-        live: 0,
-    }
+fn label_of(lsn: u64) -> Label {
+    file_map::labelled(lsn, 21, 65, 2, 0)
 }
 
 // The number of stores is above what a file takes, so all are made.
@@ -34,7 +27,7 @@ fn put(heap: &mut [u8], start: usize, f: TwoEntries)
     trailer::write::put_head(heap, start + 85, sum, f.count, 1000);
     trailer::write::put_entry(heap, start + 97, f.first, 1000);
     trailer::write::put_entry(heap, start + 113, f.second, 1000);
-    slot_writer::label::put(heap, start, record_of(f.lsn), 1000);
+    slot_writer::label::put(heap, start, label_of(f.lsn), 1000);
 }
 
 fn show_made(f: TwoEntries) {

@@ -49,11 +49,11 @@ fn file(slot: u64, r: Record) {
     }
     text(b" file");
     number(slot);
-    number(r.lsn);
-    number(r.trailer_offset);
-    number(r.file_size);
-    number(r.present_objects);
-    number(r.generation);
+    number(r.label.lsn);
+    number(r.label.trailer_offset);
+    number(r.label.file_size);
+    number(r.label.present_objects);
+    number(r.label.generation);
     number(r.live);
 }
 

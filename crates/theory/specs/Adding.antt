@@ -22,7 +22,7 @@ use Rattle.rules.specs.Layout.{capacityOf}
 use Rattle.rules.specs.LayoutLaws.{Used, laid-out-ids, laid-out-locations, used-laid-out, form-laid-out}
 use Rattle.rules.specs.FileMap.{isEmpty, recordAt}
 use Rattle.rules.specs.FileMapLaws.{not-empty, lowest-empty}
-use Rattle.rules.specs.Install.{newRecord, newSlot, newLsn, recordsWith, storesFor, tableWith, nextWith, installed, emptyOf}
+use Rattle.rules.specs.Install.{newLabel, newRecord, newSlot, newLsn, recordsWith, storesFor, tableWith, nextWith, installed, emptyOf}
 use Rattle.rules.specs.World.{World, recordsOf, mappings, slotsOf}
 use Rattle.theory.specs.Entries.{absolute-has}
 use Rattle.theory.specs.Places.{viewAt, record-holds, no-damage}
@@ -57,7 +57,7 @@ module _ (w : World) (told : ℕ → Said) (s : SoundWorld w told) where
       go empty e f = e
       go (damaged r) e f = absurd (no-damage (viewsOf w) (recordsOf w) (s .sound .filed) (newSlot w) r e)
       go (holds g) e f =
-          let q : recordAt (recordsOf w) (newSlot w) .lsn ≡ g .label .lsn = ap (λ (r : Record). r .lsn) (record-holds (viewsOf w) (recordsOf w) (s .sound .filed) (newSlot w) g e) in
+          let q : recordAt (recordsOf w) (newSlot w) .label .lsn ≡ g .label .lsn = ap (λ (r : Record). r .label .lsn) (record-holds (viewsOf w) (recordsOf w) (s .sound .filed) (newSlot w) g e) in
           let a = masked-pos (g .label .lsn) (s .sound .filed .made (newSlot w) g e .placed) in
           absurd (true≢false (sym f ∙ not-empty (recordAt (recordsOf w) (newSlot w)) (omega arith)))
 
@@ -94,7 +94,7 @@ module _ (w : World) (told : ℕ → Said) (s : SoundWorld w told) where
 
     -- label and file may be written
     pub writable : Writable (w .settings .«slot_bytes») (newLsn bit w) g os
-    unfolding newRecord
+    unfolding newRecord newLabel
     writable =
         let b = base in
         let m = b .0 in
@@ -122,7 +122,7 @@ module _ (w : World) (told : ℕ → Said) (s : SoundWorld w told) where
     unfolding installed storesFor
     views-after =
         let h = heap-whole (w .settings) (length (w .heap)) (s .tidy .limits .heap) in
-        ap (λ (n : ℕ). viewsIn (slotsIn (w .settings) n) (w .settings .«slot_bytes») (installed bit g w os .heap)) (made-length (storesFor (newRecord (newLsn bit w) g os) w os) (w .heap))
+        ap (λ (n : ℕ). viewsIn (slotsIn (w .settings) n) (w .settings .«slot_bytes») (installed bit g w os .heap)) (made-length (storesFor (newLabel (newLsn bit w) g os) w os) (w .heap))
         ∙ views-made (slotsOf w) (w .settings .«slot_bytes») (w .heap) (newSlot w) (newLsn bit w) g os (free-slot (f .free) .0) (omega arith) writable
 
     -- LAW: the picture after is the picture with the file added
@@ -143,7 +143,7 @@ module _ (w : World) (told : ℕ → Said) (s : SoundWorld w told) where
     unfolding installed tableWith
     tidy-installed =
         let t = insertAll (mappings w) (rowsFor (newLsn bit w) 0 os) in
-        let n = made-length (storesFor (newRecord (newLsn bit w) g os) w os) (w .heap) in
+        let n = made-length (storesFor (newLabel (newLsn bit w) g os) w os) (w .heap) in
         let a = laid-out-ids (capacityOf (w .table)) t (f .room) in
         let b = laid-out-locations (capacityOf (w .table)) t (f .room) in
         let r = s .tidy .limits .table in

@@ -77,7 +77,7 @@ record Rewrites (history : List Op) (g : ℕ) (u v : World) (ks : List ℕ) : Ty
   fewer : (k : ℕ) (c : File) → viewAt (viewsOf u) k ≡ holds c → recordAt (recordsOf v) k .live ≤ recordAt (recordsOf u) k .live
   dead : (k : ℕ) → Among ks k → recordAt (recordsOf v) k .live ≡ 0
 
-module _ (history : List Op) (u : World) (s : SoundWorld u (engine history)) (g : ℕ) (aged : g ≤ 255) (ks : List ℕ) (files : All (λ (k : ℕ). 0 < recordAt (recordsOf u) k .lsn) ks)
+module _ (history : List Op) (u : World) (s : SoundWorld u (engine history)) (g : ℕ) (aged : g ≤ 255) (ks : List ℕ) (files : All (λ (k : ℕ). 0 < recordAt (recordsOf u) k .label .lsn) ks)
     (sizes : Oversized u ks → ⊥) (enough : Enough u (filesOf (u .settings .«target_file_size») (found u ks))) where
   done : decide (groupTests u ks (filesOf (u .settings .«target_file_size») (found u ks))) ≡ Done
   done =
@@ -112,7 +112,7 @@ module _ (history : List Op) (u : World) (s : SoundWorld u (engine history)) (g 
       v = installedAll 0 g u (filesOf (u .settings .«target_file_size») (found u ks))
 
       z : (f : File) × (viewAt (viewsOf u) k ≡ holds f)
-      z = let y = file-slot u (engine history) s k (not-empty (recordAt (recordsOf u) k) (among-get (λ (j : ℕ). 0 < recordAt (recordsOf u) j .lsn) ks files k a)) in (y .0, y .1)
+      z = let y = file-slot u (engine history) s k (not-empty (recordAt (recordsOf u) k) (among-get (λ (j : ℕ). 0 < recordAt (recordsOf u) j .label .lsn) ks files k a)) in (y .0, y .1)
 
       here : viewAt (viewsOf v) k ≡ holds (z .0)
       here = stood-all-remain 0 g (filesOf (u .settings .«target_file_size») (found u ks)) u (stood .0) k (z .0) (z .1)
@@ -173,7 +173,7 @@ claims-finished w (g ∷ gs) v = claims-finished w gs (finishing w g v) ∙ go (
 group-unclaimed : (w : World) (g k : ℕ) → Among (group w g) k → isClaimed (w .claims) k ≡ false
 unfolding group
 group-unclaimed w g k a =
-    let p = slot-passes (λ (i : ℕ) (r : Record). isCandidate (w .settings) (w .claims) (fileCount (recordsOf w)) i r && eqb (newGeneration (r .generation)) g) 0 (recordsOf w) k a in
+    let p = slot-passes (λ (i : ℕ) (r : Record). isCandidate (w .settings) (w .claims) (fileCount (recordsOf w)) i r && eqb (newGeneration (r .label .generation)) g) 0 (recordsOf w) k a in
     let c = candidate (w .settings) (w .claims) (fileCount (recordsOf w)) (0 + p .off) (recordAt (recordsOf w) (p .off)) (and-true _ _ (p .passes) .0) in
     ap (isClaimed (w .claims)) (p .is) ∙ c .unclaimed
 
@@ -229,7 +229,7 @@ module _ (history : List Op) (v : World) (s : SoundWorld v (engine history)) whe
           ∙ a .found)
 
   -- an unclaimed file without live entries is removed
-  pruned-dead : (k : ℕ) (c : File) → viewAt (viewsOf v) k ≡ holds c → 0 < recordAt (recordsOf v) k .lsn → recordAt (recordsOf v) k .live ≡ 0 → isClaimed (v .claims) k ≡ false
+  pruned-dead : (k : ℕ) (c : File) → viewAt (viewsOf v) k ≡ holds c → 0 < recordAt (recordsOf v) k .label .lsn → recordAt (recordsOf v) k .live ≡ 0 → isClaimed (v .claims) k ≡ false
       → (viewAt (viewsOf (pruned v)) k ≡ empty) × (recordAt (recordsOf (pruned v)) k ≡ emptyRecord)
   pruned-dead k c h some none free =
       let e = not-empty (recordAt (recordsOf v) k) some in
@@ -247,14 +247,14 @@ module _ (history : List Op) (w : World) (s : SoundWorld w (engine history)) whe
   still n i p g k a =
       let t = reached history w s n i p in
       let z = file-slot (withFinished w (before n)) (engine history) (t .0) k
-      (not-empty (recordAt (recordsOf (withFinished w (before n))) k) (t .1 k (among-get (λ (j : ℕ). 0 < recordAt (recordsOf w) j .lsn) (group w g) (group-files w history s g) k a))) in
+      (not-empty (recordAt (recordsOf (withFinished w (before n))) k) (t .1 k (among-get (λ (j : ℕ). 0 < recordAt (recordsOf w) j .label .lsn) (group w g) (group-files w history s g) k a))) in
       (z .0, z .1)
 
   -- a due generation's turn
   turn-rewrites : (g : ℕ) → Among generations g → Due w g → Below (suc g) → Rewrites history g (withFinished w (before g)) (withFinished w (before (suc g))) (group w g)
   turn-rewrites g i due p =
       subst (λ (v : World). Rewrites history g (withFinished w (before g)) v (group w g)) after
-      (group-rewrites history u (t .0) g (let l = within-three g i .1 in omega arith) (group w g) (all-map (λ (k : ℕ). 0 < recordAt (recordsOf w) k .lsn) (λ (k : ℕ). 0 < recordAt (recordsOf u) k .lsn) (group w g) (t .1) (group-files w history s g))
+      (group-rewrites history u (t .0) g (let l = within-three g i .1 in omega arith) (group w g) (all-map (λ (k : ℕ). 0 < recordAt (recordsOf w) k .label .lsn) (λ (k : ℕ). 0 < recordAt (recordsOf u) k .label .lsn) (group w g) (t .1) (group-files w history s g))
       (λ o. clear .sizes (oversized-earlier history w u s (group w g) (group-files w history s g) (t .2) (settings-finished w (before g) w) o)) (subst (Enough u) (sym same) (clear .enough)))
     where
       u : World
@@ -295,7 +295,7 @@ module _ (history : List Op) (w : World) (s : SoundWorld w (engine history)) whe
       out false h = h
       out true h =
           let y = moved-exactly u history (t .0) (group w m)
-          (all-map (λ (k : ℕ). 0 < recordAt (recordsOf w) k .lsn) (λ (k : ℕ). 0 < recordAt (recordsOf u) k .lsn) (group w m) (t .1) (group-files w history s m)) .only x h in
+          (all-map (λ (k : ℕ). 0 < recordAt (recordsOf w) k .label .lsn) (λ (k : ℕ). 0 < recordAt (recordsOf u) k .label .lsn) (group w m) (t .1) (group-files w history s m)) .only x h in
           let e : a .slot ≡ y .2 .0 = is-one (sym (a .found) ∙ ap (fileFor (recordsOf u)) (mapped-one (sym (a .table) ∙ y .1)) ∙ y .2 .2) in
           let z = still g (inl i) (λ h b c. p h b (omega arith)) m (y .2 .0) (y .2 .1) in
           absurd (places.not-empty (sym (a .free) ∙ ap (viewAt (viewsOf (withFinished w (before g)))) e ∙ z .1))
@@ -371,7 +371,7 @@ module _ (history : List Op) (w : World) (s : SoundWorld w (engine history)) whe
         let t = reached history w s 4 (inr refl) p in
         let z = still 4 (inr refl) p g k i in
         pruned-dead history (withFinished w (before 4)) (t .0) k (z .0) (z .1)
-        (t .1 k (among-get (λ (j : ℕ). 0 < recordAt (recordsOf w) j .lsn) (group w g) (group-files w history s g) k i))
+        (t .1 k (among-get (λ (j : ℕ). 0 < recordAt (recordsOf w) j .label .lsn) (group w g) (group-files w history s g) k i))
         (dead-at 4 (within-three g (f .generation) .1) (omega arith) p k i)
         (ap (λ (c : Claims). isClaimed c k) (claims-finished w (before 4) w) ∙ group-unclaimed w g k i)
 

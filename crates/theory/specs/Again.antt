@@ -13,7 +13,7 @@ use Rattle.rules.specs.SlotFile.{File, View, empty, damaged, holds}
 use Rattle.rules.specs.Table.{lookup}
 use Rattle.rules.specs.Layout.{capacityOf, laidOut}
 use Rattle.rules.specs.LayoutLaws.{laid-out-used}
-use Rattle.rules.specs.FileMap.{emptyRecord, recordAt, withLive, fileFor}
+use Rattle.rules.specs.FileMap.{recorded, emptyRecord, recordAt, fileFor}
 use Rattle.rules.specs.Claims.{noClaims}
 use Rattle.rules.specs.Reopen.{viewTests, filesIn, notRising, tableOf, reopenTests, mappedInto, recordOf, recordsFrom, nextAfter, opened, reopenCall}
 use Rattle.rules.specs.ReopenLaws.{records-from-length}
@@ -61,8 +61,8 @@ module _ (w : World) (told : ℕ → Said) (s : SoundWorld w told) where
       go k empty e = sym (record-empty (viewsOf w) (recordsOf w) (s .sound .filed) k e)
       go k (damaged r) e = absurd (no-damage (viewsOf w) (recordsOf w) (s .sound .filed) k r e)
       go k (holds f) e =
-          ap (λ (t : List Entry). withLive (f .label) (mappedInto t (f .label))) (sym (s .sound .newest))
-          ∙ ap (withLive (f .label)) (sym (s .sound .counted k f e))
+          ap (λ (t : List Entry). recorded (f .label) (mappedInto t (f .label))) (sym (s .sound .newest))
+          ∙ ap (recorded (f .label)) (sym (s .sound .counted k f e))
           ∙ sym (record-holds (viewsOf w) (recordsOf w) (s .sound .filed) k f e)
 
   -- LAW: each id's location is found again, in the same buffers

@@ -18,7 +18,7 @@ use Rattle.rules.specs.SlotLaws.{views-length}
 use Rattle.rules.specs.Table.{lookup}
 use Rattle.rules.specs.TableLaws.{Has, has-lookup, orElse, lookup-insert-all}
 use Rattle.rules.specs.FileMap.{emptyRecord, recordAt, fileFor}
-use Rattle.rules.specs.Install.{newRecord, losing, newSlot, newLsn, recordsWith, installed, installedAll, emptyOf}
+use Rattle.rules.specs.Install.{newLabel, newRecord, losing, newSlot, newLsn, recordsWith, installed, installedAll, emptyOf}
 use Rattle.rules.specs.InstallLaws.{losing-record}
 use Rattle.rules.specs.World.{World, recordsOf, mappings, slotsOf}
 use Rattle.rules.specs.WrittenLaws.{fileOfOps}
@@ -74,7 +74,7 @@ heard-stands q (o ∷ os) x h = go (same? (o .id) x) (heard-stands (q + sizeOf (
 
 module _ (history : List Op) (w : World) (s : SoundWorld w (engine history)) (g : ℕ) (os : List Op) (f : Fitting 0 g w os) where
   file-arrives : (x : ℕ) → heardIn os x ≡ true → Arrived g w (installed 0 g w os) x
-  unfolding added newRecord
+  unfolding added newLabel
   file-arrives x h =
       let z = heard-stands 0 os x h in
       let l = rawOf (z .1) (isDelete (z .0)) + 2 * newLsn 0 w in

@@ -17,7 +17,7 @@ use Rattle.rules.specs.SlotFile.{objectPart, trailerPart, trailerEntries, File,
 use Rattle.rules.specs.Read.{objectTests}
 use Rattle.rules.specs.Table.{lookup, unmapped}
 use Rattle.rules.specs.TableLaws.{Has}
-use Rattle.rules.specs.FileMap.{recordAt, withLive}
+use Rattle.rules.specs.FileMap.{recordAt}
 use Rattle.rules.specs.FileMapLaws.{Among, not-empty}
 use Rattle.rules.specs.Maintenance.{movedTests, deleteTests, deletesOf, fileTests, slotOf}
 use Rattle.rules.specs.World.{World, recordsOf, mappings}
@@ -118,10 +118,10 @@ module _ (w : World) (history : List Op) (s : SoundWorld w (engine history)) whe
       go (inr e) = let i = m .inside x l a in let b = m .within in omega arith
 
   -- LAW: 9, 10, 11, 16, 18 and 20 refuse no file; 3 only one with an object of max_object_size or more
-  shown-only : (k : ℕ) (f : File) → viewAt (viewsOf w) k ≡ holds f → (X : Type 0) → (any (λ (o : Stored). leb (w .settings .«max_object_size») (o .size)) (objectsIn (f .objects)) ≡ true → X) → (n : ℕ)
-      → All (OnlySize X) (fileTests (w .settings .«max_object_size») (mappings w) (withLive (f .label) n) (slotOf w k))
+  shown-only : (k : ℕ) (f : File) → viewAt (viewsOf w) k ≡ holds f → (X : Type 0) → (any (λ (o : Stored). leb (w .settings .«max_object_size») (o .size)) (objectsIn (f .objects)) ≡ true → X)
+      → All (OnlySize X) (fileTests (w .settings .«max_object_size») (mappings w) (f .label) (slotOf w k))
   unfolding fileTests deletesOf
-  shown-only k f h X large n =
+  shown-only k f h X large =
       all-append (OnlySize X) (trailerTests (trailerPart (f .label) (slotOf w k))) _ (none-only X _ (shown w k f h .1 .trailer))
       (all-append (OnlySize X) (each (movedTests (w .settings .«max_object_size») (mappings w)) (objectsIn (objectPart (f .label) (slotOf w k)))) _
       (all-each (OnlySize X) (movedTests (w .settings .«max_object_size») (mappings w)) (objectsIn (objectPart (f .label) (slotOf w k)))
@@ -140,14 +140,14 @@ module _ (w : World) (history : List Op) (s : SoundWorld w (engine history)) whe
       )
 
   -- LAW: so of the files of a group
-  pub group-only : (ks : List ℕ) → All (λ (k : ℕ). 0 < recordAt (recordsOf w) k .lsn) ks
-      → All (OnlySize (Oversized w ks)) (each (λ (k : ℕ). fileTests (w .settings .«max_object_size») (mappings w) (recordAt (recordsOf w) k) (slotOf w k)) ks)
+  pub group-only : (ks : List ℕ) → All (λ (k : ℕ). 0 < recordAt (recordsOf w) k .label .lsn) ks
+      → All (OnlySize (Oversized w ks)) (each (λ (k : ℕ). fileTests (w .settings .«max_object_size») (mappings w) (recordAt (recordsOf w) k .label) (slotOf w k)) ks)
   group-only ks files =
-      all-each (OnlySize (Oversized w ks)) (λ (k : ℕ). fileTests (w .settings .«max_object_size») (mappings w) (recordAt (recordsOf w) k) (slotOf w k)) ks
-      (all-among (λ (k : ℕ). 0 < recordAt (recordsOf w) k .lsn) (λ (k : ℕ). All (OnlySize (Oversized w ks)) (fileTests (w .settings .«max_object_size») (mappings w) (recordAt (recordsOf w) k) (slotOf w k))) ks
+      all-each (OnlySize (Oversized w ks)) (λ (k : ℕ). fileTests (w .settings .«max_object_size») (mappings w) (recordAt (recordsOf w) k .label) (slotOf w k)) ks
+      (all-among (λ (k : ℕ). 0 < recordAt (recordsOf w) k .label .lsn) (λ (k : ℕ). All (OnlySize (Oversized w ks)) (fileTests (w .settings .«max_object_size») (mappings w) (recordAt (recordsOf w) k .label) (slotOf w k))) ks
       (λ k a some.
       let z = file-slot w (engine history) s k (not-empty (recordAt (recordsOf w) k) some) in
-      subst (λ (r : Record). All (OnlySize (Oversized w ks)) (fileTests (w .settings .«max_object_size») (mappings w) r (slotOf w k)))
+      subst (λ (r : Record). All (OnlySize (Oversized w ks)) (fileTests (w .settings .«max_object_size») (mappings w) (r .label) (slotOf w k)))
       (sym (record-holds (viewsOf w) (recordsOf w) (s .sound .filed) k (z .0) (z .1)))
-      (shown-only k (z .0) (z .1) (Oversized w ks) (λ large. record { slot = k; among = a; file = z .0; shows = z .1; large = large }) (recordAt (recordsOf w) k .live)))
+      (shown-only k (z .0) (z .1) (Oversized w ks) (λ large. record { slot = k; among = a; file = z .0; shows = z .1; large = large })))
       files)

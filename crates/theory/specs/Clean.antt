@@ -122,8 +122,8 @@ module _ (w : World) (told : ℕ → Said) (s : SoundWorld w told) where
       go false d (k, t) =
           let f = t .file in
           let q = t .located in
-          let n : recordAt (recordsOf w) k .lsn ≡ f .label .lsn = ap (λ (r : Record). r .lsn) (record-holds (viewsOf w) (recordsOf w) (s .sound .filed) k f (t .shows)) in
-          let m : positionOf l - recordAt (recordsOf w) k .lsn ≡ positionOf (t .raw) = omega arith in
+          let n : recordAt (recordsOf w) k .label .lsn ≡ f .label .lsn = ap (λ (r : Record). r .label .lsn) (record-holds (viewsOf w) (recordsOf w) (s .sound .filed) k f (t .shows)) in
+          let m : positionOf l - recordAt (recordsOf w) k .label .lsn ≡ positionOf (t .raw) = omega arith in
           let y = eqb-false (l % 2) 1 d in
           let u : deleteOf (t .raw) ≡ false = ne-eqb (t .raw % 2) 1 (λ z. y (omega arith)) in
           let h = s .sound .whole k f (t .shows) in
@@ -131,7 +131,7 @@ module _ (w : World) (told : ℕ → Said) (s : SoundWorld w told) where
           let o = storedAt (positionOf (t .raw)) (drop (positionOf (t .raw)) (f .objects)) in (
             put (o .body),
             ap (λ (i : Slot). slotSays (pictureOf w) i l x) (own-file (viewsOf w) (recordsOf w) (s .sound .filed) x l k t)
-                ∙ ap (λ (v : View). viewSays v (positionOf l - recordAt (recordsOf w) k .lsn) x) (t .shows)
+                ∙ ap (λ (v : View). viewSays v (positionOf l - recordAt (recordsOf w) k .label .lsn) x) (t .shows)
                 ∙ ap (λ (i : ℕ). placeSays f i x) m
                 ∙ ap (λ (a : Answer). after a broken (body (o .body))) (decide-clear (objectTests x o) c),
           )

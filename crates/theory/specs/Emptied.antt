@@ -96,8 +96,8 @@ module _ (bounds : ℕ) (p : Picture) (told : ℕ → Said) (s : Sound bounds p 
           let c = kept x l (z .0) h (z .1) in
           ap (pick (deleteOf l) gone) (
           ap (λ (o : Slot). slotSays q o l x) (own-file (q .views) (q .records) filed-emptied x l (z .0) (stands-kept x l (z .0) h (z .1)))
-          ∙ ap (λ (v : View). viewSays v (positionOf l - recordAt (q .records) (z .0) .lsn) x) (c .0)
-          ∙ ap (λ (r : Record). viewSays (viewAt (p .views) (z .0)) (positionOf l - r .lsn) x) (c .1)
+          ∙ ap (λ (v : View). viewSays v (positionOf l - recordAt (q .records) (z .0) .label .lsn) x) (c .0)
+          ∙ ap (λ (r : Record). viewSays (viewAt (p .views) (z .0)) (positionOf l - r .label .lsn) x) (c .1)
           ∙ sym (ap (λ (o : Slot). slotSays p o l x) (own-file (p .views) (p .records) (s .filed) x l (z .0) (z .1))))
 
   -- LAW: the invariant after files of no live entry are removed

@@ -115,22 +115,22 @@ module _ (w : World) (history : List Op) (s : SoundWorld w (engine history)) whe
   abbrev Placed : List ℕ → Op → Type 0
   Placed ks o = (l : ℕ) → lookup (mappings w) (o .id) ≡ Mapped l → InSlots w ks l
 
-  placed-in : (ks : List ℕ) (k : ℕ) → Among ks k → 0 < recordAt (recordsOf w) k .lsn → All (Placed ks) (foundIn w k)
+  placed-in : (ks : List ℕ) (k : ℕ) → Among ks k → 0 < recordAt (recordsOf w) k .label .lsn → All (Placed ks) (foundIn w k)
   placed-in ks k a some =
       let z = file-slot w (engine history) s k (not-empty (recordAt (recordsOf w) k) some) in
       let e = record-holds (viewsOf w) (recordsOf w) (s .sound .filed) k (z .0) (z .1) in
       all-map (InRangeOf (mappings w) (z .0 .label)) (Placed ks) (foundIn w k)
       (λ o h l q. (k, a, is-at k (fileFor (recordsOf w) l) (range-file (o .id) l k (z .0) (z .1) q ∙ h l q)))
-      (subst (λ (r : Record). All (InRangeOf (mappings w) (z .0 .label)) (objectsFound (mappings w) r (slotOf w k) ++ deletesFound (mappings w) r (slotOf w k))) (sym e)
-      (found-inside w history s k (z .0) (z .1) (recordAt (recordsOf w) k .live)))
+      (subst (λ (r : Record). All (InRangeOf (mappings w) (z .0 .label)) (objectsFound (mappings w) (r .label) (slotOf w k) ++ deletesFound (mappings w) (r .label) (slotOf w k))) (sym e)
+      (found-inside w history s k (z .0) (z .1)))
 
-  placed : (ks : List ℕ) → All (λ (k : ℕ). 0 < recordAt (recordsOf w) k .lsn) ks → All (Placed ks) (found w ks)
+  placed : (ks : List ℕ) → All (λ (k : ℕ). 0 < recordAt (recordsOf w) k .label .lsn) ks → All (Placed ks) (found w ks)
   unfolding found
   placed ks files =
       settled-all (Placed ks) (each (foundIn w) ks)
-      (all-each (Placed ks) (foundIn w) ks (all-among (λ (k : ℕ). 0 < recordAt (recordsOf w) k .lsn) (λ (k : ℕ). All (Placed ks) (foundIn w k)) ks (placed-in ks) files))
+      (all-each (Placed ks) (foundIn w) ks (all-among (λ (k : ℕ). 0 < recordAt (recordsOf w) k .label .lsn) (λ (k : ℕ). All (Placed ks) (foundIn w k)) ks (placed-in ks) files))
 
-  found-only : (ks : List ℕ) → All (λ (k : ℕ). 0 < recordAt (recordsOf w) k .lsn) ks → (x : ℕ) → heardIn (found w ks) x ≡ true → Inside w ks x
+  found-only : (ks : List ℕ) → All (λ (k : ℕ). 0 < recordAt (recordsOf w) k .label .lsn) ks → (x : ℕ) → heardIn (found w ks) x ≡ true → Inside w ks x
   found-only ks files x h = go (lastOn (found w ks) x) refl h
     where
       go : (o : Last) → lastOn (found w ks) x ≡ o → known (lastOn (found w ks) x) ≡ true → Inside w ks x
@@ -147,14 +147,14 @@ module _ (w : World) (history : List Op) (s : SoundWorld w (engine history)) whe
   unfolding found
   found-rising ks = settled-rising (each (foundIn w) ks)
 
-  found-every : (ks : List ℕ) → All (λ (k : ℕ). 0 < recordAt (recordsOf w) k .lsn) ks → (x : ℕ) → Inside w ks x → heardIn (found w ks) x ≡ true
+  found-every : (ks : List ℕ) → All (λ (k : ℕ). 0 < recordAt (recordsOf w) k .label .lsn) ks → (x : ℕ) → Inside w ks x → heardIn (found w ks) x ≡ true
   unfolding found
   found-every ks files x (l, e, (k, a, q)) =
-      let f = file-slot w (engine history) s k (not-empty (recordAt (recordsOf w) k) (among-get (λ (j : ℕ). 0 < recordAt (recordsOf w) j .lsn) ks files k a)) in
+      let f = file-slot w (engine history) s k (not-empty (recordAt (recordsOf w) k) (among-get (λ (j : ℕ). 0 < recordAt (recordsOf w) j .label .lsn) ks files k a)) in
       ap known (settled-last (each (foundIn w) ks) x)
       ∙ heard-each w history s ks files x l e
-      ∙ slot-any (λ (j : ℕ). inRange (recordAt (recordsOf w) j) (maskedAt l)) ks k a
-      (ap (λ (r : Record). inRange r (maskedAt l)) (record-holds (viewsOf w) (recordsOf w) (s .sound .filed) k (f .0) (f .1))
+      ∙ slot-any (λ (j : ℕ). inRange (recordAt (recordsOf w) j .label) (maskedAt l)) ks k a
+      (ap (λ (r : Record). inRange (r .label) (maskedAt l)) (record-holds (viewsOf w) (recordsOf w) (s .sound .filed) k (f .0) (f .1))
       ∙ sym (range-file x l k (f .0) (f .1) e) ∙ ap (isAt k) q ∙ eq-eqb k k refl)
 
   -- both ways, each once: so as many
@@ -177,7 +177,7 @@ module _ (w : World) (history : List Op) (s : SoundWorld w (engine history)) whe
       there x l e (k, a, q) = (l, e, (k, a, is-at k (fileFor (recordsOf w) l) q))
 
   -- LAW: what a group of files moves, in the world in which it is rewritten
-  pub moved-exactly : (ks : List ℕ) → All (λ (k : ℕ). 0 < recordAt (recordsOf w) k .lsn) ks → Exactly w ks (found w ks)
+  pub moved-exactly : (ks : List ℕ) → All (λ (k : ℕ). 0 < recordAt (recordsOf w) k .label .lsn) ks → Exactly w ks (found w ks)
   moved-exactly ks files = exactly ks (found w ks) (found-rising ks) (found-only ks files) (found-every ks files)
 
 -- ---- the call, group by group
@@ -263,13 +263,13 @@ Same w v ks = (x : ℕ) → (Inside w ks x → Inside v ks x) × (Inside v ks x 
 groups-apart : (w : World) (g h k : ℕ) → Among (group w g) k → Among (group w h) k → g ≡ h
 unfolding group
 groups-apart w g h k a b =
-    let p = slot-passes (λ (i : ℕ) (r : Record). isCandidate (w .settings) (w .claims) (fileCount (recordsOf w)) i r && eqb (newGeneration (r .generation)) g) 0 (recordsOf w) k a in
-    let q = slot-passes (λ (i : ℕ) (r : Record). isCandidate (w .settings) (w .claims) (fileCount (recordsOf w)) i r && eqb (newGeneration (r .generation)) h) 0 (recordsOf w) k b in
+    let p = slot-passes (λ (i : ℕ) (r : Record). isCandidate (w .settings) (w .claims) (fileCount (recordsOf w)) i r && eqb (newGeneration (r .label .generation)) g) 0 (recordsOf w) k a in
+    let q = slot-passes (λ (i : ℕ) (r : Record). isCandidate (w .settings) (w .claims) (fileCount (recordsOf w)) i r && eqb (newGeneration (r .label .generation)) h) 0 (recordsOf w) k b in
     let y = p .is in
     let z = q .is in
     let o : p .off ≡ q .off = omega arith in
     sym (eqb-true _ g (and-true (isCandidate (w .settings) (w .claims) (fileCount (recordsOf w)) (0 + p .off) (recordAt (recordsOf w) (p .off))) _ (p .passes) .1))
-    ∙ ap (λ (i : ℕ). newGeneration (recordAt (recordsOf w) i .generation)) o
+    ∙ ap (λ (i : ℕ). newGeneration (recordAt (recordsOf w) i .label .generation)) o
     ∙ eqb-true _ h (and-true (isCandidate (w .settings) (w .claims) (fileCount (recordsOf w)) (0 + q .off) (recordAt (recordsOf w) (q .off))) _ (q .passes) .1)
 
 module _ (history : List Op) (start : World) (st : SoundWorld start (engine history)) where
@@ -292,7 +292,7 @@ module _ (history : List Op) (start : World) (st : SoundWorld start (engine hist
       back (inl y) (l, e, (k, a, q)) = let z = sym (y .table) ∙ e in (l, z, (k, a, sym (y .file l z) ∙ q))
       back (inr y) (l, e, (k, a, q)) =
           let j : y .0 .slot ≡ k = is-one (sym (y .0 .file) ∙ ap (fileFor (recordsOf v)) (mapped-one (sym (y .0 .table) ∙ e)) ∙ q) in
-          let f = file-slot (c .world) (engine history) (u .sound) k (not-empty (recordAt (recordsOf (c .world)) k) (among-get (λ (m : ℕ). 0 < recordAt (recordsOf (c .world)) m .lsn) (group start g) (still-files history start st g c u) k a)) in
+          let f = file-slot (c .world) (engine history) (u .sound) k (not-empty (recordAt (recordsOf (c .world)) k) (among-get (λ (m : ℕ). 0 < recordAt (recordsOf (c .world)) m .label .lsn) (group start g) (still-files history start st g c u) k a)) in
           absurd (places.not-empty (sym (y .0 .free) ∙ ap (viewAt (viewsOf (c .world))) j ∙ f .1))
 
   same-onward : (stop : Stop) (g h : ℕ) → (h ≡ g → ⊥) → h ≤ 255 → (c : Course) → Underway history start c → Same start (c .world) (group start g)

@@ -77,36 +77,36 @@ group-ascending : (w : World) (g : ℕ) → Ascending 0 (group w g)
 unfolding group
 group-ascending w g = where-ascending _ 0 (recordsOf w)
 
-group-generation : (w : World) (g k : ℕ) → Among (group w g) k → newGeneration (recordAt (recordsOf w) k .generation) ≡ g
+group-generation : (w : World) (g k : ℕ) → Among (group w g) k → newGeneration (recordAt (recordsOf w) k .label .generation) ≡ g
 unfolding group
 group-generation w g k a =
-    let p = slot-passes (λ (i : ℕ) (r : Record). isCandidate (w .settings) (w .claims) (fileCount (recordsOf w)) i r && eqb (newGeneration (r .generation)) g) 0 (recordsOf w) k a in
-    ap (λ (i : ℕ). newGeneration (recordAt (recordsOf w) i .generation)) (p .is ∙ zero-add (p .off))
+    let p = slot-passes (λ (i : ℕ) (r : Record). isCandidate (w .settings) (w .claims) (fileCount (recordsOf w)) i r && eqb (newGeneration (r .label .generation)) g) 0 (recordsOf w) k a in
+    ap (λ (i : ℕ). newGeneration (recordAt (recordsOf w) i .label .generation)) (p .is ∙ zero-add (p .off))
     ∙ eqb-true _ _ (and-true (isCandidate (w .settings) (w .claims) (fileCount (recordsOf w)) (0 + p .off) (recordAt (recordsOf w) (p .off))) _ (p .passes) .1)
 
 -- ---- what a group moves is in its own files
 module _ (history : List Op) (w : World) (s : SoundWorld w (engine history)) where
-  elsewhere-in : (k j : ℕ) → (k ≡ j → ⊥) → 0 < recordAt (recordsOf w) j .lsn → All (Elsewhere w k) (foundIn w j)
+  elsewhere-in : (k j : ℕ) → (k ≡ j → ⊥) → 0 < recordAt (recordsOf w) j .label .lsn → All (Elsewhere w k) (foundIn w j)
   elsewhere-in k j n some =
       let z = file-slot w (engine history) s j (not-empty (recordAt (recordsOf w) j) some) in
       let e = record-holds (viewsOf w) (recordsOf w) (s .sound .filed) j (z .0) (z .1) in
       all-map (InRangeOf (mappings w) (z .0 .label)) (Elsewhere w k) (foundIn w j)
-      (λ o h l q. apart o l q (ap (λ (r : Record). inRange r (maskedAt l)) e ∙ h l q))
-      (subst (λ (r : Record). All (InRangeOf (mappings w) (z .0 .label)) (objectsFound (mappings w) r (slotOf w j) ++ deletesFound (mappings w) r (slotOf w j))) (sym e)
-      (found-inside w history s j (z .0) (z .1) (recordAt (recordsOf w) j .live)))
+      (λ o h l q. apart o l q (ap (λ (r : Record). inRange (r .label) (maskedAt l)) e ∙ h l q))
+      (subst (λ (r : Record). All (InRangeOf (mappings w) (z .0 .label)) (objectsFound (mappings w) (r .label) (slotOf w j) ++ deletesFound (mappings w) (r .label) (slotOf w j))) (sym e)
+      (found-inside w history s j (z .0) (z .1)))
     where
-      apart : (o : Op) (l : ℕ) → lookup (mappings w) (o .id) ≡ Mapped l → inRange (recordAt (recordsOf w) j) (maskedAt l) ≡ true → inRange (recordAt (recordsOf w) k) (maskedAt l) ≡ false
+      apart : (o : Op) (l : ℕ) → lookup (mappings w) (o .id) ≡ Mapped l → inRange (recordAt (recordsOf w) j .label) (maskedAt l) ≡ true → inRange (recordAt (recordsOf w) k .label) (maskedAt l) ≡ false
       apart o l q i =
           let t = one-range w history s (o .id) l (lookup-has (mappings w) (o .id) l q) in
           ⊎-elim (λ a. t .1 k (λ b. n (b ∙ sym a))) (λ a. absurd (true≢false (sym i ∙ t .1 j a))) (same? j (t .0))
 
-  found-elsewhere : (k : ℕ) (ks : List ℕ) → ((j : ℕ) → Among ks j → k ≡ j → ⊥) → All (λ (j : ℕ). 0 < recordAt (recordsOf w) j .lsn) ks → All (Elsewhere w k) (found w ks)
+  found-elsewhere : (k : ℕ) (ks : List ℕ) → ((j : ℕ) → Among ks j → k ≡ j → ⊥) → All (λ (j : ℕ). 0 < recordAt (recordsOf w) j .label .lsn) ks → All (Elsewhere w k) (found w ks)
   unfolding found
   found-elsewhere k ks out files =
       settled-all (Elsewhere w k) (each (foundIn w) ks)
-      (all-each (Elsewhere w k) (foundIn w) ks (all-among (λ (j : ℕ). 0 < recordAt (recordsOf w) j .lsn) (λ (j : ℕ). All (Elsewhere w k) (foundIn w j)) ks (λ j a some. elsewhere-in k j (out j a) some) files))
+      (all-each (Elsewhere w k) (foundIn w) ks (all-among (λ (j : ℕ). 0 < recordAt (recordsOf w) j .label .lsn) (λ (j : ℕ). All (Elsewhere w k) (foundIn w j)) ks (λ j a some. elsewhere-in k j (out j a) some) files))
 
-  files-unmoved : (g : ℕ) → g ≤ 255 → (fs : List (List Op)) → All (Rewritable (engine history)) fs → (k : ℕ) → 0 < recordAt (recordsOf w) k .lsn
+  files-unmoved : (g : ℕ) → g ≤ 255 → (fs : List (List Op)) → All (Rewritable (engine history)) fs → (k : ℕ) → 0 < recordAt (recordsOf w) k .label .lsn
       → All (All (Elsewhere w k)) fs → NoneHolds (roomTests (w .settings .«slot_bytes») (emptyOf w) fs ++ positionTests (w .state .«next_position») fs)
       → recordAt (recordsOf (installedAll 0 g w fs)) k ≡ recordAt (recordsOf w) k
   unfolding installedAll
@@ -118,7 +118,7 @@ module _ (history : List Op) (w : World) (s : SoundWorld w (engine history)) whe
       unmoved history g (f ∷ fs) w s aged r (b .fits) (b .slots) c k some a
 
   -- a file outside the group keeps its record
-  group-unmoved : (g : ℕ) → g ≤ 255 → (ks : List ℕ) (moved : ℕ) → All (λ (j : ℕ). 0 < recordAt (recordsOf w) j .lsn) ks → (k : ℕ) → 0 < recordAt (recordsOf w) k .lsn → ((j : ℕ) → Among ks j → k ≡ j → ⊥)
+  group-unmoved : (g : ℕ) → g ≤ 255 → (ks : List ℕ) (moved : ℕ) → All (λ (j : ℕ). 0 < recordAt (recordsOf w) j .label .lsn) ks → (k : ℕ) → 0 < recordAt (recordsOf w) k .label .lsn → ((j : ℕ) → Among ks j → k ≡ j → ⊥)
       → recordAt (recordsOf (rewriteGroup g ks moved w .world)) k ≡ recordAt (recordsOf w) k
   unfolding rewriteGroup groupTests
   group-unmoved g aged ks moved files k some out = go (decide (groupTests w ks (filesOf (w .settings .«target_file_size») (found w ks)))) refl
@@ -133,11 +133,11 @@ module _ (history : List Op) (w : World) (s : SoundWorld w (engine history)) whe
       go Done e =
           files-unmoved g aged (filesOf (w .settings .«target_file_size») (found w ks)) (files-rewritable history w s ks (w .settings .«target_file_size»)) k some
           (part (filesOf (w .settings .«target_file_size») (found w ks)) (files-parts (w .settings .«target_file_size») (found w ks)))
-          (none-rest (each (λ (k : ℕ). fileTests (w .settings .«max_object_size») (mappings w) (recordAt (recordsOf w) k) (slotOf w k)) ks) _
+          (none-rest (each (λ (k : ℕ). fileTests (w .settings .«max_object_size») (mappings w) (recordAt (recordsOf w) k .label) (slotOf w k)) ks) _
           (clear-when (groupTests w ks (filesOf (w .settings .«target_file_size») (found w ks))) e))
 
   -- what a group that is rewritten moves
-  group-count : (g : ℕ) (ks : List ℕ) (moved : ℕ) → Ascending 0 ks → All (λ (j : ℕ). 0 < recordAt (recordsOf w) j .lsn) ks → rewriteGroup g ks moved w .stop ≡ going
+  group-count : (g : ℕ) (ks : List ℕ) (moved : ℕ) → Ascending 0 ks → All (λ (j : ℕ). 0 < recordAt (recordsOf w) j .label .lsn) ks → rewriteGroup g ks moved w .stop ≡ going
       → rewriteGroup g ks moved w .moved ≡ moved + sum (λ (k : ℕ). recordAt (recordsOf w) k .live) ks
   unfolding rewriteGroup
   group-count g ks moved up files e = go (decide (groupTests w ks (filesOf (w .settings .«target_file_size») (found w ks)))) e
@@ -196,7 +196,7 @@ module _ (history : List Op) (start : World) (st : SoundWorld start (engine hist
     moved = counted (rewriteGroup g (group start g) (c .moved) (c .world) .stop) refl;
   }
     where
-      files : All (λ (k : ℕ). 0 < recordAt (recordsOf (c .world)) k .lsn) (group start g)
+      files : All (λ (k : ℕ). 0 < recordAt (recordsOf (c .world)) k .label .lsn) (group start g)
       files = still-files history start st g c u
 
       here : c .moved ≡ sum (liveOf start) ds
@@ -212,8 +212,8 @@ module _ (history : List Op) (start : World) (st : SoundWorld start (engine hist
               (λ (k : ℕ). recordAt (recordsOf (rewriteGroup g (group start g) (c .moved) (c .world) .world)) k ≡ recordAt (recordsOf start) k) (group start h)
               (λ k i q.
               group-unmoved history (c .world) (u .sound) g aged (group start g) (c .moved) files k
-              (subst (λ (r : Record). 0 < r .lsn) (sym q) (among-get (λ (m : ℕ). 0 < recordAt (recordsOf start) m .lsn) (group start h) (group-files start history st h) k i))
-              (λ j b z. n .0 (sym (group-generation start h k i) ∙ ap (λ (m : ℕ). newGeneration (recordAt (recordsOf start) m .generation)) z ∙ group-generation start g j b)) ∙ q)
+              (subst (λ (r : Record). 0 < r .label .lsn) (sym q) (among-get (λ (m : ℕ). 0 < recordAt (recordsOf start) m .label .lsn) (group start h) (group-files start history st h) k i))
+              (λ j b z. n .0 (sym (group-generation start h k i) ∙ ap (λ (m : ℕ). newGeneration (recordAt (recordsOf start) m .label .generation)) z ∙ group-generation start g j b)) ∙ q)
               (a .0)
 
       counted : (o : Stop) → rewriteGroup g (group start g) (c .moved) (c .world) .stop ≡ o

@@ -6,7 +6,7 @@ use mathlib.Core.Logic.{inl, inr}
 use native.Mathlib.Omega.{arith}
 use borrow.Author.Tests.{leb-false}
 use Rattle.rules.specs.Base.{false, List, [], _∷_, _++_, ℕ, zero, suc, _+_, replicate, leb, any}
-use Rattle.theory.specs.Types.{Entry, Record, ObjectSize, PositionsSpent, Stopped}
+use Rattle.theory.specs.Types.{Entry, Label, ObjectSize, PositionsSpent, Stopped}
 use Rattle.numbers.specs.LittleEndian.{Bytes, leBytes, leValue}
 use Rattle.disk_location.specs.Locations.{maskedOf, positionOf, deleteOf}
 use Rattle.rules.specs.BaseLaws.{or-false}
@@ -55,8 +55,8 @@ abbrev pub trailer : List ℕ
 trailer = leBytes 4 (crc32 (listed entries ++ (7 ∷ 7 ∷ []))) ++ (listed entries ++ (7 ∷ 7 ∷ []))
 
 -- masked lsn + T is 2^62 - 1
-abbrev pub label : Record
-label = record { lsn = 4611686018427387839; «trailer_offset» = 64; «file_size» = 142; «present_objects» = 4; generation = 255; live = 0 }
+abbrev pub label : Label
+label = record { lsn = 4611686018427387839; «trailer_offset» = 64; «file_size» = 142; «present_objects» = 4; generation = 255 }
 
 -- two slots, the second of zeros; bodies of 2 or more are too large for a batch
 abbrev pub foreign : World

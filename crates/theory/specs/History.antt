@@ -70,16 +70,16 @@ pub record Kept (w : World) (history : List Op) : Type 0 where
   pub same-records : recordsOf (reopenCall w .world) ≡ recordsOf w
   -- the next position, held or reopened, lies above every file
   pub above : (k : ℕ) → isEmpty (recordAt (recordsOf w) k) ≡ false
-      → maskedOf (recordAt (recordsOf w) k .lsn) + recordAt (recordsOf w) k .«trailer_offset» < w .state .«next_position»
+      → maskedOf (recordAt (recordsOf w) k .label .lsn) + recordAt (recordsOf w) k .label .«trailer_offset» < w .state .«next_position»
   pub above-reopened : (k : ℕ) → isEmpty (recordAt (recordsOf w) k) ≡ false
-      → maskedOf (recordAt (recordsOf w) k .lsn) + recordAt (recordsOf w) k .«trailer_offset» < reopenCall w .world .state .«next_position»
+      → maskedOf (recordAt (recordsOf w) k .label .lsn) + recordAt (recordsOf w) k .label .«trailer_offset» < reopenCall w .world .state .«next_position»
 
 -- a file by its record
 above-record : (w : World) (history : List Op) → SoundWorld w (engine history) → (k : ℕ) → isEmpty (recordAt (recordsOf w) k) ≡ false
-    → maskedOf (recordAt (recordsOf w) k .lsn) + recordAt (recordsOf w) k .«trailer_offset» < w .state .«next_position»
+    → maskedOf (recordAt (recordsOf w) k .label .lsn) + recordAt (recordsOf w) k .label .«trailer_offset» < w .state .«next_position»
 above-record w history s k h =
     let f = file-slot w (engine history) s k h in
-    subst (λ (r : Record). maskedOf (r .lsn) + r .«trailer_offset» < w .state .«next_position»)
+    subst (λ (r : Record). maskedOf (r .label .lsn) + r .label .«trailer_offset» < w .state .«next_position»)
     (sym (record-holds (viewsOf w) (recordsOf w) (s .sound .filed) k (f .0) (f .1))) (s .sound .above k (f .0) (f .1))
 
 pub sound-kept : (w : World) (history : List Op) → SoundWorld w (engine history) → Kept w history
@@ -92,7 +92,7 @@ sound-kept w history s =
       same-records = ap (λ (a : After). recordsOf (a .world)) e;
       above = above-record w history s;
       above-reopened = λ k h.
-          subst (λ (a : After). maskedOf (recordAt (recordsOf w) k .lsn) + recordAt (recordsOf w) k .«trailer_offset» < a .world .state .«next_position») (sym e)
+          subst (λ (a : After). maskedOf (recordAt (recordsOf w) k .label .lsn) + recordAt (recordsOf w) k .label .«trailer_offset» < a .world .state .«next_position») (sym e)
           (above-record (again w) history (sound-again w (engine history) s) k h);
     }
 

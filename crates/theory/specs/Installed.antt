@@ -17,7 +17,7 @@ use Rattle.rules.specs.SlotFile.{File, View, empty, damaged, holds}
 use Rattle.rules.specs.Table.{lookup, insertAll}
 use Rattle.rules.specs.TableLaws.{Rising, Has, lookup-has, table-ext, orElse, rising-insert-all, lookup-insert-all, has-lookup}
 use Rattle.rules.specs.FileMap.{emptyRecord, recordAt, withLive, fileFor}
-use Rattle.rules.specs.Install.{newRecord, losing}
+use Rattle.rules.specs.Install.{newLabel, newRecord, losing}
 use Rattle.rules.specs.InstallLaws.{losing-length, Less, losing-record}
 use Rattle.rules.specs.Reopen.{filesIn, tableOf, inRange, mappedInto}
 use Rattle.rules.specs.Read.{objectTests}
@@ -52,7 +52,7 @@ pub record Addable (bounds : ℕ) (p : Picture) (k lsn : ℕ) (os : List Op) : T
 
 module _ (bounds : ℕ) (p : Picture) (told : ℕ → Said) (s : Sound bounds p told) (k lsn g : ℕ) (os : List Op) (a : Addable bounds p k lsn os) where
   new-made : WellMade (fileOfOps lsn g os)
-  unfolding newRecord
+  unfolding newRecord newLabel
   new-made =
       let b = a .base in
       let c = s .started in
@@ -98,7 +98,7 @@ module _ (bounds : ℕ) (p : Picture) (told : ℕ → Said) (s : Sound bounds p 
   agrees-less (holds c) r t h z = z .same ∙ ap (λ (r : Record). withLive r (t .live)) h
 
   apart-new : (j : ℕ) (h : File) → viewAt (p .views) j ≡ holds h → Apart (fileOfOps lsn g os) h
-  unfolding newRecord
+  unfolding newRecord newLabel
   apart-new j h e = let u = s .above j h e in let v = a .base in inr (omega arith)
 
   -- the files after
@@ -113,6 +113,7 @@ module _ (bounds : ℕ) (p : Picture) (told : ℕ → Said) (s : Sound bounds p 
 
   -- views and records tell of the same files again
   pub filed-added : Filed (added lsn g p k os .views) (added lsn g p k os .records)
+  unfolding newRecord
   filed-added = record {
     fits = filed-fits;
     agree = λ j. agree j (same? j k);
@@ -153,13 +154,13 @@ module _ (bounds : ℕ) (p : Picture) (told : ℕ → Said) (s : Sound bounds p 
 
   -- the new entries stand in the new file
   pub stands-new : (x l : ℕ) → Has (rowsFor lsn 0 os) x l → Stands (added lsn g p k os .views) x l k
-  unfolding newRecord
+  unfolding newRecord newLabel
   stands-new x l h =
       let z = absolute-has lsn (entriesOf 0 os) x l h in
       record { file = fileOfOps lsn g os; raw = z .0; shows = view-new; entry = z .1; located = z .2 }
 
   rows-split : (x l : ℕ) → Has (rowsOf (added lsn g p k os .views)) x l → Has (rowsOf (p .views)) x l ⊎ Has (rowsFor lsn 0 os) x l
-  unfolding newRecord
+  unfolding newRecord newLabel
   rows-split x l h = go (has-stands (added lsn g p k os .views) x l h)
     where
       at : (j : ℕ) (t : Stands (added lsn g p k os .views) x l j) → (j ≡ k) ⊎ (j ≡ k → ⊥) → Has (rowsOf (p .views)) x l ⊎ Has (rowsFor lsn 0 os) x l
@@ -184,7 +185,7 @@ module _ (bounds : ℕ) (p : Picture) (told : ℕ → Said) (s : Sound bounds p 
 
   -- the new entries are above all that the table holds
   all-above : (x l m : ℕ) → Has (rowsFor lsn 0 os) x l → lookup (p .table) x ≡ Mapped m → maskedAt m < maskedAt l
-  unfolding newRecord
+  unfolding newRecord newLabel
   all-above x l m h e =
       let n = absolute-has lsn (entriesOf 0 os) x l h in
       let z = table-stands bounds p told s x m e in
@@ -215,23 +216,23 @@ module _ (bounds : ℕ) (p : Picture) (told : ℕ → Said) (s : Sound bounds p 
 
   -- ---- live counts
   -- the locations held lie outside the new file's masked range, the new ones inside it
-  old-outside : (x m : ℕ) → lookup (p .table) x ≡ Mapped m → inRange (newRecord lsn g os) (maskedAt m) ≡ false
+  old-outside : (x m : ℕ) → lookup (p .table) x ≡ Mapped m → inRange (newLabel lsn g os) (maskedAt m) ≡ false
   old-outside x m e =
       let z = table-stands bounds p told s x m e in
       let t = stands-old x m (z .0) (z .1) in
       in-no-other (added lsn g p k os .views) (added lsn g p k os .records) filed-added x m (z .0) k (t .1) (fileOfOps lsn g os) view-new (λ q. t .0 (sym q))
 
-  new-inside : (x l : ℕ) → Has (rowsFor lsn 0 os) x l → inRange (newRecord lsn g os) (maskedAt l) ≡ true
-  unfolding newRecord stands-new objectsOf
+  new-inside : (x l : ℕ) → Has (rowsFor lsn 0 os) x l → inRange (newLabel lsn g os) (maskedAt l) ≡ true
+  unfolding newRecord newLabel stands-new objectsOf
   new-inside x l h = in-own-range (added lsn g p k os .views) (added lsn g p k os .records) filed-added x l k (stands-new x l h)
 
-  counted-new : length os ≡ mappedInto (insertAll (p .table) (rowsFor lsn 0 os)) (newRecord lsn g os)
+  counted-new : length os ≡ mappedInto (insertAll (p .table) (rowsFor lsn 0 os)) (newLabel lsn g os)
   unfolding mappedInto
   counted-new =
-      let u : count (λ (l : ℕ). inRange (newRecord lsn g os) (maskedAt l)) (p .table) ≡ 0
-      = count-none (λ (l : ℕ). inRange (newRecord lsn g os) (maskedAt l)) (p .table)
+      let u : count (λ (l : ℕ). inRange (newLabel lsn g os) (maskedAt l)) (p .table) ≡ 0
+      = count-none (λ (l : ℕ). inRange (newLabel lsn g os) (maskedAt l)) (p .table)
       (λ x l h. old-outside x l (has-lookup 0 (p .table) (table-rising bounds p told s) x l h)) in
-      let v = losing-new (λ (l : ℕ). inRange (newRecord lsn g os) (maskedAt l)) k lsn (p .table) 0 0 (p .table) os (table-rising bounds p told s) (a .rising)
+      let v = losing-new (λ (l : ℕ). inRange (newLabel lsn g os) (maskedAt l)) k lsn (p .table) 0 0 (p .table) os (table-rising bounds p told s) (a .rising)
       (λ x h. refl) old-outside new-inside in
       omega arith
 
@@ -248,7 +249,7 @@ module _ (bounds : ℕ) (p : Picture) (told : ℕ → Said) (s : Sound bounds p 
   -- LAW: every live count is again the number of ids mapped into the file
   pub counted-added : (j : ℕ) (h : File) → viewAt (added lsn g p k os .views) j ≡ holds h
       → liveAt (added lsn g p k os .records) j ≡ mappedInto (insertAll (p .table) (rowsFor lsn 0 os)) (h .label)
-  unfolding newRecord mappedInto
+  unfolding newRecord newLabel mappedInto
   counted-added j h e = go (same? j k)
     where
       go : (j ≡ k) ⊎ (j ≡ k → ⊥) → liveAt (added lsn g p k os .records) j ≡ mappedInto (insertAll (p .table) (rowsFor lsn 0 os)) (h .label)
@@ -281,23 +282,23 @@ module _ (bounds : ℕ) (p : Picture) (told : ℕ → Said) (s : Sound bounds p 
     where
       same : (j : ℕ) → (j ≡ k → ⊥) → slotSays (added lsn g p k os) (Is j) l x ≡ slotSays p (Is j) l x
       same j n =
-          let m : recordAt (added lsn g p k os .records) j .lsn ≡ recordAt (p .records) j .lsn
-          = ap (λ (r : Record). r .lsn) (record-old j n ∙ losing-record (p .table) os (p .records) j .same) in
-          ap (λ (v : View). viewSays v (positionOf l - recordAt (added lsn g p k os .records) j .lsn) x) (view-old j n)
+          let m : recordAt (added lsn g p k os .records) j .label .lsn ≡ recordAt (p .records) j .label .lsn
+          = ap (λ (r : Record). r .label .lsn) (record-old j n ∙ losing-record (p .table) os (p .records) j .same) in
+          ap (λ (v : View). viewSays v (positionOf l - recordAt (added lsn g p k os .records) j .label .lsn) x) (view-old j n)
           ∙ ap (λ (i : ℕ). viewSays (viewAt (p .views) j) (positionOf l - i) x) m
 
   new-says : (x r : ℕ) → Has (entriesOf 0 os) x r → heldSays (added lsn g p k os) (Mapped (r + 2 * lsn)) x ≡ entrySays (fileOfOps lsn g os) (Mapped r) x
-  unfolding newRecord
+  unfolding newRecord newLabel
   new-says x r h =
       let y : fileFor (added lsn g p k os .records) (r + 2 * lsn) ≡ Is k
       = own-file (added lsn g p k os .views) (added lsn g p k os .records) filed-added x (r + 2 * lsn) k (stands-new x (r + 2 * lsn) (has-absolute lsn (entriesOf 0 os) x r h)) in
       let d : (r + 2 * lsn) % 2 ≡ r % 2 = omega arith in
-      let b : recordAt (added lsn g p k os .records) k .lsn ≡ lsn = ap (λ (t : Record). t .lsn) record-new in
-      let c : (r + 2 * lsn) / 2 - recordAt (added lsn g p k os .records) k .lsn ≡ r / 2 = omega arith in
+      let b : recordAt (added lsn g p k os .records) k .label .lsn ≡ lsn = ap (λ (t : Record). t .label .lsn) record-new in
+      let c : (r + 2 * lsn) / 2 - recordAt (added lsn g p k os .records) k .label .lsn ≡ r / 2 = omega arith in
       ap (λ (n : ℕ). pick (eqb n 1) gone (slotSays (added lsn g p k os) (fileFor (added lsn g p k os .records) (r + 2 * lsn)) (r + 2 * lsn) x)) d
       ∙ ap (pick (deleteOf r) gone) (
       ap (λ (o : Slot). slotSays (added lsn g p k os) o (r + 2 * lsn) x) y
-      ∙ ap (λ (v : View). viewSays v ((r + 2 * lsn) / 2 - recordAt (added lsn g p k os .records) k .lsn) x) view-new
+      ∙ ap (λ (v : View). viewSays v ((r + 2 * lsn) / 2 - recordAt (added lsn g p k os .records) k .label .lsn) x) view-new
       ∙ ap (λ (n : ℕ). placeSays (fileOfOps lsn g os) n x) c)
 
   table-lookup : (x : ℕ) → lookup (insertAll (p .table) (rowsFor lsn 0 os)) x ≡ orElse (shiftHeld lsn (lookup (entriesOf 0 os) x)) (lookup (p .table) x)
@@ -317,7 +318,7 @@ module _ (bounds : ℕ) (p : Picture) (told : ℕ → Said) (s : Sound bounds p 
       go (Mapped r) h = new-says x r (lookup-has (entriesOf 0 os) x r h) ∙ sym (over-entry r x (heldSays p (lookup (p .table) x) x))
 
   above-added : (j : ℕ) (h : File) → viewAt (added lsn g p k os .views) j ≡ holds h → maskedOf (h .label .lsn) + h .label .«trailer_offset» < added lsn g p k os .next
-  unfolding newRecord added
+  unfolding newRecord newLabel added
   above-added j h e = go (same? j k)
     where
       go : (j ≡ k) ⊎ (j ≡ k → ⊥) → maskedOf (h .label .lsn) + h .label .«trailer_offset» < added lsn g p k os .next

@@ -32,7 +32,7 @@ rowsFor lsn position os = map (absolute lsn) (entriesOf position os)
 -- ---- one file loses one
 -- lookups do not change
 pub less-file : (o : Slot) (rs : List Record) (l : ℕ) → fileFor (lessLive o rs) l ≡ fileFor rs l
-less-file o rs l = file-same (lessLive o rs) rs (less-live-length o rs) (λ j. ap (λ (r : Record). r .lsn) (less-at o rs j)) l
+less-file o rs l = file-same (lessLive o rs) rs (less-live-length o rs) (λ j. ap (λ (r : Record). r .label .lsn) (less-at o rs j)) l
 
 -- ---- all that are replaced
 -- p: being in slot j, said of locations. t is the table before, u what it has become; the ids still to come have not changed.

@@ -52,7 +52,7 @@ module _ (history : List Op) where
   unfolding groupTests
   group-rewritten g aged slots w s e =
       group-installed w s g aged (filesOf (w .settings .«target_file_size») (found w slots)) (files-rewritable w s slots (w .settings .«target_file_size»))
-      (none-rest (each (λ (k : ℕ). fileTests (w .settings .«max_object_size») (mappings w) (recordAt (recordsOf w) k) (slotOf w k)) slots) _
+      (none-rest (each (λ (k : ℕ). fileTests (w .settings .«max_object_size») (mappings w) (recordAt (recordsOf w) k .label) (slotOf w k)) slots) _
       (clear-when (groupTests w slots (filesOf (w .settings .«target_file_size») (found w slots))) e))
 
   -- LAW: a group, rewritten or refused

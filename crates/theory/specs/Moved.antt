@@ -6,7 +6,7 @@ use Prim.Native.Nat.{_<_, _≤_}
 use native.Mathlib.Omega.{arith}
 use borrow.Author.Tests.{le-leb, lt-leb, leb-true, eq-eqb, eqb-false}
 use Rattle.rules.specs.Base.{Bool, true, false, _&&_, _||_, List, [], _∷_, _++_, map, ℕ, _+_, _*_, _%_, length, leb, pick, any, keep, each, sum}
-use Rattle.theory.specs.Types.{Entry, Record, Held, Mapped, Unmapped}
+use Rattle.theory.specs.Types.{Entry, Label, Record, Held, Mapped, Unmapped}
 use Rattle.disk_location.specs.Locations.{maskedOf, positionOf, deleteOf, rawOf}
 use Rattle.disk_location.specs.LocationLaws.{masked-plain}
 use Rattle.rules.specs.BaseLaws.{All, all-map, and-true, all-append}
@@ -17,7 +17,7 @@ use Rattle.rules.specs.SettledLaws.{Last, silent, last, lastOn, settled-rising,
 use Rattle.rules.specs.SlotFile.{objectPart, trailerEntries, File, View, empty, damaged, holds}
 use Rattle.rules.specs.Table.{lookup, unmapped, mappedTo}
 use Rattle.rules.specs.TableLaws.{Rising, Has, mapped-one, has-lookup, mapped-to}
-use Rattle.rules.specs.FileMap.{emptyRecord, recordAt, withLive}
+use Rattle.rules.specs.FileMap.{emptyLabel, recordAt}
 use Rattle.rules.specs.Maintenance.{deletesOf, objectsFound, deletesFound, slotOf, foundIn, found}
 use Rattle.rules.specs.Reopen.{inRange, mappedInto}
 use Rattle.rules.specs.World.{World, recordsOf, mappings}
@@ -44,8 +44,8 @@ in-range-at f m p l h e =
     let c : maskedAt l ≤ maskedOf (f .label .lsn) + f .label .«trailer_offset» = omega arith in
     rw (le-leb (maskedOf (f .label .lsn)) (maskedAt l) a, le-leb (maskedAt l) (maskedOf (f .label .lsn) + f .label .«trailer_offset») c)
 
--- an empty record has no range above 0
-empty-range : (m : ℕ) → 0 < m → inRange emptyRecord m ≡ false
+-- an empty label has no range above 0
+empty-range : (m : ℕ) → 0 < m → inRange emptyLabel m ≡ false
 empty-range m h = rw (lt-leb m (maskedOf 0 + 0) (let z = masked-plain 0 (omega arith) in omega arith)) (go (leb (maskedOf 0) m))
   where
     go : (b : Bool) → (b && false) ≡ false
@@ -89,8 +89,8 @@ delete-found table lsn (e ∷ es) x r (inr h) d m = go (deleteOf (e .location)) 
     go true false q ih = rw q ih
 
 -- what is found in a file lies in its range
-abbrev pub InRangeOf : List Entry → Record → Op → Type 0
-InRangeOf table r o = (l : ℕ) → lookup table (o .id) ≡ Mapped l → inRange r (maskedAt l) ≡ true
+abbrev pub InRangeOf : List Entry → Label → Op → Type 0
+InRangeOf table f o = (l : ℕ) → lookup table (o .id) ≡ Mapped l → inRange f (maskedAt l) ≡ true
 
 deletes-all : (P : Entry → Type 0) (es : List Entry) → ((x l : ℕ) → Has es x l → P (record { id = x; location = l })) → All P (keep (λ (e : Entry). deleteOf (e .location)) es)
 unfolding keep
@@ -103,13 +103,13 @@ deletes-all P (e ∷ es) h = go (deleteOf (e .location)) (deletes-all P es (λ x
 
 module _ (w : World) (history : List Op) (s : SoundWorld w (engine history)) where
   -- what a file's turn finds lies in its masked range
-  pub found-inside : (k : ℕ) (f : File) → viewAt (viewsOf w) k ≡ holds f → (n : ℕ)
-      → All (InRangeOf (mappings w) (f .label)) (objectsFound (mappings w) (withLive (f .label) n) (slotOf w k) ++ deletesFound (mappings w) (withLive (f .label) n) (slotOf w k))
+  pub found-inside : (k : ℕ) (f : File) → viewAt (viewsOf w) k ≡ holds f
+      → All (InRangeOf (mappings w) (f .label)) (objectsFound (mappings w) (f .label) (slotOf w k) ++ deletesFound (mappings w) (f .label) (slotOf w k))
   unfolding objectsFound deletesFound deletesOf
-  found-inside k f h n =
+  found-inside k f h =
       let m = s .sound .filed .made k f h in
       let t = objects-inside w history s k f h in
-      all-append (InRangeOf (mappings w) (f .label)) (objectsFound (mappings w) (withLive (f .label) n) (slotOf w k)) (deletesFound (mappings w) (withLive (f .label) n) (slotOf w k))
+      all-append (InRangeOf (mappings w) (f .label)) (objectsFound (mappings w) (f .label) (slotOf w k)) (deletesFound (mappings w) (f .label) (slotOf w k))
       (all-kept (StandsIn (f .objects)) (InRangeOf (mappings w) (f .label))
       (λ (o : Stored). mappedTo (lookup (mappings w) (o .id)) (rawOf (f .label .lsn + o .position) false)) (λ (o : Stored). record { id = o .id; content = put (o .body) })
       (objectsIn (objectPart (f .label) (slotOf w k)))
@@ -129,11 +129,11 @@ module _ (w : World) (history : List Op) (s : SoundWorld w (engine history)) whe
       (deletes-all (λ (e : Entry). positionOf (e .location) ≤ f .label .«trailer_offset») (f .entries) (m .inside))))
 
   -- an id mapped into a file is found in it
-  inside-found : (k : ℕ) (f : File) → viewAt (viewsOf w) k ≡ holds f → (n x l r : ℕ) → lookup (mappings w) x ≡ Mapped l → Has (f .entries) x r → l ≡ r + 2 * f .label .lsn
-      → heardIn (objectsFound (mappings w) (withLive (f .label) n) (slotOf w k) ++ deletesFound (mappings w) (withLive (f .label) n) (slotOf w k)) x ≡ true
+  inside-found : (k : ℕ) (f : File) → viewAt (viewsOf w) k ≡ holds f → (x l r : ℕ) → lookup (mappings w) x ≡ Mapped l → Has (f .entries) x r → l ≡ r + 2 * f .label .lsn
+      → heardIn (objectsFound (mappings w) (f .label) (slotOf w k) ++ deletesFound (mappings w) (f .label) (slotOf w k)) x ≡ true
   unfolding objectsFound deletesFound deletesOf
-  inside-found k f h n x l r e a q =
-      heard-append (objectsFound (mappings w) (withLive (f .label) n) (slotOf w k)) (deletesFound (mappings w) (withLive (f .label) n) (slotOf w k)) x
+  inside-found k f h x l r e a q =
+      heard-append (objectsFound (mappings w) (f .label) (slotOf w k)) (deletesFound (mappings w) (f .label) (slotOf w k)) x
       ∙ go (deleteOf r) refl
     where
       mapped : (m : ℕ) → l ≡ m → mappedTo (lookup (mappings w) x) m ≡ true
@@ -144,48 +144,48 @@ module _ (w : World) (history : List Op) (s : SoundWorld w (engine history)) whe
       or-right false b e = e
 
       go : (d : Bool) → deleteOf r ≡ d
-          → (heardIn (deletesFound (mappings w) (withLive (f .label) n) (slotOf w k)) x || heardIn (objectsFound (mappings w) (withLive (f .label) n) (slotOf w k)) x) ≡ true
+          → (heardIn (deletesFound (mappings w) (f .label) (slotOf w k)) x || heardIn (objectsFound (mappings w) (f .label) (slotOf w k)) x) ≡ true
       go false d =
           let z = eqb-false (r % 2) 1 d in
-          or-right (heardIn (deletesFound (mappings w) (withLive (f .label) n) (slotOf w k)) x) (heardIn (objectsFound (mappings w) (withLive (f .label) n) (slotOf w k)) x)
+          or-right (heardIn (deletesFound (mappings w) (f .label) (slotOf w k)) x) (heardIn (objectsFound (mappings w) (f .label) (slotOf w k)) x)
           (subst (λ (bs : List ℕ). heardIn (map (λ (o : Stored). record { id = o .id; content = put (o .body) }) (keep (λ (o : Stored). mappedTo (lookup (mappings w) (o .id)) (rawOf (f .label .lsn + o .position) false)) (objectsIn bs))) x ≡ true) (sym (shown w k f h .1 .objects))
           (object-found (mappings w) (f .label .lsn) (objectsIn (f .objects)) x (positionOf r) (s .sound .whole k f h .stored x r a d) (mapped (rawOf (f .label .lsn + positionOf r) false) (omega arith))))
       go true d =
-          ap (λ (c : Bool). c || heardIn (objectsFound (mappings w) (withLive (f .label) n) (slotOf w k)) x)
+          ap (λ (c : Bool). c || heardIn (objectsFound (mappings w) (f .label) (slotOf w k)) x)
           (subst (λ (es : List Entry). heardIn (map (λ (e : Entry). record { id = e .id; content = delete }) (keep (λ (e : Entry). mappedTo (lookup (mappings w) (e .id)) (absolute (f .label .lsn) e .location)) (keep (λ (e : Entry). deleteOf (e .location)) es))) x ≡ true)
           (sym (shown w k f h .1 .entries))
           (delete-found (mappings w) (f .label .lsn) (f .entries) x r a d (mapped (r + 2 * f .label .lsn) q)))
 
   -- LAW: an id is found in a file exactly where its location lies in the file's masked range
-  heard-range : (k : ℕ) (f : File) → viewAt (viewsOf w) k ≡ holds f → (x l : ℕ) → lookup (mappings w) x ≡ Mapped l → heardIn (foundIn w k) x ≡ inRange (recordAt (recordsOf w) k) (maskedAt l)
+  heard-range : (k : ℕ) (f : File) → viewAt (viewsOf w) k ≡ holds f → (x l : ℕ) → lookup (mappings w) x ≡ Mapped l → heardIn (foundIn w k) x ≡ inRange (recordAt (recordsOf w) k .label) (maskedAt l)
   heard-range k f h x l e =
-      subst (λ (r : Record). heardIn (objectsFound (mappings w) r (slotOf w k) ++ deletesFound (mappings w) r (slotOf w k)) x ≡ inRange r (maskedAt l))
+      subst (λ (r : Record). heardIn (objectsFound (mappings w) (r .label) (slotOf w k) ++ deletesFound (mappings w) (r .label) (slotOf w k)) x ≡ inRange (r .label) (maskedAt l))
       (sym (record-holds (viewsOf w) (recordsOf w) (s .sound .filed) k f h)) (both (lastOn here x) refl (inRange (f .label) (maskedAt l)) refl)
     where
       here : List Op
-      here = objectsFound (mappings w) (withLive (f .label) (recordAt (recordsOf w) k .live)) (slotOf w k) ++ deletesFound (mappings w) (withLive (f .label) (recordAt (recordsOf w) k .live)) (slotOf w k)
+      here = objectsFound (mappings w) (f .label) (slotOf w k) ++ deletesFound (mappings w) (f .label) (slotOf w k)
 
       stands : inRange (f .label) (maskedAt l) ≡ true → known (lastOn here x) ≡ true
       stands i =
           let t = range-entry (boundsOf w) (pictureOf w) (engine history) (s .sound) x l k f e h i in
-          inside-found k f h (recordAt (recordsOf w) k .live) x l (t .0) e (t .1) (t .2)
+          inside-found k f h x l (t .0) e (t .1) (t .2)
 
       both : (o : Last) → lastOn here x ≡ o → (b : Bool) → inRange (f .label) (maskedAt l) ≡ b → known (lastOn here x) ≡ inRange (f .label) (maskedAt l)
       both silent p true q = stands q ∙ sym q
       both silent p false q = ap known p ∙ sym q
-      both (last c) p b q = ap known p ∙ sym (last-all (InRangeOf (mappings w) (f .label)) here (found-inside k f h (recordAt (recordsOf w) k .live)) x c p l e)
+      both (last c) p b q = ap known p ∙ sym (last-all (InRangeOf (mappings w) (f .label)) here (found-inside k f h) x c p l e)
 
   -- LAW: so in the files of some slots
-  pub heard-each : (ks : List ℕ) → All (λ (k : ℕ). 0 < recordAt (recordsOf w) k .lsn) ks → (x l : ℕ) → lookup (mappings w) x ≡ Mapped l
-      → heardIn (each (foundIn w) ks) x ≡ any (λ (k : ℕ). inRange (recordAt (recordsOf w) k) (maskedAt l)) ks
+  pub heard-each : (ks : List ℕ) → All (λ (k : ℕ). 0 < recordAt (recordsOf w) k .label .lsn) ks → (x l : ℕ) → lookup (mappings w) x ≡ Mapped l
+      → heardIn (each (foundIn w) ks) x ≡ any (λ (k : ℕ). inRange (recordAt (recordsOf w) k .label) (maskedAt l)) ks
   unfolding each any lastOn
   heard-each [] a x l e = refl
   heard-each (k ∷ ks) a x l e =
       let z = file-slot w (engine history) s k (not-empty (recordAt (recordsOf w) k) (a .0)) in
       heard-append (foundIn w k) (each (foundIn w) ks) x
       ∙ ap (λ (b : Bool). b || heardIn (foundIn w k) x) (heard-each ks (a .1) x l e)
-      ∙ ap (λ (b : Bool). any (λ (k : ℕ). inRange (recordAt (recordsOf w) k) (maskedAt l)) ks || b) (heard-range k (z .0) (z .1) x l e)
-      ∙ or-swap (any (λ (k : ℕ). inRange (recordAt (recordsOf w) k) (maskedAt l)) ks) (inRange (recordAt (recordsOf w) k) (maskedAt l))
+      ∙ ap (λ (b : Bool). any (λ (k : ℕ). inRange (recordAt (recordsOf w) k .label) (maskedAt l)) ks || b) (heard-range k (z .0) (z .1) x l e)
+      ∙ or-swap (any (λ (k : ℕ). inRange (recordAt (recordsOf w) k .label) (maskedAt l)) ks) (inRange (recordAt (recordsOf w) k .label) (maskedAt l))
     where
       or-swap : (a b : Bool) → (a || b) ≡ (b || a)
       or-swap true true = refl
@@ -194,7 +194,7 @@ module _ (w : World) (history : List Op) (s : SoundWorld w (engine history)) whe
       or-swap false false = refl
 
   -- a location lies in one file's range at most
-  pub one-range : (x l : ℕ) → Has (mappings w) x l → (j : ℕ) × ((k : ℕ) → (k ≡ j → ⊥) → inRange (recordAt (recordsOf w) k) (maskedAt l) ≡ false)
+  pub one-range : (x l : ℕ) → Has (mappings w) x l → (j : ℕ) × ((k : ℕ) → (k ≡ j → ⊥) → inRange (recordAt (recordsOf w) k .label) (maskedAt l) ≡ false)
   one-range x l h =
       let z = table-stands (boundsOf w) (pictureOf w) (engine history) (s .sound) x l (has-lookup 0 (mappings w) (table-rising (boundsOf w) (pictureOf w) (engine history) (s .sound)) x l h) in
       let t = z .1 in
@@ -204,10 +204,10 @@ module _ (w : World) (history : List Op) (s : SoundWorld w (engine history)) whe
       (z .0, λ k n. go k (viewAt (viewsOf w) k) refl (omega arith) (λ g e. in-no-other (viewsOf w) (recordsOf w) (s .sound .filed) x l (z .0) k t g e n))
     where
       go : (k : ℕ) (v : View) → viewAt (viewsOf w) k ≡ v → 0 < maskedAt l → ((g : File) → viewAt (viewsOf w) k ≡ holds g → inRange (g .label) (maskedAt l) ≡ false)
-          → inRange (recordAt (recordsOf w) k) (maskedAt l) ≡ false
-      go k empty e m f = ap (λ (r : Record). inRange r (maskedAt l)) (record-empty (viewsOf w) (recordsOf w) (s .sound .filed) k e) ∙ empty-range (maskedAt l) m
+          → inRange (recordAt (recordsOf w) k .label) (maskedAt l) ≡ false
+      go k empty e m f = ap (λ (r : Record). inRange (r .label) (maskedAt l)) (record-empty (viewsOf w) (recordsOf w) (s .sound .filed) k e) ∙ empty-range (maskedAt l) m
       go k (damaged r) e m f = absurd (no-damage (viewsOf w) (recordsOf w) (s .sound .filed) k r e)
-      go k (holds g) e m f = ap (λ (r : Record). inRange r (maskedAt l)) (record-holds (viewsOf w) (recordsOf w) (s .sound .filed) k g e) ∙ f g e
+      go k (holds g) e m f = ap (λ (r : Record). inRange (r .label) (maskedAt l)) (record-holds (viewsOf w) (recordsOf w) (s .sound .filed) k g e) ∙ f g e
 
   -- an id that is found is mapped
   found-mapped : (ks : List ℕ) (x : ℕ) → heardIn (found w ks) x ≡ true → unmapped (lookup (mappings w) x) ≡ false
@@ -221,23 +221,23 @@ module _ (w : World) (history : List Op) (s : SoundWorld w (engine history)) whe
           absurd (heard-of c (sym (ap (λ (m : Held). heldSays (pictureOf w) m x) e) ∙ s .sound .says x
           ∙ last-all (Movable (engine history)) (found w ks) (found-movable w history s ks) x c p .0))
 
-  live-is : (k : ℕ) → 0 < recordAt (recordsOf w) k .lsn → mappedInto (mappings w) (recordAt (recordsOf w) k) ≡ recordAt (recordsOf w) k .live
+  live-is : (k : ℕ) → 0 < recordAt (recordsOf w) k .label .lsn → mappedInto (mappings w) (recordAt (recordsOf w) k .label) ≡ recordAt (recordsOf w) k .live
   unfolding mappedInto
   live-is k h =
       let z = file-slot w (engine history) s k (not-empty (recordAt (recordsOf w) k) h) in
-      ap (mappedInto (mappings w)) (record-holds (viewsOf w) (recordsOf w) (s .sound .filed) k (z .0) (z .1)) ∙ sym (s .sound .counted k (z .0) (z .1))
+      ap (λ (r : Record). mappedInto (mappings w) (r .label)) (record-holds (viewsOf w) (recordsOf w) (s .sound .filed) k (z .0) (z .1)) ∙ sym (s .sound .counted k (z .0) (z .1))
 
   -- LAW: as many ids are moved as the live counts of the group's files say
-  pub found-count : (i : ℕ) (ks : List ℕ) → Ascending i ks → All (λ (k : ℕ). 0 < recordAt (recordsOf w) k .lsn) ks
+  pub found-count : (i : ℕ) (ks : List ℕ) → Ascending i ks → All (λ (k : ℕ). 0 < recordAt (recordsOf w) k .label .lsn) ks
       → length (found w ks) ≡ sum (λ (k : ℕ). recordAt (recordsOf w) k .live) ks
   unfolding found mappedInto
   found-count i ks up files =
       count-heard 0 0 (mappings w) (found w ks) rises (settled-rising (each (foundIn w) ks)) (found-mapped ks)
-      ∙ keep-same (λ (e : Entry). heardIn (found w ks) (e .id)) (λ (e : Entry). any (λ (k : ℕ). inRange (recordAt (recordsOf w) k) (maskedAt (e .location))) ks) (mappings w)
+      ∙ keep-same (λ (e : Entry). heardIn (found w ks) (e .id)) (λ (e : Entry). any (λ (k : ℕ). inRange (recordAt (recordsOf w) k .label) (maskedAt (e .location))) ks) (mappings w)
       (λ x l h. ap known (settled-last (each (foundIn w) ks) x) ∙ heard-each ks files x l (has-lookup 0 (mappings w) rises x l h))
-      ∙ sym (count-slots i ks up (λ (k l : ℕ). inRange (recordAt (recordsOf w) k) (maskedAt l)) (mappings w) one-range)
-      ∙ sum-same (λ (k : ℕ). mappedInto (mappings w) (recordAt (recordsOf w) k)) (λ (k : ℕ). recordAt (recordsOf w) k .live) ks
-      (all-map (λ (k : ℕ). 0 < recordAt (recordsOf w) k .lsn) (λ (k : ℕ). mappedInto (mappings w) (recordAt (recordsOf w) k) ≡ recordAt (recordsOf w) k .live) ks live-is files)
+      ∙ sym (count-slots i ks up (λ (k l : ℕ). inRange (recordAt (recordsOf w) k .label) (maskedAt l)) (mappings w) one-range)
+      ∙ sum-same (λ (k : ℕ). mappedInto (mappings w) (recordAt (recordsOf w) k .label)) (λ (k : ℕ). recordAt (recordsOf w) k .live) ks
+      (all-map (λ (k : ℕ). 0 < recordAt (recordsOf w) k .label .lsn) (λ (k : ℕ). mappedInto (mappings w) (recordAt (recordsOf w) k .label) ≡ recordAt (recordsOf w) k .live) ks live-is files)
     where
       rises : Rising 0 (mappings w)
       rises = table-rising (boundsOf w) (pictureOf w) (engine history) (s .sound)

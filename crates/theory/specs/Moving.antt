@@ -5,7 +5,7 @@ use native.Mathlib.Omega.{arith}
 use lib.ListN.{length-take, length-drop}
 use lib.Seq.{drop-drop}
 use Rattle.rules.specs.Base.{Bool, true, false, List, [], _∷_, ℕ, zero, suc, _+_, _-_, _*_, _%_, _^_, length, drop, eqb, pick, keep, each}
-use Rattle.theory.specs.Types.{Entry, Record, Answer, Done, Refused, Held, Mapped, Slot, Is}
+use Rattle.theory.specs.Types.{Entry, Label, Record, Answer, Done, Refused, Held, Mapped, Slot, Is}
 use Rattle.disk_location.specs.Locations.{positionOf, deleteOf, rawOf}
 use Rattle.rules.specs.BaseLaws.{All, all-append}
 use Rattle.rules.specs.Refusal.{decide, after}
@@ -16,7 +16,7 @@ use Rattle.rules.specs.SettledLaws.{Last, last, lastOn, settled-all}
 use Rattle.rules.specs.SlotFile.{slotBytes, fileIn, objectPart, trailerEntries, File, View, empty, damaged, holds}
 use Rattle.rules.specs.Table.{lookup, mappedTo}
 use Rattle.rules.specs.TableLaws.{lookup-has, mapped-to}
-use Rattle.rules.specs.FileMap.{emptyRecord, recordAt, fileFor}
+use Rattle.rules.specs.FileMap.{emptyLabel, recordAt, fileFor}
 use Rattle.rules.specs.Read.{objectTests}
 use Rattle.rules.specs.Maintenance.{storedObjects, deletesOf, objectsFound, deletesFound, slotOf, foundIn, found}
 use Rattle.rules.specs.World.{World, recordsOf, mappings}
@@ -67,8 +67,8 @@ delete-absolute lsn e =
     let z : absolute lsn e .location % 2 ≡ e .location % 2 = ap (λ (n : ℕ). n % 2) a ∙ omega arith in
     ap (λ (n : ℕ). eqb n 1) z
 
--- an empty record has no object
-pub none-found : (P : Op → Type 0) (table : List Entry) (slot : List ℕ) → All P (objectsFound table emptyRecord slot)
+-- an empty label has no object
+pub none-found : (P : Op → Type 0) (table : List Entry) (slot : List ℕ) → All P (objectsFound table emptyLabel slot)
 unfolding objectsFound objectsIn objectsFrom keep
 none-found P table slot = tt
 
@@ -82,36 +82,36 @@ module _ (w : World) (history : List Op) (s : SoundWorld w (engine history)) whe
 
   -- LAW: an object at its id's current location
   current-object : (k : ℕ) (f : File) (o : Stored) → viewAt (viewsOf w) k ≡ holds f → StandsIn (f .objects) o
-      → lookup (mappings w) (o .id) ≡ Mapped (rawOf (recordAt (recordsOf w) k .lsn + o .position) false) → engine history (o .id) ≡ body (o .body)
+      → lookup (mappings w) (o .id) ≡ Mapped (rawOf (recordAt (recordsOf w) k .label .lsn + o .position) false) → engine history (o .id) ≡ body (o .body)
   unfolding pictureSays
   current-object k f o h t e =
       own-body (o .id) o (lastOn history (o .id)) (
       ap (objectSays (o .id)) (t .0)
       ∙ sym (ap (λ (n : ℕ). placeSays f n (o .id)) place)
-      ∙ sym (ap (λ (v : View). viewSays v (positionOf (rawOf (recordAt (recordsOf w) k .lsn + o .position) false) - recordAt (recordsOf w) k .lsn) (o .id)) h)
-      ∙ sym (ap (λ (c : Slot). slotSays (pictureOf w) c (rawOf (recordAt (recordsOf w) k .lsn + o .position) false) (o .id)) at)
-      ∙ sym (ap (λ (n : ℕ). pick (eqb n 1) gone (slotSays (pictureOf w) (fileFor (recordsOf w) (rawOf (recordAt (recordsOf w) k .lsn + o .position) false)) (rawOf (recordAt (recordsOf w) k .lsn + o .position) false) (o .id))) even)
+      ∙ sym (ap (λ (v : View). viewSays v (positionOf (rawOf (recordAt (recordsOf w) k .label .lsn + o .position) false) - recordAt (recordsOf w) k .label .lsn) (o .id)) h)
+      ∙ sym (ap (λ (c : Slot). slotSays (pictureOf w) c (rawOf (recordAt (recordsOf w) k .label .lsn + o .position) false) (o .id)) at)
+      ∙ sym (ap (λ (n : ℕ). pick (eqb n 1) gone (slotSays (pictureOf w) (fileFor (recordsOf w) (rawOf (recordAt (recordsOf w) k .label .lsn + o .position) false)) (rawOf (recordAt (recordsOf w) k .label .lsn + o .position) false) (o .id))) even)
       ∙ sym (ap (λ (c : Held). heldSays (pictureOf w) c (o .id)) e)
       ∙ s .sound .says (o .id))
     where
-      lsn : recordAt (recordsOf w) k .lsn ≡ f .label .lsn
-      lsn = ap (λ (r : Record). r .lsn) (record-holds (viewsOf w) (recordsOf w) (s .sound .filed) k f h)
+      lsn : recordAt (recordsOf w) k .label .lsn ≡ f .label .lsn
+      lsn = ap (λ (r : Record). r .label .lsn) (record-holds (viewsOf w) (recordsOf w) (s .sound .filed) k f h)
 
-      even : rawOf (recordAt (recordsOf w) k .lsn + o .position) false % 2 ≡ 0
+      even : rawOf (recordAt (recordsOf w) k .label .lsn + o .position) false % 2 ≡ 0
       even = omega arith
 
       inside : o .position ≤ f .label .«trailer_offset»
       inside = let a = objects-inside k f h in let c = t .1 in omega arith
 
-      at : fileFor (recordsOf w) (rawOf (recordAt (recordsOf w) k .lsn + o .position) false) ≡ Is k
+      at : fileFor (recordsOf w) (rawOf (recordAt (recordsOf w) k .label .lsn + o .position) false) ≡ Is k
       at =
           let l = lsn in
-          let n : rawOf (recordAt (recordsOf w) k .lsn + o .position) false ≡ 2 * o .position + 2 * f .label .lsn = omega arith in
+          let n : rawOf (recordAt (recordsOf w) k .label .lsn + o .position) false ≡ 2 * o .position + 2 * f .label .lsn = omega arith in
           let i = inside in
           let p : positionOf (2 * o .position) ≤ f .label .«trailer_offset» = omega arith in
           ap (fileFor (recordsOf w)) n ∙ own-place (viewsOf w) (recordsOf w) (s .sound .filed) k f (2 * o .position) h p
 
-      place : positionOf (rawOf (recordAt (recordsOf w) k .lsn + o .position) false) - recordAt (recordsOf w) k .lsn ≡ o .position
+      place : positionOf (rawOf (recordAt (recordsOf w) k .label .lsn + o .position) false) - recordAt (recordsOf w) k .label .lsn ≡ o .position
       place = omega arith
 
   -- LAW: a delete at its id's current location
@@ -124,7 +124,7 @@ module _ (w : World) (history : List Op) (s : SoundWorld w (engine history)) whe
   narrow : (x l : ℕ) → lookup (mappings w) x ≡ Mapped l → x < 2 ^ 64
   narrow x l e = s .sound .narrow x l (lookup-has (mappings w) x l e)
 
-  objects-movable : (k : ℕ) (f : File) → viewAt (viewsOf w) k ≡ holds f → (r : Record) → r ≡ recordAt (recordsOf w) k
+  objects-movable : (k : ℕ) (f : File) → viewAt (viewsOf w) k ≡ holds f → (r : Label) → r ≡ recordAt (recordsOf w) k .label
       → All (Movable (engine history)) (objectsFound (mappings w) r (slotOf w k))
   unfolding objectsFound
   objects-movable k f h r e =
@@ -133,15 +133,15 @@ module _ (w : World) (history : List Op) (s : SoundWorld w (engine history)) whe
       (storedObjects r (slotOf w k))
       (λ o t q.
       let m = mapped-to (lookup (mappings w) (o .id)) (rawOf (r .lsn + o .position) false) q in
-      (current-object k f o h t (m ∙ ap (λ (c : Record). Mapped (rawOf (c .lsn + o .position) false)) e), narrow (o .id) (rawOf (r .lsn + o .position) false) m))
+      (current-object k f o h t (m ∙ ap (λ (c : Label). Mapped (rawOf (c .lsn + o .position) false)) e), narrow (o .id) (rawOf (r .lsn + o .position) false) m))
       (subst (λ (bs : List ℕ). All (StandsIn (f .objects)) (objectsIn bs)) same (objects-stand (f .objects)))
     where
       same : f .objects ≡ objectPart r (slotOf w k)
       same =
           sym (shown w k f h .1 .objects)
-          ∙ ap (λ (c : Record). objectPart c (slotOf w k)) (sym (e ∙ record-holds (viewsOf w) (recordsOf w) (s .sound .filed) k f h))
+          ∙ ap (λ (c : Label). objectPart c (slotOf w k)) (sym (e ∙ ap (λ (c : Record). c .label) (record-holds (viewsOf w) (recordsOf w) (s .sound .filed) k f h)))
 
-  deletes-movable : (r : Record) (slot : List ℕ) → All (Movable (engine history)) (deletesFound (mappings w) r slot)
+  deletes-movable : (r : Label) (slot : List ℕ) → All (Movable (engine history)) (deletesFound (mappings w) r slot)
   unfolding deletesFound deletesOf
   deletes-movable r slot =
       all-kept (λ (e : Entry). deleteOf (e .location) ≡ true) (Movable (engine history))
@@ -154,15 +154,15 @@ module _ (w : World) (history : List Op) (s : SoundWorld w (engine history)) whe
 
   found-in : (k : ℕ) → All (Movable (engine history)) (foundIn w k)
   found-in k =
-      all-append (Movable (engine history)) (objectsFound (mappings w) (recordAt (recordsOf w) k) (slotOf w k)) (deletesFound (mappings w) (recordAt (recordsOf w) k) (slotOf w k))
-      (go (viewAt (viewsOf w) k) refl) (deletes-movable (recordAt (recordsOf w) k) (slotOf w k))
+      all-append (Movable (engine history)) (objectsFound (mappings w) (recordAt (recordsOf w) k .label) (slotOf w k)) (deletesFound (mappings w) (recordAt (recordsOf w) k .label) (slotOf w k))
+      (go (viewAt (viewsOf w) k) refl) (deletes-movable (recordAt (recordsOf w) k .label) (slotOf w k))
     where
-      go : (v : View) → viewAt (viewsOf w) k ≡ v → All (Movable (engine history)) (objectsFound (mappings w) (recordAt (recordsOf w) k) (slotOf w k))
+      go : (v : View) → viewAt (viewsOf w) k ≡ v → All (Movable (engine history)) (objectsFound (mappings w) (recordAt (recordsOf w) k .label) (slotOf w k))
       go empty e =
-          subst (λ (r : Record). All (Movable (engine history)) (objectsFound (mappings w) r (slotOf w k)))
+          subst (λ (r : Record). All (Movable (engine history)) (objectsFound (mappings w) (r .label) (slotOf w k)))
           (sym (record-empty (viewsOf w) (recordsOf w) (s .sound .filed) k e)) (none-found (Movable (engine history)) (mappings w) (slotOf w k))
       go (damaged r) e = absurd (no-damage (viewsOf w) (recordsOf w) (s .sound .filed) k r e)
-      go (holds f) e = objects-movable k f e (recordAt (recordsOf w) k) refl
+      go (holds f) e = objects-movable k f e (recordAt (recordsOf w) k .label) refl
 
   -- LAW: what a group moves is current
   pub found-movable : (slots : List ℕ) → All (Movable (engine history)) (found w slots)

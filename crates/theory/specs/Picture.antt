@@ -64,7 +64,7 @@ viewSays (holds f) position x = placeSays f position x
 -- at a location, by the file that is found for it
 abbrev pub slotSays : Picture → Slot → ℕ → ℕ → Said
 slotSays p NoSlot l x = broken NotThere
-slotSays p (Is k) l x = viewSays (viewAt (p .views) k) (positionOf l - recordAt (p .records) k .lsn) x
+slotSays p (Is k) l x = viewSays (viewAt (p .views) k) (positionOf l - recordAt (p .records) k .label .lsn) x
 
 -- by what the table holds
 abbrev pub heldSays : Picture → Held → ℕ → Said

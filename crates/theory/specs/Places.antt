@@ -10,7 +10,7 @@ use Rattle.disk_location.specs.Locations.{maskedOf, positionOf}
 use Rattle.disk_location.specs.LocationLaws.{masked-pos}
 use Rattle.rules.specs.Trailer.{absolute}
 use Rattle.rules.specs.SlotFile.{File, View, empty, damaged, holds}
-use Rattle.rules.specs.FileMap.{emptyRecord, recordAt, withLive, fileFor}
+use Rattle.rules.specs.FileMap.{recorded, emptyRecord, recordAt, fileFor}
 use Rattle.rules.specs.Reopen.{fileOf, filesIn, inRange}
 use Rattle.rules.specs.BaseLaws.{same?}
 use Rattle.rules.specs.TableLaws.{Rising, Has, mapped-one, has-lookup}
@@ -57,7 +57,7 @@ Apart f g =
 abbrev pub Agrees : View → Record → Type 0
 Agrees empty r = r ≡ emptyRecord
 Agrees (damaged n) r = ⊥
-Agrees (holds f) r = r ≡ withLive (f .label) (r .live)
+Agrees (holds f) r = r ≡ recorded (f .label) (r .live)
 
 -- views and records tell of the same files, and the files are well made and apart
 pub record Filed (views : List View) (rs : List Record) : Type 0 where
@@ -165,7 +165,7 @@ has-stands (v ∷ vs) x l h = go (has-stands vs x l) v refl h
 
 module _ (views : List View) (rs : List Record) (filed : Filed views rs) where
   -- the record of a slot with a file
-  pub record-holds : (k : ℕ) (f : File) → viewAt views k ≡ holds f → recordAt rs k ≡ withLive (f .label) (recordAt rs k .live)
+  pub record-holds : (k : ℕ) (f : File) → viewAt views k ≡ holds f → recordAt rs k ≡ recorded (f .label) (recordAt rs k .live)
   record-holds k f h = subst (λ (v : View). Agrees v (recordAt rs k)) h (filed .agree k)
 
   -- of an empty one
@@ -177,17 +177,17 @@ module _ (views : List View) (rs : List Record) (filed : Filed views rs) where
   no-damage k n h = subst (λ (v : View). Agrees v (recordAt rs k)) h (filed .agree k)
 
   below-own : (k : ℕ) (f : File) (r : ℕ) → viewAt views k ≡ holds f → positionOf r ≤ f .label .«trailer_offset»
-      → (j : ℕ) → (j ≡ k → ⊥) → 2 * recordAt rs j .lsn ≤ r + 2 * f .label .lsn → recordAt rs j .lsn < f .label .lsn
+      → (j : ℕ) → (j ≡ k → ⊥) → 2 * recordAt rs j .label .lsn ≤ r + 2 * f .label .lsn → recordAt rs j .label .lsn < f .label .lsn
   below-own k f r h i j n c = go (viewAt views j) refl
     where
-      go : (v : View) → viewAt views j ≡ v → recordAt rs j .lsn < f .label .lsn
+      go : (v : View) → viewAt views j ≡ v → recordAt rs j .label .lsn < f .label .lsn
       go empty e =
-          let q : recordAt rs j .lsn ≡ 0 = ap (λ (r : Record). r .lsn) (record-empty j e) in
+          let q : recordAt rs j .label .lsn ≡ 0 = ap (λ (r : Record). r .label .lsn) (record-empty j e) in
           let w = masked-pos (f .label .lsn) (filed .made k f h .placed) in
           omega arith
       go (damaged m) e = absurd (no-damage j m e)
       go (holds g) e =
-          let q : recordAt rs j .lsn ≡ g .label .lsn = ap (λ (r : Record). r .lsn) (record-holds j g e) in
+          let q : recordAt rs j .label .lsn ≡ g .label .lsn = ap (λ (r : Record). r .label .lsn) (record-holds j g e) in
           let a = filed .made k f h in
           let b = filed .made j g e in
           let w : g .label .lsn ≤ f .label .lsn + r / 2 = omega arith in
@@ -198,7 +198,7 @@ module _ (views : List View) (rs : List Record) (filed : Filed views rs) where
   -- LAW: a location inside a file is looked up in that file
   pub own-place : (k : ℕ) (f : File) (r : ℕ) → viewAt views k ≡ holds f → positionOf r ≤ f .label .«trailer_offset» → fileFor rs (r + 2 * f .label .lsn) ≡ Is k
   own-place k f r h i =
-      let q : recordAt rs k .lsn ≡ f .label .lsn = ap (λ (r : Record). r .lsn) (record-holds k f h) in
+      let q : recordAt rs k .label .lsn ≡ f .label .lsn = ap (λ (r : Record). r .label .lsn) (record-holds k f h) in
       let a = masked-pos (f .label .lsn) (filed .made k f h .placed) in
       let b = holds-lt views k f h in
       let c = filed .fits in
@@ -210,11 +210,11 @@ module _ (views : List View) (rs : List Record) (filed : Filed views rs) where
         first = λ j l c. let w = below-own k f r h i j (λ z. omega arith) c in omega arith;
       })
     where
-      most : (j : ℕ) → (j ≡ k) ⊎ (j ≡ k → ⊥) → 2 * recordAt rs j .lsn ≤ r + 2 * f .label .lsn → recordAt rs j .lsn ≤ recordAt rs k .lsn
+      most : (j : ℕ) → (j ≡ k) ⊎ (j ≡ k → ⊥) → 2 * recordAt rs j .label .lsn ≤ r + 2 * f .label .lsn → recordAt rs j .label .lsn ≤ recordAt rs k .label .lsn
       most j (inl q) c = rw q (omega arith)
       most j (inr q) c =
           let w = below-own k f r h i j q c in
-          let z : recordAt rs k .lsn ≡ f .label .lsn = ap (λ (r : Record). r .lsn) (record-holds k f h) in
+          let z : recordAt rs k .label .lsn ≡ f .label .lsn = ap (λ (r : Record). r .label .lsn) (record-holds k f h) in
           omega arith
 
   -- LAW: an entry's location is looked up in its own file

@@ -180,7 +180,7 @@ module _ (w : World) (told : ℕ → Said) (s : SoundWorld w told) where
       let z = shown w k f h in
       let slot = slotBytes (w .settings .«slot_bytes») (w .heap) k in
       let r = read-back position (f .label .«trailer_offset») x (f .objects) (fileIn (f .label) slot) b (sym (z .1 .objects)) e in
-      let q : recordAt (recordsOf w) k .«file_size» ≡ f .label .«file_size» = ap (λ (r : Record). r .«file_size») (record-holds (viewsOf w) (recordsOf w) (s .sound .filed) k f h) in (
+      let q : recordAt (recordsOf w) k .label .«file_size» ≡ f .label .«file_size» = ap (λ (r : Record). r .label .«file_size») (record-holds (viewsOf w) (recordsOf w) (s .sound .filed) k f h) in (
         ap (λ (n : ℕ). readObject w x k (storedAt position (drop position (take n (drop 64 slot))))) q
             ∙ ap (λ (a : Answer). after a ReadRefused (Found (found-at (fileIn (f .label) slot)) (storedAt position (drop position (fileIn (f .label) slot)) .size))) (decide-clear _ (r .clear))
             ∙ ap (Found (found-at (fileIn (f .label) slot))) (r .size)
@@ -192,17 +192,17 @@ module _ (w : World) (told : ℕ → Said) (s : SoundWorld w told) where
       found-at bytes = k * w .settings .«slot_bytes» + 64 + storedAt position (drop position bytes) .position + 20
 
   -- what the picture says of an id, a read gives
-  view-read : (x l k : ℕ) (v : View) → viewAt (viewsOf w) k ≡ v → (t : Last) → viewSays v (positionOf l - recordAt (recordsOf w) k .lsn) x ≡ lastSays t → Reads w (readFile w x l (Is k)) t
+  view-read : (x l k : ℕ) (v : View) → viewAt (viewsOf w) k ≡ v → (t : Last) → viewSays v (positionOf l - recordAt (recordsOf w) k .label .lsn) x ≡ lastSays t → Reads w (readFile w x l (Is k)) t
   view-read x l k empty h t e = absurd (not-broken t e)
   view-read x l k (damaged r) h t e = absurd (not-broken t e)
   view-read x l k (holds f) h t e = go t e
     where
-      go : (t : Last) → placeSays f (positionOf l - recordAt (recordsOf w) k .lsn) x ≡ lastSays t → Reads w (readFile w x l (Is k)) t
-      go silent e = absurd (object-loud x (storedAt (positionOf l - recordAt (recordsOf w) k .lsn) (drop (positionOf l - recordAt (recordsOf w) k .lsn) (f .objects))) .0 e)
-      go (last delete) e = absurd (object-loud x (storedAt (positionOf l - recordAt (recordsOf w) k .lsn) (drop (positionOf l - recordAt (recordsOf w) k .lsn) (f .objects))) .1 e)
+      go : (t : Last) → placeSays f (positionOf l - recordAt (recordsOf w) k .label .lsn) x ≡ lastSays t → Reads w (readFile w x l (Is k)) t
+      go silent e = absurd (object-loud x (storedAt (positionOf l - recordAt (recordsOf w) k .label .lsn) (drop (positionOf l - recordAt (recordsOf w) k .label .lsn) (f .objects))) .0 e)
+      go (last delete) e = absurd (object-loud x (storedAt (positionOf l - recordAt (recordsOf w) k .label .lsn) (drop (positionOf l - recordAt (recordsOf w) k .label .lsn) (f .objects))) .1 e)
       go (last (put b)) e =
-          let r = object-read k (positionOf l - recordAt (recordsOf w) k .lsn) x f b h e in
-          (bodyStart w k (positionOf l - recordAt (recordsOf w) k .lsn), r .0, ap (λ (a : ReadAnswer). partOf a (w .heap)) (r .0) ∙ r .1)
+          let r = object-read k (positionOf l - recordAt (recordsOf w) k .label .lsn) x f b h e in
+          (bodyStart w k (positionOf l - recordAt (recordsOf w) k .label .lsn), r .0, ap (λ (a : ReadAnswer). partOf a (w .heap)) (r .0) ∙ r .1)
 
   slot-read : (x l : ℕ) (o : Slot) (t : Last) → slotSays (pictureOf w) o l x ≡ lastSays t → Reads w (readFile w x l o) t
   slot-read x l NoSlot t e = absurd (not-broken t e)

@@ -198,5 +198,5 @@ group-relocates history w s g aged ks moved x = go (decide (groupTests w ks (fil
     go (Refused r) e = inl (record { table = refl; file = λ l e. refl })
     go Done e =
         fits-relocate history w s g aged ks x (filesOf (w .settings .«target_file_size») (found w ks)) (files-rewritable history w s ks (w .settings .«target_file_size»)) (files-parts (w .settings .«target_file_size») (found w ks))
-        (none-rest (each (λ (k : ℕ). fileTests (w .settings .«max_object_size») (mappings w) (recordAt (recordsOf w) k) (slotOf w k)) ks) _
+        (none-rest (each (λ (k : ℕ). fileTests (w .settings .«max_object_size») (mappings w) (recordAt (recordsOf w) k .label) (slotOf w k)) ks) _
         (clear-when (groupTests w ks (filesOf (w .settings .«target_file_size») (found w ks))) e))

@@ -17,7 +17,7 @@ use Rattle.rules.specs.Table.{lookup}
 use Rattle.rules.specs.TableLaws.{Has, has-lookup}
 use Rattle.rules.specs.Layout.{capacityOf, laidOut, usedEntries}
 use Rattle.rules.specs.LayoutLaws.{Used, used-laid-out}
-use Rattle.rules.specs.FileMap.{recordAt, withLive, fileFor}
+use Rattle.rules.specs.FileMap.{recorded, recordAt, fileFor}
 use Rattle.rules.specs.Reopen.{viewTests, filesIn, overlapping, notRising, tableOf, reopenTests, mappedInto, recordOf, recordsFrom, inRange, givenUp, opened, reopenCall}
 use Rattle.rules.specs.ReopenLaws.{records-from-length}
 use Rattle.rules.specs.World.{World, recordsOf, mappings, slotsOf, accepted, After, unchanged}
@@ -48,7 +48,7 @@ pub record Opened (w v : World) : Type 0 where
   -- the location is looked up in the file where the entry stands
   pub found : (x l k : ℕ) → Stands (viewsOf w) x l k → fileFor (recordsOf v) l ≡ Is k
   -- a slot's record has its label's five numbers, and as live count the number of ids that are mapped into the file
-  pub labelled : (k : ℕ) (f : File) → viewAt (viewsOf w) k ≡ holds f → recordAt (recordsOf v) k ≡ withLive (f .label) (liveAt (recordsOf v) k)
+  pub labelled : (k : ℕ) (f : File) → viewAt (viewsOf w) k ≡ holds f → recordAt (recordsOf v) k ≡ recorded (f .label) (liveAt (recordsOf v) k)
   pub counted : (k : ℕ) (f : File) → viewAt (viewsOf w) k ≡ holds f
       → liveAt (recordsOf v) k ≡ count (λ (l : ℕ). isAt k (fileFor (recordsOf v) l)) (mappings v)
   -- the next position lies above every file

@@ -19,7 +19,7 @@ use Rattle.rules.specs.Table.{lookup}
 use Rattle.rules.specs.TableLaws.{Has}
 use Rattle.rules.specs.FileMap.{emptyRecord, isEmpty, recordAt, withLive, slotsWhere, emptySlots}
 use Rattle.rules.specs.FileMapLaws.{empty-is, is-empty}
-use Rattle.rules.specs.Install.{newRecord, losing, newSlot, newLsn, recordsWith, storesFor, nextWith, installed, installedAll, emptyOf}
+use Rattle.rules.specs.Install.{newLabel, newRecord, losing, newSlot, newLsn, recordsWith, storesFor, nextWith, installed, installedAll, emptyOf}
 use Rattle.rules.specs.InstallLaws.{losing-length, Less, losing-record}
 use Rattle.rules.specs.World.{World, recordsOf, mappings, slotsOf}
 use Rattle.theory.specs.Entries.{insert-all-old, absolute-has}
@@ -101,7 +101,7 @@ less-empty r q l e =
 pub one-fewer : (bit g : ℕ) (w : World) (os : List Op) → emptyOf w ≤ suc (emptyOf (installed bit g w os))
 unfolding installed emptySlots recordsWith
 one-fewer bit g w os =
-    let n = made-length (storesFor (newRecord (newLsn bit w) g os) w os) (w .heap) in
+    let n = made-length (storesFor (newLabel (newLsn bit w) g os) w os) (w .heap) in
     let rs = recordsOf w in
     let qs = set (losing (mappings w) os (recordsOf w)) (newSlot w) (newRecord (newLsn bit w) g os) in
     let c : length (slotsWhere emptyTest 0 (take (slotsOf w) qs)) ≡ emptyOf (installed bit g w os)

@@ -47,16 +47,16 @@ none-large limit table (o ∷ os) n = or-clear (leb limit (o .size)) _ (n .1 .0)
 
 module _ (w : World) (history : List Op) (s : SoundWorld w (engine history)) (ks : List ℕ) where
   -- LAW: the files of a group are refused with 3, for an object of that size, or pass
-  pub sources-decided : All (λ (k : ℕ). 0 < recordAt (recordsOf w) k .lsn) ks → (us : List Test)
-      → ((decide (each (λ (k : ℕ). fileTests (w .settings .«max_object_size») (mappings w) (recordAt (recordsOf w) k) (slotOf w k)) ks ++ us) ≡ Refused ObjectSize) × Oversized w ks) ⊎ SourcesPass w ks
+  pub sources-decided : All (λ (k : ℕ). 0 < recordAt (recordsOf w) k .label .lsn) ks → (us : List Test)
+      → ((decide (each (λ (k : ℕ). fileTests (w .settings .«max_object_size») (mappings w) (recordAt (recordsOf w) k .label) (slotOf w k)) ks ++ us) ≡ Refused ObjectSize) × Oversized w ks) ⊎ SourcesPass w ks
   sources-decided files us = only-splits (Oversized w ks) _ us (group-only w history s ks files)
 
   -- LAW: and where they pass there is none
   pub passed-small : SourcesPass w ks → Oversized w ks → ⊥
   unfolding fileTests
   passed-small n o =
-      let a = one-none (λ (k : ℕ). fileTests (w .settings .«max_object_size») (mappings w) (recordAt (recordsOf w) k) (slotOf w k)) ks n (o .slot) (o .among) in
-      let b = subst (λ (r : Record). NoneHolds (fileTests (w .settings .«max_object_size») (mappings w) r (slotOf w (o .slot)))) (record-holds (viewsOf w) (recordsOf w) (s .sound .filed) (o .slot) (o .file) (o .shows)) a in
+      let a = one-none (λ (k : ℕ). fileTests (w .settings .«max_object_size») (mappings w) (recordAt (recordsOf w) k .label) (slotOf w k)) ks n (o .slot) (o .among) in
+      let b = subst (λ (r : Record). NoneHolds (fileTests (w .settings .«max_object_size») (mappings w) (r .label) (slotOf w (o .slot)))) (record-holds (viewsOf w) (recordsOf w) (s .sound .filed) (o .slot) (o .file) (o .shows)) a in
       let c = none-first (each (movedTests (w .settings .«max_object_size») (mappings w)) (objectsIn (objectPart (o .file .label) (slotOf w (o .slot))))) _
       (none-rest (trailerTests (trailerPart (o .file .label) (slotOf w (o .slot)))) _ b) in
       true≢false (
@@ -75,10 +75,10 @@ oversized-later w v ks r e o = record {
 }
 
 -- and back
-pub oversized-earlier : (history : List Op) (w v : World) → SoundWorld w (engine history) → (ks : List ℕ) → All (λ (k : ℕ). 0 < recordAt (recordsOf w) k .lsn) ks → Remain w v → v .settings ≡ w .settings
+pub oversized-earlier : (history : List Op) (w v : World) → SoundWorld w (engine history) → (ks : List ℕ) → All (λ (k : ℕ). 0 < recordAt (recordsOf w) k .label .lsn) ks → Remain w v → v .settings ≡ w .settings
     → Oversized v ks → Oversized w ks
 oversized-earlier history w v s ks files r e o =
-    let z = file-slot w (engine history) s (o .slot) (not-empty (recordAt (recordsOf w) (o .slot)) (among-get (λ (k : ℕ). 0 < recordAt (recordsOf w) k .lsn) ks files (o .slot) (o .among))) in
+    let z = file-slot w (engine history) s (o .slot) (not-empty (recordAt (recordsOf w) (o .slot)) (among-get (λ (k : ℕ). 0 < recordAt (recordsOf w) k .label .lsn) ks files (o .slot) (o .among))) in
     record {
       slot = o .slot;
       among = o .among;

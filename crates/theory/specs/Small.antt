@@ -6,7 +6,7 @@ use native.Mathlib.Omega.{arith}
 use lib.ListN.{length-take}
 use borrow.Author.Tests.{leb-false, lt-leb}
 use Rattle.rules.specs.Base.{Bool, true, false, List, [], _∷_, ℕ, zero, suc, _+_, _^_, length, set, take, drop, leb, ltb, pick, any, keep, each}
-use Rattle.theory.specs.Types.{Settings, Entry, Record, Refusal, Answer, Done, Refused}
+use Rattle.theory.specs.Types.{Settings, Entry, Label, Record, Refusal, Answer, Done, Refused}
 use Rattle.disk_location.specs.Locations.{deleteOf, rawOf}
 use Rattle.rules.specs.BaseLaws.{All, all-map, all-append, all-both, any-false, any-clear}
 use Rattle.rules.specs.Refusal.{decide, after}
@@ -107,7 +107,7 @@ module _ (w : World) (history : List Op) (s : SoundWorld w (engine history)) (sm
   small-pruned k f h = ⊎-elim (λ c. small k f (sym (c .0) ∙ h)) (λ c. absurd (not-empty (sym (c .1) ∙ h))) (each-slot w (engine history) s k)
 
   -- ---- what a group moves
-  objects-fine : (k : ℕ) (f : File) → viewAt (viewsOf w) k ≡ holds f → (r : Record) → f .objects ≡ objectPart r (slotOf w k) → All (Fine (w .settings .«max_object_size»)) (objectsFound (mappings w) r (slotOf w k))
+  objects-fine : (k : ℕ) (f : File) → viewAt (viewsOf w) k ≡ holds f → (r : Label) → f .objects ≡ objectPart r (slotOf w k) → All (Fine (w .settings .«max_object_size»)) (objectsFound (mappings w) r (slotOf w k))
   unfolding objectsFound
   objects-fine k f h r same =
       all-kept (λ (o : Stored). StandsIn (f .objects) o × (leb (w .settings .«max_object_size») (o .size) ≡ false)) (Fine (w .settings .«max_object_size»))
@@ -120,21 +120,21 @@ module _ (w : World) (history : List Op) (s : SoundWorld w (engine history)) (sm
   found-in-fine : (k : ℕ) → All (Fine (w .settings .«max_object_size»)) (foundIn w k)
   unfolding deletesFound deletesOf
   found-in-fine k =
-      all-append (Fine (w .settings .«max_object_size»)) (objectsFound (mappings w) (recordAt (recordsOf w) k) (slotOf w k)) (deletesFound (mappings w) (recordAt (recordsOf w) k) (slotOf w k))
+      all-append (Fine (w .settings .«max_object_size»)) (objectsFound (mappings w) (recordAt (recordsOf w) k .label) (slotOf w k)) (deletesFound (mappings w) (recordAt (recordsOf w) k .label) (slotOf w k))
       (go (viewAt (viewsOf w) k) refl)
       (all-kept (λ (e : Entry). deleteOf (e .location) ≡ true) (Fine (w .settings .«max_object_size»))
-      (λ (e : Entry). mappedTo (lookup (mappings w) (e .id)) (absolute (recordAt (recordsOf w) k .lsn) e .location)) (λ (e : Entry). record { id = e .id; content = delete })
-      (keep (λ (e : Entry). deleteOf (e .location)) (trailerEntries (recordAt (recordsOf w) k) (slotOf w k))) (λ e d q. refl)
-      (all-pass (λ (e : Entry). deleteOf (e .location)) (trailerEntries (recordAt (recordsOf w) k) (slotOf w k))))
+      (λ (e : Entry). mappedTo (lookup (mappings w) (e .id)) (absolute (recordAt (recordsOf w) k .label .lsn) e .location)) (λ (e : Entry). record { id = e .id; content = delete })
+      (keep (λ (e : Entry). deleteOf (e .location)) (trailerEntries (recordAt (recordsOf w) k .label) (slotOf w k))) (λ e d q. refl)
+      (all-pass (λ (e : Entry). deleteOf (e .location)) (trailerEntries (recordAt (recordsOf w) k .label) (slotOf w k))))
     where
-      go : (v : View) → viewAt (viewsOf w) k ≡ v → All (Fine (w .settings .«max_object_size»)) (objectsFound (mappings w) (recordAt (recordsOf w) k) (slotOf w k))
+      go : (v : View) → viewAt (viewsOf w) k ≡ v → All (Fine (w .settings .«max_object_size»)) (objectsFound (mappings w) (recordAt (recordsOf w) k .label) (slotOf w k))
       go empty e =
-          subst (λ (r : Record). All (Fine (w .settings .«max_object_size»)) (objectsFound (mappings w) r (slotOf w k)))
+          subst (λ (r : Record). All (Fine (w .settings .«max_object_size»)) (objectsFound (mappings w) (r .label) (slotOf w k)))
           (sym (record-empty (viewsOf w) (recordsOf w) (s .sound .filed) k e)) (none-found (Fine (w .settings .«max_object_size»)) (mappings w) (slotOf w k))
       go (damaged r) e = absurd (no-damage (viewsOf w) (recordsOf w) (s .sound .filed) k r e)
       go (holds f) e =
-          objects-fine k f e (recordAt (recordsOf w) k)
-          (sym (shown w k f e .1 .objects) ∙ ap (λ (c : Record). objectPart c (slotOf w k)) (sym (record-holds (viewsOf w) (recordsOf w) (s .sound .filed) k f e)))
+          objects-fine k f e (recordAt (recordsOf w) k .label)
+          (sym (shown w k f e .1 .objects) ∙ ap (λ (c : Record). objectPart (c .label) (slotOf w k)) (sym (record-holds (viewsOf w) (recordsOf w) (s .sound .filed) k f e)))
 
   found-fine : (ks : List ℕ) → All (Fine (w .settings .«max_object_size»)) (found w ks)
   unfolding found

@@ -6,14 +6,14 @@ use native.Mathlib.Omega.{arith}
 use lib.ListN.{length-take, length-drop}
 use borrow.Author.Tests.{ltb-false}
 use Rattle.rules.specs.Base.{true, false, List, [], _∷_, ℕ, zero, suc, _+_, _-_, _*_, length, drop}
-use Rattle.theory.specs.Types.{Record}
+use Rattle.theory.specs.Types.{Label}
 use Rattle.rules.specs.Refusal.{NoneHolds}
 use Rattle.rules.specs.SettingsLaws.{slot-within}
 use Rattle.rules.specs.LabelLaws.{InBounds}
 use Rattle.rules.specs.Trailer.{countIn, trailerTests, entriesFrom, entriesIn}
 use Rattle.rules.specs.SlotFile.{slotBytes, fileIn, trailerPart, File, View, empty, damaged, holds}
 use Rattle.rules.specs.Layout.{capacityOf, inForm}
-use Rattle.rules.specs.FileMap.{isEmpty, recordAt, withLive}
+use Rattle.rules.specs.FileMap.{isEmpty, recordAt}
 use Rattle.rules.specs.FileMapLaws.{is-empty}
 use Rattle.rules.specs.Condition1.{refused1}
 use Rattle.rules.specs.Condition1Laws.{InLimits, GoodRecord, passes}
@@ -74,7 +74,7 @@ trailer-room trailer n =
     let b = entries-from-length (countIn trailer) (drop 12 trailer) in
     omega arith
 
-trailer-size : (r : Record) (slot : List ℕ) → length (trailerPart r slot) ≤ r .«file_size»
+trailer-size : (r : Label) (slot : List ℕ) → length (trailerPart r slot) ≤ r .«file_size»
 trailer-size r slot =
     let a = length-drop (r .«trailer_offset») (fileIn r slot) in
     let b = length-take (r .«file_size») (drop 64 slot) in
@@ -88,9 +88,6 @@ present-fits slot f s =
     let c = trailer-size (f .label) slot in
     let d : length (f .entries) ≡ length (entriesIn (trailerPart (f .label) slot)) = ap length (sym (s .entries)) in
     omega arith
-
-bounds-live : (size : ℕ) (r : Record) (n : ℕ) → InBounds size r → InBounds size (withLive r n)
-bounds-live size r n b = record { size = b .size; offset = b .offset; masked = b .masked; lsn = b .lsn; end = b .end; generation = b .generation }
 
 module _ (w : World) (told : ℕ → Said) (s : SoundWorld w told) where
   -- a slot's label is within 8's bounds
@@ -119,7 +116,7 @@ module _ (w : World) (told : ℕ → Said) (s : SoundWorld w told) where
           let q = record-holds (viewsOf w) (recordsOf w) (s .sound .filed) k f e in
           subst (GoodRecord (w .settings) (length (w .heap)) (w .table) k) (sym q) (record {
             place = z .0;
-            bounds = bounds-live (w .settings .«slot_bytes») (f .label) (recordAt (recordsOf w) k .live) (shown-bounds k f e);
+            bounds = shown-bounds k f e;
             present = present-fits (slotBytes (w .settings .«slot_bytes») (w .heap) k) f (z .1);
             live = live-fits k f e;
           })

@@ -82,7 +82,7 @@ settings-group g ks moved w = go (decide (groupTests w ks (filesOf (w .settings 
 
 -- a slot with a file keeps one
 abbrev pub Stay : World → World → Type 0
-Stay w v = (k : ℕ) → 0 < recordAt (recordsOf w) k .lsn → 0 < recordAt (recordsOf v) k .lsn
+Stay w v = (k : ℕ) → 0 < recordAt (recordsOf w) k .label .lsn → 0 < recordAt (recordsOf v) k .label .lsn
 
 next-installed : (bit g : ℕ) (w : World) (os : List Op) → 0 < w .state .«next_position» → 0 < installed bit g w os .state .«next_position»
 unfolding installed nextWith
@@ -94,20 +94,20 @@ stay-all g [] w h k l = l
 stay-all g (f ∷ fs) w h k l = stay-all g fs (installed 0 g w f) (next-installed 0 g w f h) k (installed-lsn 0 g w f h k l)
 
 -- ---- the slots of a group are files', as the call starts and when the group's turn comes
-file-lsn : (w : World) (history : List Op) → SoundWorld w (engine history) → (k : ℕ) → isEmpty (recordAt (recordsOf w) k) ≡ false → 0 < recordAt (recordsOf w) k .lsn
+file-lsn : (w : World) (history : List Op) → SoundWorld w (engine history) → (k : ℕ) → isEmpty (recordAt (recordsOf w) k) ≡ false → 0 < recordAt (recordsOf w) k .label .lsn
 file-lsn w history s k h =
     let f = file-slot w (engine history) s k h in
-    let e : recordAt (recordsOf w) k .lsn ≡ f .0 .label .lsn = ap (λ (r : Record). r .lsn) (record-holds (viewsOf w) (recordsOf w) (s .sound .filed) k (f .0) (f .1)) in
+    let e : recordAt (recordsOf w) k .label .lsn ≡ f .0 .label .lsn = ap (λ (r : Record). r .label .lsn) (record-holds (viewsOf w) (recordsOf w) (s .sound .filed) k (f .0) (f .1)) in
     let p = masked-pos (f .0 .label .lsn) (s .sound .filed .made k (f .0) (f .1) .placed) in
     omega arith
 
 -- candidates are files
-pub group-files : (w : World) (history : List Op) → SoundWorld w (engine history) → (g : ℕ) → All (λ (k : ℕ). 0 < recordAt (recordsOf w) k .lsn) (group w g)
+pub group-files : (w : World) (history : List Op) → SoundWorld w (engine history) → (g : ℕ) → All (λ (k : ℕ). 0 < recordAt (recordsOf w) k .label .lsn) (group w g)
 unfolding group
-group-files w history s g = among-all (λ (k : ℕ). 0 < recordAt (recordsOf w) k .lsn) (group w g) (λ k a.
-    let p = slot-passes (λ (i : ℕ) (r : Record). isCandidate (w .settings) (w .claims) (fileCount (recordsOf w)) i r && eqb (newGeneration (r .generation)) g) 0 (recordsOf w) k a in
+group-files w history s g = among-all (λ (k : ℕ). 0 < recordAt (recordsOf w) k .label .lsn) (group w g) (λ k a.
+    let p = slot-passes (λ (i : ℕ) (r : Record). isCandidate (w .settings) (w .claims) (fileCount (recordsOf w)) i r && eqb (newGeneration (r .label .generation)) g) 0 (recordsOf w) k a in
     let c = candidate (w .settings) (w .claims) (fileCount (recordsOf w)) (0 + p .off) (recordAt (recordsOf w) (p .off)) (and-true _ _ (p .passes) .0) in
-    subst (λ (i : ℕ). 0 < recordAt (recordsOf w) i .lsn) (sym (p .is ∙ zero-add (p .off))) (file-lsn w history s (p .off) (c .file)))
+    subst (λ (i : ℕ). 0 < recordAt (recordsOf w) i .label .lsn) (sym (p .is ∙ zero-add (p .off))) (file-lsn w history s (p .off) (c .file)))
 
 -- where the call may stand
 abbrev pub StopsWell : World → Stop → Type 0
@@ -127,7 +127,7 @@ pub underway-first : (history : List Op) (start : World) → SoundWorld start (e
 underway-first history start st = record { sound = st; stay = λ k h. h; remain = λ k f h. h; settings = refl; stop = tt }
 
 -- LAW: a group of files is rewritten, or refused for one of these reasons
-group-stops : (history : List Op) (g : ℕ) (slots : List ℕ) (moved : ℕ) (w : World) → SoundWorld w (engine history) → All (λ (k : ℕ). 0 < recordAt (recordsOf w) k .lsn) slots
+group-stops : (history : List Op) (g : ℕ) (slots : List ℕ) (moved : ℕ) (w : World) → SoundWorld w (engine history) → All (λ (k : ℕ). 0 < recordAt (recordsOf w) k .label .lsn) slots
     → (P : Stop → Type 0) → P going → ((r : Refusal) → Refusable w slots r → P (stopped r g)) → P (rewriteGroup g slots moved w .stop)
 unfolding rewriteGroup groupTests roomTests positionTests
 group-stops history g slots moved w s files P went halted = go (decide (groupTests w slots (filesOf (w .settings .«target_file_size») (found w slots)))) refl
@@ -141,7 +141,7 @@ group-stops history g slots moved w s files P went halted = go (decide (groupTes
         → P (after {A = Course} a (λ (r : Refusal). record { stop = stopped r g; moved = moved; world = w })
         (record { stop = going; moved = moved + length (found w slots); world = installedAll 0 g w (filesOf (w .settings .«target_file_size») (found w slots)) }) .stop)
     go Done e = went
-    go (Refused r) e = halted r (why r (only-decides (Oversized w slots) (each (λ (k : ℕ). fileTests (w .settings .«max_object_size») (mappings w) (recordAt (recordsOf w) k) (slotOf w k)) slots) _ r (group-only w history s slots files) e))
+    go (Refused r) e = halted r (why r (only-decides (Oversized w slots) (each (λ (k : ℕ). fileTests (w .settings .«max_object_size») (mappings w) (recordAt (recordsOf w) k .label) (slotOf w k)) slots) _ r (group-only w history s slots files) e))
 
 -- and no file is lost
 group-stays : (history : List Op) (g : ℕ) → g ≤ 255 → (slots : List ℕ) (moved : ℕ) (w : World) → SoundWorld w (engine history)
@@ -162,14 +162,14 @@ group-stays history g aged slots moved w s = go (decide (groupTests w slots (fil
 
 module _ (history : List Op) (start : World) (st : SoundWorld start (engine history)) where
   -- a group's files are files when its turn comes
-  pub still-files : (g : ℕ) (c : Course) → Underway history start c → All (λ (k : ℕ). 0 < recordAt (recordsOf (c .world)) k .lsn) (group start g)
-  still-files g c u = all-map (λ (k : ℕ). 0 < recordAt (recordsOf start) k .lsn) (λ (k : ℕ). 0 < recordAt (recordsOf (c .world)) k .lsn) (group start g) (λ k h. u .stay k h) (group-files start history st g)
+  pub still-files : (g : ℕ) (c : Course) → Underway history start c → All (λ (k : ℕ). 0 < recordAt (recordsOf (c .world)) k .label .lsn) (group start g)
+  still-files g c u = all-map (λ (k : ℕ). 0 < recordAt (recordsOf start) k .label .lsn) (λ (k : ℕ). 0 < recordAt (recordsOf (c .world)) k .label .lsn) (group start g) (λ k h. u .stay k h) (group-files start history st g)
 
   -- and the same files: what refuses it then stands there as the call starts
   refused-start : (g : ℕ) (c : Course) → Underway history start c → (r : Refusal) → Refusable (c .world) (group start g) r → Refusable start (group start g) r
   refused-start g c u r (inl p) = inl p
   refused-start g c u r (inr (e, o)) =
-      let z = file-slot start (engine history) st (o .slot) (not-empty (recordAt (recordsOf start) (o .slot)) (among-get (λ (k : ℕ). 0 < recordAt (recordsOf start) k .lsn) (group start g) (group-files start history st g) (o .slot) (o .among))) in
+      let z = file-slot start (engine history) st (o .slot) (not-empty (recordAt (recordsOf start) (o .slot)) (among-get (λ (k : ℕ). 0 < recordAt (recordsOf start) k .label .lsn) (group start g) (group-files start history st g) (o .slot) (o .among))) in
       inr (
         e,
         record {

@@ -35,7 +35,7 @@ use Rattle.theory.specs.Rewriting.{Rewritable, fits-file, still-said, on
 
 -- the id's location, if it has one, is not in slot k's file
 abbrev pub Elsewhere : World → ℕ → Op → Type 0
-Elsewhere w k o = (l : ℕ) → lookup (mappings w) (o .id) ≡ Mapped l → inRange (recordAt (recordsOf w) k) (maskedAt l) ≡ false
+Elsewhere w k o = (l : ℕ) → lookup (mappings w) (o .id) ≡ Mapped l → inRange (recordAt (recordsOf w) k .label) (maskedAt l) ≡ false
 
 -- a file from which no id leaves keeps its record
 losing-other : (t : List Entry) (os : List Op) (rs : List Record) (k : ℕ) → All (λ (o : Op). isAt k (fileHolding rs (lookup t (o .id))) ≡ false) os → recordAt (losing t os rs) k ≡ recordAt rs k
@@ -53,7 +53,7 @@ losing-other t (o ∷ os) rs k a =
     holding (Mapped l) = less-file (fileHolding rs (lookup t (o .id))) rs l
 
 module _ (history : List Op) where
-  module _ (w : World) (s : SoundWorld w (engine history)) (k : ℕ) (some : 0 < recordAt (recordsOf w) k .lsn) (g : ℕ) (os : List Op) (f : Fitting 0 g w os) where
+  module _ (w : World) (s : SoundWorld w (engine history)) (k : ℕ) (some : 0 < recordAt (recordsOf w) k .label .lsn) (g : ℕ) (os : List Op) (f : Fitting 0 g w os) where
     file : (c : File) × (viewAt (viewsOf w) k ≡ holds c)
     file = let z = file-slot w (engine history) s k (not-empty (recordAt (recordsOf w) k) some) in (z .0, z .1)
 
@@ -69,12 +69,12 @@ module _ (history : List Op) where
         getD-set-other (losing (mappings w) os (recordsOf w)) (newSlot w) k (newRecord (newLsn 0 w) g os) emptyRecord not-new
         ∙ losing-other (mappings w) os (recordsOf w) k (all-map (Elsewhere w k) (λ (o : Op). isAt k (fileHolding (recordsOf w) (lookup (mappings w) (o .id))) ≡ false) os (λ o h. at (o .id) (lookup (mappings w) (o .id)) refl h) a)
       where
-        at : (x : ℕ) (h : Held) → lookup (mappings w) x ≡ h → ((l : ℕ) → lookup (mappings w) x ≡ Mapped l → inRange (recordAt (recordsOf w) k) (maskedAt l) ≡ false) → isAt k (fileHolding (recordsOf w) h) ≡ false
+        at : (x : ℕ) (h : Held) → lookup (mappings w) x ≡ h → ((l : ℕ) → lookup (mappings w) x ≡ Mapped l → inRange (recordAt (recordsOf w) k .label) (maskedAt l) ≡ false) → isAt k (fileHolding (recordsOf w) h) ≡ false
         at x Unmapped e p = refl
         at x (Mapped l) e p =
             let z = table-stands (boundsOf w) (pictureOf w) (engine history) (s .sound) x l e in
             found-in-range (viewsOf w) (recordsOf w) (s .sound .filed) x l (z .0) k (z .1) (file .0) (file .1)
-            ∙ sym (ap (λ (r : Record). inRange r (maskedAt l)) (record-holds (viewsOf w) (recordsOf w) (s .sound .filed) k (file .0) (file .1))) ∙ p l e
+            ∙ sym (ap (λ (r : Record). inRange (r .label) (maskedAt l)) (record-holds (viewsOf w) (recordsOf w) (s .sound .filed) k (file .0) (file .1))) ∙ p l e
 
     -- an id that was elsewhere is so after, at its new location too
     still-elsewhere : All (Elsewhere w k) os → (o : Op) → Elsewhere w k o → Elsewhere (installed 0 g w os) k o
@@ -89,14 +89,14 @@ module _ (history : List Op) where
             ap (λ (p : Picture). lookup (p .table) (o .id)) (picture-installed w (engine history) s 0 g os f)
             ∙ lookup-insert-all 0 (mappings w) (rowsFor (newLsn 0 w) 0 os) (rising-absolute (newLsn 0 w) 0 (entriesOf 0 os) (entries-of-rising 0 0 os (f .rising))) (o .id)
 
-        go : (m : Held) → lookup (rowsFor (newLsn 0 w) 0 os) (o .id) ≡ m → orElse m (lookup (mappings w) (o .id)) ≡ Mapped l → inRange (recordAt (recordsOf (installed 0 g w os)) k) (maskedAt l) ≡ false
-        go Unmapped q c = ap (λ (r : Record). inRange r (maskedAt l)) same ∙ h l c
+        go : (m : Held) → lookup (rowsFor (newLsn 0 w) 0 os) (o .id) ≡ m → orElse m (lookup (mappings w) (o .id)) ≡ Mapped l → inRange (recordAt (recordsOf (installed 0 g w os)) k .label) (maskedAt l) ≡ false
+        go Unmapped q c = ap (λ (r : Record). inRange (r .label) (maskedAt l)) same ∙ h l c
         go (Mapped m) q c =
             let ad = addable w (engine history) s 0 g os f in
             let t = stands-new (boundsOf w) (pictureOf w) (engine history) (s .sound) (newSlot w) (newLsn 0 w) g os ad (o .id) m (lookup-has (rowsFor (newLsn 0 w) 0 os) (o .id) m q) in
             let v = view-old (boundsOf w) (pictureOf w) (engine history) (s .sound) (newSlot w) (newLsn 0 w) g os ad k not-new ∙ file .1 in
             let z : l ≡ m = mapped-one (sym c) in
-            ap (λ (r : Record). inRange r (maskedAt l)) (same ∙ record-holds (viewsOf w) (recordsOf w) (s .sound .filed) k (file .0) (file .1))
+            ap (λ (r : Record). inRange (r .label) (maskedAt l)) (same ∙ record-holds (viewsOf w) (recordsOf w) (s .sound .filed) k (file .0) (file .1))
             ∙ ap (λ (n : ℕ). inRange (file .0 .label) (maskedAt n)) z
             ∙ in-no-other (added (newLsn 0 w) g (pictureOf w) (newSlot w) os .views) (added (newLsn 0 w) g (pictureOf w) (newSlot w) os .records)
             (filed-added (boundsOf w) (pictureOf w) (engine history) (s .sound) (newSlot w) (newLsn 0 w) g os ad) (o .id) m (newSlot w) k t (file .0) v not-new
@@ -105,7 +105,7 @@ module _ (history : List Op) where
   pub unmoved : (g : ℕ) (files : List (List Op)) (w : World) → SoundWorld w (engine history) → g ≤ 255 → All (Rewritable (engine history)) files
       → All (λ (f : List Op). 64 + length (fileBytes f) ≤ w .settings .«slot_bytes») files → length files ≤ emptyOf w
       → w .state .«next_position» + sum (λ (f : List Op). length (objectsOf f) + 1) files ≤ 2 ^ 62
-      → (k : ℕ) → 0 < recordAt (recordsOf w) k .lsn → All (All (Elsewhere w k)) files → recordAt (recordsOf (installedAll 0 g w files)) k ≡ recordAt (recordsOf w) k
+      → (k : ℕ) → 0 < recordAt (recordsOf w) k .label .lsn → All (All (Elsewhere w k)) files → recordAt (recordsOf (installedAll 0 g w files)) k ≡ recordAt (recordsOf w) k
   unfolding installedAll sum
   unmoved g [] w s aged r slot free positions k some a = refl
   unmoved g (f ∷ fs) w s aged r slot free positions k some a =
@@ -120,7 +120,7 @@ module _ (history : List Op) where
       (λ x. still-said history f (r .0) n (newLsn 0 w) g x) (sound-installed w (engine history) s 0 g f fit))
       aged (r .1)
       (subst (λ (c : Settings). All (λ (f : List Op). 64 + length (fileBytes f) ≤ c .«slot_bytes») fs) (sym (e .0)) (slot .1))
-      (omega arith) (omega arith) k (subst (λ (c : Record). 0 < c .lsn) (sym q) some)
+      (omega arith) (omega arith) k (subst (λ (c : Record). 0 < c .label .lsn) (sym q) some)
       (all-map (All (Elsewhere w k)) (All (Elsewhere (installed 0 g w f) k)) fs
       (λ os b. all-map (Elsewhere w k) (Elsewhere (installed 0 g w f) k) os (λ o h. still-elsewhere w s k some g f fit (a .0) o h) b) (a .1))
       ∙ q

@@ -4,7 +4,7 @@ pub mod plan;
 
 use plan::Plan;
 use rules::Answer;
-use rules::Record;
+use rules::Label;
 use rules::Settings;
 use rules::State;
 ghost use mathlib.Core.Path.{_≡_};
@@ -18,7 +18,7 @@ ghost use Rattle.rules.specs.Install.{installed};
 ghost use Rattle.rules.specs.Write.{writeCall};
 ghost use Rattle.rules.specs.World.{world, leaving, answerGiven};
 ghost use Rattle.location_table.specs.Tables.{table};
-ghost use Rattle.file_map.specs.Records.{fresh};
+ghost use Rattle.file_map.specs.Records.{labelled};
 ghost use Rattle.batch.specs.Reading.{opsIn};
 ghost use Rattle.batch_file.specs.Steps.{Sized};
 ghost use Rattle.writepath.specs.Filing.{Filed};
@@ -30,16 +30,16 @@ pub struct Written {
 }
 
 // "base = next position, lsn = base with the batch bit", "generation 0".
-fn new_record(base: u64, count: u64, total: u64) -> Record
+fn new_label(base: u64, count: u64, total: u64) -> Label
     requires { ⌜ (base < 2 ^ 62) × (total + (12 + 16 * count) < 2 ^ 63) ⌝ }
-    ensures { λ r. ⌜ r ≡ fresh (base + 2 ^ 62) total (total + (12 + 16 * count)) count 0 ⌝ }
+    ensures { λ l. ⌜ l ≡ labelled (base + 2 ^ 62) total (total + (12 + 16 * count)) count 0 ⌝ }
 {
     let lsn = disk_location::with_batch(base);
-    install::new_record(lsn, count, total, 0)
+    install::new_label(lsn, count, total, 0)
 }
 
 // The whole run of the file: it is no longer than the heap.
-fn put_file(heap: &mut [u8], start: usize, batch: &[u8], new: Record, count: u64, total: u64)
+fn put_file(heap: &mut [u8], start: usize, batch: &[u8], new: Label, count: u64, total: u64)
     requires { ⌜ Sized (now batch) count total × (start + (64 + length (fileBytes (settled (opsIn (now batch))))) ≤ length (now heap)) ⌝ }
     ensures { λ _. ⌜ now (heap .exit) ≡ made (fileStores start (labelBytes new) (fileBytes (settled (opsIn (now (batch .entry)))))) (now (heap .entry)) ⌝ }
 {
@@ -62,7 +62,7 @@ fn add_file(
     requires { ⌜ Filed settings state (now heap) (table (now ids) (now locations)) (now batch) slot count total ⌝ }
     ensures { λ r. ⌜ ((c : Claims) → world settings r c (now (heap .exit)) (now (ids .exit)) (now (locations .exit)) ≡ installed (2 ^ 62) 0 (world settings state c (now (heap .entry)) (now (ids .entry)) (now (locations .entry))) (settled (opsIn (now (batch .entry))))) ⌝ }
 {
-    let new = new_record(state.next_position, count, total);
+    let new = new_label(state.next_position, count, total);
     let start = slot * settings.slot_bytes as usize;
     put_file(heap, start, batch, new, count, total);
     let files = state.files;

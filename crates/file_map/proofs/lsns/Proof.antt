@@ -9,7 +9,7 @@ use Rattle.file_map.proofs.lsns.Statement.{statement}
 use Rattle.file_map.proofs.lsns.Tie as tie
 
 abbrev Inv-loop : tie.InvT-loop
-Inv-loop m r₀ i₀ r i = Copying (λ (r : Record). r .lsn) (m .records) r₀ i r
+Inv-loop m r₀ i₀ r i = Copying (λ (r : Record). r .label .lsn) (m .records) r₀ i r
 
 abbrev μ-loop : tie.MeasureT-loop
 μ-loop m r₀ i₀ r i = 256 - i
@@ -20,7 +20,7 @@ zeros = length-replicate {A = ℕ} 256 0
 loop-holds : tie.Need-loop-holds Inv-loop μ-loop
 loop-holds c =
     let l : length (c .args .t1 .records) ≡ 256 = search (mapped-length, needs) in
-    copying-start (λ (r : Record). r .lsn) (c .args .t1 .records) (replicate 256 0) l zeros
+    copying-start (λ (r : Record). r .label .lsn) (c .args .t1 .records) (replicate 256 0) l zeros
 
 mul-r : tie.Need-mul-r Inv-loop μ-loop
 mul-r c = search needs
@@ -44,13 +44,13 @@ loop-again : tie.Need-loop-again Inv-loop μ-loop
 loop-again c =
     let rs = c .before .before .args .t1 .records in
     let l : length rs ≡ 256 = search (mapped-length, needs) in
-    copying-next (λ (r : Record). r .lsn) rs (replicate 256 0) l zeros (c .before .loop .i) (c .before .loop .r) (c .before .loop .inv) (omega arith)
+    copying-next (λ (r : Record). r .label .lsn) rs (replicate 256 0) l zeros (c .before .loop .i) (c .before .loop .r) (c .before .loop .inv) (omega arith)
 
 returns : tie.Need-returns Inv-loop μ-loop
 returns c =
     let rs = c .before .before .args .t1 .records in
     let l : length rs ≡ 256 = search (mapped-length, needs) in
-    copying-end (λ (r : Record). r .lsn) rs (replicate 256 0) l zeros (c .before .loop .i) (c .before .loop .r) (c .before .loop .inv) (omega arith)
+    copying-end (λ (r : Record). r .label .lsn) rs (replicate 256 0) l zeros (c .before .loop .i) (c .before .loop .r) (c .before .loop .inv) (omega arith)
 
 pub lsns-spec : {M : Type 1} → statement M
 lsns-spec =

@@ -7,8 +7,8 @@ use Rattle.install.specs.Standing.{sizes-small, record-fits, installable, added
 use Rattle.gc_install.proofs.add_at.Statement.{statement}
 use Rattle.gc_install.proofs.add_at.Tie as tie
 
-new-record-requires : tie.Need-new-record-requires
-new-record-requires c κs =
+new-label-requires : tie.Need-new-label-requires
+new-label-requires c κs =
     let small = sizes-small (c .before .before .before .before .before .pre .0) in
     omega (arith, small .0, small .1)
 
@@ -36,7 +36,7 @@ install-requires c κs =
     let p = l .before .before .before .before .before in
     let n = p .before .before .before in
     let f = n .before .before .before .before .before .before .pre .0 in
-    installable f (sym (add-zero _)) (n .new-record .ensures) (p .put-piece .ensures) (l .before .lsns .ensures) (l .lives .ensures) (passed-formed _ _ _ _ (f .limits))
+    installable f (sym (add-zero _)) (n .new-label .ensures) (p .put-piece .ensures) (l .before .lsns .ensures) (l .lives .ensures) (passed-formed _ _ _ _ (f .limits))
 
 slice-aggregate-with-file : tie.Need-slice-aggregate-with-file
 slice-aggregate-with-file c = search needs
@@ -44,7 +44,7 @@ slice-aggregate-with-file c = search needs
 with-file-requires : tie.Need-with-file-requires
 with-file-requires c κs =
     let n = c .before .before .before .before .before .before .before .before .before .before .before .before .before .before .before .before .before .before .before .before in
-    let fits = record-fits (n .before .before .before .before .before .before .pre .0) (n .new-record .ensures) in
+    let fits = record-fits (n .before .before .before .before .before .before .pre .0) (n .new-label .ensures) in
     (search needs, fits .0, fits .1)
 
 same-length : tie.Need-same-length
@@ -63,13 +63,13 @@ returns c =
     let p = l .before .before .before .before .before in
     let n = p .before .before .before in
     let f = n .before .before .before .before .before .before .pre .0 in
-    added f (sym (add-zero _)) (n .new-record .ensures) (p .put-piece .ensures) (l .before .lsns .ensures) (l .lives .ensures) (i .install .ensures) (c .with-file .ensures)
+    added f (sym (add-zero _)) (n .new-label .ensures) (p .put-piece .ensures) (l .before .lsns .ensures) (l .lives .ensures) (i .install .ensures) (c .with-file .ensures)
 
 pub add-at-spec : {M : Type 1} → statement M
 add-at-spec =
     tie.close
     (tie.spec
-    new-record-requires
+    new-label-requires
     mul-start
     put-piece-requires
     lsns-requires

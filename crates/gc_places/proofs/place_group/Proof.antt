@@ -62,7 +62,7 @@ place-all-requires c κs =
     let checked = cleared told in (
       checked .high,
       placeables (a .s .«max_object_size») (a .s .«slot_bytes») (a .heap .now) (a .m .records) (a .plan .now) (a .generation) (a .ids .now) (a .locations .now) (length (a .marks .now)) checked
-          _ _ (a .places .now) (ap length lsns ∙ length-map (a .m .records) (λ (r : Record). r .lsn) ∙ all-records start) lsns marks (start .pre .1 .1 .1 .1),
+          _ _ (a .places .now) (ap length lsns ∙ length-map (a .m .records) (λ (r : Record). r .label .lsn) ∙ all-records start) lsns marks (start .pre .1 .1 .1 .1),
     )
 
 same-length-2 : tie.Need-same-length-2

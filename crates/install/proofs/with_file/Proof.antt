@@ -10,6 +10,9 @@ use Rattle.install.proofs.with_file.Tie as tie
 with-lives-requires : tie.Need-with-lives-requires
 with-lives-requires c κs = search needs
 
+fresh-requires : tie.Need-fresh-requires
+fresh-requires c κs = search needs
+
 with-record-requires : tie.Need-with-record-requires
 with-record-requires c κs = search needs
 
@@ -22,16 +25,18 @@ state-with-requires c κs = search needs
 returns : tie.Need-returns
 returns c =
     let recorded = c .before .before in
-    let back = recorded .before in
+    let made = recorded .before in
+    let back = made .before in
     let a = back .before .before .before .args in
     c .state-with .ensures
-    ∙ ap₂ (stateWith (a .state)) (recorded .with-record .ensures ∙ ap (λ (rs : List Record). set rs (a .slot) (a .new)) (back .with-lives .ensures)) (c .before .next-after .ensures)
+    ∙ ap₂ (stateWith (a .state)) (recorded .with-record .ensures ∙ ap₂ (λ (rs : List Record) (r : Record). set rs (a .slot) r) (back .with-lives .ensures) (made .fresh .ensures)) (c .before .next-after .ensures)
 
 pub with-file-spec : {M : Type 1} → statement M
 with-file-spec =
     tie.close
     (tie.spec
     with-lives-requires
+    fresh-requires
     with-record-requires
     next-after-requires
     state-with-requires

@@ -26,7 +26,7 @@ some z = sym (z .before .is-empty .ensures) ∙ z .if1 .left
 below : (z : tie.Else2) → let a = begun (first z) .args in leb (a .heap / a .s .«slot_bytes») (a .slot) ≡ false
 below z = lt-leb _ _ (z .if2 .left)
 
-bounded : (z : tie.Else3) → let a = begun (first (second z)) .args in outOfBounds (a .s .«slot_bytes») (a .r) ≡ false
+bounded : (z : tie.Else3) → let a = begun (first (second z)) .args in outOfBounds (a .s .«slot_bytes») (a .r .label) ≡ false
 bounded z = sym (z .before .out-of-bounds .ensures) ∙ z .if3 .left
 
 -- ---- the call
@@ -62,7 +62,7 @@ returns-4 c =
     let z = c .before .before in
     let w = second z in
     let r = begun (first w) .args .r in
-    rw (some (first w), below w, bounded z, lt-ltb (r .«file_size») (r .«present_objects») (c .if4 .taken)) refl
+    rw (some (first w), below w, bounded z, lt-ltb (r .label .«file_size») (r .label .«present_objects») (c .if4 .taken)) refl
 
 returns-5 : tie.Need-returns-5
 unfolding badRecord
@@ -70,7 +70,7 @@ returns-5 c =
     let z = c .before .before .before in
     let w = second z in
     let r = begun (first w) .args .r in
-    rw (some (first w), below w, bounded z, le-ltb (r .«file_size») (r .«present_objects») (c .before .if4 .left)) refl
+    rw (some (first w), below w, bounded z, le-ltb (r .label .«file_size») (r .label .«present_objects») (c .before .if4 .left)) refl
 
 pub bad-record-spec : {M : Type 1} → statement M
 bad-record-spec =

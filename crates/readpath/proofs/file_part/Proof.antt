@@ -29,8 +29,8 @@ returns : tie.Need-returns
 returns c =
     let a = c .before .args in
     let start = a .slot * a .slot-bytes + 64 in
-    let size : start + a .r .«file_size» - start ≡ a .r .«file_size» = omega arith in
-    ap (λ (n : ℕ). take n (drop start (a .heap .now))) size ∙ file-part (a .slot-bytes) (a .r) (a .slot) (a .heap .now) (c .before .pre)
+    let size : start + a .l .«file_size» - start ≡ a .l .«file_size» = omega arith in
+    ap (λ (n : ℕ). take n (drop start (a .heap .now))) size ∙ file-part (a .slot-bytes) (a .l) (a .slot) (a .heap .now) (c .before .pre)
 
 pub file-part-spec : {M : Type 1} → statement M
 file-part-spec =

@@ -17,7 +17,7 @@ begun w = w .before .before .before
 abbrev file : tie.After-read → List ℕ
 file w =
     let a = begun w .args in
-    fileIn (a .r) (slotBytes (a .slot-bytes) (a .heap .now) (a .slot))
+    fileIn (a .l) (slotBytes (a .slot-bytes) (a .heap .now) (a .slot))
 
 -- what was read is the file's
 told : (w : tie.After-read) → let a = begun w .args in bodyOf (a .id) (storedAt (a .position) (drop (a .position) (file w))) ≡ w .read .result
@@ -50,7 +50,7 @@ add-t15 c =
     let low = b .body in
     let fit = lies .file in
     let slot = lies .slot in
-    let all = file-length (a .slot-bytes) (a .r) (a .slot) (a .heap .now) lies in
+    let all = file-length (a .slot-bytes) (a .l) (a .slot) (a .heap .now) lies in
     search needs
 
 enum-known-refusal : tie.Need-enum-known-refusal

@@ -106,7 +106,7 @@ found s =
 
 lies : (s : tie.After-slot)
     → let a = begun (sought (at s)) .args in
-    Lies (a .settings .«slot_bytes») (recordAt (a .state .files .records) (s .slot .given .0 .0)) (s .slot .given .0 .0) (length (a .heap .now))
+    Lies (a .settings .«slot_bytes») (recordAt (a .state .files .records) (s .slot .given .0 .0) .label) (s .slot .given .0 .0) (length (a .heap .now))
 lies s =
     let a = begun (sought (at s)) .args in
     let k = s .slot .given .0 .0 in
@@ -184,21 +184,21 @@ position-requires c κs = search needs
 
 sub-position : tie.Need-sub-position
 sub-position c =
-    let low = found (c .before .before .before .before) .low in
+    let low = found (c .before .before .before .before .before) .low in
     let half = c .before .position .ensures in
     omega arith
 
 object-at-requires : tie.Need-object-at-requires
-object-at-requires c κs = lies (c .before .before .before .before)
+object-at-requires c κs = lies (c .before .before .before .before .before)
 
 returns-5 : tie.Need-returns-5
 returns-5 c =
-    let s = c .before .before .before .before .before in
+    let s = c .before .before .before .before .before .before in
     let p = sought (at s) in
     let a = begun p .args in
     let l = at s .location .given .0 .0 in
     let k = s .slot .given .0 .0 in
-    let r = recordAt (a .state .files .records) k in
+    let r = recordAt (a .state .files .records) k .label in
     let size = a .settings .«slot_bytes» in
     let file = fileIn r (slotBytes size (a .heap .now) k) in
     λ claims.

@@ -6,7 +6,7 @@ use Rattle.rules.specs.SlotFile.{viewsIn}
 use Rattle.rules.specs.Reopen.{filesIn, tableOf}
 use Rattle.location_table.specs.Tables.{table}
 use Rattle.reopen_tests.specs.Shown.{sound-views}
-use Rattle.rebuild.specs.Records.{counted, nextFrom, records-counted, next-counted, next-labels, next-low}
+use Rattle.rebuild.specs.Records.{counted, nextFrom, records-counted, next-labels, next-low}
 use Rattle.recovery.specs.Types.{Entry, TableRoom}
 use Rattle.recovery.specs.Steps.{blank-formed, gives-up, past-full, past-room}
 use Rattle.recovery.proofs.Handing.{no-room, has-room, room-formed, room-used}
@@ -52,7 +52,7 @@ next-position-requires c κs =
     let a = start .args in
     let views = viewsIn (a .n) (a .size) (a .heap .now) in
     let sound = sound-views (a .n) (a .size) (a .heap .now) _ (start .pre .0) in
-    let same = ap nextFrom (c .with-live-counts .ensures) ∙ next-counted _ (a .files .records) ∙ ap nextFrom (start .pre .0 .labels) in
+    let same = ap nextFrom (start .pre .0 .labels) in
     subst (λ (n : ℕ). n < 2 ^ 63) (sym same) (next-low (a .size) views (start .pre .1) sound)
 
 state-of-requires : tie.Need-state-of-requires
@@ -80,11 +80,10 @@ returns-2 c =
     let in-table = has-room b (start .pre .2) views _ _ (c .before .before .before .before .before .before .before .before .before .before .before .fill .ensures) room in
     let records =
     c .before .before .before .with-live-counts .ensures
-    ∙ ap (λ (es : List Entry). map (counted es) (a .files .records)) (room-used b (start .pre .2) views _ _ (c .before .before .before .before .before .before .before .before .before .before .before .fill .ensures) (a .size) sound room)
+    ∙ ap (λ (es : List Entry). map (counted es) (a .slots .labels)) (room-used b (start .pre .2) views _ _ (c .before .before .before .before .before .before .before .before .before .before .before .fill .ensures) (a .size) sound room)
     ∙ ap (map (counted mapped)) (start .pre .0 .labels) ∙ records-counted (a .size) mapped views sound in
     let next =
-    c .before .before .next-position .ensures ∙ ap nextFrom (c .before .before .before .with-live-counts .ensures)
-    ∙ next-counted _ (a .files .records) ∙ ap nextFrom (start .pre .0 .labels) ∙ sym (next-labels views) in
+    c .before .before .next-position .ensures ∙ ap nextFrom (start .pre .0 .labels) ∙ sym (next-labels views) in
     past-room (a .settings) heap (a .ids .now) (a .locations .now) _ _ views (in-table .0) _ _ _ _ (c .before .state-of .ensures) (c .no-claims .ensures) records next (in-table .1)
 
 pub rebuilt-spec : {M : Type 1} → statement M

@@ -7,8 +7,8 @@ use Rattle.writepath.specs.Standing.{filed-addable}
 use Rattle.writepath.proofs.add_file.Statement.{statement}
 use Rattle.writepath.proofs.add_file.Tie as tie
 
-new-record-requires : tie.Need-new-record-requires
-new-record-requires c κs =
+new-label-requires : tie.Need-new-label-requires
+new-label-requires c κs =
     let f = filed-addable (c .before .before .before .before .pre) in
     (omega (arith, f .last), omega (arith, sizes-small f .0, sizes-small f .1))
 
@@ -40,7 +40,7 @@ install-requires c κs =
     let p = l .before .before .before .before .before in
     let n = p .before .before in
     let f = filed-addable (n .before .before .before .before .before .pre) in
-    installable f refl (n .new-record .ensures) (p .put-file .ensures) (l .before .lsns .ensures) (l .lives .ensures) (passed-formed _ _ _ _ (f .limits))
+    installable f refl (n .new-label .ensures) (p .put-file .ensures) (l .before .lsns .ensures) (l .lives .ensures) (passed-formed _ _ _ _ (f .limits))
 
 slice-aggregate-with-file : tie.Need-slice-aggregate-with-file
 slice-aggregate-with-file c = search needs
@@ -48,7 +48,7 @@ slice-aggregate-with-file c = search needs
 with-file-requires : tie.Need-with-file-requires
 with-file-requires c κs =
     let n = c .before .before .before .before .before .before .before .before .before .before .before .before .before .before .before .before .before .before .before in
-    let fits = record-fits (filed-addable (n .before .before .before .before .before .pre)) (n .new-record .ensures) in
+    let fits = record-fits (filed-addable (n .before .before .before .before .before .pre)) (n .new-label .ensures) in
     (search needs, fits .0, fits .1)
 
 same-length : tie.Need-same-length
@@ -67,13 +67,13 @@ returns c =
     let p = l .before .before .before .before .before in
     let n = p .before .before in
     let f = filed-addable (n .before .before .before .before .before .pre) in
-    added f refl (n .new-record .ensures) (p .put-file .ensures) (l .before .lsns .ensures) (l .lives .ensures) (i .install .ensures) (c .with-file .ensures)
+    added f refl (n .new-label .ensures) (p .put-file .ensures) (l .before .lsns .ensures) (l .lives .ensures) (i .install .ensures) (c .with-file .ensures)
 
 pub add-file-spec : {M : Type 1} → statement M
 add-file-spec =
     tie.close
     (tie.spec
-    new-record-requires
+    new-label-requires
     mul-start
     put-file-requires
     lsns-requires

@@ -64,7 +64,7 @@ returns : tie.Need-returns
 unfolding recordWords
 returns c =
     let r = c .args .r in
-    put-six (c .args .words .now) (c .args .at) (r .lsn) (r .«trailer_offset») (r .«file_size») (r .«present_objects») (r .generation) (r .live) (c .pre)
+    put-six (c .args .words .now) (c .args .at) (r .label .lsn) (r .label .«trailer_offset») (r .label .«file_size») (r .label .«present_objects») (r .label .generation) (r .live) (c .pre)
 
 pub put-record-spec : {M : Type 1} → statement M
 put-record-spec =

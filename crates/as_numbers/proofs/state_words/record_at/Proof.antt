@@ -1,83 +1,97 @@
-use mathlib.Core.Path.{refl}
+use Prim.Native.Nat.{_+_}
+use lib.ListN.{getD}
+use mathlib.Core.Path.{ap, _∙_}
+use Rattle.rules.specs.declared.Label.{Label}
+use Rattle.rules.specs.FileMap.{recorded}
 use Rattle.as_numbers.specs.StateWords.{recordAt}
 use borrow.Author.Needs.{needs}
 use Rattle.as_numbers.proofs.state_words.record_at.Statement.{statement}
 use Rattle.as_numbers.proofs.state_words.record_at.Tie as tie
 
-mul-t3 : tie.Need-mul-t3
-mul-t3 c = search needs
+mul-labelled : tie.Need-mul-labelled
+mul-labelled c = search needs
 
-shared-slice-read-t5 : tie.Need-shared-slice-read-t5
-shared-slice-read-t5 c = search needs
+shared-slice-read-labelled : tie.Need-shared-slice-read-labelled
+shared-slice-read-labelled c = search needs
 
-add-t6 : tie.Need-add-t6
-add-t6 c = search needs
+add-labelled : tie.Need-add-labelled
+add-labelled c = search needs
 
-mul-t7 : tie.Need-mul-t7
-mul-t7 c = search needs
+mul-labelled-2 : tie.Need-mul-labelled-2
+mul-labelled-2 c = search needs
 
-shared-slice-read-t9 : tie.Need-shared-slice-read-t9
-shared-slice-read-t9 c = search needs
+shared-slice-read-labelled-2 : tie.Need-shared-slice-read-labelled-2
+shared-slice-read-labelled-2 c = search needs
 
-add-t10 : tie.Need-add-t10
-add-t10 c = search needs
+add-labelled-2 : tie.Need-add-labelled-2
+add-labelled-2 c = search needs
 
-mul-t11 : tie.Need-mul-t11
-mul-t11 c = search needs
+mul-labelled-3 : tie.Need-mul-labelled-3
+mul-labelled-3 c = search needs
 
-shared-slice-read-t13 : tie.Need-shared-slice-read-t13
-shared-slice-read-t13 c = search needs
+shared-slice-read-labelled-3 : tie.Need-shared-slice-read-labelled-3
+shared-slice-read-labelled-3 c = search needs
 
-add-t14 : tie.Need-add-t14
-add-t14 c = search needs
+add-labelled-3 : tie.Need-add-labelled-3
+add-labelled-3 c = search needs
 
-mul-t15 : tie.Need-mul-t15
-mul-t15 c = search needs
+mul-labelled-4 : tie.Need-mul-labelled-4
+mul-labelled-4 c = search needs
 
-shared-slice-read-t17 : tie.Need-shared-slice-read-t17
-shared-slice-read-t17 c = search needs
+shared-slice-read-labelled-4 : tie.Need-shared-slice-read-labelled-4
+shared-slice-read-labelled-4 c = search needs
 
-add-t18 : tie.Need-add-t18
-add-t18 c = search needs
+add-labelled-4 : tie.Need-add-labelled-4
+add-labelled-4 c = search needs
 
-mul-t19 : tie.Need-mul-t19
-mul-t19 c = search needs
+mul-labelled-5 : tie.Need-mul-labelled-5
+mul-labelled-5 c = search needs
 
-shared-slice-read-t21 : tie.Need-shared-slice-read-t21
-shared-slice-read-t21 c = search needs
+shared-slice-read-labelled-5 : tie.Need-shared-slice-read-labelled-5
+shared-slice-read-labelled-5 c = search needs
 
-add-t22 : tie.Need-add-t22
-add-t22 c = search needs
+labelled-requires : tie.Need-labelled-requires
+labelled-requires c κs = search needs
 
-mul-t23 : tie.Need-mul-t23
-mul-t23 c = search needs
+add-recorded : tie.Need-add-recorded
+add-recorded c = search needs
 
-shared-slice-read-t25 : tie.Need-shared-slice-read-t25
-shared-slice-read-t25 c = search needs
+mul-recorded : tie.Need-mul-recorded
+mul-recorded c = search needs
+
+shared-slice-read-recorded : tie.Need-shared-slice-read-recorded
+shared-slice-read-recorded c = search needs
+
+recorded-requires : tie.Need-recorded-requires
+recorded-requires c κs = search needs
 
 returns : tie.Need-returns
 unfolding recordAt
-returns c = refl
+returns c =
+    let a = c .before .before .before .before .before .before .before .before .before .args in
+    c .recorded .ensures ∙ ap (λ (l : Label). recorded l (getD (a .words .now) (a .at + 5) 0)) (c .before .before .labelled .ensures)
 
 pub record-at-spec : {M : Type 1} → statement M
 record-at-spec =
     tie.close
     (tie.spec
-    mul-t3
-    shared-slice-read-t5
-    add-t6
-    mul-t7
-    shared-slice-read-t9
-    add-t10
-    mul-t11
-    shared-slice-read-t13
-    add-t14
-    mul-t15
-    shared-slice-read-t17
-    add-t18
-    mul-t19
-    shared-slice-read-t21
-    add-t22
-    mul-t23
-    shared-slice-read-t25
+    mul-labelled
+    shared-slice-read-labelled
+    add-labelled
+    mul-labelled-2
+    shared-slice-read-labelled-2
+    add-labelled-2
+    mul-labelled-3
+    shared-slice-read-labelled-3
+    add-labelled-3
+    mul-labelled-4
+    shared-slice-read-labelled-4
+    add-labelled-4
+    mul-labelled-5
+    shared-slice-read-labelled-5
+    labelled-requires
+    add-recorded
+    mul-recorded
+    shared-slice-read-recorded
+    recorded-requires
     returns)

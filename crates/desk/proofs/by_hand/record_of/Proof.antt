@@ -1,6 +1,6 @@
 use mathlib.Core.Path.{ap, _∙_}
-use Rattle.desk.specs.Types.{Record}
-use Rattle.rules.specs.FileMap.{withLive}
+use Rattle.rules.specs.declared.Label.{Label}
+use Rattle.rules.specs.FileMap.{recorded}
 use Rattle.desk.specs.Commands.{nth}
 use borrow.Author.Needs.{needs}
 use Rattle.desk.proofs.by_hand.record_of.Statement.{statement}
@@ -24,14 +24,14 @@ array-read-labelled-5 c = search needs
 labelled-requires : tie.Need-labelled-requires
 labelled-requires c κs = search needs
 
-array-read-with-live : tie.Need-array-read-with-live
-array-read-with-live c = search needs
+array-read-recorded : tie.Need-array-read-recorded
+array-read-recorded c = search needs
 
-with-live-requires : tie.Need-with-live-requires
-with-live-requires c κs = search needs
+recorded-requires : tie.Need-recorded-requires
+recorded-requires c κs = search needs
 
 returns : tie.Need-returns
-returns c = c .with-live .ensures ∙ ap (λ (r : Record). withLive r (nth (c .before .before .args .t1) 6)) (c .before .labelled .ensures)
+returns c = c .recorded .ensures ∙ ap (λ (l : Label). recorded l (nth (c .before .before .args .t1) 6)) (c .before .labelled .ensures)
 
 pub record-of-spec : {M : Type 1} → statement M
-record-of-spec = tie.close (tie.spec array-read-labelled array-read-labelled-2 array-read-labelled-3 array-read-labelled-4 array-read-labelled-5 labelled-requires array-read-with-live with-live-requires returns)
+record-of-spec = tie.close (tie.spec array-read-labelled array-read-labelled-2 array-read-labelled-3 array-read-labelled-4 array-read-labelled-5 labelled-requires array-read-recorded recorded-requires returns)

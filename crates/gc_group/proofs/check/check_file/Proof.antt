@@ -16,11 +16,11 @@ use Rattle.gc_group.specs.Checks.{entryTests, file-trailer, file-object,
 
 -- what is decided of the trailer, and of the objects
 trailer-is : (c : tie.After-check) → let a = c .before .before .before .before .before .args in
-    decide (trailerTests (trailerPart (a .r) (a .slot .now))) ≡ c .check .result
+    decide (trailerTests (trailerPart (a .l) (a .slot .now))) ≡ c .check .result
 trailer-is c = ap (λ (s : List ℕ). decide (trailerTests s)) (sym (c .before .trailer-part .ensures)) ∙ sym (c .check .ensures)
 
 objects-are : (c : tie.After-check-objects) → let a = c .before .before .before .before .before .before .before .before .before .args in
-    decide (each (movedTests (a .limit) (used (a .ids .now) (a .locations .now))) (objectsIn (objectPart (a .r) (a .slot .now)))) ≡ c .check-objects .result
+    decide (each (movedTests (a .limit) (used (a .ids .now) (a .locations .now))) (objectsIn (objectPart (a .l) (a .slot .now)))) ≡ c .check-objects .result
 objects-are c =
     let a = c .before .before .before .before .before .before .before .before .before .args in
     ap (λ (s : List ℕ). decide (each (movedTests (a .limit) (used (a .ids .now) (a .locations .now))) (objectsIn s))) (sym (c .before .object-part .ensures)) ∙ sym (c .check-objects .ensures)
@@ -38,7 +38,7 @@ returns : tie.Need-returns
 returns c =
     let checked = c .before .before .before in
     let a = checked .before .before .before .before .before .args in
-    sym (file-trailer (a .limit) (used (a .ids .now) (a .locations .now)) (a .r) (a .slot .now) _ (trailer-is checked ∙ c .before .refusal .given .1))
+    sym (file-trailer (a .limit) (used (a .ids .now) (a .locations .now)) (a .l) (a .slot .now) _ (trailer-is checked ∙ c .before .refusal .given .1))
 
 enum-told : tie.Need-enum-told
 enum-told c = search needs
@@ -57,7 +57,7 @@ returns-2 c =
     let walked = c .before .before .before in
     let checked = walked .before .before .before .before in
     let a = checked .before .before .before .before .before .args in
-    sym (file-object (a .limit) (used (a .ids .now) (a .locations .now)) (a .r) (a .slot .now)
+    sym (file-object (a .limit) (used (a .ids .now) (a .locations .now)) (a .l) (a .slot .now)
     (trailer-is checked ∙ walked .before .before .enum-told .given .1) _ (objects-are walked ∙ c .before .refusal2 .given .1))
 
 enum-told-2 : tie.Need-enum-told-2
@@ -75,8 +75,8 @@ returns-3 c =
     let checked = walked .before .before .before .before in
     let a = checked .before .before .before .before .before .args in
     let table = used (a .ids .now) (a .locations .now) in
-    c .check-deletes .ensures ∙ ap (λ (s : List ℕ). decide (each (entryTests (a .r .lsn) table) (entriesIn s))) (checked .before .trailer-part .ensures)
-    ∙ sym (file-deletes (a .limit) table (a .r) (a .slot .now) (trailer-is checked ∙ walked .before .before .enum-told .given .1) (objects-are walked ∙ c .before .enum-told2 .given .1))
+    c .check-deletes .ensures ∙ ap (λ (s : List ℕ). decide (each (entryTests (a .l .lsn) table) (entriesIn s))) (checked .before .trailer-part .ensures)
+    ∙ sym (file-deletes (a .limit) table (a .l) (a .slot .now) (trailer-is checked ∙ walked .before .before .enum-told .given .1) (objects-are walked ∙ c .before .enum-told2 .given .1))
 
 pub check-file-spec : {M : Type 1} → statement M
 check-file-spec =

@@ -24,7 +24,7 @@ mark-objects-requires c κs =
     let start = c .before .before .before .before .before .before in
     let part = c .before .object-part .ensures in (
       subst (λ (s : List ℕ). All Inside (objectsIn s)) (sym part) (start .pre .1 .0 .objects),
-      (omega (arith, ap length part, part-length (start .args .r) (start .args .slot .now), start .pre .0 .positions), (start .pre .1 .1 .0, start .pre .1 .1 .1)),
+      (omega (arith, ap length part, part-length (start .args .l) (start .args .slot .now), start .pre .0 .positions), (start .pre .1 .1 .0, start .pre .1 .1 .1)),
     )
 
 trailer-part-requires : tie.Need-trailer-part-requires
@@ -38,7 +38,7 @@ mark-deletes-requires c κs =
     let part = c .before .trailer-part .ensures in (
       subst (λ (s : List ℕ). 12 + 16 * countIn s ≤ length s) (sym part) (start .pre .1 .0 .entries),
       (
-        subst (λ (s : List ℕ). All (SumFits (a .r .lsn)) (entriesIn s)) (sym part) (start .pre .1 .0 .deletes),
+        subst (λ (s : List ℕ). All (SumFits (a .l .lsn)) (entriesIn s)) (sym part) (start .pre .1 .0 .deletes),
         (start .pre .1 .1 .0, omega (arith, start .pre .1 .1 .1, ap length (called .mark-objects .ensures) ∙ marked-length (a .mark) _ (used (a .ids .now) (a .locations .now)) (a .marks .now))),
       ),
     )
@@ -53,9 +53,9 @@ returns c =
     let a = objects .before .before .before .before .before .before .before .args in
     let table = used (a .ids .now) (a .locations .now) in
     deletes .mark-deletes .ensures
-    ∙ ap₂ (λ (s ms : List ℕ). marked (a .mark) (each (deleteId (a .r .lsn) table) (entriesIn s)) table ms) (deletes .before .before .trailer-part .ensures)
-    (objects .mark-objects .ensures ∙ ap (λ (s : List ℕ). marked (a .mark) (each (objectId (a .r .lsn) table) (objectsIn s)) table (a .marks .now)) (objects .before .before .object-part .ensures))
-    ∙ sym (mark-file (a .mark) table (a .r) (a .slot .now) (a .marks .now))
+    ∙ ap₂ (λ (s ms : List ℕ). marked (a .mark) (each (deleteId (a .l .lsn) table) (entriesIn s)) table ms) (deletes .before .before .trailer-part .ensures)
+    (objects .mark-objects .ensures ∙ ap (λ (s : List ℕ). marked (a .mark) (each (objectId (a .l .lsn) table) (objectsIn s)) table (a .marks .now)) (objects .before .before .object-part .ensures))
+    ∙ sym (mark-file (a .mark) table (a .l) (a .slot .now) (a .marks .now))
 
 pub mark-file-spec : {M : Type 1} → statement M
 mark-file-spec =

@@ -12,10 +12,10 @@ use Rattle.rebuild.proofs.counts.mapped_into.Statement.{statement}
 use Rattle.rebuild.proofs.counts.mapped_into.Tie as tie
 
 abbrev Inv-loop : tie.InvT-loop
-Inv-loop ids locations r all n₀ i₀ n i = (all ≡ length (used ids locations)) × (i ≤ all) × (n ≤ i) × (n + mappedInto (drop i (used ids locations)) r ≡ mappedInto (used ids locations) r)
+Inv-loop ids locations l all n₀ i₀ n i = (all ≡ length (used ids locations)) × (i ≤ all) × (n ≤ i) × (n + mappedInto (drop i (used ids locations)) l ≡ mappedInto (used ids locations) l)
 
 abbrev μ-loop : tie.MeasureT-loop
-μ-loop ids locations r all n₀ i₀ n i = all - i
+μ-loop ids locations l all n₀ i₀ n i = all - i
 
 used-requires : tie.Need-used-requires Inv-loop μ-loop
 used-requires c κs = search needs
@@ -48,21 +48,21 @@ loop-again c =
     let start = c .before .before .before .before .before .before .before .before .before in
     let is = start .args .ids .now in
     let ls = start .args .locations .now in
-    let r = start .args .r in
+    let label = start .args .l in
     let l = c .before .before .before .before .before .loop in
     let low : l .i < length (used is ls) = omega (arith, l .inv, c .before .before .before .before .loop-test .taken) in
     let at = c .before .before .masked-position .ensures ∙ ap (λ (x : ℕ). maskedOf (positionOf x)) (c .before .before .before .location-at .ensures ∙ used-location is ls (l .i) low) in
-    let said = ap (inRange r) (sym at) ∙ sym (c .before .in-range .ensures) in
+    let said = ap (inRange label) (sym at) ∙ sym (c .before .in-range .ensures) in
     ⊎-elim
-    (λ w. (l .inv .0, omega arith, omega arith, omega (arith, l .inv, count-here (used is ls) r (l .i) low (said ∙ w .0 .taken))))
-    (λ w. (l .inv .0, omega arith, omega arith, omega (arith, l .inv, count-later (used is ls) r (l .i) low (said ∙ w .0 .left))))
+    (λ w. (l .inv .0, omega arith, omega arith, omega (arith, l .inv, count-here (used is ls) label (l .i) low (said ∙ w .0 .taken))))
+    (λ w. (l .inv .0, omega arith, omega arith, omega (arith, l .inv, count-later (used is ls) label (l .i) low (said ∙ w .0 .left))))
     (c .if1 .came)
 
 returns : tie.Need-returns Inv-loop μ-loop
 returns c =
     let start = c .before .before .before .before .before in
     let l = c .before .loop in
-    omega (arith, l .inv, count-end (used (start .args .ids .now) (start .args .locations .now)) (start .args .r) (l .i) (omega (arith, l .inv, c .loop-test .left)))
+    omega (arith, l .inv, count-end (used (start .args .ids .now) (start .args .locations .now)) (start .args .l) (l .i) (omega (arith, l .inv, c .loop-test .left)))
 
 pub mapped-into-spec : {M : Type 1} → statement M
 mapped-into-spec =

@@ -11,23 +11,23 @@ use Rattle.rebuild.proofs.counts.next_position.Statement.{statement}
 use Rattle.rebuild.proofs.counts.next_position.Tie as tie
 
 abbrev Inv-loop : tie.InvT-loop
-Inv-loop files lsn₀ size₀ k₀ lsn size k =
-    (k ≤ 256) × (larger lsn (greatest maskedLsn (drop k (files .records))) ≡ greatest maskedLsn (files .records))
-    × (larger size (greatest sizeOf (drop k (files .records))) ≡ greatest sizeOf (files .records))
+Inv-loop slots lsn₀ size₀ k₀ lsn size k =
+    (k ≤ 256) × (larger lsn (greatest maskedLsn (drop k (slots .labels))) ≡ greatest maskedLsn (slots .labels))
+    × (larger size (greatest sizeOf (drop k (slots .labels))) ≡ greatest sizeOf (slots .labels))
 
 abbrev μ-loop : tie.MeasureT-loop
-μ-loop files lsn₀ size₀ k₀ lsn size k = 256 - k
+μ-loop slots lsn₀ size₀ k₀ lsn size k = 256 - k
 
 loop-holds : tie.Need-loop-holds Inv-loop μ-loop
 loop-holds c =
-    let rs = c .args .t1 .records in
-    (zero-le, greatest-start maskedLsn rs, greatest-start sizeOf rs)
+    let ls = c .args .t1 .labels in
+    (zero-le, greatest-start maskedLsn ls, greatest-start sizeOf ls)
 
-mul-r : tie.Need-mul-r Inv-loop μ-loop
-mul-r c = search needs
+mul-l : tie.Need-mul-l Inv-loop μ-loop
+mul-l c = search needs
 
-element-copy-out-r : tie.Need-element-copy-out-r Inv-loop μ-loop
-element-copy-out-r c = search needs
+element-copy-out-l : tie.Need-element-copy-out-l Inv-loop μ-loop
+element-copy-out-l c = search needs
 
 masked-requires : tie.Need-masked-requires Inv-loop μ-loop
 masked-requires c κs = search needs
@@ -46,37 +46,37 @@ loop-less c = search needs
 
 loop-again : tie.Need-loop-again Inv-loop μ-loop
 loop-again c =
-    let rs = c .before .before .before .before .before .before .args .t1 .records in
-    let len : length rs ≡ 256 = search (mapped-length, needs) in
+    let ls = c .before .before .before .before .before .before .args .t1 .labels in
+    let len : length ls ≡ 256 = search (mapped-length, needs) in
     let l = c .before .before .before .before .before .loop in (
       omega arith,
-      ap (λ (x : ℕ). larger x (greatest maskedLsn (drop (l .k + 1) rs))) (c .before .larger .ensures ∙ ap (larger (l .lsn)) (c .before .before .masked .ensures)) ∙ greatest-next maskedLsn rs (l .k) (l .lsn) (omega arith) ∙ l .inv .1,
-      ap (λ (x : ℕ). larger x (greatest sizeOf (drop (l .k + 1) rs))) (c .larger2 .ensures) ∙ greatest-next sizeOf rs (l .k) (l .size) (omega arith) ∙ l .inv .2,
+      ap (λ (x : ℕ). larger x (greatest maskedLsn (drop (l .k + 1) ls))) (c .before .larger .ensures ∙ ap (larger (l .lsn)) (c .before .before .masked .ensures)) ∙ greatest-next maskedLsn ls (l .k) (l .lsn) (omega arith) ∙ l .inv .1,
+      ap (λ (x : ℕ). larger x (greatest sizeOf (drop (l .k + 1) ls))) (c .larger2 .ensures) ∙ greatest-next sizeOf ls (l .k) (l .size) (omega arith) ∙ l .inv .2,
     )
 
 add-result : tie.Need-add-result Inv-loop μ-loop
 unfolding nextFrom
 add-result c =
-    let rs = c .before .before .args .t1 .records in
-    let len : length rs ≡ 256 = search (mapped-length, needs) in
+    let ls = c .before .before .args .t1 .labels in
+    let len : length ls ≡ 256 = search (mapped-length, needs) in
     let l = c .before .loop in
-    omega (arith, c .before .before .pre, sym (greatest-end sizeOf rs (l .k) (l .size) (omega arith)) ∙ l .inv .2)
+    omega (arith, c .before .before .pre, sym (greatest-end sizeOf ls (l .k) (l .size) (omega arith)) ∙ l .inv .2)
 
 add-result-2 : tie.Need-add-result-2 Inv-loop μ-loop
 unfolding nextFrom
 add-result-2 c =
-    let rs = c .before .before .args .t1 .records in
-    let len : length rs ≡ 256 = search (mapped-length, needs) in
+    let ls = c .before .before .args .t1 .labels in
+    let len : length ls ≡ 256 = search (mapped-length, needs) in
     let l = c .before .loop in
-    omega (arith, c .before .before .pre, sym (greatest-end maskedLsn rs (l .k) (l .lsn) (omega arith)) ∙ l .inv .1, sym (greatest-end sizeOf rs (l .k) (l .size) (omega arith)) ∙ l .inv .2)
+    omega (arith, c .before .before .pre, sym (greatest-end maskedLsn ls (l .k) (l .lsn) (omega arith)) ∙ l .inv .1, sym (greatest-end sizeOf ls (l .k) (l .size) (omega arith)) ∙ l .inv .2)
 
 returns : tie.Need-returns Inv-loop μ-loop
 unfolding nextFrom
 returns c =
-    let rs = c .before .before .args .t1 .records in
-    let len : length rs ≡ 256 = search (mapped-length, needs) in
+    let ls = c .before .before .args .t1 .labels in
+    let len : length ls ≡ 256 = search (mapped-length, needs) in
     let l = c .before .loop in
-    ap₂ (λ (a b : ℕ). a + (b + 1)) (sym (greatest-end maskedLsn rs (l .k) (l .lsn) (omega arith)) ∙ l .inv .1) (sym (greatest-end sizeOf rs (l .k) (l .size) (omega arith)) ∙ l .inv .2)
+    ap₂ (λ (a b : ℕ). a + (b + 1)) (sym (greatest-end maskedLsn ls (l .k) (l .lsn) (omega arith)) ∙ l .inv .1) (sym (greatest-end sizeOf ls (l .k) (l .size) (omega arith)) ∙ l .inv .2)
 
 pub next-position-spec : {M : Type 1} → statement M
 next-position-spec =
@@ -85,8 +85,8 @@ next-position-spec =
     Inv-loop
     μ-loop
     loop-holds
-    mul-r
-    element-copy-out-r
+    mul-l
+    element-copy-out-l
     masked-requires
     larger-requires
     larger-requires-2

@@ -19,12 +19,12 @@ use Rattle.rebuild.proofs.table.fill.Statement.{statement}
 use Rattle.rebuild.proofs.table.fill.Tie as tie
 
 abbrev Inv-loop : tie.InvT-loop
-Inv-loop heap size n ids₀ locations₀ files k₀ ids locations k =
+Inv-loop heap size n ids₀ locations₀ slots k₀ ids locations k =
     (k ≤ n) × (length ids ≡ length ids₀) × (length locations ≡ length locations₀)
     × Filled (table ids₀ locations₀) (rowsIn (take k (viewsIn n size heap))) true (table ids locations)
 
 abbrev μ-loop : tie.MeasureT-loop
-μ-loop heap size n ids₀ locations₀ files k₀ ids locations k = n - k
+μ-loop heap size n ids₀ locations₀ slots k₀ ids locations k = n - k
 
 loop-holds : tie.Need-loop-holds Inv-loop μ-loop
 unfolding each filesIn
@@ -50,9 +50,9 @@ fill-slot-requires c κs =
     let a = start .args in
     let l = c .before .before .before .before .before .loop in
     let views = viewsIn (a .n) (a .size) (a .heap .now) in
-    let sound = all-take (Sound (a .size)) (l .k) views (sound-views (a .n) (a .size) (a .heap .now) (a .t4 .records) (start .pre .1)) in (
+    let sound = all-take (Sound (a .size)) (l .k) views (sound-views (a .n) (a .size) (a .heap .now) (a .t4 .labels) (start .pre .1)) in (
       filled-formed (table (a .ids .now) (a .locations .now)) (start .pre .0) (rowsIn (take (l .k) views)) (table (l .ids) (l .locations)) (views-in-use (a .size) (take (l .k) views) sound) (l .inv .3),
-      rw (c .before .before .before .slot-at .ensures) (shown-at (a .n) (a .size) (a .heap .now) (a .t4 .records) (start .pre .1) (l .k) (c .before .before .before .before .loop-test .taken)),
+      rw (c .before .before .before .slot-at .ensures) (shown-at (a .n) (a .size) (a .heap .now) (a .t4 .labels) (start .pre .1) (l .k) (c .before .before .before .before .loop-test .taken)),
     )
 
 same-length : tie.Need-same-length Inv-loop μ-loop
@@ -69,7 +69,7 @@ returns c =
     let low = c .before .before .before .before .before .before .before .before .before .before .loop-test .taken in
     let views = viewsIn (a .n) (a .size) (a .heap .now) in
     let many = views-length (a .n) (a .size) (a .heap .now) in
-    let sound = all-take (Sound (a .size)) (l .k) views (sound-views (a .n) (a .size) (a .heap .now) (a .t4 .records) (start .pre .1)) in
+    let sound = all-take (Sound (a .size)) (l .k) views (sound-views (a .n) (a .size) (a .heap .now) (a .t4 .labels) (start .pre .1)) in
     let view = ap viewIn (c .before .before .before .before .before .before .before .before .before .slot-at .ensures) ∙ sym (views-at (a .n) (a .size) (a .heap .now) (l .k) low) in
     let rows = slot-out views (l .k) (omega arith) ∙ ap (λ (v : View). (rowsIn (take (l .k) views) ++ each rowsOf (fileOf v)) ++ rowsIn (drop (l .k + 1) views)) (sym view) in
     chunk-out (table (a .ids .now) (a .locations .now)) (start .pre .0) (rowsIn (take (l .k) views)) _ (views-in-use (a .size) (take (l .k) views) sound) _ (l .inv .3) _ _ (c .before .before .before .before .before .fill-slot .ensures) (not-true _ (c .if1 .taken)) (rowsIn views) _ rows
@@ -88,7 +88,7 @@ loop-again c =
     let low = c .before .before .before .before .before .before .before .before .before .before .loop-test .taken in
     let views = viewsIn (a .n) (a .size) (a .heap .now) in
     let many = views-length (a .n) (a .size) (a .heap .now) in
-    let sound = all-take (Sound (a .size)) (l .k) views (sound-views (a .n) (a .size) (a .heap .now) (a .t4 .records) (start .pre .1)) in
+    let sound = all-take (Sound (a .size)) (l .k) views (sound-views (a .n) (a .size) (a .heap .now) (a .t4 .labels) (start .pre .1)) in
     let view = ap viewIn (c .before .before .before .before .before .before .before .before .before .slot-at .ensures) ∙ sym (views-at (a .n) (a .size) (a .heap .now) (l .k) low) in
     let rows = slot-in views (l .k) (omega arith) ∙ ap (λ (v : View). rowsIn (take (l .k) views) ++ each rowsOf (fileOf v)) (sym view) in (
       omega arith,

@@ -14,10 +14,10 @@ use Rattle.reopen_tests.proofs.rising.not_rising.Statement.{statement}
 use Rattle.reopen_tests.proofs.rising.not_rising.Tie as tie
 
 abbrev Inv-loop : tie.InvT-loop
-Inv-loop heap size n files k₀ k = (k ≤ n) × (any fileFalls (filesIn (drop k (viewsIn n size heap))) ≡ any fileFalls (filesIn (viewsIn n size heap)))
+Inv-loop heap size n slots k₀ k = (k ≤ n) × (any fileFalls (filesIn (drop k (viewsIn n size heap))) ≡ any fileFalls (filesIn (viewsIn n size heap)))
 
 abbrev μ-loop : tie.MeasureT-loop
-μ-loop heap size n files k₀ k = n - k
+μ-loop heap size n slots k₀ k = n - k
 
 loop-holds : tie.Need-loop-holds Inv-loop μ-loop
 loop-holds c = (zero-le, refl)
@@ -36,7 +36,7 @@ element-copy-out-slot-falls c = search needs
 slot-falls-requires : tie.Need-slot-falls-requires Inv-loop μ-loop
 slot-falls-requires c κs =
     let a = c .before .before .before .before .before .args in
-    rw (c .before .slot-at .ensures) (shown-at (a .n) (a .size) (a .heap .now) (a .t4 .records) (c .before .before .before .before .before .pre) (c .before .before .before .loop .k) (c .before .before .loop-test .taken))
+    rw (c .before .slot-at .ensures) (shown-at (a .n) (a .size) (a .heap .now) (a .t4 .labels) (c .before .before .before .before .before .pre) (c .before .before .before .loop .k) (c .before .before .loop-test .taken))
 
 returns : tie.Need-returns Inv-loop μ-loop
 returns c =

@@ -4,7 +4,7 @@ use Rattle.rules.specs.SlotLaws.{slots-apart, views-length}
 use Rattle.reopen_tests.proofs.SurveyTurns.{labels-start, labels-next, labels-end, survey-here, survey-later, survey-end, said-refusal, said-label, surveyed-refused, surveyed-clear, labelsTo}
 use lib.ListN.{drop, set}
 use mathlib.Core.List.{List}
-use Rattle.rules.specs.declared.Record.{Record}
+use Rattle.rules.specs.declared.Label.{Label}
 use Rattle.rules.specs.Base.{each}
 use Rattle.rules.specs.Refusal.{decide}
 use Rattle.rules.specs.SlotFile.{viewsIn}
@@ -15,18 +15,18 @@ use Rattle.reopen_tests.proofs.slots.survey.Statement.{statement}
 use Rattle.reopen_tests.proofs.slots.survey.Tie as tie
 
 abbrev Inv-loop : tie.InvT-loop
-Inv-loop heap size n files₀ k₀ files k = (k ≤ n) × (files .records ≡ labelsTo k (viewsIn n size heap)) × (decide (each viewTests (drop k (viewsIn n size heap))) ≡ decide (each viewTests (viewsIn n size heap)))
+Inv-loop heap size n slots₀ k₀ slots k = (k ≤ n) × (slots .labels ≡ labelsTo k (viewsIn n size heap)) × (decide (each viewTests (drop k (viewsIn n size heap))) ≡ decide (each viewTests (viewsIn n size heap)))
 
 abbrev μ-loop : tie.MeasureT-loop
-μ-loop heap size n files₀ k₀ files k = n - k
+μ-loop heap size n slots₀ k₀ slots k = n - k
 
-no-files-requires : tie.Need-no-files-requires Inv-loop μ-loop
-no-files-requires c κs = search needs
+no-labels-requires : tie.Need-no-labels-requires Inv-loop μ-loop
+no-labels-requires c κs = search needs
 
 loop-holds : tie.Need-loop-holds Inv-loop μ-loop
 loop-holds c =
     let a = c .before .before .args in
-    (zero-le, c .no-files .ensures ∙ sym (labels-start (viewsIn (a .n) (a .size) (a .heap .now))), refl)
+    (zero-le, c .no-labels .ensures ∙ sym (labels-start (viewsIn (a .n) (a .size) (a .heap .now))), refl)
 
 slot-at-requires : tie.Need-slot-at-requires Inv-loop μ-loop
 slot-at-requires c κs =
@@ -64,8 +64,8 @@ label-requires c κs = search needs
 mul-t13 : tie.Need-mul-t13 Inv-loop μ-loop
 mul-t13 c = search needs
 
-element-set-from-files : tie.Need-element-set-from-files Inv-loop μ-loop
-element-set-from-files c = search needs
+element-set-from-slots : tie.Need-element-set-from-slots Inv-loop μ-loop
+element-set-from-slots c = search needs
 
 add-k : tie.Need-add-k Inv-loop μ-loop
 add-k c = search needs
@@ -82,7 +82,7 @@ loop-again c =
     let many = views-length (a .n) (a .size) (a .heap .now) in
     let said = sym (said-refusal (a .n) (a .size) (a .heap .now) k low _ (c .before .before .before .before .before .slot-at .ensures) _ (c .before .before .before .before .check .ensures)) ∙ sym (c .before .before .before .refusal .ensures) ∙ c .before .enum-told .given .1 in
     let label = c .label .ensures ∙ said-label (a .n) (a .size) (a .heap .now) k low _ (c .before .before .before .before .before .slot-at .ensures) _ (c .before .before .before .before .check .ensures) in
-    (omega arith, ap (λ (rs : List Record). set rs k (c .label .result)) (c .before .before .before .before .before .before .before .loop .inv .1) ∙ labels-next views k _ (omega arith) (omega arith) label, survey-later views k (omega arith) said ∙ c .before .before .before .before .before .before .before .loop .inv .2)
+    (omega arith, ap (λ (ls : List Label). set ls k (c .label .result)) (c .before .before .before .before .before .before .before .loop .inv .1) ∙ labels-next views k _ (omega arith) (omega arith) label, survey-later views k (omega arith) said ∙ c .before .before .before .before .before .before .before .loop .inv .2)
 
 returns-2 : tie.Need-returns-2 Inv-loop μ-loop
 returns-2 c =
@@ -98,7 +98,7 @@ survey-spec =
     (tie.spec
     Inv-loop
     μ-loop
-    no-files-requires
+    no-labels-requires
     loop-holds
     slot-at-requires
     check-requires
@@ -109,7 +109,7 @@ survey-spec =
     enum-told
     label-requires
     mul-t13
-    element-set-from-files
+    element-set-from-slots
     add-k
     loop-less
     loop-again

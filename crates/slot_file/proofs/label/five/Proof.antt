@@ -4,7 +4,7 @@ use Prim.Native.Nat.{ℕ}
 use Rattle.numbers.specs.Groups.{numberIn}
 use Rattle.numbers.specs.declared.Number.the-variants.{Said}
 use Rattle.numbers.specs.Choice.{pick}
-use Rattle.rules.specs.declared.Label.the-variants.{Five, Wrong}
+use Rattle.rules.specs.declared.LabelAnswer.the-variants.{Five, Wrong}
 use Rattle.rules.specs.Label.{fiveIn}
 use Rattle.file_map.specs.Records.{labelled}
 use borrow.Author.Needs.{needs}

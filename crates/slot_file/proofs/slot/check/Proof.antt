@@ -13,8 +13,8 @@ enum-told c = search needs
 enum-told-2 : tie.Need-enum-told-2
 enum-told-2 c = search needs
 
-enum-known-r : tie.Need-enum-known-r
-enum-known-r c = search needs
+enum-known-l : tie.Need-enum-known-l
+enum-known-l c = search needs
 
 shown-requires : tie.Need-shown-requires
 shown-requires c κs = search needs
@@ -29,7 +29,7 @@ returns-2 c = rw (sym (c .before .before .read .ensures) ∙ c .enum-told2 .give
 
 returns-3 : tie.Need-returns-3
 unfolding viewIn
-returns-3 c = rw (sym (c .before .before .before .before .read .ensures) ∙ c .before .before .r .given .1) (c .shown .ensures)
+returns-3 c = rw (sym (c .before .before .before .before .read .ensures) ∙ c .before .before .l .given .1) (c .shown .ensures)
 
 pub check-spec : {M : Type 1} → statement M
 check-spec =
@@ -38,7 +38,7 @@ check-spec =
     read-requires
     enum-told
     enum-told-2
-    enum-known-r
+    enum-known-l
     shown-requires
     returns
     returns-2

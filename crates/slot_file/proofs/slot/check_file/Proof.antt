@@ -20,7 +20,7 @@ returns c = rw (← c .before .out-of-bounds .ensures, c .if1 .taken) refl
 trailer-part-requires : tie.Need-trailer-part-requires
 trailer-part-requires c κs =
     let b = c .before in
-    inside (length (b .before .before .args .slot .now)) (b .before .before .args .r) (sym (b .out-of-bounds .ensures) ∙ c .if1 .left)
+    inside (length (b .before .before .args .slot .now)) (b .before .before .args .l) (sym (b .out-of-bounds .ensures) ∙ c .if1 .left)
 
 check-trailer-requires : tie.Need-check-trailer-requires
 check-trailer-requires c κs = search needs
@@ -30,7 +30,7 @@ unfolding slotTests entryTests decide
 returns-2 c =
     let p = c .before in
     let b = p .before .before in
-    let r = b .before .before .args .r in
+    let r = b .before .before .args .l in
     c .check-trailer .ensures ∙ ap (λ (t : List ℕ). decide (entryTests r t)) (p .trailer-part .ensures)
     ∙ sym (rw (← b .out-of-bounds .ensures, p .before .if1 .left) refl)
 

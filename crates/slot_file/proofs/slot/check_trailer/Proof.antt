@@ -34,7 +34,7 @@ returns : tie.Need-returns
 returns c =
     let k = c .before .before in
     let a = begun k .args in
-    sym (entry-clear (a .r) (a .bytes .now) (clear k) ∙ rw (← c .before .some-over .ensures, c .if1 .taken) refl)
+    sym (entry-clear (a .l) (a .bytes .now) (clear k) ∙ rw (← c .before .some-over .ensures, c .if1 .taken) refl)
 
 count-requires : tie.Need-count-requires
 count-requires c κs =
@@ -47,15 +47,15 @@ returns-2 c =
     let k = n .before .before .before in
     let a = begun k .args in
     let t = a .bytes .now in
-    sym (entry-clear (a .r) t (clear k)
-    ∙ rw (← n .before .before .some-over .ensures, n .before .if1 .left, ne-eqb (a .r .«present_objects») (countIn t) (λ e. c .if2 .taken (e ∙ sym (n .count .ensures)))) refl)
+    sym (entry-clear (a .l) t (clear k)
+    ∙ rw (← n .before .before .some-over .ensures, n .before .if1 .left, ne-eqb (a .l .«present_objects») (countIn t) (λ e. c .if2 .taken (e ∙ sym (n .count .ensures)))) refl)
 
 returns-3 : tie.Need-returns-3
 returns-3 c =
     let told = c .before .refusal .given .1 in
     let k = c .before .before .before in
     let a = k .before .before .args in
-    sym (entry-refused (a .r) (a .bytes .now) _ (sym (k .check .ensures) ∙ told))
+    sym (entry-refused (a .l) (a .bytes .now) _ (sym (k .check .ensures) ∙ told))
 
 returns-4 : tie.Need-returns-4
 returns-4 c =
@@ -63,8 +63,8 @@ returns-4 c =
     let k = n .before .before .before in
     let a = begun k .args in
     let t = a .bytes .now in
-    sym (entry-clear (a .r) t (clear k)
-    ∙ rw (← n .before .before .some-over .ensures, n .before .if1 .left, eq-eqb (a .r .«present_objects») (countIn t) (c .if2 .left ∙ n .count .ensures)) refl)
+    sym (entry-clear (a .l) t (clear k)
+    ∙ rw (← n .before .before .some-over .ensures, n .before .if1 .left, eq-eqb (a .l .«present_objects») (countIn t) (c .if2 .left ∙ n .count .ensures)) refl)
 
 pub check-trailer-spec : {M : Type 1} → statement M
 check-trailer-spec =

@@ -14,10 +14,10 @@ slice-aggregate-result : tie.Need-slice-aggregate-result
 slice-aggregate-result c =
     let b = c .before in
     let start = b .before .before in
-    sym (ap (λ (l : List ℕ). length (take (start .args .r .«file_size») l)) (b .behind-label .ensures) ∙ file-length (start .args .r) (start .args .slot .now) (start .pre))
+    sym (ap (λ (l : List ℕ). length (take (start .args .l .«file_size») l)) (b .behind-label .ensures) ∙ file-length (start .args .l) (start .args .slot .now) (start .pre))
 
 returns : tie.Need-returns
-returns c = ap (take (c .before .before .before .args .r .«file_size»)) (c .before .behind-label .ensures)
+returns c = ap (take (c .before .before .before .args .l .«file_size»)) (c .before .behind-label .ensures)
 
 pub file-part-spec : {M : Type 1} → statement M
 file-part-spec = tie.close (tie.spec behind-label-requires slice-aggregate-result returns)

@@ -14,12 +14,12 @@ slice-aggregate-result : tie.Need-slice-aggregate-result
 slice-aggregate-result c =
     let f = c .before in
     let start = f .before .before in
-    let r = start .args .r in
+    let r = start .args .l in
     let size = ap length (f .file-part .ensures) ∙ file-length r (start .args .slot .now) (start .pre .file) in
     sym (length-take-le (r .«trailer_offset») (f .file-part .result .now) (omega (arith, start .pre .objects)))
 
 returns : tie.Need-returns
-returns c = ap (take (c .before .before .before .args .r .«trailer_offset»)) (c .before .file-part .ensures)
+returns c = ap (take (c .before .before .before .args .l .«trailer_offset»)) (c .before .file-part .ensures)
 
 pub object-part-spec : {M : Type 1} → statement M
 object-part-spec = tie.close (tie.spec file-part-requires slice-aggregate-result returns)

@@ -9,10 +9,10 @@ use Rattle.slot_file.proofs.slot.trailer_part.Statement.{statement}
 use Rattle.slot_file.proofs.slot.trailer_part.Tie as tie
 
 -- the object bytes lie in the file
-fits : (f : tie.After-file-part) → f .before .before .args .r .«trailer_offset» ≤ length (f .file-part .result .now)
+fits : (f : tie.After-file-part) → f .before .before .args .l .«trailer_offset» ≤ length (f .file-part .result .now)
 fits f =
     let start = f .before .before in
-    omega (arith, ap length (f .file-part .ensures) ∙ file-length (start .args .r) (start .args .slot .now) (start .pre .file), start .pre .objects)
+    omega (arith, ap length (f .file-part .ensures) ∙ file-length (start .args .l) (start .args .slot .now) (start .pre .file), start .pre .objects)
 
 file-part-requires : tie.Need-file-part-requires
 file-part-requires c κs = search needs
@@ -30,7 +30,7 @@ returns : tie.Need-returns
 returns c =
     let f = c .before in
     let file = f .file-part .result .now in
-    let offset = f .before .before .args .r .«trailer_offset» in
+    let offset = f .before .before .args .l .«trailer_offset» in
     take-all (length file - offset) (drop offset file) (omega (arith, length-drop offset file)) ∙ ap (drop offset) (f .file-part .ensures)
 
 pub trailer-part-spec : {M : Type 1} → statement M

@@ -11,7 +11,7 @@ put-five-requires : tie.Need-put-five-requires
 put-five-requires c κs = search needs
 
 returns : tie.Need-returns
-returns c = c .before .put-five .ensures ∙ label-made (c .before .before .before .args .r)
+returns c = c .before .put-five .ensures ∙ label-made (c .before .before .before .args .l)
 
 pub bytes-of-spec : {M : Type 1} → statement M
 bytes-of-spec = tie.close (tie.spec slice-aggregate-put-five put-five-requires returns)

@@ -50,7 +50,7 @@ returns c =
     let first = second .before .before .before .before .before .before in
     let b = first .before .before .before .before in
     let l = b .bytes-of .result in
-    let size : length l ≡ 64 = ap length (b .bytes-of .ensures) ∙ label-length (b .before .before .args .r) in
+    let size : length l ≡ 64 = ap length (b .bytes-of .ensures) ∙ label-length (b .before .before .args .l) in
     let tail : take 63 (drop 1 l) ≡ drop 1 l = take-all 63 (drop 1 l) (omega (arith, length-drop 1 l)) in
     rw (← b .bytes-of .ensures) (made-then (rw (add-one, tail) at (first .put-bytes .ensures)) (second .put-bytes2 .ensures))
 
