@@ -1,6 +1,6 @@
 -- The demands of lives of results: whatever the calls gave, as long as their contracts admit it.
 use mathlib.Core.Path.{_≡_, refl, sym, ap, _∙_, subst}
-use Rattle.rules.specs.Base.{List, [], _∷_, ℕ}
+use Rattle.rules.specs.Base.{List, [], _∷_, map, ℕ}
 use Rattle.rules.specs.declared.Answer.the-variants.{Done}
 use Rattle.rules.specs.declared.ReadAnswer.{ReadAnswer}
 use Rattle.rules.specs.Ops.{Op, put, delete}
@@ -13,7 +13,7 @@ use Rattle.theory.specs.Writing.{engine, heard}
 use Rattle.theory.specs.Reading.{Reads}
 use Rattle.theory.specs.Reopened.{Opened, reopened-means}
 use Rattle.theory.specs.Quiet.{claim, release}
-use Rattle.theory.specs.History.{Call, write, maintain, prune, reopen, quiet, called, hears, Life, born, Kept}
+use Rattle.theory.specs.History.{Call, write, maintain, prune, reopen, quiet, called, hears, Life, lived, born, Kept}
 use Rattle.theory.specs.Writes.{got, leftBy, write-means}
 use Rattle.power_cuts.specs.Cuts.{CutAt, Survived, hearsCut, done, happened, livedOn}
 use Rattle.power_cuts.specs.Cuts as cuts
@@ -45,6 +45,22 @@ theCalls (cut k c v r ids locations) es = cuts.cut k c v ∷ es
 unfoldable calls : List Event → List cuts.Event
 calls [] = []
 calls (e ∷ es) = theCalls e (calls es)
+
+-- of results alone, the calls alone
+abbrev theCall : Result → List Call → List Call
+theCall (wrote batch r heap ids locations) cs = write batch ∷ cs
+theCall (maintained r heap ids locations) cs = maintain ∷ cs
+theCall (pruned r heap) cs = prune ∷ cs
+theCall (claimed slot r) cs = quiet (claim slot) ∷ cs
+theCall (released slot r) cs = quiet (release slot) ∷ cs
+theCall (reopened r ids locations) cs = reopen ∷ cs
+theCall (answered id r) cs = cs
+theCall (read id part) cs = cs
+theCall (counted r) cs = cs
+
+unfoldable pub callsOf : List Result → List Call
+callsOf [] = []
+callsOf (r ∷ rs) = theCall r (callsOf rs)
 
 -- an event and what it is there: it leaves the same store, and the engine has heard the same
 pub record Alike (l : Life) (e : Event) (d : cuts.Event) : Type 0 where
@@ -93,6 +109,20 @@ alike l (e ∷ es) h = go e (h .0) (alike (next l e) es (h .1))
         alike-then l (cut k c v r ids locations) (cuts.cut k c v) es (calls es)
         (record { happens = a .0; same = λ i. record { world = a .1 i .world; history = hearsCut k (l .world) (l .history) c } }) b
 
+-- without a cut they are a life of calls made to their ends
+uncut : (l : Life) (rs : List Result) → livedOn l (calls (map gave rs)) ≡ lived l (callsOf rs)
+unfolding calls callsOf livedOn lived
+uncut l [] = refl
+uncut l (wrote batch r heap ids locations ∷ rs) = uncut (happened l (done (write batch))) rs
+uncut l (maintained r heap ids locations ∷ rs) = uncut (happened l (done maintain)) rs
+uncut l (pruned r heap ∷ rs) = uncut (happened l (done prune)) rs
+uncut l (claimed slot r ∷ rs) = uncut (happened l (done (quiet (claim slot)))) rs
+uncut l (released slot r ∷ rs) = uncut (happened l (done (quiet (release slot)))) rs
+uncut l (reopened r ids locations ∷ rs) = uncut (happened l (done reopen)) rs
+uncut l (answered id r ∷ rs) = uncut l rs
+uncut l (read id part ∷ rs) = uncut l rs
+uncut l (counted r ∷ rs) = uncut l rs
+
 -- ---- the demands, of every store by its life
 module _ (l : Lived) where
   born-as : begun (l .start) (l .opening) (l .ids) (l .locations) ≡ born (l .start)
@@ -103,6 +133,10 @@ module _ (l : Lived) where
 
   reached-as : livedOn (born (l .start)) (calls (l .events)) ≡ reached l
   reached-as = sym (as-called .same) ∙ sym (ap (λ (b : Life). lives b (l .events)) born-as)
+
+  -- of results without a cut: every theorem about a life of calls is one about these
+  pub results-called : (rs : List Result) → l .events ≡ map gave rs → lived (born (l .start)) (callsOf rs) ≡ reached l
+  results-called rs e = sym (uncut (born (l .start)) rs) ∙ ap (λ (es : List Event). livedOn (born (l .start)) (calls es)) (sym e) ∙ reached-as
 
   -- the invariant holds
   pub life-sound : SoundWorld (reached l .world) (engine (reached l .history))

@@ -1,7 +1,7 @@
 -- What the demands say of a result of `maintain` that its contract admits, on every store of demand 3.
-use mathlib.Core.Path.{_≡_, ap, _∙_}
+use mathlib.Core.Path.{_≡_, ap, _∙_, subst}
 use mathlib.Core.Logic.{_⊎_, inl, inr, ⊎-elim}
-use Rattle.rules.specs.Base.{true, List, [], _∷_, ℕ, sum}
+use Rattle.rules.specs.Base.{true, List, [], _∷_, map, ℕ, sum}
 use Rattle.rules.specs.BaseLaws.{All}
 use Rattle.rules.specs.declared.Refusal.{Refusal}
 use Rattle.rules.specs.declared.MaintainAnswer.the-variants.{Moved, Stopped}
@@ -10,18 +10,21 @@ use Rattle.rules.specs.Table.{lookup}
 use Rattle.rules.specs.Maintenance.{group}
 use Rattle.rules.specs.World.{After, mappings}
 use Rattle.theory.specs.Stopping.{Spent}
-use Rattle.theory.specs.Finished.{liveOf, before, Answers, maintain-answer}
+use Rattle.theory.specs.History.{Life}
+use Rattle.theory.specs.Finished.{liveOf, before, Answers, any-maintenance}
 use Rattle.theory.specs.Exactly.{Inside, rewritten, idsMoved, sound-moves}
 use Rattle.gc.specs.declared.Maintained.{Maintained}
-use Rattle.marble.specs.Results.{maintained, left, Admitted, Lived, reached}
-use Rattle.marble.specs.Lives.{life-sound}
+use Rattle.marble.specs.Results.{Result, maintained, left, Admitted, gave, Lived, reached}
+use Rattle.marble.specs.Lives.{callsOf, results-called, life-sound}
 
 module _ (l : Lived) (r : Maintained) (heap ids locations : List ℕ) (m : Admitted (reached l .world) (maintained r heap ids locations)) where
-  -- DEMAND 2: it moves the ids that are live in the files of its groups; or a group stops it with 4, 5 or 7, after those of the generations before
-  pub maintain-moves :
-      (r .answer ≡ Moved (sum (liveOf (reached l .world)) (1 ∷ 2 ∷ 3 ∷ [])))
+  -- DEMAND 2, without power cuts before: it moves the ids that are live in the files of its groups; or a group stops it with 4, 5 or 7, after those of the
+  -- generations before
+  pub maintain-moves : (rs : List Result) → l .events ≡ map gave rs
+      → (r .answer ≡ Moved (sum (liveOf (reached l .world)) (1 ∷ 2 ∷ 3 ∷ [])))
       ⊎ ((q : Refusal) × (g : ℕ) × (r .answer ≡ Stopped q g (sum (liveOf (reached l .world)) (before g))) × Spent q)
-  maintain-moves = go (maintain-answer (reached l .history) (reached l .world) (life-sound l))
+  maintain-moves rs e =
+      go (subst (λ (b : Life). Answers (b .world)) (results-called l rs e) (any-maintenance (l .start) (l .range) (l .blank) (callsOf rs)))
     where
       go : Answers (reached l .world)
           → (r .answer ≡ Moved (sum (liveOf (reached l .world)) (1 ∷ 2 ∷ 3 ∷ [])))

@@ -3,10 +3,10 @@ use mathlib.Core.Path.{_≡_, refl}
 use mathlib.Core.Logic.{_⊎_, inl, inr}
 use Prim.Native.Nat.{_≤_, _<_}
 use borrow.Author.Tests.{lt-ltb, le-ltb, le-leb, lt-leb}
-use Rattle.rules.specs.Base.{Bool, true, false, List, [], _∷_, ℕ, _+_, _^_, leb, eqb}
+use Rattle.rules.specs.Base.{Bool, true, false, List, [], _∷_, ℕ, _+_, _^_, leb, eqb, pick}
 use Rattle.rules.specs.Types.{Location}
 use Rattle.numbers.specs.GroupLaws.{either-way}
-use Rattle.disk_location.specs.Locations.{positionOf, deleteOf, rawOf, locatedAt, relativeAt}
+use Rattle.disk_location.specs.Locations.{positionOf, deleteOf, rawOf, locatedAt, relativeAt, Told, told, relativeTold}
 use Rattle.disk_location.specs.declared.Located.{Located}
 use Rattle.disk_location.specs.declared.Located.the-variants.{At, Refused}
 use Rattle.disk_location.specs.declared.RelativeLocated.{RelativeLocated}
@@ -29,10 +29,13 @@ absoluteGiven position delete =
 unfoldable pub toAbsoluteGiven : ℕ → ℕ → Given
 toAbsoluteGiven raw lsn = absoluteGiven (positionOf raw + lsn) (deleteOf raw)
 
--- ---- disk_location's answer: its number and value for each case
+-- ---- disk_location's answer: the number and the raw location that it tells, the location a value where the number is 0
+abbrev pub toldGiven : Told → Given
+toldGiven t = record { number = t .number; values = pick (eqb (t .number) 0) (t .raw ∷ []) [] }
+
+-- an absolute location's
 abbrev pub locatedGiven : Located → Given
-locatedGiven (At l) = accepted (l .0 ∷ [])
-locatedGiven Refused = refused Location
+locatedGiven l = toldGiven (told l)
 
 -- its contracts say what the paper says
 pub located-given : (position : ℕ) (delete : Bool) → locatedGiven (locatedAt position delete) ≡ absoluteGiven position delete
@@ -71,8 +74,7 @@ located-one = inverse-one locatedGiven (λ (g : Given). locatedOf (g .values)) g
 
 -- ---- the same of a relative location
 abbrev pub relativeLocatedGiven : RelativeLocated → Given
-relativeLocatedGiven (relative.At l) = accepted (l .0 ∷ [])
-relativeLocatedGiven relative.Refused = refused Location
+relativeLocatedGiven l = toldGiven (relativeTold l)
 
 -- its contract says what the paper says
 pub relative-located-given : (position : ℕ) (delete : Bool) → relativeLocatedGiven (relativeAt position delete) ≡ relativeGiven position delete

@@ -1,0 +1,147 @@
+-- "Show that any two results it admits are equal", for each call of a host in C: number, out-parameters, words of state and claim record, buffers.
+use mathlib.Core.Path.{_≡_, sym, ap, _∙_}
+use Rattle.rules.specs.Base.{List, [], ℕ, length}
+use Rattle.rules.specs.declared.Settings.{Settings}
+use Rattle.rules.specs.declared.Claims.{Claims}
+use Rattle.rules.specs.Claims.{noClaims, claimCall, releaseCall}
+use Rattle.rules.specs.Counts.{countsCall}
+use Rattle.rules.specs.Maintenance.{maintainCall}
+use Rattle.rules.specs.Prune.{pruneCall}
+use Rattle.rules.specs.Read.{readCall}
+use Rattle.rules.specs.Reopen.{reopenCall}
+use Rattle.rules.specs.TableCalls.{TableAfter, loadCall, storeCall, compareCall, greaterCall}
+use Rattle.rules.specs.World.{Given, After, world, leaving}
+use Rattle.rules.specs.Write.{writeCall}
+use Rattle.location_table.specs.Tables.{table}
+use Rattle.location_table.specs.Tables.{leaving as tableLeaving}
+use Rattle.as_numbers.specs.ClaimWords.{claimsIn, claims-one}
+use Rattle.as_numbers.specs.Shown.{given, shown, stopAfter, shownTable}
+use Rattle.as_numbers.specs.StateLaws.{state-one}
+use Rattle.as_numbers.specs.StateWords.{stateIn}
+
+-- what a call gave and left: its number, its out-parameters, the words and the buffers
+pub record Left : Type 0 where
+  pub number : ℕ
+  pub values : List ℕ
+  pub state : List ℕ
+  pub claims : List ℕ
+  pub heap : List ℕ
+  pub ids : List ℕ
+  pub locations : List ℕ
+
+-- arrays have the lengths of their types
+pub record Sized (l : Left) : Type 0 where
+  pub state : length (l .state) ≡ 1545
+  pub claims : length (l .claims) ≡ 4
+
+-- the same, as the calls' definitions say it
+abbrev pub said : Settings → Left → After
+said s l = leaving (given (l .number) (l .values)) (world s (stateIn (l .state)) (claimsIn (l .claims)) (l .heap) (l .ids) (l .locations))
+
+-- what settles this settles every word
+left-one : (s : Settings) (a : After) (l m : Left) → Sized l → Sized m → said s l ≡ a → said s m ≡ a → l ≡ m
+left-one s a l m p q e f =
+    let both = e ∙ sym f in
+    let state = state-one (l .state) (m .state) (p .state) (q .state) (ap (λ (x : After). x .world .state) both) in
+    let claims = claims-one (l .claims) (m .claims) (p .claims) (q .claims) (ap (λ (x : After). x .world .claims) both) in
+    λ i. record {
+      number = both i .answer .number;
+      values = both i .answer .values;
+      state = state i;
+      claims = claims i;
+      heap = both i .world .heap;
+      ids = both i .world .table .ids;
+      locations = both i .world .table .locations;
+    }
+
+-- ---- calls on a store: settings, the words and the buffers before
+module _ (s : Settings) (state claims heap ids locations : List ℕ) where
+  -- what each contract says
+  abbrev pub Reopens : Left → Type 0
+  Reopens l = said s l ≡ reopenCall (world s (stateIn state) (claimsIn claims) heap ids locations)
+
+  abbrev pub ClaimsSlot : ℕ → Left → Type 0
+  ClaimsSlot slot l = said s l ≡ claimCall (world s (stateIn state) (claimsIn claims) heap ids locations) slot
+
+  abbrev pub Releases : ℕ → Left → Type 0
+  Releases slot l = said s l ≡ releaseCall (world s (stateIn state) (claimsIn claims) heap ids locations) slot
+
+  abbrev pub Prunes : Left → Type 0
+  Prunes l = said s l ≡ pruneCall (world s (stateIn state) (claimsIn claims) heap ids locations)
+
+  abbrev pub Maintains : Left → Type 0
+  Maintains l = said s l ≡ stopAfter (maintainCall (world s (stateIn state) (claimsIn claims) heap ids locations))
+
+  -- any two are equal
+  pub reopen-one : (l m : Left) → Sized l → Sized m → Reopens l → Reopens m → l ≡ m
+  reopen-one = left-one s (reopenCall (world s (stateIn state) (claimsIn claims) heap ids locations))
+
+  pub claim-one : (slot : ℕ) (l m : Left) → Sized l → Sized m → ClaimsSlot slot l → ClaimsSlot slot m → l ≡ m
+  claim-one slot = left-one s (claimCall (world s (stateIn state) (claimsIn claims) heap ids locations) slot)
+
+  pub release-one : (slot : ℕ) (l m : Left) → Sized l → Sized m → Releases slot l → Releases slot m → l ≡ m
+  release-one slot = left-one s (releaseCall (world s (stateIn state) (claimsIn claims) heap ids locations) slot)
+
+  pub prune-one : (l m : Left) → Sized l → Sized m → Prunes l → Prunes m → l ≡ m
+  prune-one = left-one s (pruneCall (world s (stateIn state) (claimsIn claims) heap ids locations))
+
+  pub maintain-one : (l m : Left) → Sized l → Sized m → Maintains l → Maintains m → l ≡ m
+  maintain-one = left-one s (stopAfter (maintainCall (world s (stateIn state) (claimsIn claims) heap ids locations)))
+
+-- ---- calls that are not lent the claim record
+module _ (s : Settings) (state heap ids locations : List ℕ) where
+  -- state words and buffers after
+  abbrev pub Writes : List ℕ → ℕ → List ℕ → List ℕ → List ℕ → List ℕ → Type 0
+  Writes batch r ws hs is ls =
+      (c : Claims) → leaving (given r []) (world s (stateIn ws) c hs is ls) ≡ writeCall (world s (stateIn state) c heap ids locations) batch
+
+  pub write-one : (batch : List ℕ) (r q : ℕ) (ws vs hs ks is js ls ms : List ℕ) → length ws ≡ 1545 → length vs ≡ 1545
+      → Writes batch r ws hs is ls → Writes batch q vs ks js ms → (r ≡ q) × (ws ≡ vs) × (hs ≡ ks) × (is ≡ js) × (ls ≡ ms)
+  write-one batch r q ws vs hs ks is js ls ms m n e f =
+      let both = e noClaims ∙ sym (f noClaims) in (
+        ap (λ (x : After). x .answer .number) both,
+        state-one ws vs m n (ap (λ (x : After). x .world .state) both),
+        ap (λ (x : After). x .world .heap) both,
+        ap (λ (x : After). x .world .table .ids) both,
+        ap (λ (x : After). x .world .table .locations) both,
+      )
+
+  -- number and out-parameters
+  abbrev pub ReadsOut : ℕ → ℕ → List ℕ → Type 0
+  ReadsOut id r values = (c : Claims) → given r values ≡ shown 2 (readCall (world s (stateIn state) c heap ids locations) id .answer)
+
+  abbrev pub CountsOut : ℕ → List ℕ → Type 0
+  CountsOut r values = (c : Claims) → given r values ≡ shown 4 (countsCall (world s (stateIn state) c heap ids locations) .answer)
+
+  pub read-one : (id r q : ℕ) (vs us : List ℕ) → ReadsOut id r vs → ReadsOut id q us → given r vs ≡ given q us
+  read-one id r q vs us e f = e noClaims ∙ sym (f noClaims)
+
+  pub counts-one : (r q : ℕ) (vs us : List ℕ) → CountsOut r vs → CountsOut q us → given r vs ≡ given q us
+  counts-one r q vs us e f = e noClaims ∙ sym (f noClaims)
+
+-- ---- the table's calls: both buffers before
+module _ (ids locations : List ℕ) (id : ℕ) where
+  abbrev pub Loads : ℕ → List ℕ → Type 0
+  Loads r values = given r values ≡ shown 1 (loadCall (table ids locations) id .answer)
+
+  abbrev pub Stores : ℕ → TableAfter → Type 0
+  Stores location t = t ≡ storeCall (table ids locations) id location
+
+  abbrev pub Compares : ℕ → ℕ → TableAfter → Type 0
+  Compares old location t = t ≡ shownTable 1 (compareCall (table ids locations) id old location)
+
+  abbrev pub StoresGreater : ℕ → TableAfter → Type 0
+  StoresGreater location t = t ≡ shownTable 1 (greaterCall (table ids locations) id location)
+
+  pub load-one : (r q : ℕ) (vs us : List ℕ) → Loads r vs → Loads q us → given r vs ≡ given q us
+  load-one r q vs us e f = e ∙ sym f
+
+  -- number, out-parameter and both buffers after
+  pub store-one : (location : ℕ) (t u : TableAfter) → Stores location t → Stores location u → t ≡ u
+  store-one location t u e f = e ∙ sym f
+
+  pub compare-one : (old location : ℕ) (t u : TableAfter) → Compares old location t → Compares old location u → t ≡ u
+  compare-one old location t u e f = e ∙ sym f
+
+  pub greater-one : (location : ℕ) (t u : TableAfter) → StoresGreater location t → StoresGreater location u → t ≡ u
+  greater-one location t u e f = e ∙ sym f
