@@ -54,9 +54,10 @@ class Step:
 
     def __init__(self, line, store, imported=False, rewrite=None, differs=None, mixed=False):
         self.line, self.imported, self.rewrite, self.differs, self.mixed = line, imported, rewrite, differs, mixed
-        self.given, self.heap_len, self.heap_sum = store.given, len(store.heap), zlib.crc32(store.heap)
-        self.table_len = len(store.ids)
-        self.heap = bytes(store.heap) if line.split()[0] in LOOKED_AT else None
+        self.given, self.heap_len, self.table_len = store.given, len(store.heap), len(store.ids)
+        word = line.split()[0]
+        self.heap_sum = zlib.crc32(store.heap) if word in CALLS else None
+        self.heap = bytes(store.heap) if word in LOOKED_AT else None
 
     def label_files(self):
         """(label's numbers, bytes) of each slot that is not empty"""
