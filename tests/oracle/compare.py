@@ -54,9 +54,10 @@ class Step:
 
     def __init__(self, line, store, imported=False, rewrite=None, differs=None, mixed=False):
         self.line, self.imported, self.rewrite, self.differs, self.mixed = line, imported, rewrite, differs, mixed
-        self.given, self.heap_len, self.heap_sum = store.given, len(store.heap), zlib.crc32(store.heap)
-        self.table_len = len(store.ids)
-        self.heap = bytes(store.heap) if line.split()[0] in LOOKED_AT else None
+        self.given, self.heap_len, self.table_len = store.given, len(store.heap), len(store.ids)
+        word = line.split()[0]
+        self.heap_sum = zlib.crc32(store.heap) if word in CALLS else None
+        self.heap = bytes(store.heap) if word in LOOKED_AT else None
 
     def label_files(self):
         """(label's numbers, bytes) of each slot that is not empty"""
@@ -230,10 +231,10 @@ class Comparison:
 
     def measure(self, step, view):
         """how far the step went"""
-        used = sum(LABEL + f.file_size for f in view.files.values())
+        full = sum(LABEL + f.file_size == step.given.slot_bytes for f in view.files.values())
         for name, value in (('S', step.given.slot_bytes), ('N', step.heap_len // step.given.slot_bytes), ('table', step.table_len),
                             ('files', len(view.files)), ('ids', len(view.entries)), ('heap', step.heap_len),
-                            ('percent of the heap in use', used * 100 // step.heap_len),
+                            ('slots full to the last byte', full),
                             ('file_size', max((f.file_size for f in view.files.values()), default=0)),
                             ('generation', max((f.generation for f in view.files.values()), default=0)),
                             ('body read', max(len(r) // 2 - 1 for r in view.reads))):
@@ -246,6 +247,7 @@ class Comparison:
             self.reach('min_compaction_files met', given.min_files)
             if rewrite.shards:
                 self.reach('files in a rewritten group', max(rewrite.groups))
+                self.reach('ids in a maintenance', len(view.entries))
             if rewrite.small:
                 self.reach('threshold met', given.threshold)
             if rewrite.longest == given.max_object - 1:
@@ -560,7 +562,7 @@ def compare_directed(port, rust):
 ROUND = 25
 # a run of so many calls must get so far with its first seed
 MUST_REACH = {
-    'S': 1048576, 'N': 256, 'heap': 24 * 1048576, 'table': 65536, 'ids': 65536, 'files': 256, 'file_size': 1048512, 'percent of the heap in use': 100, 'generation': 255,
+    'S': 1048576, 'N': 256, 'heap': 24 * 1048576, 'table': 65536, 'ids': 65536, 'ids in a maintenance': 40000, 'files': 256, 'file_size': 1048512, 'slots full to the last byte': 256, 'generation': 255,
     'body read': 1048464, 'max_object_size - 1 written': 1048464, 'max_object_size - 1 rewritten': 1048464, 'shards in one maintenance': 21,
     'groups in one maintenance': 3, 'files in a rewritten group': 255, 'min_compaction_files met': 256, 'threshold met': 256,
     'table calls among writes': 100,

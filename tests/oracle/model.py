@@ -489,7 +489,7 @@ def number(word, limit=U64):
 
 
 def hex_bytes(word):
-    if word != '-' and not re.fullmatch('([0-9a-fA-F]{2})+', word):
+    if word != '-' and (len(word) % 2 == 1 or not re.fullmatch('[0-9a-fA-F]+', word)):
         raise BadLine
     return bytes.fromhex(word.replace('-', ''))
 

@@ -32,7 +32,7 @@ class Port:
     def run(self, lines):
         """one answer, a list of lines, for each line"""
         done = subprocess.run(self.command, input=''.join(line + '\n' for line in lines), capture_output=True, text=True,
-                              encoding='latin-1', timeout=300)
+                              encoding='latin-1', timeout=1800)
         if done.returncode != 0:
             raise SystemExit(f'console ended with {done.returncode}: {done.stderr[-500:]}')
         said = iter([line for line in done.stdout.split('\n')[:-1] if not line.startswith('#')])
