@@ -106,7 +106,7 @@ extern "C" {
 
 /* ---- stack: bytes below the caller that each call was never seen to pass in the tests (tests/c fails where one does). Measured on x86-64,
    not proved; what interrupts take comes on top. */
-#define MARBLE_STACK_REOPEN 38912
+#define MARBLE_STACK_REOPEN 47104
 #define MARBLE_STACK_WRITE 45056
 #define MARBLE_STACK_READ 16384
 #define MARBLE_STACK_CLAIM 13312
