@@ -12,19 +12,22 @@ use Rattle.rules.specs.declared.Record.{Record}
 use Rattle.rules.specs.declared.Settings.{Settings}
 use Rattle.rules.specs.LabelLaws.{InBounds, lsn-some}
 use Rattle.rules.specs.Layout.{Buffers, capacityOf}
-use Rattle.rules.specs.FileMap.{recorded, emptyRecord, isEmpty, recordAt, slotsWhere, emptySlots, lowestEmpty}
+use Rattle.rules.specs.FileMap.{emptyRecord, isEmpty, recordAt, withLive, slotsWhere, emptySlots, lowestEmpty}
 use Rattle.rules.specs.FileMapLaws.{empty-is, is-empty, not-empty, empty-or-not, lowest-empty}
 use Rattle.rules.specs.Condition1Laws.{GoodRecord}
 
 -- ---- a record that may lose live ones: still a file's, or still empty
 module _ (s : Settings) (heapLen : ℕ) (b after : Buffers) (same : capacityOf after ≡ capacityOf b) (slot : ℕ) (r q : Record)
-    (label : q .label ≡ r .label) (less : q .live ≤ r .live) (good : isEmpty r ≡ false → GoodRecord s heapLen b slot r) where
+    (kept : q ≡ withLive r (q .live)) (less : q .live ≤ r .live) (good : isEmpty r ≡ false → GoodRecord s heapLen b slot r) where
+  label : q .label ≡ r .label
+  label = ap (λ (x : Record). x .label) kept
+
   -- an empty one
   pub still-empty : isEmpty r ≡ true → isEmpty q ≡ true
   still-empty e =
       let none = empty-is r e in
       let lost : q .live ≡ 0 = omega (arith, ap (λ (x : Record). x .live) none) in
-      ap isEmpty (ap₂ recorded (label ∙ ap (λ (x : Record). x .label) none) lost) ∙ is-empty
+      ap isEmpty (kept ∙ ap₂ withLive none lost) ∙ is-empty
 
   -- a file's
   pub still-file : isEmpty r ≡ false → isEmpty q ≡ false

@@ -16,7 +16,7 @@ use Rattle.rules.specs.FileMapLaws.{not-empty, Lowest, lowest-empty}
 use Rattle.rules.specs.Condition1Laws.{GoodRecord, Passed}
 use Rattle.rules.specs.StoreLaws.{made-length}
 use Rattle.rules.specs.Install.{newLabel, newRecord, newLsn, newSlot, losing, recordsWith, storesFor, tableWith, nextWith, installed, emptyOf}
-use Rattle.rules.specs.InstallLaws.{losing-length, losing-label, plain-lsn, losing-record, installed-lsn}
+use Rattle.rules.specs.InstallLaws.{losing-length, plain-lsn, losing-record, installed-lsn}
 use Rattle.rules.specs.World.{World, recordsOf, slotsOf, mappings, stateWith}
 use Rattle.rules.specs.LabelLaws.{lsn-some}
 use Rattle.limits.specs.Settled.{passed-formed}
@@ -84,7 +84,7 @@ module _ (generation : ℕ) (w : World) (ops : List Op) (f : Rewritable generati
   others : (j : ℕ) → isEmpty (recordAt (losing (mappings w) ops (recordsOf w)) j) ≡ isEmpty (recordAt (recordsOf w) j)
   others j =
       still (w .settings) (length (w .heap)) (w .table) (w .table) refl j (recordAt (recordsOf w) j) (recordAt (losing (mappings w) ops (recordsOf w)) j)
-      (losing-label (mappings w) ops (recordsOf w) j) (losing-record (mappings w) ops (recordsOf w) j .less) (f .passed .records j)
+      (losing-record (mappings w) ops (recordsOf w) j .same) (losing-record (mappings w) ops (recordsOf w) j .less) (f .passed .records j)
 
   -- and passes refusal 1, as the new one does
   records-good : (k : ℕ) → isEmpty (recordAt (recordsWith (newRecord (newLsn 0 w) generation ops) w ops) k) ≡ false
@@ -106,7 +106,7 @@ module _ (generation : ℕ) (w : World) (ops : List Op) (f : Rewritable generati
       go (inr d) =
           let same = getD-set-other old (newSlot w) k new emptyRecord d in
           rw same (still-good (w .settings) (length (w .heap)) (w .table) (tableWith (newLsn 0 w) w ops) (ap length (same-ids .ids)) k (recordAt (recordsOf w) k) (recordAt old k)
-          (losing-label (mappings w) ops (recordsOf w) k) (losing-record (mappings w) ops (recordsOf w) k .less) (f .passed .records k) (ap isEmpty (sym same) ∙ e))
+          (losing-record (mappings w) ops (recordsOf w) k .same) (losing-record (mappings w) ops (recordsOf w) k .less) (f .passed .records k) (ap isEmpty (sym same) ∙ e))
 
   -- refusal 1 does not hold
   passed-with : Passed (w .settings) (length (w .heap)) (tableWith (newLsn 0 w) w ops)
