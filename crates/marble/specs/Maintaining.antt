@@ -10,6 +10,7 @@ use Rattle.rules.specs.Condition1.{outOfRange}
 use Rattle.rules.specs.Table.{lookup}
 use Rattle.rules.specs.Maintenance.{group}
 use Rattle.rules.specs.World.{World, After, world, mappings}
+use Rattle.rules.specs.Layout.{table}
 use Rattle.theory.specs.Fresh.{Blank}
 use Rattle.theory.specs.Stopping.{Spent}
 use Rattle.theory.specs.History.{Call, maintain, called, hears, Life, lived, born, Kept, any-history}
@@ -52,11 +53,11 @@ module _ (w : World) (range : outOfRange (w .settings) (length (w .heap)) (w .ta
 
   -- every other id has the location that it had
   pub maintain-leaves : (x : ℕ) → All (λ (g : ℕ). rewritten (lived (born w) calls .world) g ≡ true → Inside (lived (born w) calls .world) (group (lived (born w) calls .world) g) x → ⊥) (1 ∷ 2 ∷ 3 ∷ [])
-      → lookup (mappings (world (lived (born w) calls .world .settings) (r .state) (lived (born w) calls .world .claims) heap ids locations)) x ≡ lookup (mappings (lived (born w) calls .world)) x
+      → lookup (mappings (world (lived (born w) calls .world .settings) (r .state) (lived (born w) calls .world .claims) heap (table ids locations))) x ≡ lookup (mappings (lived (born w) calls .world)) x
   maintain-leaves x n = ap (λ (a : After). lookup (mappings (a .world)) x) m ∙ any-maintenance-moves w range blank calls .others x n
 
   -- DEMAND 3: every read is as before, and a reopening finds the store that it left
-  pub maintain-keeps : Kept (world (lived (born w) calls .world .settings) (r .state) (lived (born w) calls .world .claims) heap ids locations) (lived (born w) calls .history)
+  pub maintain-keeps : Kept (world (lived (born w) calls .world .settings) (r .state) (lived (born w) calls .world .claims) heap (table ids locations)) (lived (born w) calls .history)
   maintain-keeps =
       subst (λ (v : World). Kept v (lived (born w) calls .history)) (sym (ap (λ (a : After). a .world) m))
       (subst (λ (l : Life). Kept (l .world) (l .history)) (lived-then (born w) calls maintain) (any-history w range blank (calls ++ (maintain ∷ []))))
