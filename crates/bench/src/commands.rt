@@ -20,7 +20,7 @@ ghost use Rattle.bench.specs.Lines.{Ran};
 fn body(b: Bench, heap: &[u8], ids: &[u64], locations: &[u64], id: u64) {
     let settings = b.settings;
     let state = b.state;
-    let part = readpath::read(settings, state, heap, ids, locations, id);
+    let part = marble::read(settings, state, heap, ids, locations, id);
     say::text(b"ok ");
     say::hex(part);
     say::end();

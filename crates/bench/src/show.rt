@@ -40,7 +40,7 @@ fn used(ids: &[u64], locations: &[u64]) -> usize
         if locations.len() <= k {
             return k;
         }
-        if locations[k] == 0 {
+        if location_table::location_at(locations, k) == 0 {
             return k;
         }
         k += 1;
@@ -105,7 +105,9 @@ fn entry_lines(ids: &[u64], locations: &[u64]) {
     let n = desk::least(ids.len(), locations.len());
     let mut k: usize = 0;
     while k < n {
-        entry_line(k as u64, ids[k], locations[k]);
+        let id = location_table::id_at(ids, k);
+        let location = location_table::location_at(locations, k);
+        entry_line(k as u64, id, location);
         k += 1;
     }
 }

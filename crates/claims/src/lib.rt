@@ -26,7 +26,7 @@ ghost use Rattle.rules.specs.World.{world, leaving, answerGiven, countsGiven};
 ghost use Rattle.rules.specs.declared.Claims.{Claims};
 ghost use Rattle.rules.specs.declared.FileMap.{FileMap};
 ghost use Rattle.rules.specs.declared.Refusal.the-variants.{Limits, Claim};
-ghost use Rattle.location_table.specs.Tables.{table};
+ghost use Rattle.rules.specs.Layout.{table};
 ghost use Rattle.limits.specs.Settled.{stateOf, badFiles};
 
 // ---- the bits
@@ -144,7 +144,7 @@ fn decided(
     slot: u64,
     barred: bool,
 ) -> Answer
-    ensures { λ r. ⌜ ((files : FileMap) (c : Claims) → bad ≡ badFiles s (length (now (heap .entry))) (table (now (ids .entry)) (now (locations .entry))) (files .records) → empty ≡ isEmpty (recordAt (files .records) slot) → let w = world s (stateOf rest files) c (now (heap .entry)) (now (ids .entry)) (now (locations .entry)) in r ≡ decide (refused1 w gives Limits ∷ (notAFile w slot || barred) gives Claim ∷ [])) ⌝ }
+    ensures { λ r. ⌜ ((files : FileMap) (c : Claims) → bad ≡ badFiles s (length (now (heap .entry))) (table (now (ids .entry)) (now (locations .entry))) (files .records) → empty ≡ isEmpty (recordAt (files .records) slot) → let w = world s (stateOf rest files) c (now (heap .entry)) (table (now (ids .entry)) (now (locations .entry))) in r ≡ decide (refused1 w gives Limits ∷ (notAFile w slot || barred) gives Claim ∷ [])) ⌝ }
 {
     if refused_apart(s, heap.len() as u64, ids, locations, rest, bad) {
         return Answer::Refused(Refusal::Limits);
@@ -177,7 +177,7 @@ pub fn claim(
     locations: &[u64],
     slot: u64,
 ) -> ClaimAnswer
-    ensures { λ r. ⌜ leaving (answerGiven (r .answer)) (world s state (r .claims) (now (heap .entry)) (now (ids .entry)) (now (locations .entry))) ≡ claimCall (world s state claims (now (heap .entry)) (now (ids .entry)) (now (locations .entry))) slot ⌝ }
+    ensures { λ r. ⌜ leaving (answerGiven (r .answer)) (world s state (r .claims) (now (heap .entry)) (table (now (ids .entry)) (now (locations .entry)))) ≡ claimCall (world s state claims (now (heap .entry)) (table (now (ids .entry)) (now (locations .entry)))) slot ⌝ }
 {
     let files = state.files;
     let bad = bad_files(s, heap.len() as u64, ids, locations, files);
@@ -217,7 +217,7 @@ pub fn release(
     locations: &[u64],
     slot: u64,
 ) -> ClaimAnswer
-    ensures { λ r. ⌜ leaving (answerGiven (r .answer)) (world s state (r .claims) (now (heap .entry)) (now (ids .entry)) (now (locations .entry))) ≡ releaseCall (world s state claims (now (heap .entry)) (now (ids .entry)) (now (locations .entry))) slot ⌝ }
+    ensures { λ r. ⌜ leaving (answerGiven (r .answer)) (world s state (r .claims) (now (heap .entry)) (table (now (ids .entry)) (now (locations .entry)))) ≡ releaseCall (world s state claims (now (heap .entry)) (table (now (ids .entry)) (now (locations .entry)))) slot ⌝ }
 {
     let files = state.files;
     let bad = bad_files(s, heap.len() as u64, ids, locations, files);
@@ -255,7 +255,7 @@ pub fn counts(
     ids: &[u64],
     locations: &[u64],
 ) -> CountsAnswer
-    ensures { λ r. ⌜ ((claims : Claims) → leaving (countsGiven r) (world s state claims (now (heap .entry)) (now (ids .entry)) (now (locations .entry))) ≡ countsCall (world s state claims (now (heap .entry)) (now (ids .entry)) (now (locations .entry)))) ⌝ }
+    ensures { λ r. ⌜ ((claims : Claims) → leaving (countsGiven r) (world s state claims (now (heap .entry)) (table (now (ids .entry)) (now (locations .entry)))) ≡ countsCall (world s state claims (now (heap .entry)) (table (now (ids .entry)) (now (locations .entry))))) ⌝ }
 {
     let files = state.files;
     let bad = bad_files(s, heap.len() as u64, ids, locations, files);

@@ -50,6 +50,7 @@ use Rattle.rules.proofs.Settings as S
 use Rattle.rules.proofs.Settings.Laws as S′
 use Rattle.rules.proofs.State as Q
 use Rattle.rules.proofs.State.Laws as Q′
+use Rattle.rules.specs.Layout.{table}
 use Rattle.claims_in_place.proofs.Outcome as O
 use Rattle.claims_in_place.proofs.Outcome.Laws as O′
 use Rattle.claims_in_place.proofs.claimed as of
@@ -91,7 +92,7 @@ code callee = record {
 
 -- what a contract says of a number and a claim record: both are the definition's, and nothing else has changed
 abbrev Says : (World → ℕ → After) → Settings → State → Claims → Lent → Lent → Lent → ℕ → ℕ → Claims → Type 0
-Says F s st h bs is ls n m h′ = leaving (numbered m) (world s st h′ (bs .now) (is .now) (ls .now)) ≡ F (world s st h (bs .now) (is .now) (ls .now)) n
+Says F s st h bs is ls n m h′ = leaving (numbered m) (world s st h′ (bs .now) (table (is .now) (ls .now))) ≡ F (world s st h (bs .now) (table (is .now) (ls .now))) n
 
 module _ (F : World → ℕ → After) {M : Type 1} (𝓤 : URA M) where
   -- the contract of the call in place, and of the call by value

@@ -7,6 +7,7 @@ use rules::State;
 ghost use mathlib.Core.Path.{_≡_};
 ghost use Rattle.rules.specs.Claims.{claimCall, releaseCall};
 ghost use Rattle.rules.specs.World.{world, leaving};
+ghost use Rattle.rules.specs.Layout.{table};
 ghost use Rattle.as_numbers.specs.Numbered.{numbered};
 
 // ---- by value
@@ -26,7 +27,7 @@ fn claimed(
     locations: &[u64],
     slot: u64,
 ) -> Outcome
-    ensures { λ r. ⌜ leaving (numbered (r .number)) (world s state (r .claims) (now (heap .entry)) (now (ids .entry)) (now (locations .entry))) ≡ claimCall (world s state claims (now (heap .entry)) (now (ids .entry)) (now (locations .entry))) slot ⌝ }
+    ensures { λ r. ⌜ leaving (numbered (r .number)) (world s state (r .claims) (now (heap .entry)) (table (now (ids .entry)) (now (locations .entry)))) ≡ claimCall (world s state claims (now (heap .entry)) (table (now (ids .entry)) (now (locations .entry)))) slot ⌝ }
 {
     let r = claims::claim(s, state, claims, heap, ids, locations, slot);
     let answer = r.answer;
@@ -47,7 +48,7 @@ fn released(
     locations: &[u64],
     slot: u64,
 ) -> Outcome
-    ensures { λ r. ⌜ leaving (numbered (r .number)) (world s state (r .claims) (now (heap .entry)) (now (ids .entry)) (now (locations .entry))) ≡ releaseCall (world s state claims (now (heap .entry)) (now (ids .entry)) (now (locations .entry))) slot ⌝ }
+    ensures { λ r. ⌜ leaving (numbered (r .number)) (world s state (r .claims) (now (heap .entry)) (table (now (ids .entry)) (now (locations .entry)))) ≡ releaseCall (world s state claims (now (heap .entry)) (table (now (ids .entry)) (now (locations .entry)))) slot ⌝ }
 {
     let r = claims::release(s, state, claims, heap, ids, locations, slot);
     let answer = r.answer;
@@ -69,7 +70,7 @@ pub fn claim(
     locations: &[u64],
     slot: u64,
 ) -> u64
-    ensures { λ r. ⌜ leaving (numbered r) (world s state (now (claims .exit)) (now (heap .entry)) (now (ids .entry)) (now (locations .entry))) ≡ claimCall (world s state (now (claims .entry)) (now (heap .entry)) (now (ids .entry)) (now (locations .entry))) slot ⌝ }
+    ensures { λ r. ⌜ leaving (numbered r) (world s state (now (claims .exit)) (now (heap .entry)) (table (now (ids .entry)) (now (locations .entry)))) ≡ claimCall (world s state (now (claims .entry)) (now (heap .entry)) (table (now (ids .entry)) (now (locations .entry)))) slot ⌝ }
 {
     let was = *claims;
     let next = claimed(was, s, state, heap, ids, locations, slot);
@@ -87,7 +88,7 @@ pub fn release(
     locations: &[u64],
     slot: u64,
 ) -> u64
-    ensures { λ r. ⌜ leaving (numbered r) (world s state (now (claims .exit)) (now (heap .entry)) (now (ids .entry)) (now (locations .entry))) ≡ releaseCall (world s state (now (claims .entry)) (now (heap .entry)) (now (ids .entry)) (now (locations .entry))) slot ⌝ }
+    ensures { λ r. ⌜ leaving (numbered r) (world s state (now (claims .exit)) (now (heap .entry)) (table (now (ids .entry)) (now (locations .entry)))) ≡ releaseCall (world s state (now (claims .entry)) (now (heap .entry)) (table (now (ids .entry)) (now (locations .entry)))) slot ⌝ }
 {
     let was = *claims;
     let next = released(was, s, state, heap, ids, locations, slot);

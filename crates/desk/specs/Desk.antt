@@ -1,6 +1,6 @@
 -- The desk: what the console's commands are given and change; what a command leaves.
 use Rattle.rules.specs.Base.{List, [], _++_, ℕ, take, drop}
-use Rattle.rules.specs.Layout.{Buffers}
+use Rattle.rules.specs.Layout.{Buffers, table}
 use Rattle.rules.specs.TableCalls.{TableAfter}
 use Rattle.rules.specs.World.{World, world, Given, accepted, answerGiven, readGiven, maintainGiven, countsGiven, loadGiven, compareGiven, After}
 use Rattle.desk.specs.Types.{Done, Bench, Look, Reply, BadLine, Answered, Read, Maintained, Counted, Loaded, Compared, Raised, Shown, Turn}
@@ -77,7 +77,7 @@ changed d = record { reply = gave plain (accepted []); desk = d }
 -- ---- a call
 -- what a call is given
 abbrev pub worldOf : Desk → World
-worldOf d = world (d .bench .settings) (d .bench .state) (d .bench .claims) (d .heap) (d .ids) (d .locations)
+worldOf d = world (d .bench .settings) (d .bench .state) (d .bench .claims) (d .heap) (table (d .ids) (d .locations))
 
 -- a world on a desk that lends as much as before
 abbrev pub deskOf : Bench → World → Desk

@@ -109,8 +109,7 @@ pub fn entry(
         return bad_line(b);
     }
     let at = k as usize;
-    ids[at] = id;
-    locations[at] = location;
+    location_table::set_pair(ids, locations, at, id, location);
     done(b)
 }
 

@@ -22,7 +22,7 @@ ghost use Rattle.desk.specs.Desk.{desk, left, plain, found, moved, count
 pub fn reopen(b: Bench, heap: &[u8], ids: &mut [u64], locations: &mut [u64]) -> Turn
     ensures { λ r. ⌜ left r (now (heap .entry)) (now (ids .exit)) (now (locations .exit)) ≡ called plain reopenCall (desk b (now (heap .entry)) (now (ids .entry)) (now (locations .entry))) ⌝ }
 {
-    let done = recovery::reopen(b.settings, b.state, b.claims, heap, ids, locations);
+    let done = marble::reopen(b.settings, b.state, b.claims, heap, ids, locations);
     let answer = done.answer;
     answered(answer, with_claims(with_state(b, done.state), done.claims))
 }
@@ -36,7 +36,7 @@ pub fn write(
 ) -> Turn
     ensures { λ r. ⌜ left r (now (heap .exit)) (now (ids .exit)) (now (locations .exit)) ≡ called plain (λ (w : World). writeCall w (now (batch .entry))) (desk b (now (heap .entry)) (now (ids .entry)) (now (locations .entry))) ⌝ }
 {
-    let done = writepath::write(b.settings, b.state, heap, ids, locations, batch);
+    let done = marble::write(b.settings, b.state, heap, ids, locations, batch);
     let answer = done.answer;
     answered(answer, with_state(b, done.state))
 }
@@ -44,7 +44,7 @@ pub fn write(
 pub fn read(b: Bench, heap: &[u8], ids: &[u64], locations: &[u64], id: u64) -> Turn
     ensures { λ r. ⌜ left r (now (heap .entry)) (now (ids .entry)) (now (locations .entry)) ≡ called found (λ (w : World). readCall w id) (desk b (now (heap .entry)) (now (ids .entry)) (now (locations .entry))) ⌝ }
 {
-    let answer = readpath::read_answer(b.settings, b.state, heap, ids, locations, id);
+    let answer = marble::read_answer(b.settings, b.state, heap, ids, locations, id);
     Turn {
         reply: Reply::Read(answer),
         bench: b,
@@ -54,7 +54,7 @@ pub fn read(b: Bench, heap: &[u8], ids: &[u64], locations: &[u64], id: u64) -> T
 pub fn prune(b: Bench, heap: &mut [u8], ids: &[u64], locations: &[u64]) -> Turn
     ensures { λ r. ⌜ left r (now (heap .exit)) (now (ids .entry)) (now (locations .entry)) ≡ called plain pruneCall (desk b (now (heap .entry)) (now (ids .entry)) (now (locations .entry))) ⌝ }
 {
-    let done = prune::prune(b.settings, b.state, b.claims, heap, ids, locations);
+    let done = marble::prune(b.settings, b.state, b.claims, heap, ids, locations);
     let answer = done.answer;
     answered(answer, with_state(b, done.state))
 }
@@ -62,7 +62,7 @@ pub fn prune(b: Bench, heap: &mut [u8], ids: &[u64], locations: &[u64]) -> Turn
 pub fn maintain(b: Bench, heap: &mut [u8], ids: &mut [u64], locations: &mut [u64]) -> Turn
     ensures { λ r. ⌜ left r (now (heap .exit)) (now (ids .exit)) (now (locations .exit)) ≡ called moved maintainCall (desk b (now (heap .entry)) (now (ids .entry)) (now (locations .entry))) ⌝ }
 {
-    let done = gc::maintain(b.settings, b.state, b.claims, heap, ids, locations);
+    let done = marble::maintain(b.settings, b.state, b.claims, heap, ids, locations);
     let answer = done.answer;
     Turn {
         reply: Reply::Maintained(answer),
@@ -73,7 +73,7 @@ pub fn maintain(b: Bench, heap: &mut [u8], ids: &mut [u64], locations: &mut [u64
 pub fn claim(b: Bench, heap: &[u8], ids: &[u64], locations: &[u64], slot: u64) -> Turn
     ensures { λ r. ⌜ left r (now (heap .entry)) (now (ids .entry)) (now (locations .entry)) ≡ called plain (λ (w : World). claimCall w slot) (desk b (now (heap .entry)) (now (ids .entry)) (now (locations .entry))) ⌝ }
 {
-    let done = claims::claim(b.settings, b.state, b.claims, heap, ids, locations, slot);
+    let done = marble::claim(b.settings, b.state, b.claims, heap, ids, locations, slot);
     let answer = done.answer;
     answered(answer, with_claims(b, done.claims))
 }
@@ -81,7 +81,7 @@ pub fn claim(b: Bench, heap: &[u8], ids: &[u64], locations: &[u64], slot: u64) -
 pub fn release(b: Bench, heap: &[u8], ids: &[u64], locations: &[u64], slot: u64) -> Turn
     ensures { λ r. ⌜ left r (now (heap .entry)) (now (ids .entry)) (now (locations .entry)) ≡ called plain (λ (w : World). releaseCall w slot) (desk b (now (heap .entry)) (now (ids .entry)) (now (locations .entry))) ⌝ }
 {
-    let done = claims::release(b.settings, b.state, b.claims, heap, ids, locations, slot);
+    let done = marble::release(b.settings, b.state, b.claims, heap, ids, locations, slot);
     let answer = done.answer;
     answered(answer, with_claims(b, done.claims))
 }
@@ -89,7 +89,7 @@ pub fn release(b: Bench, heap: &[u8], ids: &[u64], locations: &[u64], slot: u64)
 pub fn counts(b: Bench, heap: &[u8], ids: &[u64], locations: &[u64]) -> Turn
     ensures { λ r. ⌜ left r (now (heap .entry)) (now (ids .entry)) (now (locations .entry)) ≡ called counted countsCall (desk b (now (heap .entry)) (now (ids .entry)) (now (locations .entry))) ⌝ }
 {
-    let answer = claims::counts(b.settings, b.state, heap, ids, locations);
+    let answer = marble::counts(b.settings, b.state, heap, ids, locations);
     Turn {
         reply: Reply::Counted(answer),
         bench: b,
@@ -99,7 +99,7 @@ pub fn counts(b: Bench, heap: &[u8], ids: &[u64], locations: &[u64]) -> Turn
 pub fn load(b: Bench, ids: &[u64], locations: &[u64], id: u64) -> Turn
     ensures { λ r. ⌜ ((heap : List ℕ) → left r heap (now (ids .entry)) (now (locations .entry)) ≡ called located (onTable (λ (t : Buffers). loadCall t id)) (desk b heap (now (ids .entry)) (now (locations .entry)))) ⌝ }
 {
-    let answer = location_table::load(ids, locations, id);
+    let answer = marble::load(ids, locations, id);
     Turn {
         reply: Reply::Loaded(answer),
         bench: b,
@@ -109,13 +109,13 @@ pub fn load(b: Bench, ids: &[u64], locations: &[u64], id: u64) -> Turn
 pub fn store(b: Bench, ids: &mut [u64], locations: &mut [u64], id: u64, raw: u64) -> Turn
     ensures { λ r. ⌜ ((heap : List ℕ) → left r heap (now (ids .exit)) (now (locations .exit)) ≡ called plain (onTable (λ (t : Buffers). storeCall t id raw)) (desk b heap (now (ids .entry)) (now (locations .entry)))) ⌝ }
 {
-    answered(location_table::store(ids, locations, id, raw), b)
+    answered(marble::store(ids, locations, id, raw), b)
 }
 
 pub fn cas(b: Bench, ids: &mut [u64], locations: &mut [u64], id: u64, old: u64, raw: u64) -> Turn
     ensures { λ r. ⌜ ((heap : List ℕ) → left r heap (now (ids .exit)) (now (locations .exit)) ≡ called compared (onTable (λ (t : Buffers). compareCall t id old raw)) (desk b heap (now (ids .entry)) (now (locations .entry)))) ⌝ }
 {
-    let answer = location_table::compare_and_store(ids, locations, id, old, raw);
+    let answer = marble::compare_and_store(ids, locations, id, old, raw);
     Turn {
         reply: Reply::Compared(answer),
         bench: b,
@@ -125,7 +125,7 @@ pub fn cas(b: Bench, ids: &mut [u64], locations: &mut [u64], id: u64, old: u64, 
 pub fn max(b: Bench, ids: &mut [u64], locations: &mut [u64], id: u64, raw: u64) -> Turn
     ensures { λ r. ⌜ ((heap : List ℕ) → left r heap (now (ids .exit)) (now (locations .exit)) ≡ called raised (onTable (λ (t : Buffers). greaterCall t id raw)) (desk b heap (now (ids .entry)) (now (locations .entry)))) ⌝ }
 {
-    let answer = location_table::store_if_greater(ids, locations, id, raw);
+    let answer = marble::store_if_greater(ids, locations, id, raw);
     Turn {
         reply: Reply::Raised(answer),
         bench: b,

@@ -20,7 +20,6 @@ ghost use mathlib.Core.Path.{_≡_};
 ghost use Prim.Native.Nat.{_≤_};
 ghost use lib.Dec.{ltb};
 ghost use Rattle.rules.specs.Base.{List, ℕ, pick};
-ghost use Rattle.rules.specs.Settings.{defaults};
 ghost use Rattle.rules.specs.World.{noState};
 ghost use Rattle.desk.specs.Desk.{desk, left, onLent};
 ghost use Rattle.desk.specs.Kinds.{Among, atBench, asking, tabling};
@@ -76,20 +75,6 @@ fn no_settings() -> Settings
     }
 }
 
-// "Port's default"
-fn defaults() -> Settings
-    ensures { λ s. ⌜ s ≡ defaults ⌝ }
-{
-    Settings {
-        slot_bytes: 4096,
-        file_compaction_percent: 75,
-        min_compaction_files: 2,
-        target_file_size: 2048,
-        small_file_cleanup_threshold: 64,
-        max_object_size: 1024,
-    }
-}
-
 // The state before the first reopening.
 fn no_state() -> State
     ensures { λ s. ⌜ s ≡ noState ⌝ }
@@ -108,7 +93,7 @@ pub fn start() -> Bench
     ensures { λ b. ⌜ b ≡ freshBench ⌝ }
 {
     Bench {
-        settings: defaults(),
+        settings: marble::defaults(),
         state: no_state(),
         claims: claims::no_claims(),
         heap_len: 65536,

@@ -8,7 +8,7 @@ use Rattle.rules.specs.declared.State.{State}
 use Rattle.rules.specs.declared.Claims.{Claims}
 use Rattle.rules.specs.Maintenance.{Course, rewriteGroup}
 use Rattle.rules.specs.World.{world}
-use Rattle.location_table.specs.Tables.{table}
+use Rattle.rules.specs.Layout.{table}
 use Rattle.gc_group.specs.Plan.{planned}
 use Rattle.gc.specs.declared.Halt.the-variants.{Going}
 use Rattle.gc.specs.declared.Run.{Run}
@@ -27,7 +27,7 @@ module _ (s : Settings) (plan : List ℕ) (t₀ : State) (heap₀ ids₀ locatio
     pub low : 0 < generation
     pub few : r .moved + left * 65536 ≤ 196608
     pub under : Underway s (length heap) (table ids locations) (r .state) plan
-    pub whole : (c : Claims) → steppedFrom left generation plan (standing r (world s (r .state) c heap ids locations)) ≡ byPlan plan (world s t₀ c heap₀ ids₀ locations₀)
+    pub whole : (c : Claims) → steppedFrom left generation plan (standing r (world s (r .state) c heap (table ids locations))) ≡ byPlan plan (world s t₀ c heap₀ (table ids₀ locations₀))
     pub heap-long : length heap ≡ length heap₀
     pub ids-long : length ids ≡ length ids₀
     pub locations-long : length locations ≡ length locations₀
@@ -61,8 +61,8 @@ module _ (s : Settings) (plan : List ℕ) (t₀ : State) (heap₀ ids₀ locatio
           few = omega (arith, m .few, e);
           under = m .under;
           whole = λ c.
-              ap (steppedFrom k (generation + 1) plan) (sym (not-due plan (r .halt) generation (standing r (world s (r .state) c heap ids locations)) refl d))
-              ∙ subst (λ (n : ℕ). steppedFrom n generation plan (standing r (world s (r .state) c heap ids locations)) ≡ byPlan plan (world s t₀ c heap₀ ids₀ locations₀)) e (m .whole c);
+              ap (steppedFrom k (generation + 1) plan) (sym (not-due plan (r .halt) generation (standing r (world s (r .state) c heap (table ids locations))) refl d))
+              ∙ subst (λ (n : ℕ). steppedFrom n generation plan (standing r (world s (r .state) c heap (table ids locations))) ≡ byPlan plan (world s t₀ c heap₀ (table ids₀ locations₀))) e (m .whole c);
           heap-long = m .heap-long;
           ids-long = m .ids-long;
           locations-long = m .locations-long;
@@ -71,7 +71,7 @@ module _ (s : Settings) (plan : List ℕ) (t₀ : State) (heap₀ ids₀ locatio
     -- a group that is, rewritten
     pub midway-step : generation ≤ 3 → (isGoing (r .halt) && leb (s .«min_compaction_files») (length (planned plan generation))) ≡ true
         → (q : Run) (heap′ ids′ locations′ : List ℕ)
-        → ((c : Claims) → standing q (world s (q .state) c heap′ ids′ locations′) ≡ rewriteGroup generation (planned plan generation) (r .moved) (world s (r .state) c heap ids locations))
+        → ((c : Claims) → standing q (world s (q .state) c heap′ (table ids′ locations′)) ≡ rewriteGroup generation (planned plan generation) (r .moved) (world s (r .state) c heap (table ids locations)))
         → Underway s (length heap′) (table ids′ locations′) (q .state) plan → q .moved ≤ r .moved + 65536
         → length heap′ ≡ length heap → length ids′ ≡ length ids → length locations′ ≡ length locations
         → Midway (generation + 1) q heap′ ids′ locations′
@@ -86,15 +86,15 @@ module _ (s : Settings) (plan : List ℕ) (t₀ : State) (heap₀ ids₀ locatio
           few = omega (arith, m .few, e, more);
           under = u;
           whole = λ c.
-              ap (steppedFrom k (generation + 1) plan) (done c ∙ due plan (r .halt) generation (standing r (world s (r .state) c heap ids locations)) refl d)
-              ∙ subst (λ (n : ℕ). steppedFrom n generation plan (standing r (world s (r .state) c heap ids locations)) ≡ byPlan plan (world s t₀ c heap₀ ids₀ locations₀)) e (m .whole c);
+              ap (steppedFrom k (generation + 1) plan) (done c ∙ due plan (r .halt) generation (standing r (world s (r .state) c heap (table ids locations))) refl d)
+              ∙ subst (λ (n : ℕ). steppedFrom n generation plan (standing r (world s (r .state) c heap (table ids locations))) ≡ byPlan plan (world s t₀ c heap₀ (table ids₀ locations₀))) e (m .whole c);
           heap-long = x ∙ m .heap-long;
           ids-long = y ∙ m .ids-long;
           locations-long = z ∙ m .locations-long;
         }
 
     -- none is left
-    pub midway-end : 3 < generation → (c : Claims) → standing r (world s (r .state) c heap ids locations) ≡ byPlan plan (world s t₀ c heap₀ ids₀ locations₀)
+    pub midway-end : 3 < generation → (c : Claims) → standing r (world s (r .state) c heap (table ids locations)) ≡ byPlan plan (world s t₀ c heap₀ (table ids₀ locations₀))
     midway-end h c =
         let none : m .left ≡ 0 = omega (arith, m .turns) in
-        subst (λ (n : ℕ). steppedFrom n generation plan (standing r (world s (r .state) c heap ids locations)) ≡ byPlan plan (world s t₀ c heap₀ ids₀ locations₀)) none (m .whole c)
+        subst (λ (n : ℕ). steppedFrom n generation plan (standing r (world s (r .state) c heap (table ids locations))) ≡ byPlan plan (world s t₀ c heap₀ (table ids₀ locations₀))) none (m .whole c)

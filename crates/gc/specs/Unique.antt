@@ -8,11 +8,12 @@ use Rattle.rules.specs.declared.MaintainAnswer.{MaintainAnswer}
 use Rattle.rules.specs.Answers as answers
 use Rattle.rules.specs.Maintenance.{maintainCall}
 use Rattle.rules.specs.World.{World, After, world, leaving, maintainGiven}
+use Rattle.rules.specs.Layout.{table}
 use Rattle.gc.specs.declared.Maintained.{Maintained}
 
 -- what the contract says of a result and the three buffers
 abbrev pub Maintains : Settings → Claims → World → Maintained → List ℕ → List ℕ → List ℕ → Type 0
-Maintains s c w r heap ids locations = leaving (maintainGiven (r .answer)) (world s (r .state) c heap ids locations) ≡ maintainCall w
+Maintains s c w r heap ids locations = leaving (maintainGiven (r .answer)) (world s (r .state) c heap (table ids locations)) ≡ maintainCall w
 
 -- any two are equal
 pub maintain-one : (s : Settings) (c : Claims) (w : World) (a b : Maintained) (h k is js ls ms : List ℕ)

@@ -20,7 +20,7 @@ ghost use Rattle.rules.specs.declared.Claims.{Claims};
 ghost use Rattle.rules.specs.Condition1Laws.{Passed};
 ghost use Rattle.rules.specs.Maintenance.{rewriteGroup, courseOf, finished, maintainCall};
 ghost use Rattle.rules.specs.World.{world, leaving, maintainGiven};
-ghost use Rattle.location_table.specs.Tables.{table};
+ghost use Rattle.rules.specs.Layout.{table};
 ghost use Rattle.prune.specs.Labels.{LabelsIn};
 ghost use Rattle.gc_group.specs.Plan.{planned};
 ghost use Rattle.gc.specs.Runs.{isGoing, stopOf, stopGiven, standing, answerOf, byPlan, Underway};
@@ -86,7 +86,7 @@ fn generation_step(
 ) -> Run
     requires { ⌜ Underway settings (length (now heap)) (table (now ids) (now locations)) (run .state) (now plan) ⌝ }
     requires { ⌜ (0 < generation) × (generation ≤ 3) × (run .moved ≤ 2 ^ 32) ⌝ }
-    ensures { λ r. ⌜ ((c : Claims) → standing r (world settings (r .state) c (now (heap .exit)) (now (ids .exit)) (now (locations .exit))) ≡ rewriteGroup generation (planned (now (plan .entry)) generation) (run .moved) (world settings (run .state) c (now (heap .entry)) (now (ids .entry)) (now (locations .entry)))) ⌝ }
+    ensures { λ r. ⌜ ((c : Claims) → standing r (world settings (r .state) c (now (heap .exit)) (table (now (ids .exit)) (now (locations .exit)))) ≡ rewriteGroup generation (planned (now (plan .entry)) generation) (run .moved) (world settings (run .state) c (now (heap .entry)) (table (now (ids .entry)) (now (locations .entry))))) ⌝ }
     ensures { λ r. ⌜ Underway settings (length (now (heap .exit))) (table (now (ids .exit)) (now (locations .exit))) (r .state) (now (plan .entry)) ⌝ }
     ensures { λ r. ⌜ r .moved ≤ run .moved + 65536 ⌝ }
 {
@@ -120,7 +120,7 @@ fn generations(
     plan: &[u64],
 ) -> Run
     requires { ⌜ Underway settings (length (now heap)) (table (now ids) (now locations)) state (now plan) ⌝ }
-    ensures { λ r. ⌜ ((c : Claims) → standing r (world settings (r .state) c (now (heap .exit)) (now (ids .exit)) (now (locations .exit))) ≡ byPlan (now (plan .entry)) (world settings state c (now (heap .entry)) (now (ids .entry)) (now (locations .entry)))) ⌝ }
+    ensures { λ r. ⌜ ((c : Claims) → standing r (world settings (r .state) c (now (heap .exit)) (table (now (ids .exit)) (now (locations .exit)))) ≡ byPlan (now (plan .entry)) (world settings state c (now (heap .entry)) (table (now (ids .entry)) (now (locations .entry))))) ⌝ }
     ensures { λ r. ⌜ Underway settings (length (now (heap .exit))) (table (now (ids .exit)) (now (locations .exit))) (r .state) (now (plan .entry)) ⌝ }
 {
     let mut run = Run {
@@ -149,7 +149,7 @@ fn rewrite_groups(
     locations: &mut [u64],
 ) -> Run
     requires { ⌜ Passed settings (length (now heap)) (table (now ids) (now locations)) state ⌝ }
-    ensures { λ r. ⌜ standing r (world settings (r .state) claims (now (heap .exit)) (now (ids .exit)) (now (locations .exit))) ≡ courseOf (world settings state claims (now (heap .entry)) (now (ids .entry)) (now (locations .entry))) ⌝ }
+    ensures { λ r. ⌜ standing r (world settings (r .state) claims (now (heap .exit)) (table (now (ids .exit)) (now (locations .exit)))) ≡ courseOf (world settings state claims (now (heap .entry)) (table (now (ids .entry)) (now (locations .entry)))) ⌝ }
     ensures { λ r. ⌜ LabelsIn (settings .«slot_bytes») (r .state .files .records) (length (now (heap .exit))) ⌝ }
 {
     let files = state.files;
@@ -170,7 +170,7 @@ fn answer_of(halt: Halt, moved: u64) -> MaintainAnswer
 // "nothing is pruned. Success prunes and gives the count of ids moved."
 fn finish(settings: Settings, run: Run, claims: Claims, heap: &mut [u8]) -> Maintained
     requires { ⌜ LabelsIn (settings .«slot_bytes») (run .state .files .records) (length (now heap)) ⌝ }
-    ensures { λ r. ⌜ ((ids locations : List ℕ) → leaving (maintainGiven (r .answer)) (world settings (r .state) claims (now (heap .exit)) ids locations) ≡ finished (standing run (world settings (run .state) claims (now (heap .entry)) ids locations))) ⌝ }
+    ensures { λ r. ⌜ ((ids locations : List ℕ) → leaving (maintainGiven (r .answer)) (world settings (r .state) claims (now (heap .exit)) (table ids locations)) ≡ finished (standing run (world settings (run .state) claims (now (heap .entry)) (table ids locations)))) ⌝ }
 {
     let end = run.halt;
     let state = run.state;
@@ -191,7 +191,7 @@ pub fn maintain(
     ids: &mut [u64],
     locations: &mut [u64],
 ) -> Maintained
-    ensures { λ r. ⌜ leaving (maintainGiven (r .answer)) (world settings (r .state) claims (now (heap .exit)) (now (ids .exit)) (now (locations .exit))) ≡ maintainCall (world settings state claims (now (heap .entry)) (now (ids .entry)) (now (locations .entry))) ⌝ }
+    ensures { λ r. ⌜ leaving (maintainGiven (r .answer)) (world settings (r .state) claims (now (heap .exit)) (table (now (ids .exit)) (now (locations .exit)))) ≡ maintainCall (world settings state claims (now (heap .entry)) (table (now (ids .entry)) (now (locations .entry)))) ⌝ }
 {
     if limits::refused(settings, heap.len() as u64, ids, locations, state) {
         return Maintained {

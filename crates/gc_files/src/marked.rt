@@ -1,7 +1,10 @@
 use disk_location::DiskLocation;
+use location_table::capacity;
+use location_table::location_at;
 ghost use mathlib.Core.Path.{_≡_};
 ghost use Prim.Native.Nat.{_^_, _≤_};
 ghost use Rattle.numbers.specs.Parts.{front};
+ghost use Rattle.rules.specs.Layout.{tableLocations};
 ghost use Rattle.gc_files.specs.Places.{placeFor, placesFor, Placeable, Placeables};
 
 // Where the operation of an entry stands: 0 where it is not marked, 1 for a delete, else its object in the slot of its mark.
@@ -31,12 +34,14 @@ pub fn place_all(
     places: &mut [u32],
 )
     requires { ⌜ «slot_bytes» ≤ 2 ^ 20 ⌝ }
-    requires { ⌜ Placeables (now lsns) (now locations) (now marks) (now places) ⌝ }
-    ensures { λ _. ⌜ now (places .exit) ≡ front (placesFor «slot_bytes» (now (lsns .entry)) (now (locations .entry)) (now (marks .entry))) (now (places .entry)) ⌝ }
+    requires { ⌜ Placeables (now lsns) (tableLocations (now locations)) (now marks) (now places) ⌝ }
+    ensures { λ _. ⌜ now (places .exit) ≡ front (placesFor «slot_bytes» (now (lsns .entry)) (tableLocations (now (locations .entry))) (now (marks .entry))) (now (places .entry)) ⌝ }
 {
+    let n = capacity(locations);
     let mut i: usize = 0;
-    while i < locations.len() {
-        places[i] = place_of(locations[i], marks[i], lsns, slot_bytes);
+    while i < n {
+        let location = location_at(locations, i);
+        places[i] = place_of(location, marks[i], lsns, slot_bytes);
         i += 1;
     }
 }

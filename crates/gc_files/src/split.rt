@@ -2,9 +2,12 @@ use crate::places::moving_at;
 use crate::places::shard_of;
 use batch::size_of;
 use gc_split::Totals;
+use location_table::capacity;
+use location_table::id_at;
 ghost use mathlib.Core.Path.{_≡_};
 ghost use Prim.Native.Nat.{_<_};
 ghost use lib.ListN.{length, getD, set};
+ghost use Rattle.rules.specs.Layout.{tableIds};
 ghost use Rattle.gc_split.specs.Tally.{tally, tallyFrom, Within};
 ghost use Rattle.gc_files.specs.Places.{Whole, Splitting, placedOps, entryTaken, entryPiece, piecesAlong};
 
@@ -65,17 +68,19 @@ pub fn split(
     target: u64,
     slot_bytes: u64,
 ) -> Totals
-    requires { ⌜ Splitting (now heap) (now ids) (now places) (now pieces) (totals .entries) ⌝ }
+    requires { ⌜ Splitting (now heap) (tableIds (now ids)) (now places) (now pieces) (totals .entries) ⌝ }
     requires { ⌜ Within (tally (now sizes) (now counts) (now rounds) (now cuts) totals) ⌝ }
-    ensures { λ r. ⌜ tally (now (sizes .exit)) (now (counts .exit)) (now (rounds .exit)) (now (cuts .exit)) r ≡ tallyFrom target «slot_bytes» (placedOps (now (heap .entry)) (now (ids .entry)) (now (places .entry))) (tally (now (sizes .entry)) (now (counts .entry)) (now (rounds .entry)) (now (cuts .entry)) totals) ⌝ }
-    ensures { λ r. ⌜ now (pieces .exit) ≡ piecesAlong target «slot_bytes» (now (heap .entry)) (now (ids .entry)) (now (places .entry)) (now (pieces .entry)) (tally (now (sizes .entry)) (now (counts .entry)) (now (rounds .entry)) (now (cuts .entry)) totals) ⌝ }
+    ensures { λ r. ⌜ tally (now (sizes .exit)) (now (counts .exit)) (now (rounds .exit)) (now (cuts .exit)) r ≡ tallyFrom target «slot_bytes» (placedOps (now (heap .entry)) (tableIds (now (ids .entry))) (now (places .entry))) (tally (now (sizes .entry)) (now (counts .entry)) (now (rounds .entry)) (now (cuts .entry)) totals) ⌝ }
+    ensures { λ r. ⌜ now (pieces .exit) ≡ piecesAlong target «slot_bytes» (now (heap .entry)) (tableIds (now (ids .entry))) (now (places .entry)) (now (pieces .entry)) (tally (now (sizes .entry)) (now (counts .entry)) (now (rounds .entry)) (now (cuts .entry)) totals) ⌝ }
 {
     let mut t = totals;
+    let n = capacity(ids);
     let mut i: usize = 0;
-    while i < ids.len() {
+    while i < n {
+        let id = id_at(ids, i);
         t = split_entry(
             heap,
-            ids[i],
+            id,
             places[i],
             i,
             sizes,

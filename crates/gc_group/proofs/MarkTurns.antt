@@ -15,24 +15,8 @@ use Rattle.rules.specs.Table.{noEntry}
 use Rattle.slot_file.specs.declared.Header.{Header}
 use Rattle.slot_file.specs.Objects.{objectsAt, objects-next, objects-end, Walked, CutOff}
 use Rattle.gc_group.specs.Clear.{Inside}
-use Rattle.gc_group.specs.Marks.{current, objectId, deleteId, marked, marksSet}
+use Rattle.gc_group.specs.Marks.{current, objectId, deleteId, marked}
 use Rattle.gc_group.specs.MarkLaws.{mark-append, mark-none}
-
--- ---- the marks that are set, from place i on
-module _ (ms : List ℕ) (i : ℕ) (h : i < length ms) where
-  set-step : marksSet (drop i ms) ≡ pick (eqb (getD ms i 0) 0) 0 1 + marksSet (drop (i + 1) ms)
-  unfolding marksSet
-  set-step = sum-next ms i 0 h (λ (m : ℕ). pick (eqb m 0) 0 1)
-
-  pub set-here : (getD ms i 0 ≡ 0 → ⊥) → marksSet (drop i ms) ≡ 1 + marksSet (drop (i + 1) ms)
-  set-here n = set-step ∙ ap (λ (t : Bool). pick t 0 1 + marksSet (drop (i + 1) ms)) (ne-eqb (getD ms i 0) 0 n)
-
-  pub set-next : getD ms i 0 ≡ 0 → marksSet (drop i ms) ≡ marksSet (drop (i + 1) ms)
-  set-next z = set-step ∙ ap (λ (t : Bool). pick t 0 1 + marksSet (drop (i + 1) ms)) (eq-eqb (getD ms i 0) 0 z) ∙ zero-add (marksSet (drop (i + 1) ms))
-
-pub set-end : (ms : List ℕ) (i : ℕ) → length ms ≤ i → marksSet (drop i ms) ≡ 0
-unfolding marksSet
-set-end ms i h = sum-end ms i h (λ (m : ℕ). pick (eqb m 0) 0 1)
 
 -- ---- the objects from a position on
 module _ (mark lsn : ℕ) (table : List Entry) (objects : List ℕ) (position : ℕ) (ms : List ℕ) where

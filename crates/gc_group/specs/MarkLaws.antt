@@ -30,7 +30,7 @@ use Rattle.rules.specs.World.{World, mappings}
 use Rattle.location_table.specs.EntryLaws.{rising-lt}
 use Rattle.gc_group.specs.Source.{Source, sourceIn, fileAt, bytesAt}
 use Rattle.gc_group.specs.Checks.{each-keep}
-use Rattle.gc_group.specs.Marks.{foundFile, foundAt, idsOf, among, current, objectId, deleteId, marked, marksFrom, marksOf, contentAt, markedOps, marksSet}
+use Rattle.gc_group.specs.Marks.{foundFile, foundAt, idsOf, among, current, objectId, deleteId, marked, marksFrom, marksOf, contentAt, markedOps}
 
 -- ---- every element, of lists that are made from lists
 module _ {A : Type 0} where
@@ -339,34 +339,6 @@ pub from-past : (s : Source) (slots ms : List ℕ) → drop (length (s .table)) 
 unfolding marksFrom
 from-past s [] ms = refl
 from-past s (k ∷ ks) ms = from-past s ks (marked (suc k) (idsOf (foundAt s k)) (s .table) ms) ∙ marks-past (suc k) (idsOf (foundAt s k)) (s .table) ms
-
-blank-past : (k n : ℕ) → marksSet (drop k (replicate n 0)) ≡ 0
-unfolding marksSet sum
-blank-past zero zero = refl
-blank-past zero (suc n) = zero-add _ ∙ blank-past zero n
-blank-past (suc k) zero = refl
-blank-past (suc k) (suc n) = blank-past k n
-
-marked-count : (s : Source) (es : List Entry) (ms : List ℕ) → marksSet ms ≡ length (markedOps s es ms) + marksSet (drop (length es) ms)
-unfolding markedOps marksSet sum
-marked-count s [] ms = sym (zero-add _)
-marked-count s (e ∷ es) [] = refl
-marked-count s (e ∷ es) (m ∷ ms) = go (eqb m 0) (marked-count s es ms)
-  where
-    go : (t : Bool) → marksSet ms ≡ length (markedOps s es ms) + marksSet (drop (length es) ms)
-        → pick t 0 1 + marksSet ms
-        ≡ length (pick t (markedOps s es ms) (record { id = e .id; content = contentAt s (e .location) (m - 1) } ∷ markedOps s es ms)) + marksSet (drop (length es) ms)
-    go true ih = omega (arith, ih)
-    go false ih = omega (arith, ih)
-
--- the count of ids moved
-pub found-count : (w : World) (slots : List ℕ) (n : ℕ) → Rising 0 (mappings w) → length (mappings w) ≤ n → marksSet (marksOf (sourceIn w) n slots) ≡ length (found w slots)
-unfolding marksOf
-found-count w slots n r h =
-    let s = sourceIn w in
-    let none : marksSet (drop (length (s .table)) (marksFrom s slots (replicate n 0))) ≡ 0 = ap marksSet (from-past s slots (replicate n 0)) ∙ blank-past (length (s .table)) n in
-    let same : length (markedOps s (s .table) (marksFrom s slots (replicate n 0))) ≡ length (found w slots) = ap length (marked-found w slots n r h) in
-    omega (arith, marked-count s (s .table) (marksFrom s slots (replicate n 0)), none, same)
 
 -- ---- one mark at a time
 -- an id below all others is none of theirs

@@ -69,7 +69,3 @@ unfoldable pub markedOps : Source → List Entry → List ℕ → List Op
 markedOps s [] marks = []
 markedOps s (e ∷ es) [] = []
 markedOps s (e ∷ es) (m ∷ ms) = pick (eqb m 0) (markedOps s es ms) (record { id = e .id; content = contentAt s (e .location) (m - 1) } ∷ markedOps s es ms)
-
--- how many marks are set
-unfoldable pub marksSet : List ℕ → ℕ
-marksSet marks = sum (λ (m : ℕ). pick (eqb m 0) 0 1) marks

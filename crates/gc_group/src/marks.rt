@@ -23,19 +23,20 @@ ghost use Rattle.rules.specs.declared.Answer.the-variants.{Done};
 ghost use Rattle.rules.specs.Refusal.{decide};
 ghost use Rattle.rules.specs.Object.{objectsIn};
 ghost use Rattle.rules.specs.Trailer.{countIn, entriesIn};
-ghost use Rattle.location_table.specs.Tables.{table, Formed};
+ghost use Rattle.rules.specs.Layout.{table, tableIds};
+ghost use Rattle.location_table.specs.Tables.{Formed};
 ghost use Rattle.location_table.specs.LayoutLaws.{used};
 ghost use Rattle.file_map.specs.Lists.{lsnsOf};
 ghost use Rattle.gc_group.specs.Plan.{planned};
 ghost use Rattle.gc_group.specs.Source.{Lies, source, Ready};
 ghost use Rattle.gc_group.specs.Checks.{groupChecks};
 ghost use Rattle.gc_group.specs.Clear.{Inside, SumFits, Clear};
-ghost use Rattle.gc_group.specs.Marks.{foundFile, idsOf, current, objectId, deleteId, marked, marksOf, marksSet};
+ghost use Rattle.gc_group.specs.Marks.{foundFile, idsOf, current, objectId, deleteId, marked, marksOf};
 
 // The id's entry takes the mark where this is its current location.
 fn mark_id(ids: &[u64], locations: &[u64], marks: &mut [u32], id: u64, location: u64, mark: u32)
     requires { ⌜ Formed (table (now ids) (now locations)) ⌝ }
-    requires { ⌜ length (now ids) ≤ length (now marks) ⌝ }
+    requires { ⌜ length (tableIds (now ids)) ≤ length (now marks) ⌝ }
     ensures { λ _. ⌜ now (marks .exit) ≡ marked mark (current (used (now (ids .entry)) (now (locations .entry))) id location) (used (now (ids .entry)) (now (locations .entry))) (now (marks .entry)) ⌝ }
 {
     match find(ids, locations, id) {
@@ -60,7 +61,7 @@ fn mark_objects(
     requires { ⌜ All Inside (objectsIn (now objects)) ⌝ }
     requires { ⌜ lsn + length (now objects) < 2 ^ 63 ⌝ }
     requires { ⌜ Formed (table (now ids) (now locations)) ⌝ }
-    requires { ⌜ length (now ids) ≤ length (now marks) ⌝ }
+    requires { ⌜ length (tableIds (now ids)) ≤ length (now marks) ⌝ }
     ensures { λ _. ⌜ now (marks .exit) ≡ marked mark (each (objectId lsn (used (now (ids .entry)) (now (locations .entry)))) (objectsIn (now (objects .entry)))) (used (now (ids .entry)) (now (locations .entry))) (now (marks .entry)) ⌝ }
 {
     let mut position: u64 = 0;
@@ -81,7 +82,7 @@ fn mark_objects(
 fn mark_delete(e: Entry, lsn: u64, ids: &[u64], locations: &[u64], marks: &mut [u32], mark: u32)
     requires { ⌜ SumFits lsn e ⌝ }
     requires { ⌜ Formed (table (now ids) (now locations)) ⌝ }
-    requires { ⌜ length (now ids) ≤ length (now marks) ⌝ }
+    requires { ⌜ length (tableIds (now ids)) ≤ length (now marks) ⌝ }
     ensures { λ _. ⌜ now (marks .exit) ≡ marked mark (deleteId lsn (used (now (ids .entry)) (now (locations .entry))) e) (used (now (ids .entry)) (now (locations .entry))) (now (marks .entry)) ⌝ }
 {
     let location = RelativeDiskLocation(e.location);
@@ -109,7 +110,7 @@ fn mark_deletes(
     requires { ⌜ 12 + 16 * countIn (now trailer) ≤ length (now trailer) ⌝ }
     requires { ⌜ All (SumFits lsn) (entriesIn (now trailer)) ⌝ }
     requires { ⌜ Formed (table (now ids) (now locations)) ⌝ }
-    requires { ⌜ length (now ids) ≤ length (now marks) ⌝ }
+    requires { ⌜ length (tableIds (now ids)) ≤ length (now marks) ⌝ }
     ensures { λ _. ⌜ now (marks .exit) ≡ marked mark (each (deleteId lsn (used (now (ids .entry)) (now (locations .entry)))) (entriesIn (now (trailer .entry)))) (used (now (ids .entry)) (now (locations .entry))) (now (marks .entry)) ⌝ }
 {
     let n = trailer::count(trailer);
@@ -132,7 +133,7 @@ pub fn mark_file(
     requires { ⌜ Lies (length (now slot)) l ⌝ }
     requires { ⌜ Clear l (now slot) ⌝ }
     requires { ⌜ Formed (table (now ids) (now locations)) ⌝ }
-    requires { ⌜ length (now ids) ≤ length (now marks) ⌝ }
+    requires { ⌜ length (tableIds (now ids)) ≤ length (now marks) ⌝ }
     ensures { λ _. ⌜ now (marks .exit) ≡ marked mark (idsOf (foundFile (used (now (ids .entry)) (now (locations .entry))) l (now (slot .entry)))) (used (now (ids .entry)) (now (locations .entry))) (now (marks .entry)) ⌝ }
 {
     mark_objects(object_part(slot, l), l.lsn, ids, locations, marks, mark);
@@ -165,7 +166,7 @@ pub fn mark_group(
 ) -> Answer
     requires { ⌜ Ready (s .«slot_bytes») (length (now heap)) (m .records) (now plan) generation ⌝ }
     requires { ⌜ Formed (table (now ids) (now locations)) ⌝ }
-    requires { ⌜ (length (now ids) ≤ length (now marks)) × (length (now lsns) ≡ 256) ⌝ }
+    requires { ⌜ (length (tableIds (now ids)) ≤ length (now marks)) × (length (now lsns) ≡ 256) ⌝ }
     ensures { λ r. ⌜ r ≡ decide (groupChecks (s .«max_object_size») (source (s .«slot_bytes») (now (heap .entry)) (m .records) (used (now (ids .entry)) (now (locations .entry)))) (planned (now (plan .entry)) generation)) ⌝ }
     ensures { λ r. ⌜ (r ≡ Done → now (marks .exit) ≡ marksOf (source (s .«slot_bytes») (now (heap .entry)) (m .records) (used (now (ids .entry)) (now (locations .entry)))) (length (now (marks .entry))) (planned (now (plan .entry)) generation)) ⌝ }
     ensures { λ r. ⌜ (r ≡ Done → now (lsns .exit) ≡ lsnsOf (m .records)) ⌝ }
@@ -187,19 +188,4 @@ pub fn mark_group(
         i += 1;
     }
     Answer::Done
-}
-
-// "the count of ids moved", of this group.
-pub fn marks_set(marks: &[u32]) -> u64
-    ensures { λ n. ⌜ n ≡ marksSet (now (marks .entry)) ⌝ }
-{
-    let mut n: u64 = 0;
-    let mut i: usize = 0;
-    while i < marks.len() {
-        if marks[i] != 0 {
-            n += 1;
-        }
-        i += 1;
-    }
-    n
 }

@@ -12,7 +12,7 @@ use Rattle.rules.specs.Settings.{slotsIn}
 use Rattle.rules.specs.SettingsLaws.{slot-within}
 use Rattle.rules.specs.Ops.{Op, objectsOf, fileBytes}
 use Rattle.rules.specs.Label.{labelBytes}
-use Rattle.rules.specs.Layout.{usedEntries}
+use Rattle.rules.specs.Layout.{table, usedEntries}
 use Rattle.rules.specs.FileMap.{isEmpty, recordAt, emptySlots, lowestEmpty}
 use Rattle.rules.specs.FileMapLaws.{Lowest, lowest-empty}
 use Rattle.rules.specs.Condition1Laws.{Passed}
@@ -20,7 +20,6 @@ use Rattle.rules.specs.Stores.{Store, made, fileStores}
 use Rattle.rules.specs.Install.{newLabel, newLsn, installed, storesFor}
 use Rattle.rules.specs.World.{World, world}
 use Rattle.stores.specs.Runs.{Made}
-use Rattle.location_table.specs.Tables.{table}
 use Rattle.limits.specs.Settled.{passed-formed}
 use Rattle.install.specs.Standing.{Addable}
 use Rattle.gc_files.specs.Places.{filedOps, Whole, InSlot}
@@ -112,10 +111,10 @@ module _ (s : Settings) (t : State) (heap ids locations places pieces : List ℕ
 
   -- what holds once it was added
   module _ (r : State) (heap′ ids′ locations′ : List ℕ)
-      (e : world s r noClaims heap′ ids′ locations′ ≡ installed 0 generation (world s t noClaims heap ids locations) (filedOps piece heap ids places pieces)) where
-    after : Rewritten (world s t noClaims heap ids locations) (filedOps piece heap ids places pieces) (world s r noClaims heap′ ids′ locations′)
-    after = subst (Rewritten (world s t noClaims heap ids locations) (filedOps piece heap ids places pieces)) (sym e)
-        (passed-installed generation (world s t noClaims heap ids locations) (filedOps piece heap ids places pieces) (record {
+      (e : world s r noClaims heap′ (table ids′ locations′) ≡ installed 0 generation (world s t noClaims heap (table ids locations)) (filedOps piece heap ids places pieces)) where
+    after : Rewritten (world s t noClaims heap (table ids locations)) (filedOps piece heap ids places pieces) (world s r noClaims heap′ (table ids′ locations′))
+    after = subst (Rewritten (world s t noClaims heap (table ids locations)) (filedOps piece heap ids places pieces)) (sym e)
+        (passed-installed generation (world s t noClaims heap (table ids locations)) (filedOps piece heap ids places pieces) (record {
           passed = p .limits;
           young = f .young;
           fits = f .room;
@@ -130,7 +129,7 @@ module _ (s : Settings) (t : State) (heap ids locations places pieces : List ℕ
     unfolding installed storesFor
     elsewhere =
         let ops = filedOps piece heap ids places pieces in
-        let new = newLabel (newLsn 0 (world s t noClaims heap ids locations)) generation ops in
+        let new = newLabel (newLsn 0 (world s t noClaims heap (table ids locations))) generation ops in
         let start = lowestEmpty (slotsIn s (length heap)) (t .files .records) * s .«slot_bytes» in
         let run = fileStores start (labelBytes new) (fileBytes ops) in
         let whole : Made (length run) run heap heap′ (length run - length run) =

@@ -15,7 +15,7 @@ ghost use Rattle.rules.specs.FileMap.{emptySlots, lowestEmpty};
 ghost use Rattle.rules.specs.Stores.{made, fileStores};
 ghost use Rattle.rules.specs.Install.{installed};
 ghost use Rattle.rules.specs.World.{world};
-ghost use Rattle.location_table.specs.Tables.{table};
+ghost use Rattle.rules.specs.Layout.{table, tableIds};
 ghost use Rattle.install.specs.Standing.{Addable};
 ghost use Rattle.gc_files.specs.Places.{filedOps};
 ghost use Rattle.gc_writer.specs.Writing.{Writing};
@@ -34,8 +34,8 @@ fn put_piece(
     count: u64,
     total: u64,
 )
-    requires { ⌜ Writing start «slot_bytes» (now heap) (now ids) (now places) (now pieces) piece count total ⌝ }
-    ensures { λ _. ⌜ now (heap .exit) ≡ made (fileStores start (labelBytes new) (fileBytes (filedOps piece (now (heap .entry)) (now (ids .entry)) (now (places .entry)) (now (pieces .entry))))) (now (heap .entry)) ⌝ }
+    requires { ⌜ Writing start «slot_bytes» (now heap) (tableIds (now ids)) (now places) (now pieces) piece count total ⌝ }
+    ensures { λ _. ⌜ now (heap .exit) ≡ made (fileStores start (labelBytes new) (fileBytes (filedOps piece (now (heap .entry)) (tableIds (now (ids .entry))) (now (places .entry)) (now (pieces .entry))))) (now (heap .entry)) ⌝ }
 {
     let k = heap.len() as u64;
     gc_writer::write_piece(
@@ -68,9 +68,9 @@ fn add_at(
     count: u64,
     total: u64,
 ) -> State
-    requires { ⌜ Addable 0 (filedOps piece (now heap) (now ids) (now places) (now pieces)) settings state (now heap) (table (now ids) (now locations)) slot count total ⌝ }
-    requires { ⌜ Writing (slot * settings .«slot_bytes») (settings .«slot_bytes») (now heap) (now ids) (now places) (now pieces) piece count total ⌝ }
-    ensures { λ r. ⌜ ((c : Claims) → world settings r c (now (heap .exit)) (now (ids .exit)) (now (locations .exit)) ≡ installed 0 generation (world settings state c (now (heap .entry)) (now (ids .entry)) (now (locations .entry))) (filedOps piece (now (heap .entry)) (now (ids .entry)) (now (places .entry)) (now (pieces .entry)))) ⌝ }
+    requires { ⌜ Addable 0 (filedOps piece (now heap) (tableIds (now ids)) (now places) (now pieces)) settings state (now heap) (table (now ids) (now locations)) slot count total ⌝ }
+    requires { ⌜ Writing (slot * settings .«slot_bytes») (settings .«slot_bytes») (now heap) (tableIds (now ids)) (now places) (now pieces) piece count total ⌝ }
+    ensures { λ r. ⌜ ((c : Claims) → world settings r c (now (heap .exit)) (table (now (ids .exit)) (now (locations .exit))) ≡ installed 0 generation (world settings state c (now (heap .entry)) (table (now (ids .entry)) (now (locations .entry)))) (filedOps piece (now (heap .entry)) (tableIds (now (ids .entry))) (now (places .entry)) (now (pieces .entry)))) ⌝ }
 {
     // "lsn = base without the batch bit", the new generation
     let base = state.next_position;
@@ -122,15 +122,15 @@ pub fn add_piece(
 ) -> State
     requires { ⌜ Placing settings state (now heap) (now ids) (now locations) (now places) (now pieces) ⌝ }
     requires { ⌜ generation ≤ 255 ⌝ }
-    requires { ⌜ 64 + length (fileBytes (filedOps piece (now heap) (now ids) (now places) (now pieces))) ≤ settings .«slot_bytes» ⌝ }
+    requires { ⌜ 64 + length (fileBytes (filedOps piece (now heap) (tableIds (now ids)) (now places) (now pieces))) ≤ settings .«slot_bytes» ⌝ }
     requires { ⌜ (0 < length (emptySlots (slotsIn settings (length (now heap))) (state .files .records))) × (slot ≡ lowestEmpty (slotsIn settings (length (now heap))) (state .files .records)) ⌝ }
-    requires { ⌜ state .«next_position» + (length (objectsOf (filedOps piece (now heap) (now ids) (now places) (now pieces))) + 1) ≤ 2 ^ 62 ⌝ }
-    ensures { λ r. ⌜ ((c : Claims) → world settings r c (now (heap .exit)) (now (ids .exit)) (now (locations .exit)) ≡ installed 0 generation (world settings state c (now (heap .entry)) (now (ids .entry)) (now (locations .entry))) (filedOps piece (now (heap .entry)) (now (ids .entry)) (now (places .entry)) (now (pieces .entry)))) ⌝ }
+    requires { ⌜ state .«next_position» + (length (objectsOf (filedOps piece (now heap) (tableIds (now ids)) (now places) (now pieces))) + 1) ≤ 2 ^ 62 ⌝ }
+    ensures { λ r. ⌜ ((c : Claims) → world settings r c (now (heap .exit)) (table (now (ids .exit)) (now (locations .exit))) ≡ installed 0 generation (world settings state c (now (heap .entry)) (table (now (ids .entry)) (now (locations .entry)))) (filedOps piece (now (heap .entry)) (tableIds (now (ids .entry))) (now (places .entry)) (now (pieces .entry)))) ⌝ }
     ensures { λ r. ⌜ Placing settings r (now (heap .exit)) (now (ids .exit)) (now (locations .exit)) (now (places .entry)) (now (pieces .entry)) ⌝ }
     ensures { λ _. ⌜ now (ids .exit) ≡ now (ids .entry) ⌝ }
-    ensures { λ _. ⌜ ((q : ℕ) → filedOps q (now (heap .exit)) (now (ids .exit)) (now (places .entry)) (now (pieces .entry)) ≡ filedOps q (now (heap .entry)) (now (ids .entry)) (now (places .entry)) (now (pieces .entry))) ⌝ }
+    ensures { λ _. ⌜ ((q : ℕ) → filedOps q (now (heap .exit)) (tableIds (now (ids .exit))) (now (places .entry)) (now (pieces .entry)) ≡ filedOps q (now (heap .entry)) (tableIds (now (ids .entry))) (now (places .entry)) (now (pieces .entry))) ⌝ }
     ensures { λ r. ⌜ emptySlots (slotsIn settings (length (now (heap .entry)))) (state .files .records) ≡ slot ∷ emptySlots (slotsIn settings (length (now (heap .exit)))) (r .files .records) ⌝ }
-    ensures { λ r. ⌜ r .«next_position» ≡ state .«next_position» + (length (objectsOf (filedOps piece (now (heap .entry)) (now (ids .entry)) (now (places .entry)) (now (pieces .entry)))) + 1) ⌝ }
+    ensures { λ r. ⌜ r .«next_position» ≡ state .«next_position» + (length (objectsOf (filedOps piece (now (heap .entry)) (tableIds (now (ids .entry))) (now (places .entry)) (now (pieces .entry)))) + 1) ⌝ }
 {
     let sizes = gc_writer::sized(heap, ids, places, pieces, piece);
     add_at(

@@ -5,7 +5,8 @@ use Rattle.rules.specs.Base.{List, ℕ, _^_, length, getD}
 use Rattle.rules.specs.declared.Record.{Record}
 use Rattle.rules.specs.declared.Answer.the-variants.{Done}
 use Rattle.rules.specs.Refusal.{decide}
-use Rattle.location_table.specs.Tables.{table, Formed}
+use Rattle.rules.specs.Layout.{table}
+use Rattle.location_table.specs.Tables.{Formed}
 use Rattle.location_table.specs.LayoutLaws.{used}
 use Rattle.gc_group.specs.Plan.{planned}
 use Rattle.gc_group.specs.Source.{source, Ready}

@@ -25,7 +25,8 @@ use Rattle.rules.specs.FileMap.{emptyRecord, recordAt}
 use Rattle.rules.specs.Ops.{Op, settled}
 use Rattle.rules.specs.BaseLaws.{replicate-at}
 use Rattle.rules.specs.Table.{noEntry}
-use Rattle.location_table.specs.Tables.{table, Formed}
+use Rattle.rules.specs.Layout.{table}
+use Rattle.location_table.specs.Tables.{Formed}
 use Rattle.location_table.specs.LayoutLaws.{used, used-id, used-location, used-rising, used-fits}
 use Rattle.file_map.specs.Lists.{lsnsOf}
 use Rattle.gc_group.specs.Plan.{planned, planned-all}

@@ -13,7 +13,8 @@ ghost use Rattle.rules.specs.declared.Answer.the-variants.{Done};
 ghost use Rattle.rules.specs.Refusal.{decide};
 ghost use Rattle.rules.specs.Ops.{settled};
 ghost use Rattle.rules.specs.SettingsLaws.{InRanges};
-ghost use Rattle.location_table.specs.Tables.{table, Formed};
+ghost use Rattle.rules.specs.Layout.{table, tableIds};
+ghost use Rattle.location_table.specs.Tables.{Formed};
 ghost use Rattle.location_table.specs.LayoutLaws.{used};
 ghost use Rattle.gc_group.specs.Plan.{planned};
 ghost use Rattle.gc_group.specs.Source.{source, Ready};
@@ -38,9 +39,9 @@ pub fn place_group(
     requires { ⌜ InRanges s ⌝ }
     requires { ⌜ Ready (s .«slot_bytes») (length (now heap)) (m .records) (now plan) generation ⌝ }
     requires { ⌜ Formed (table (now ids) (now locations)) ⌝ }
-    requires { ⌜ (length (now ids) ≤ length (now marks)) × (length (now ids) ≤ length (now places)) × (now places ≡ replicate (length (now places)) 0) ⌝ }
+    requires { ⌜ (length (tableIds (now ids)) ≤ length (now marks)) × (length (tableIds (now ids)) ≤ length (now places)) × (now places ≡ replicate (length (now places)) 0) ⌝ }
     ensures { λ r. ⌜ r ≡ decide (groupChecks (s .«max_object_size») (source (s .«slot_bytes») (now (heap .entry)) (m .records) (used (now (ids .entry)) (now (locations .entry)))) (planned (now (plan .entry)) generation)) ⌝ }
-    ensures { λ r. ⌜ (r ≡ Done → (placedOps (now (heap .entry)) (now (ids .entry)) (now (places .exit)) ≡ settled (each (foundAt (source (s .«slot_bytes») (now (heap .entry)) (m .records) (used (now (ids .entry)) (now (locations .entry))))) (planned (now (plan .entry)) generation))) × (OfUsed (now (ids .entry)) (now (locations .entry)) (now (places .exit)) × (Standing (now (heap .entry)) (now (places .exit)) × InGroup (s .«slot_bytes») (now (heap .entry)) (now (plan .entry)) generation (now (places .exit))))) ⌝ }
+    ensures { λ r. ⌜ (r ≡ Done → (placedOps (now (heap .entry)) (tableIds (now (ids .entry))) (now (places .exit)) ≡ settled (each (foundAt (source (s .«slot_bytes») (now (heap .entry)) (m .records) (used (now (ids .entry)) (now (locations .entry))))) (planned (now (plan .entry)) generation))) × (OfUsed (now (ids .entry)) (now (locations .entry)) (now (places .exit)) × (Standing (now (heap .entry)) (now (places .exit)) × InGroup (s .«slot_bytes») (now (heap .entry)) (now (plan .entry)) generation (now (places .exit))))) ⌝ }
 {
     let mut lsns = [0u64; 256];
     match mark_group(

@@ -16,7 +16,7 @@ use Rattle.rules.specs.FileMap.{isEmpty, recordAt}
 use Rattle.rules.specs.Condition1Laws.{Passed}
 use Rattle.rules.specs.Maintenance.{rewriteGroup}
 use Rattle.rules.specs.World.{world}
-use Rattle.location_table.specs.Tables.{table}
+use Rattle.rules.specs.Layout.{table}
 use Rattle.location_table.specs.LayoutLaws.{used}
 use Rattle.gc_group.specs.Plan.{planned}
 use Rattle.gc_group.specs.Source.{source, Ready}
@@ -50,7 +50,7 @@ module _ (s : Settings) (t : State) (heap ids locations plan : List ℕ) (genera
 
   -- what the group leaves
   pub record Regrouped (moved : ℕ) (answer : Answer) (moved′ : ℕ) (r : State) (heap′ ids′ locations′ : List ℕ) : Type 0 where
-    pub course : (c : Claims) → courseGiven generation answer moved′ (world s r c heap′ ids′ locations′) ≡ rewriteGroup generation (planned plan generation) moved (world s t c heap ids locations)
+    pub course : (c : Claims) → courseGiven generation answer moved′ (world s r c heap′ (table ids′ locations′)) ≡ rewriteGroup generation (planned plan generation) moved (world s t c heap (table ids locations))
     pub limits : Passed s (length heap′) (table ids′ locations′) r
     pub count : moved′ ≤ moved + 65536
     pub kept : Kept t r
@@ -60,7 +60,7 @@ module _ (s : Settings) (t : State) (heap ids locations plan : List ℕ) (genera
       → decide (groupChecks (s .«max_object_size») (source (s .«slot_bytes») heap (t .files .records) (used ids locations)) (planned plan generation)) ≡ Refused r
       → Regrouped moved (Refused r) moved t heap ids locations
   group-stopped moved r limits e = record {
-    course = λ c. group-refused generation (planned plan generation) moved (world s t c heap ids locations) r e;
+    course = λ c. group-refused generation (planned plan generation) moved (world s t c heap (table ids locations)) r e;
     limits = limits;
     count = omega arith;
     kept = λ k some. some;
@@ -82,7 +82,7 @@ module _ (s : Settings) (t : State) (heap ids locations plan : List ℕ) (genera
         → Rewritten s generation (placedOps heap ids places) moved t heap ids locations answer moved′ r heap′ ids′ locations′
         → Regrouped moved answer moved′ r heap′ ids′ locations′
     group-rewritten moved answer moved′ r heap′ ids′ locations′ found e = record {
-      course = λ c. e .course c ∙ group-clear generation (planned plan generation) moved (world s t c heap ids locations) (w .clear) (placedOps heap ids places) found;
+      course = λ c. e .course c ∙ group-clear generation (planned plan generation) moved (world s t c heap (table ids locations)) (w .clear) (placedOps heap ids places) found;
       limits = e .limits;
       count = e .count;
       kept = e .kept;

@@ -21,7 +21,7 @@ use Rattle.rules.specs.World.{World, world, recordsOf}
 use Rattle.rules.specs.InstallLaws.{installed-lsn}
 use Rattle.rules.specs.LabelLaws.{lsn-some}
 use Rattle.rules.specs.FileMapLaws.{not-empty}
-use Rattle.location_table.specs.Tables.{table}
+use Rattle.rules.specs.Layout.{table}
 use Rattle.gc_files.specs.Places.{filedOps}
 use Rattle.gc_install.specs.Placing.{Placing}
 use Rattle.gc_rewrite.specs.Fitting.{Fitting, span, first-fits, first-room, first-positions, fitting-rest}
@@ -76,13 +76,13 @@ Kept t r = (k : ℕ) → isEmpty (recordAt (t .files .records) k) ≡ false → 
 
 -- what adding them leaves
 pub record PutAll (s : Settings) (generation : ℕ) (t : State) (heap ids locations : List ℕ) (files : List (List Op)) (r : State) (heap′ ids′ locations′ : List ℕ) : Type 0 where
-  pub worlds : (c : Claims) → world s r c heap′ ids′ locations′ ≡ installedAll 0 generation (world s t c heap ids locations) files
+  pub worlds : (c : Claims) → world s r c heap′ (table ids′ locations′) ≡ installedAll 0 generation (world s t c heap (table ids locations)) files
   pub limits : Passed s (length heap′) (table ids′ locations′) r
   pub kept : Kept t r
 
 -- one of them was added
 pub record Added (s : Settings) (generation : ℕ) (places pieces : List ℕ) (t : State) (heap ids locations : List ℕ) (q : ℕ) (r : State) (heap′ ids′ locations′ : List ℕ) : Type 0 where
-  pub worlds : (c : Claims) → world s r c heap′ ids′ locations′ ≡ installed 0 generation (world s t c heap ids locations) (filedOps q heap ids places pieces)
+  pub worlds : (c : Claims) → world s r c heap′ (table ids′ locations′) ≡ installed 0 generation (world s t c heap (table ids locations)) (filedOps q heap ids places pieces)
   pub placing : Placing s r heap′ ids′ locations′ places pieces
   pub filed : (p : ℕ) → filedOps p heap′ ids′ places pieces ≡ filedOps p heap ids places pieces
   pub slot : ℕ
@@ -99,8 +99,8 @@ module _ (s : Settings) (generation : ℕ) (places pieces order : List ℕ) (t :
     pub placing : Placing s r heap′ ids′ locations′ places pieces
     pub filed : (q : ℕ) → filedOps q heap′ ids′ places pieces ≡ filedOps q heap ids places pieces
     pub fitting : Fitting (s .«slot_bytes») (emptyIn s r heap′) (r .«next_position») (filesIn heap ids places pieces (drop f order))
-    pub left : (c : Claims) → installedAll 0 generation (world s r c heap′ ids′ locations′) (filesIn heap ids places pieces (drop f order))
-        ≡ installedAll 0 generation (world s t c heap ids locations) (filesIn heap ids places pieces order)
+    pub left : (c : Claims) → installedAll 0 generation (world s r c heap′ (table ids′ locations′)) (filesIn heap ids places pieces (drop f order))
+        ≡ installedAll 0 generation (world s t c heap (table ids locations)) (filesIn heap ids places pieces order)
     pub frees : emptiesIn s r heap′ ≡ drop f (emptiesIn s t heap)
     pub kept : Kept t r
     pub sameHeap : length heap′ ≡ length heap
@@ -153,14 +153,14 @@ module _ (s : Settings) (generation : ℕ) (places pieces order : List ℕ) (t :
       filed = λ n. a .filed n ∙ w .filed n;
       fitting = fitting-rest _ _ _ _ _ fits (emptyIn s q heap″) (q .«next_position») (omega (arith, ap length (a .frees))) (a .next ∙ ap (λ (ops : List Op). r .«next_position» + span ops) same);
       left = λ c.
-          ap (λ (v : World). installedAll 0 generation v rest) (a .worlds c ∙ ap (installed 0 generation (world s r c heap′ ids′ locations′)) same)
-          ∙ ap (installedAll 0 generation (world s r c heap′ ids′ locations′)) (sym step)
+          ap (λ (v : World). installedAll 0 generation v rest) (a .worlds c ∙ ap (installed 0 generation (world s r c heap′ (table ids′ locations′))) same)
+          ∙ ap (installedAll 0 generation (world s r c heap′ (table ids′ locations′))) (sym step)
           ∙ w .left c;
       frees = ap (drop 1) (sym (a .frees) ∙ next-free .1);
       kept = λ k some.
           ap (λ (v : World). isEmpty (recordAt (recordsOf v) k)) (a .worlds noClaims)
-          ∙ not-empty (recordAt (recordsOf (installed 0 generation (world s r noClaims heap′ ids′ locations′) (filedOps p heap′ ids′ places pieces))) k)
-          (installed-lsn 0 generation (world s r noClaims heap′ ids′ locations′) (filedOps p heap′ ids′ places pieces) (w .placing .limits .next) k
+          ∙ not-empty (recordAt (recordsOf (installed 0 generation (world s r noClaims heap′ (table ids′ locations′)) (filedOps p heap′ ids′ places pieces))) k)
+          (installed-lsn 0 generation (world s r noClaims heap′ (table ids′ locations′)) (filedOps p heap′ ids′ places pieces) (w .placing .limits .next) k
           (lsn-some (s .«slot_bytes») (recordAt (r .files .records) k .label) (w .placing .limits .records k (w .kept k some) .bounds)));
       sameHeap = a .sameHeap ∙ w .sameHeap;
       sameIds = a .sameIds ∙ w .sameIds;
@@ -174,7 +174,7 @@ module _ (s : Settings) (generation : ℕ) (places pieces order : List ℕ) (t :
       → PutAll s generation t heap ids locations (filesIn heap ids places pieces order) r heap′ ids′ locations′
   unfolding installedAll
   put-end f r heap′ ids′ locations′ w past = record {
-    worlds = λ c. ap (λ (o : List ℕ). installedAll 0 generation (world s r c heap′ ids′ locations′) (filesIn heap ids places pieces o)) (sym (left-none order f past)) ∙ w .left c;
+    worlds = λ c. ap (λ (o : List ℕ). installedAll 0 generation (world s r c heap′ (table ids′ locations′)) (filesIn heap ids places pieces o)) (sym (left-none order f past)) ∙ w .left c;
     limits = w .placing .limits;
     kept = w .kept;
   }

@@ -13,14 +13,13 @@ use Rattle.rules.specs.declared.Answer.the-variants.{Done, Refused}
 use Rattle.rules.specs.Refusal.{decide}
 use Rattle.rules.specs.Settings.{slotsIn}
 use Rattle.rules.specs.Ops.{Op}
-use Rattle.rules.specs.Layout.{usedEntries}
+use Rattle.rules.specs.Layout.{table, usedEntries}
 use Rattle.rules.specs.FileMap.{isEmpty, recordAt}
 use Rattle.rules.specs.Condition1Laws.{Passed}
 use Rattle.rules.specs.Install.{installedAll}
 use Rattle.rules.specs.Maintenance.{filesOf}
 use Rattle.rules.specs.World.{world}
 use Rattle.rules.specs.FileMapLaws.{empty-most}
-use Rattle.location_table.specs.Tables.{table}
 use Rattle.gc_split.specs.declared.Totals.{Totals}
 use Rattle.gc_split.specs.Tally.{Tally, tally, tallyFrom, tallyOf, emptyTally, closingRests, closedOf, restsFrom, orderOf, totalsFor, Within, Closable, Numbered}
 use Rattle.gc_split.specs.BoundLaws.{closable, numbered}
@@ -45,7 +44,7 @@ pub record Moving (s : Settings) (t : State) (heap ids locations places : List �
 
 -- what rewriting these operations leaves
 pub record Rewritten (s : Settings) (generation : ℕ) (ops : List Op) (moved : ℕ) (t : State) (heap ids locations : List ℕ) (answer : Answer) (moved′ : ℕ) (r : State) (heap′ ids′ locations′ : List ℕ) : Type 0 where
-  pub course : (c : Claims) → courseGiven generation answer moved′ (world s r c heap′ ids′ locations′) ≡ rewritten generation ops moved (world s t c heap ids locations)
+  pub course : (c : Claims) → courseGiven generation answer moved′ (world s r c heap′ (table ids′ locations′)) ≡ rewritten generation ops moved (world s t c heap (table ids locations))
   pub limits : Passed s (length heap′) (table ids′ locations′) r
   pub count : moved′ ≤ moved + 65536
   pub kept : Kept t r
@@ -123,14 +122,14 @@ module _ (s : Settings) (t : State) (heap ids locations places : List ℕ) where
     -- 4, 5 and 7 are decided by their totals
     module _ (moved generation : ℕ) where
       -- the totals are those of the definition
-      tests-are : (c : Claims) → decide (totalsTests total (emptyIn s t heap) (t .«next_position»)) ≡ decide (filesTests ops (world s t c heap ids locations))
+      tests-are : (c : Claims) → decide (totalsTests total (emptyIn s t heap) (t .«next_position»)) ≡ decide (filesTests ops (world s t c heap (table ids locations)))
       tests-are c = ap (λ (u : Totals). decide (totalsTests u (emptyIn s t heap) (t .«next_position»))) (w .closed)
 
       -- one of them
       pub split-refused : (r : Refusal) → decide (totalsTests total (emptyIn s t heap) (t .«next_position»)) ≡ Refused r
           → Rewritten s generation ops moved t heap ids locations (Refused r) moved t heap ids locations
       split-refused r e = record {
-        course = λ c. files-refused generation ops moved (world s t c heap ids locations) r (sym (tests-are c) ∙ e);
+        course = λ c. files-refused generation ops moved (world s t c heap (table ids locations)) r (sym (tests-are c) ∙ e);
         limits = w .placing .limits;
         count = omega arith;
         kept = λ k some. some;
@@ -192,8 +191,8 @@ module _ (s : Settings) (t : State) (heap ids locations places : List ℕ) where
               → Rewritten s generation ops moved t heap ids locations Done (moved + total .entries) r heap′ ids′ locations′
           split-rewritten r heap′ ids′ locations′ p = record {
             course = λ c.
-                files-added generation ops moved (world s t c heap ids locations) (sym (tests-are c) ∙ e) (total .entries) (split-count .0) (world s r c heap′ ids′ locations′)
-                (p .worlds c ∙ ap (installedAll 0 generation (world s t c heap ids locations)) (ap (filesIn heap ids places pieces) same-order ∙ sym filed));
+                files-added generation ops moved (world s t c heap (table ids locations)) (sym (tests-are c) ∙ e) (total .entries) (split-count .0) (world s r c heap′ (table ids′ locations′))
+                (p .worlds c ∙ ap (installedAll 0 generation (world s t c heap (table ids locations))) (ap (filesIn heap ids places pieces) same-order ∙ sym filed));
             limits = p .limits;
             count = omega (arith, split-count .1);
             kept = p .kept;

@@ -14,7 +14,7 @@ ghost use Rattle.rules.specs.declared.Claims.{Claims};
 ghost use Rattle.rules.specs.Condition1Laws.{Passed};
 ghost use Rattle.rules.specs.Maintenance.{rewriteGroup};
 ghost use Rattle.rules.specs.World.{world};
-ghost use Rattle.location_table.specs.Tables.{table};
+ghost use Rattle.rules.specs.Layout.{table};
 ghost use Rattle.gc_group.specs.Plan.{planned};
 ghost use Rattle.gc_group.specs.Source.{Ready};
 ghost use Rattle.gc_rewrite.specs.Courses.{courseGiven};
@@ -44,7 +44,7 @@ pub fn rewrite_group(
     requires { ⌜ Ready (settings .«slot_bytes») (length (now heap)) (state .files .records) (now plan) generation ⌝ }
     requires { ⌜ Filled state (now plan) generation ⌝ }
     requires { ⌜ (0 < generation) × (generation ≤ 3) × (moved ≤ 2 ^ 40) ⌝ }
-    ensures { λ r. ⌜ ((c : Claims) → courseGiven generation (r .answer) (r .moved) (world settings (r .state) c (now (heap .exit)) (now (ids .exit)) (now (locations .exit))) ≡ rewriteGroup generation (planned (now (plan .entry)) generation) moved (world settings state c (now (heap .entry)) (now (ids .entry)) (now (locations .entry)))) ⌝ }
+    ensures { λ r. ⌜ ((c : Claims) → courseGiven generation (r .answer) (r .moved) (world settings (r .state) c (now (heap .exit)) (table (now (ids .exit)) (now (locations .exit)))) ≡ rewriteGroup generation (planned (now (plan .entry)) generation) moved (world settings state c (now (heap .entry)) (table (now (ids .entry)) (now (locations .entry))))) ⌝ }
     ensures { λ r. ⌜ Passed settings (length (now (heap .exit))) (table (now (ids .exit)) (now (locations .exit))) (r .state) ⌝ }
     ensures { λ r. ⌜ (r .moved ≤ moved + 65536) × (length (now (heap .exit)) ≡ length (now (heap .entry))) ⌝ }
     ensures { λ r. ⌜ Kept state (r .state) ⌝ }

@@ -4,6 +4,8 @@ use batch::Operation;
 use batch::size_of;
 use batch_file::entry_of;
 use gc_files::places::moving_at;
+use location_table::capacity;
+use location_table::id_at;
 use rules::Label;
 use trailer::write;
 ghost use mathlib.Core.Logic.{_⊎_};
@@ -14,6 +16,7 @@ ghost use Rattle.checksum.specs.Checksum.{crc32};
 ghost use Rattle.rules.specs.Base.{true, each};
 ghost use Rattle.rules.specs.Ops.{contentBytes, objectsOf, entriesOf, fileBytes};
 ghost use Rattle.rules.specs.Label.{labelBytes};
+ghost use Rattle.rules.specs.Layout.{tableIds};
 ghost use Rattle.rules.specs.Trailer.{entryBytes, listed, trailerBytes};
 ghost use Rattle.rules.specs.Stores.{storesOf, fileStores};
 ghost use Rattle.stores.specs.Runs.{Made};
@@ -48,11 +51,12 @@ fn filed(place: u32, number: u32, piece: u32) -> bool
 
 // The first entry of a piece from `from` on; behind the last one where there is none.
 fn next_filed(ids: &[u64], places: &[u32], pieces: &[u32], piece: u32, from: usize) -> usize
-    requires { ⌜ (length (now ids) ≤ length (now places)) × (length (now ids) ≤ length (now pieces)) ⌝ }
-    ensures { λ r. ⌜ Next piece (now (ids .entry)) (now (places .entry)) (now (pieces .entry)) from r ⌝ }
+    requires { ⌜ (length (tableIds (now ids)) ≤ length (now places)) × (length (tableIds (now ids)) ≤ length (now pieces)) ⌝ }
+    ensures { λ r. ⌜ Next piece (tableIds (now (ids .entry))) (now (places .entry)) (now (pieces .entry)) from r ⌝ }
 {
+    let n = capacity(ids);
     let mut i = from;
-    while i < ids.len() {
+    while i < n {
         if filed(places[i], pieces[i], piece) {
             return i;
         }
@@ -63,11 +67,12 @@ fn next_filed(ids: &[u64], places: &[u32], pieces: &[u32], piece: u32, from: usi
 
 // The operation of an entry of a piece, and where the walk goes on.
 fn turn_at(heap: &[u8], ids: &[u64], places: &[u32], pieces: &[u32], piece: u32, i: usize) -> Turn
-    requires { ⌜ Walking (now heap) (now ids) (now places) (now pieces) ⌝ }
-    requires { ⌜ (i < length (now ids)) × (filedHere piece (getD (now places) i 0) (getD (now pieces) i 0) ≡ true) ⌝ }
-    ensures { λ r. ⌜ Turned piece (now (heap .entry)) (now (ids .entry)) (now (places .entry)) (now (pieces .entry)) i (r .operation) (r .size) (r .next) ⌝ }
+    requires { ⌜ Walking (now heap) (tableIds (now ids)) (now places) (now pieces) ⌝ }
+    requires { ⌜ (i < length (tableIds (now ids))) × (filedHere piece (getD (now places) i 0) (getD (now pieces) i 0) ≡ true) ⌝ }
+    ensures { λ r. ⌜ Turned piece (now (heap .entry)) (tableIds (now (ids .entry))) (now (places .entry)) (now (pieces .entry)) i (r .operation) (r .size) (r .next) ⌝ }
 {
-    let o = moving_at(heap, ids[i], places[i]);
+    let id = id_at(ids, i);
+    let o = moving_at(heap, id, places[i]);
     let size = size_of(o);
     let next = next_filed(ids, places, pieces, piece, i + 1);
     Turn {
@@ -79,14 +84,15 @@ fn turn_at(heap: &[u8], ids: &[u64], places: &[u32], pieces: &[u32], piece: u32,
 
 // The sizes of a piece's file.
 pub fn sized(heap: &[u8], ids: &[u64], places: &[u32], pieces: &[u32], piece: u32) -> Sizes
-    requires { ⌜ Walking (now heap) (now ids) (now places) (now pieces) ⌝ }
-    requires { ⌜ length (now ids) ≤ 65536 ⌝ }
-    ensures { λ r. ⌜ (r .count ≡ length (filedOps piece (now (heap .entry)) (now (ids .entry)) (now (places .entry)) (now (pieces .entry)))) × (r .total ≡ length (objectsOf (filedOps piece (now (heap .entry)) (now (ids .entry)) (now (places .entry)) (now (pieces .entry))))) ⌝ }
+    requires { ⌜ Walking (now heap) (tableIds (now ids)) (now places) (now pieces) ⌝ }
+    requires { ⌜ length (tableIds (now ids)) ≤ 65536 ⌝ }
+    ensures { λ r. ⌜ (r .count ≡ length (filedOps piece (now (heap .entry)) (tableIds (now (ids .entry))) (now (places .entry)) (now (pieces .entry)))) × (r .total ≡ length (objectsOf (filedOps piece (now (heap .entry)) (tableIds (now (ids .entry))) (now (places .entry)) (now (pieces .entry))))) ⌝ }
 {
     let mut count: u64 = 0;
     let mut total: u64 = 0;
+    let n = capacity(ids);
     let mut i = next_filed(ids, places, pieces, piece, 0);
-    while i < ids.len() {
+    while i < n {
         let t = turn_at(heap, ids, places, pieces, piece, i);
         count += 1;
         total += t.size;
@@ -100,15 +106,16 @@ pub fn sized(heap: &[u8], ids: &[u64], places: &[u32], pieces: &[u32], piece: u3
 
 // "checksum 4, over all that follows it": the count and the entries.
 fn sum(heap: &[u8], ids: &[u64], places: &[u32], pieces: &[u32], piece: u32, count: u64) -> u32
-    requires { ⌜ Walking (now heap) (now ids) (now places) (now pieces) ⌝ }
-    requires { ⌜ count ≡ length (filedOps piece (now heap) (now ids) (now places) (now pieces)) ⌝ }
-    requires { ⌜ length (objectsOf (filedOps piece (now heap) (now ids) (now places) (now pieces))) < 2 ^ 62 ⌝ }
-    ensures { λ r. ⌜ r ≡ crc32 (listed (entriesOf 0 (filedOps piece (now (heap .entry)) (now (ids .entry)) (now (places .entry)) (now (pieces .entry))))) ⌝ }
+    requires { ⌜ Walking (now heap) (tableIds (now ids)) (now places) (now pieces) ⌝ }
+    requires { ⌜ count ≡ length (filedOps piece (now heap) (tableIds (now ids)) (now places) (now pieces)) ⌝ }
+    requires { ⌜ length (objectsOf (filedOps piece (now heap) (tableIds (now ids)) (now places) (now pieces))) < 2 ^ 62 ⌝ }
+    ensures { λ r. ⌜ r ≡ crc32 (listed (entriesOf 0 (filedOps piece (now (heap .entry)) (tableIds (now (ids .entry))) (now (places .entry)) (now (pieces .entry))))) ⌝ }
 {
     let mut register = write::sum_count(count);
     let mut position: u64 = 0;
+    let n = capacity(ids);
     let mut i = next_filed(ids, places, pieces, piece, 0);
-    while i < ids.len() {
+    while i < n {
         let t = turn_at(heap, ids, places, pieces, piece, i);
         let e = entry_of(t.operation, position);
         register = write::sum_entry(register, e);
@@ -139,13 +146,14 @@ fn put_objects(
     piece: u32,
     left: u64,
 ) -> u64
-    requires { ⌜ Free at (length (objectsOf (filedOps piece (now heap) (now ids) (now places) (now pieces)))) (now heap) (now ids) (now places) (now pieces) ⌝ }
-    ensures { λ r. ⌜ Made left (storesOf at (objectsOf (filedOps piece (now (heap .entry)) (now (ids .entry)) (now (places .entry)) (now (pieces .entry))))) (now (heap .entry)) (now (heap .exit)) r ⌝ }
+    requires { ⌜ Free at (length (objectsOf (filedOps piece (now heap) (tableIds (now ids)) (now places) (now pieces)))) (now heap) (tableIds (now ids)) (now places) (now pieces) ⌝ }
+    ensures { λ r. ⌜ Made left (storesOf at (objectsOf (filedOps piece (now (heap .entry)) (tableIds (now (ids .entry))) (now (places .entry)) (now (pieces .entry))))) (now (heap .entry)) (now (heap .exit)) r ⌝ }
 {
     let mut rest = left;
     let mut to = at;
+    let n = capacity(ids);
     let mut i = next_filed(ids, places, pieces, piece, 0);
-    while i < ids.len() {
+    while i < n {
         let t = turn_at(heap, ids, places, pieces, piece, i);
         rest = put_content(heap, to, t.operation, rest);
         to += t.size as usize;
@@ -164,15 +172,16 @@ fn put_entries(
     piece: u32,
     left: u64,
 ) -> u64
-    requires { ⌜ Free at (16 * length (filedOps piece (now heap) (now ids) (now places) (now pieces))) (now heap) (now ids) (now places) (now pieces) ⌝ }
-    requires { ⌜ length (objectsOf (filedOps piece (now heap) (now ids) (now places) (now pieces))) < 2 ^ 62 ⌝ }
-    ensures { λ r. ⌜ Made left (storesOf at (each entryBytes (entriesOf 0 (filedOps piece (now (heap .entry)) (now (ids .entry)) (now (places .entry)) (now (pieces .entry)))))) (now (heap .entry)) (now (heap .exit)) r ⌝ }
+    requires { ⌜ Free at (16 * length (filedOps piece (now heap) (tableIds (now ids)) (now places) (now pieces))) (now heap) (tableIds (now ids)) (now places) (now pieces) ⌝ }
+    requires { ⌜ length (objectsOf (filedOps piece (now heap) (tableIds (now ids)) (now places) (now pieces))) < 2 ^ 62 ⌝ }
+    ensures { λ r. ⌜ Made left (storesOf at (each entryBytes (entriesOf 0 (filedOps piece (now (heap .entry)) (tableIds (now (ids .entry))) (now (places .entry)) (now (pieces .entry)))))) (now (heap .entry)) (now (heap .exit)) r ⌝ }
 {
     let mut rest = left;
     let mut to = at;
     let mut position: u64 = 0;
+    let n = capacity(ids);
     let mut i = next_filed(ids, places, pieces, piece, 0);
-    while i < ids.len() {
+    while i < n {
         let t = turn_at(heap, ids, places, pieces, piece, i);
         let e = entry_of(t.operation, position);
         rest = write::put_entry(heap, to, e, rest);
@@ -194,10 +203,10 @@ fn put_trailer(
     count: u64,
     left: u64,
 ) -> u64
-    requires { ⌜ Free at (12 + 16 * count) (now heap) (now ids) (now places) (now pieces) ⌝ }
-    requires { ⌜ count ≡ length (filedOps piece (now heap) (now ids) (now places) (now pieces)) ⌝ }
-    requires { ⌜ length (objectsOf (filedOps piece (now heap) (now ids) (now places) (now pieces))) < 2 ^ 62 ⌝ }
-    ensures { λ r. ⌜ Made left (storesOf at (trailerBytes (entriesOf 0 (filedOps piece (now (heap .entry)) (now (ids .entry)) (now (places .entry)) (now (pieces .entry)))))) (now (heap .entry)) (now (heap .exit)) r ⌝ }
+    requires { ⌜ Free at (12 + 16 * count) (now heap) (tableIds (now ids)) (now places) (now pieces) ⌝ }
+    requires { ⌜ count ≡ length (filedOps piece (now heap) (tableIds (now ids)) (now places) (now pieces)) ⌝ }
+    requires { ⌜ length (objectsOf (filedOps piece (now heap) (tableIds (now ids)) (now places) (now pieces))) < 2 ^ 62 ⌝ }
+    ensures { λ r. ⌜ Made left (storesOf at (trailerBytes (entriesOf 0 (filedOps piece (now (heap .entry)) (tableIds (now (ids .entry))) (now (places .entry)) (now (pieces .entry)))))) (now (heap .entry)) (now (heap .exit)) r ⌝ }
 {
     let checksum = sum(heap, ids, places, pieces, piece, count);
     let rest = write::put_head(heap, at, checksum, count, left);
@@ -218,8 +227,8 @@ pub fn write_piece(
     total: u64,
     k: u64,
 ) -> u64
-    requires { ⌜ Writing start «slot_bytes» (now heap) (now ids) (now places) (now pieces) piece count total ⌝ }
-    ensures { λ r. ⌜ Made k (fileStores start (labelBytes new) (fileBytes (filedOps piece (now (heap .entry)) (now (ids .entry)) (now (places .entry)) (now (pieces .entry))))) (now (heap .entry)) (now (heap .exit)) r ⌝ }
+    requires { ⌜ Writing start «slot_bytes» (now heap) (tableIds (now ids)) (now places) (now pieces) piece count total ⌝ }
+    ensures { λ r. ⌜ Made k (fileStores start (labelBytes new) (fileBytes (filedOps piece (now (heap .entry)) (tableIds (now (ids .entry))) (now (places .entry)) (now (pieces .entry))))) (now (heap .entry)) (now (heap .exit)) r ⌝ }
 {
     let objects = start + 64;
     let behind_objects = put_objects(heap, objects, ids, places, pieces, piece, k);

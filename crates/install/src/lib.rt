@@ -13,9 +13,9 @@ ghost use Rattle.disk_location.specs.Locations.{positionOf};
 ghost use Rattle.rules.specs.Trailer.{absolute, countIn, entriesIn};
 ghost use Rattle.rules.specs.Table.{lookup, insertAll, full};
 ghost use Rattle.rules.specs.TableCalls.{withStored};
-ghost use Rattle.rules.specs.Layout.{usedEntries, laidOut};
+ghost use Rattle.rules.specs.Layout.{table, tableIds, usedEntries, laidOut};
 ghost use Rattle.rules.specs.World.{stateWith};
-ghost use Rattle.location_table.specs.Tables.{table, Formed};
+ghost use Rattle.location_table.specs.Tables.{Formed};
 ghost use Rattle.file_map.specs.Lists.{lessAt, withLives};
 ghost use Rattle.install.specs.Losing.{slotHolding, losingLives};
 ghost use Rattle.file_map.specs.Records.{labelled, fresh};
@@ -64,7 +64,7 @@ pub fn absolute(e: Entry, lsn: u64) -> Entry
 
 // "Each id takes its new location", for one entry.
 fn store_one(ids: &mut [u64], locations: &mut [u64], e: Entry, lsn: u64)
-    requires { ⌜ Formed (table (now ids) (now locations)) × (positionOf (e .location) + lsn < 2 ^ 63) × (0 < lsn) × (full (usedEntries (table (now ids) (now locations))) (length (now ids)) (e .id) ≡ false) ⌝ }
+    requires { ⌜ Formed (table (now ids) (now locations)) × (positionOf (e .location) + lsn < 2 ^ 63) × (0 < lsn) × (full (usedEntries (table (now ids) (now locations))) (length (tableIds (now ids))) (e .id) ≡ false) ⌝ }
     ensures { λ _. ⌜ table (now (ids .exit)) (now (locations .exit)) ≡ withStored (table (now (ids .entry)) (now (locations .entry))) (e .id) (absolute lsn e .location) ⌝ }
 {
     let placed = absolute(e, lsn);
@@ -73,8 +73,8 @@ fn store_one(ids: &mut [u64], locations: &mut [u64], e: Entry, lsn: u64)
 
 // "Each id takes its new location"
 fn store_all(ids: &mut [u64], locations: &mut [u64], trailer: &[u8], lsn: u64)
-    requires { ⌜ Formed (table (now ids) (now locations)) × (12 + 16 * countIn (now trailer) ≤ length (now trailer)) × Placed lsn (entriesIn (now trailer)) × (0 < lsn) × (length (insertAll (usedEntries (table (now ids) (now locations))) (taken lsn (entriesIn (now trailer)))) ≤ length (now ids)) ⌝ }
-    ensures { λ _. ⌜ table (now (ids .exit)) (now (locations .exit)) ≡ laidOut (length (now (ids .entry))) (insertAll (usedEntries (table (now (ids .entry)) (now (locations .entry)))) (taken lsn (entriesIn (now (trailer .entry))))) ⌝ }
+    requires { ⌜ Formed (table (now ids) (now locations)) × (12 + 16 * countIn (now trailer) ≤ length (now trailer)) × Placed lsn (entriesIn (now trailer)) × (0 < lsn) × (length (insertAll (usedEntries (table (now ids) (now locations))) (taken lsn (entriesIn (now trailer)))) ≤ length (tableIds (now ids))) ⌝ }
+    ensures { λ _. ⌜ table (now (ids .exit)) (now (locations .exit)) ≡ laidOut (length (tableIds (now (ids .entry)))) (insertAll (usedEntries (table (now (ids .entry)) (now (locations .entry)))) (taken lsn (entriesIn (now (trailer .entry))))) ⌝ }
 {
     let n = trailer::count(trailer);
     let mut k: u64 = 0;
@@ -124,8 +124,8 @@ fn by_trailer(
     trailer: &[u8],
     lsn: u64,
 )
-    requires { ⌜ Formed (table (now ids) (now locations)) × (length (now lsns) ≤ length (now lives)) × (12 + 16 * countIn (now trailer) ≤ length (now trailer)) × Placed lsn (entriesIn (now trailer)) × (0 < lsn) × (length (insertAll (usedEntries (table (now ids) (now locations))) (taken lsn (entriesIn (now trailer)))) ≤ length (now ids)) ⌝ }
-    ensures { λ _. ⌜ (now (lives .exit) ≡ losingLives (now (lsns .entry)) (usedEntries (table (now (ids .entry)) (now (locations .entry)))) (entriesIn (now (trailer .entry))) (now (lives .entry))) × (table (now (ids .exit)) (now (locations .exit)) ≡ laidOut (length (now (ids .entry))) (insertAll (usedEntries (table (now (ids .entry)) (now (locations .entry)))) (taken lsn (entriesIn (now (trailer .entry)))))) ⌝ }
+    requires { ⌜ Formed (table (now ids) (now locations)) × (length (now lsns) ≤ length (now lives)) × (12 + 16 * countIn (now trailer) ≤ length (now trailer)) × Placed lsn (entriesIn (now trailer)) × (0 < lsn) × (length (insertAll (usedEntries (table (now ids) (now locations))) (taken lsn (entriesIn (now trailer)))) ≤ length (tableIds (now ids))) ⌝ }
+    ensures { λ _. ⌜ (now (lives .exit) ≡ losingLives (now (lsns .entry)) (usedEntries (table (now (ids .entry)) (now (locations .entry)))) (entriesIn (now (trailer .entry))) (now (lives .entry))) × (table (now (ids .exit)) (now (locations .exit)) ≡ laidOut (length (tableIds (now (ids .entry)))) (insertAll (usedEntries (table (now (ids .entry)) (now (locations .entry)))) (taken lsn (entriesIn (now (trailer .entry)))))) ⌝ }
 {
     lose(lsns, lives, ids, locations, trailer);
     store_all(ids, locations, trailer, lsn);
@@ -144,7 +144,7 @@ pub fn install(
     lsn: u64,
 )
     requires { ⌜ Installable (now lsns) (now lives) (table (now ids) (now locations)) (now heap) start count total lsn ⌝ }
-    ensures { λ _. ⌜ (now (lives .exit) ≡ losingLives (now (lsns .entry)) (usedEntries (table (now (ids .entry)) (now (locations .entry)))) (entriesIn (trailerAt (now (heap .entry)) start count total)) (now (lives .entry))) × (table (now (ids .exit)) (now (locations .exit)) ≡ laidOut (length (now (ids .entry))) (insertAll (usedEntries (table (now (ids .entry)) (now (locations .entry)))) (taken lsn (entriesIn (trailerAt (now (heap .entry)) start count total))))) ⌝ }
+    ensures { λ _. ⌜ (now (lives .exit) ≡ losingLives (now (lsns .entry)) (usedEntries (table (now (ids .entry)) (now (locations .entry)))) (entriesIn (trailerAt (now (heap .entry)) start count total)) (now (lives .entry))) × (table (now (ids .exit)) (now (locations .exit)) ≡ laidOut (length (tableIds (now (ids .entry)))) (insertAll (usedEntries (table (now (ids .entry)) (now (locations .entry)))) (taken lsn (entriesIn (trailerAt (now (heap .entry)) start count total))))) ⌝ }
 {
     let from = start + 64 + total as usize;
     let end = from + (12 + 16 * count as usize);

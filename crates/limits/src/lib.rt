@@ -12,12 +12,26 @@ ghost use mathlib.Core.Path.{_≡_};
 ghost use mathlib.Core.Bool.{false};
 ghost use Prim.Native.Nat.{_<_, _≤_};
 ghost use Rattle.rules.specs.declared.FileMap.{FileMap};
-ghost use Rattle.rules.specs.Settings.{inRanges, heapInRange, sameSettings};
+ghost use Rattle.rules.specs.Settings.{defaults, inRanges, heapInRange, sameSettings};
 ghost use Rattle.rules.specs.SettingsLaws.{InRanges};
 ghost use Rattle.rules.specs.Condition1Laws.{InLimits};
 ghost use Rattle.rules.specs.Condition1.{outOfRange, badRecord, conditionOne};
-ghost use Rattle.location_table.specs.Tables.{table};
+ghost use Rattle.rules.specs.Layout.{table};
 ghost use Rattle.limits.specs.Settled.{stateOf, theStates, badFiles};
+
+// "Port's default"
+pub fn defaults() -> Settings
+    ensures { λ s. ⌜ s ≡ defaults ⌝ }
+{
+    Settings {
+        slot_bytes: 4096,
+        file_compaction_percent: 75,
+        min_compaction_files: 2,
+        target_file_size: 2048,
+        small_file_cleanup_threshold: 64,
+        max_object_size: 1024,
+    }
+}
 
 // The column "Range", for the six settings.
 fn in_ranges(s: Settings) -> bool

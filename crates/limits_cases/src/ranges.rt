@@ -2,18 +2,6 @@ use crate::show::refused;
 use rules::Settings;
 use test_host::text;
 
-// The column "Default".
-pub fn defaults() -> Settings {
-    Settings {
-        slot_bytes: 4096,
-        file_compaction_percent: 75,
-        min_compaction_files: 2,
-        target_file_size: 2048,
-        small_file_cleanup_threshold: 64,
-        max_object_size: 1024,
-    }
-}
-
 // Whether settings, a heap of one slot and a table of one entry are outside the ranges.
 fn out(s: Settings) -> bool {
     limits::out_of_range(s, s.slot_bytes, &[0u64], &[0u64])
@@ -30,44 +18,44 @@ fn ends(word: &[u8], below: bool, lowest: bool, highest: bool, above: bool) {
 }
 
 fn with_slot(n: u64) -> bool {
-    let mut s = defaults();
+    let mut s = limits::defaults();
     s.slot_bytes = n;
     out(s)
 }
 
 fn with_percent(n: u64) -> bool {
-    let mut s = defaults();
+    let mut s = limits::defaults();
     s.file_compaction_percent = n;
     out(s)
 }
 
 fn with_files(n: u64) -> bool {
-    let mut s = defaults();
+    let mut s = limits::defaults();
     s.min_compaction_files = n;
     out(s)
 }
 
 fn with_target(n: u64) -> bool {
-    let mut s = defaults();
+    let mut s = limits::defaults();
     s.target_file_size = n;
     out(s)
 }
 
 fn with_threshold(n: u64) -> bool {
-    let mut s = defaults();
+    let mut s = limits::defaults();
     s.small_file_cleanup_threshold = n;
     out(s)
 }
 
 fn with_object(n: u64) -> bool {
-    let mut s = defaults();
+    let mut s = limits::defaults();
     s.max_object_size = n;
     out(s)
 }
 
 // A heap of that many bytes, slots of 4,096.
 fn with_heap(n: u64) -> bool {
-    limits::out_of_range(defaults(), n, &[0u64], &[0u64])
+    limits::out_of_range(limits::defaults(), n, &[0u64], &[0u64])
 }
 
 // "settings or buffer lengths outside the ranges", at the ends of each range; a range that begins with 0 has its lowest twice.

@@ -1,4 +1,3 @@
-use crate::ranges::defaults;
 use crate::show::counted;
 use file_map::recorded;
 use rules::Label;
@@ -10,7 +9,7 @@ ghost use Prim.Native.Nat.{_<_};
 
 // A store of two slots of 128 bytes: a table of two entries, a file of two entries in slot 1.
 pub fn settings() -> Settings {
-    let mut s = defaults();
+    let mut s = limits::defaults();
     s.slot_bytes = 128;
     s
 }

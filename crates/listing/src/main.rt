@@ -51,18 +51,6 @@ fn list(settings: Settings, state: State, heap: &[u8], ids: &[u64], locations: &
     show(files, used);
 }
 
-// "Port's default"
-fn defaults() -> Settings {
-    Settings {
-        slot_bytes: 4096,
-        file_compaction_percent: 75,
-        min_compaction_files: 2,
-        target_file_size: 2048,
-        small_file_cleanup_threshold: 64,
-        max_object_size: 1024,
-    }
-}
-
 fn written(
     settings: Settings,
     heap: &mut [u8],
@@ -87,7 +75,7 @@ fn main() {
     let mut heap = io::buffer();
     let mut ids = [0u64; 4];
     let mut locations = [0u64; 4];
-    let settings = defaults();
+    let settings = limits::defaults();
     let state = written(
         settings,
         &mut heap,

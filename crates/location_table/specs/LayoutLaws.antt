@@ -8,11 +8,11 @@ use native.Mathlib.Omega.{arith}
 use lib.ListN.{length-append, length-map, List·getD-eq-default}
 use Rattle.rules.specs.BaseLaws.{order, and-true, zero-or-more, replicate-at}
 use Rattle.rules.specs.declared.Entry.{Entry}
-use Rattle.rules.specs.Layout.{Buffers, lengthsInRange, inForm, usedIn, usedEntries, laidOut}
+use Rattle.rules.specs.Layout.{Buffers, table, lengthsInRange, inForm, usedIn, usedEntries, laidOut}
 use Rattle.rules.specs.TableLaws.{Rising}
 use Rattle.rules.specs.LayoutLaws.{Used, lengths-in-range, used-located, used-length, form-rising, laid-out-used, laid-out-ids, laid-out-locations, form-laid-out, used-more, used-stop}
 use Rattle.rules.specs.Table.{noEntry}
-use Rattle.location_table.specs.Tables.{table, Formed}
+use Rattle.location_table.specs.Tables.{Formed}
 use Rattle.location_table.specs.EntryLaws.{has-at}
 
 -- ---- the used entries are what stands in the buffers, form or not

@@ -8,13 +8,9 @@ use Rattle.rules.specs.Table.{full}
 use Rattle.rules.specs.World.{Given}
 use Rattle.rules.specs.TableCalls.{TableAfter, notForm, withStored}
 
--- "two equal-length u64 buffers: ids, locations"
-abbrev pub table : List ℕ → List ℕ → Buffers
-table ids locations = record { ids = ids; locations = locations }
-
 -- what a table call left, as its result and the lent buffers give it
-abbrev pub leaving : Given → List ℕ → List ℕ → TableAfter
-leaving answer ids locations = record { answer = answer; table = table ids locations }
+abbrev pub leaving : Given → Buffers → TableAfter
+leaving answer table = record { answer = answer; table = table }
 
 -- "Order: 1, 20 (a given raw 0)": what each call that stores asks first
 abbrev pub frontTests : Buffers → Bool → List Test

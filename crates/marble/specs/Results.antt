@@ -8,6 +8,7 @@ use Rattle.rules.specs.Condition1.{outOfRange}
 use Rattle.rules.specs.Claims.{withClaims, claimCall, releaseCall}
 use Rattle.rules.specs.Counts.{countsCall}
 use Rattle.rules.specs.Read.{readOf, partOf}
+use Rattle.rules.specs.Layout.{table}
 use Rattle.rules.specs.Reopen.{reopenCall}
 use Rattle.rules.specs.World.{World, world, leaving, answerGiven, countsGiven}
 use Rattle.theory.specs.Fresh.{Blank}
@@ -45,12 +46,12 @@ pub data Result : Type 0 where
 
 -- what the host has after it
 abbrev pub left : World → Result → World
-left w (wrote batch r heap ids locations) = world (w .settings) (r .state) (w .claims) heap ids locations
-left w (maintained r heap ids locations) = world (w .settings) (r .state) (w .claims) heap ids locations
-left w (pruned r heap) = world (w .settings) (r .state) (w .claims) heap (w .table .ids) (w .table .locations)
+left w (wrote batch r heap ids locations) = world (w .settings) (r .state) (w .claims) heap (table ids locations)
+left w (maintained r heap ids locations) = world (w .settings) (r .state) (w .claims) heap (table ids locations)
+left w (pruned r heap) = world (w .settings) (r .state) (w .claims) heap (w .table)
 left w (claimed slot r) = withClaims w (r .claims)
 left w (released slot r) = withClaims w (r .claims)
-left w (reopened r ids locations) = world (w .settings) (r .state) (r .claims) (w .heap) ids locations
+left w (reopened r ids locations) = world (w .settings) (r .state) (r .claims) (w .heap) (table ids locations)
 left w (answered id r) = w
 left w (read id part) = w
 left w (counted r) = w

@@ -12,7 +12,8 @@ use Rattle.rules.specs.Answers.{answer-one, counts-one, load-one, compare-one}
 use Rattle.rules.specs.Counts.{countsCall}
 use Rattle.rules.specs.World.{World, Given, After, world, leaving, answerGiven, countsGiven, loadGiven, compareGiven}
 use Rattle.rules.specs.TableCalls.{TableAfter}
-use Rattle.location_table.specs.Tables.{table}
+use Rattle.rules.specs.Layout.{table}
+use Rattle.location_table.specs.Tables.{leaving as tableLeaving}
 use Rattle.claims.specs.declared.ClaimAnswer.{ClaimAnswer}
 -- reopen, write, read, maintain and prune have theirs beside their code
 pub use Rattle.recovery.specs.Unique.{reopen-one}
@@ -23,7 +24,7 @@ pub use Rattle.prune.specs.CallLaws.{prune-one}
 
 -- ---- claim and release: what their contracts say of a result, for the call's definition
 abbrev pub Claims-leaves : Settings → State → List ℕ → List ℕ → List ℕ → After → ClaimAnswer → Type 0
-Claims-leaves s state heap ids locations after r = leaving (answerGiven (r .answer)) (world s state (r .claims) heap ids locations) ≡ after
+Claims-leaves s state heap ids locations after r = leaving (answerGiven (r .answer)) (world s state (r .claims) heap (table ids locations)) ≡ after
 
 -- any two are equal
 pub claim-one : (s : Settings) (state : State) (heap ids locations : List ℕ) (after : After) (a b : ClaimAnswer)
@@ -38,13 +39,10 @@ pub counts-call-one : (w : World) (a b : CountsAnswer) → leaving (countsGiven 
 counts-call-one w a b p q = counts-one a b (ap (λ (x : After). x .answer) (p ∙ sym q))
 
 -- ---- the four table calls: answer and both buffers, for the call's definition
-abbrev pub tableLeaving : Given → List ℕ → List ℕ → TableAfter
-tableLeaving answer ids locations = record { answer = answer; table = table ids locations }
-
 -- one answer type after the other, by the law that number and values settle it
 module _ {A : Type 0} (given : A → Given) (one : (a b : A) → given a ≡ given b → a ≡ b) where
-  pub table-call-one : (after : TableAfter) (a b : A) (ids is locations ls : List ℕ) → tableLeaving (given a) ids locations ≡ after
-      → tableLeaving (given b) is ls ≡ after → (a ≡ b) × (ids ≡ is) × (locations ≡ ls)
+  pub table-call-one : (after : TableAfter) (a b : A) (ids is locations ls : List ℕ) → tableLeaving (given a) (table ids locations) ≡ after
+      → tableLeaving (given b) (table is ls) ≡ after → (a ≡ b) × (ids ≡ is) × (locations ≡ ls)
   table-call-one after a b ids is locations ls p q =
       let e = p ∙ sym q in (
         one a b (ap (λ (x : TableAfter). x .answer) e),
@@ -53,14 +51,14 @@ module _ {A : Type 0} (given : A → Given) (one : (a b : A) → given a ≡ giv
       )
 
 -- load and store-if-greater, store, compare-and-store
-pub load-call-one : (after : TableAfter) (a b : LoadAnswer) (ids is locations ls : List ℕ) → tableLeaving (loadGiven a) ids locations ≡ after
-    → tableLeaving (loadGiven b) is ls ≡ after → (a ≡ b) × (ids ≡ is) × (locations ≡ ls)
+pub load-call-one : (after : TableAfter) (a b : LoadAnswer) (ids is locations ls : List ℕ) → tableLeaving (loadGiven a) (table ids locations) ≡ after
+    → tableLeaving (loadGiven b) (table is ls) ≡ after → (a ≡ b) × (ids ≡ is) × (locations ≡ ls)
 load-call-one = table-call-one loadGiven load-one
 
-pub store-call-one : (after : TableAfter) (a b : Answer) (ids is locations ls : List ℕ) → tableLeaving (answerGiven a) ids locations ≡ after
-    → tableLeaving (answerGiven b) is ls ≡ after → (a ≡ b) × (ids ≡ is) × (locations ≡ ls)
+pub store-call-one : (after : TableAfter) (a b : Answer) (ids is locations ls : List ℕ) → tableLeaving (answerGiven a) (table ids locations) ≡ after
+    → tableLeaving (answerGiven b) (table is ls) ≡ after → (a ≡ b) × (ids ≡ is) × (locations ≡ ls)
 store-call-one = table-call-one answerGiven answer-one
 
-pub compare-call-one : (after : TableAfter) (a b : CompareAnswer) (ids is locations ls : List ℕ) → tableLeaving (compareGiven a) ids locations ≡ after
-    → tableLeaving (compareGiven b) is ls ≡ after → (a ≡ b) × (ids ≡ is) × (locations ≡ ls)
+pub compare-call-one : (after : TableAfter) (a b : CompareAnswer) (ids is locations ls : List ℕ) → tableLeaving (compareGiven a) (table ids locations) ≡ after
+    → tableLeaving (compareGiven b) (table is ls) ≡ after → (a ≡ b) × (ids ≡ is) × (locations ≡ ls)
 compare-call-one = table-call-one compareGiven compare-one

@@ -8,6 +8,7 @@ use Rattle.rules.specs.Base.{true, List, [], _∷_, _++_, ℕ, _-_, length, eac
 use Rattle.rules.specs.declared.Label.{Label}
 use Rattle.rules.specs.declared.Claims.{Claims}
 use Rattle.rules.specs.declared.FileMap.{FileMap}
+use Rattle.rules.specs.Layout.{tableIds}
 use Rattle.rules.specs.Ops.{settled}
 use Rattle.rules.specs.Prune.{emptiedFrom}
 use Rattle.rules.specs.Stores.{Store, made}
@@ -37,7 +38,7 @@ write-file-contract κs heap batch start new count total k rest heap′ = refl
 pub write-piece-contract : (κs : Lfts 4) (heap ids places pieces : Lent) (start size number : ℕ) (new : Label) (count total k rest : ℕ) (heap′ : Lent)
     → piece.Learnt κs (heap, (start, (size, (ids, (places, (pieces, (number, (new, (count, (total, (k, tt))))))))))) rest
     (heap′, (start, (size, (ids, (places, (pieces, (number, (new, (count, (total, (k, tt)))))))))))
-    ≡ Made k (jobRun (file start new (filedOps number (now heap) (now ids) (now places) (now pieces)))) (now heap) (now heap′) rest
+    ≡ Made k (jobRun (file start new (filedOps number (now heap) (tableIds (now ids)) (now places) (now pieces)))) (now heap) (now heap′) rest
 write-piece-contract κs heap ids places pieces start size number new count total k rest heap′ = refl
 
 -- `prune::prune_stores`, where it is due: it gives the records in the place of what is left

@@ -1,5 +1,10 @@
 // The public calls of document 01 in one place (`src/lib.rs`). Each is a total function: no `requires`, an answer for every input.
 
+// "Settings": the defaults; refusal 1, for the settings and buffers of a reopening and for a call on a state.
+pub use limits::defaults;
+pub use limits::out_of_range;
+pub use limits::refused;
+
 // "Reopen"
 pub use recovery::Reopened;
 pub use recovery::reopen;
@@ -17,6 +22,9 @@ pub use claims::ClaimAnswer;
 pub use claims::claim;
 pub use claims::counts;
 pub use claims::release;
+
+// Claim and release on the claim record itself, lent.
+pub mod in_place;
 
 // "Maintenance"
 pub use gc::Maintained;

@@ -5,6 +5,7 @@ use Prim.Native.Nat.{ℕ}
 use contract.Lifetimes.{Lfts}
 use denote.Ref.{RefT, now}
 use Rattle.rules.specs.declared.Settings.{Settings}
+use Rattle.rules.specs.Layout.{table}
 use Rattle.location_table.specs.Tables.{leaving as tableLeaving}
 use Rattle.as_numbers.specs.Shown.{given}
 use Rattle.marble_c.specs.Unique.{Reopens, Writes, ReadsOut, ClaimsSlot, Releases, Prunes, Maintains, CountsOut, Loads, Stores, Compares, StoresGreater}
@@ -85,15 +86,15 @@ module _ (ids locations : Lent) (id location r : ℕ) (ids′ locations′ : Len
 
   pub store-contract : (κs : Lfts 2)
       → store.Learnt κs (ids, (locations, (id, (location, tt)))) r (ids′, (locations′, (id, (location, tt))))
-      ≡ Stores (now ids) (now locations) id location (tableLeaving (given r []) (now ids′) (now locations′))
+      ≡ Stores (now ids) (now locations) id location (tableLeaving (given r []) (table (now ids′) (now locations′)))
   store-contract κs = refl
 
   pub compare-contract : (κs : Lfts 3) (old : ℕ) (current current′ : Place)
       → compare.Learnt κs (ids, (locations, (id, (old, (location, (current, tt)))))) r (ids′, (locations′, (id, (old, (location, (current′, tt))))))
-      ≡ Compares (now ids) (now locations) id old location (tableLeaving (given r (now current′ ∷ [])) (now ids′) (now locations′))
+      ≡ Compares (now ids) (now locations) id old location (tableLeaving (given r (now current′ ∷ [])) (table (now ids′) (now locations′)))
   compare-contract κs old current current′ = refl
 
   pub greater-contract : (κs : Lfts 3) (held held′ : Place)
       → greater.Learnt κs (ids, (locations, (id, (location, (held, tt))))) r (ids′, (locations′, (id, (location, (held′, tt)))))
-      ≡ StoresGreater (now ids) (now locations) id location (tableLeaving (given r (now held′ ∷ [])) (now ids′) (now locations′))
+      ≡ StoresGreater (now ids) (now locations) id location (tableLeaving (given r (now held′ ∷ [])) (table (now ids′) (now locations′)))
   greater-contract κs held held′ = refl

@@ -5,6 +5,7 @@ use Rattle.rules.specs.declared.Settings.{Settings}
 use Rattle.rules.specs.declared.Claims.{Claims}
 use Rattle.rules.specs.Claims.{noClaims, claimCall, releaseCall}
 use Rattle.rules.specs.Counts.{countsCall}
+use Rattle.rules.specs.Layout.{table}
 use Rattle.rules.specs.Maintenance.{maintainCall}
 use Rattle.rules.specs.Prune.{pruneCall}
 use Rattle.rules.specs.Read.{readCall}
@@ -12,8 +13,6 @@ use Rattle.rules.specs.Reopen.{reopenCall}
 use Rattle.rules.specs.TableCalls.{TableAfter, loadCall, storeCall, compareCall, greaterCall}
 use Rattle.rules.specs.World.{Given, After, world, leaving}
 use Rattle.rules.specs.Write.{writeCall}
-use Rattle.location_table.specs.Tables.{table}
-use Rattle.location_table.specs.Tables.{leaving as tableLeaving}
 use Rattle.as_numbers.specs.ClaimWords.{claimsIn, claims-one}
 use Rattle.as_numbers.specs.Shown.{given, shown, stopAfter, shownTable}
 use Rattle.as_numbers.specs.StateLaws.{state-one}
@@ -36,7 +35,7 @@ pub record Sized (l : Left) : Type 0 where
 
 -- the same, as the calls' definitions say it
 abbrev pub said : Settings → Left → After
-said s l = leaving (given (l .number) (l .values)) (world s (stateIn (l .state)) (claimsIn (l .claims)) (l .heap) (l .ids) (l .locations))
+said s l = leaving (given (l .number) (l .values)) (world s (stateIn (l .state)) (claimsIn (l .claims)) (l .heap) (table (l .ids) (l .locations)))
 
 -- what settles this settles every word
 left-one : (s : Settings) (a : After) (l m : Left) → Sized l → Sized m → said s l ≡ a → said s m ≡ a → l ≡ m
@@ -58,42 +57,42 @@ left-one s a l m p q e f =
 module _ (s : Settings) (state claims heap ids locations : List ℕ) where
   -- what each contract says
   abbrev pub Reopens : Left → Type 0
-  Reopens l = said s l ≡ reopenCall (world s (stateIn state) (claimsIn claims) heap ids locations)
+  Reopens l = said s l ≡ reopenCall (world s (stateIn state) (claimsIn claims) heap (table ids locations))
 
   abbrev pub ClaimsSlot : ℕ → Left → Type 0
-  ClaimsSlot slot l = said s l ≡ claimCall (world s (stateIn state) (claimsIn claims) heap ids locations) slot
+  ClaimsSlot slot l = said s l ≡ claimCall (world s (stateIn state) (claimsIn claims) heap (table ids locations)) slot
 
   abbrev pub Releases : ℕ → Left → Type 0
-  Releases slot l = said s l ≡ releaseCall (world s (stateIn state) (claimsIn claims) heap ids locations) slot
+  Releases slot l = said s l ≡ releaseCall (world s (stateIn state) (claimsIn claims) heap (table ids locations)) slot
 
   abbrev pub Prunes : Left → Type 0
-  Prunes l = said s l ≡ pruneCall (world s (stateIn state) (claimsIn claims) heap ids locations)
+  Prunes l = said s l ≡ pruneCall (world s (stateIn state) (claimsIn claims) heap (table ids locations))
 
   abbrev pub Maintains : Left → Type 0
-  Maintains l = said s l ≡ stopAfter (maintainCall (world s (stateIn state) (claimsIn claims) heap ids locations))
+  Maintains l = said s l ≡ stopAfter (maintainCall (world s (stateIn state) (claimsIn claims) heap (table ids locations)))
 
   -- any two are equal
   pub reopen-one : (l m : Left) → Sized l → Sized m → Reopens l → Reopens m → l ≡ m
-  reopen-one = left-one s (reopenCall (world s (stateIn state) (claimsIn claims) heap ids locations))
+  reopen-one = left-one s (reopenCall (world s (stateIn state) (claimsIn claims) heap (table ids locations)))
 
   pub claim-one : (slot : ℕ) (l m : Left) → Sized l → Sized m → ClaimsSlot slot l → ClaimsSlot slot m → l ≡ m
-  claim-one slot = left-one s (claimCall (world s (stateIn state) (claimsIn claims) heap ids locations) slot)
+  claim-one slot = left-one s (claimCall (world s (stateIn state) (claimsIn claims) heap (table ids locations)) slot)
 
   pub release-one : (slot : ℕ) (l m : Left) → Sized l → Sized m → Releases slot l → Releases slot m → l ≡ m
-  release-one slot = left-one s (releaseCall (world s (stateIn state) (claimsIn claims) heap ids locations) slot)
+  release-one slot = left-one s (releaseCall (world s (stateIn state) (claimsIn claims) heap (table ids locations)) slot)
 
   pub prune-one : (l m : Left) → Sized l → Sized m → Prunes l → Prunes m → l ≡ m
-  prune-one = left-one s (pruneCall (world s (stateIn state) (claimsIn claims) heap ids locations))
+  prune-one = left-one s (pruneCall (world s (stateIn state) (claimsIn claims) heap (table ids locations)))
 
   pub maintain-one : (l m : Left) → Sized l → Sized m → Maintains l → Maintains m → l ≡ m
-  maintain-one = left-one s (stopAfter (maintainCall (world s (stateIn state) (claimsIn claims) heap ids locations)))
+  maintain-one = left-one s (stopAfter (maintainCall (world s (stateIn state) (claimsIn claims) heap (table ids locations))))
 
 -- ---- calls that are not lent the claim record
 module _ (s : Settings) (state heap ids locations : List ℕ) where
   -- state words and buffers after
   abbrev pub Writes : List ℕ → ℕ → List ℕ → List ℕ → List ℕ → List ℕ → Type 0
   Writes batch r ws hs is ls =
-      (c : Claims) → leaving (given r []) (world s (stateIn ws) c hs is ls) ≡ writeCall (world s (stateIn state) c heap ids locations) batch
+      (c : Claims) → leaving (given r []) (world s (stateIn ws) c hs (table is ls)) ≡ writeCall (world s (stateIn state) c heap (table ids locations)) batch
 
   pub write-one : (batch : List ℕ) (r q : ℕ) (ws vs hs ks is js ls ms : List ℕ) → length ws ≡ 1545 → length vs ≡ 1545
       → Writes batch r ws hs is ls → Writes batch q vs ks js ms → (r ≡ q) × (ws ≡ vs) × (hs ≡ ks) × (is ≡ js) × (ls ≡ ms)
@@ -108,10 +107,10 @@ module _ (s : Settings) (state heap ids locations : List ℕ) where
 
   -- number and out-parameters
   abbrev pub ReadsOut : ℕ → ℕ → List ℕ → Type 0
-  ReadsOut id r values = (c : Claims) → given r values ≡ shown 2 (readCall (world s (stateIn state) c heap ids locations) id .answer)
+  ReadsOut id r values = (c : Claims) → given r values ≡ shown 2 (readCall (world s (stateIn state) c heap (table ids locations)) id .answer)
 
   abbrev pub CountsOut : ℕ → List ℕ → Type 0
-  CountsOut r values = (c : Claims) → given r values ≡ shown 4 (countsCall (world s (stateIn state) c heap ids locations) .answer)
+  CountsOut r values = (c : Claims) → given r values ≡ shown 4 (countsCall (world s (stateIn state) c heap (table ids locations)) .answer)
 
   pub read-one : (id r q : ℕ) (vs us : List ℕ) → ReadsOut id r vs → ReadsOut id q us → given r vs ≡ given q us
   read-one id r q vs us e f = e noClaims ∙ sym (f noClaims)

@@ -24,7 +24,7 @@ ghost use Rattle.rules.specs.Reopen.{reopenCall};
 ghost use Rattle.rules.specs.TableCalls.{loadCall, storeCall, compareCall, greaterCall};
 ghost use Rattle.rules.specs.World.{world, leaving};
 ghost use Rattle.rules.specs.Write.{writeCall};
-ghost use Rattle.location_table.specs.Tables.{table};
+ghost use Rattle.rules.specs.Layout.{table};
 ghost use Rattle.location_table.specs.Tables.{leaving as tableLeaving};
 ghost use Rattle.as_numbers.specs.ClaimWords.{claimsIn};
 ghost use Rattle.as_numbers.specs.Numbered.{numbered};
@@ -51,11 +51,11 @@ pub extern "C" fn marble_reopen(
     ids: &mut [u64],
     locations: &mut [u64],
 ) -> u64
-    ensures { λ r. ⌜ leaving (numbered r) (world settings (stateIn (now (state .exit))) (claimsIn (now (claims .exit))) (now (heap .entry)) (now (ids .exit)) (now (locations .exit))) ≡ reopenCall (world settings (stateIn (now (state .entry))) (claimsIn (now (claims .entry))) (now (heap .entry)) (now (ids .entry)) (now (locations .entry))) ⌝ }
+    ensures { λ r. ⌜ leaving (numbered r) (world settings (stateIn (now (state .exit))) (claimsIn (now (claims .exit))) (now (heap .entry)) (table (now (ids .exit)) (now (locations .exit)))) ≡ reopenCall (world settings (stateIn (now (state .entry))) (claimsIn (now (claims .entry))) (now (heap .entry)) (table (now (ids .entry)) (now (locations .entry)))) ⌝ }
 {
     let was = state_in(state);
     let held = claims_in(claims);
-    let done = recovery::reopen(settings, was, held, heap, ids, locations);
+    let done = marble::reopen(settings, was, held, heap, ids, locations);
     let answer = done.answer;
     let after = done.state;
     let kept = done.claims;
@@ -74,10 +74,10 @@ pub extern "C" fn marble_write(
     locations: &mut [u64],
     batch: &[u8],
 ) -> u64
-    ensures { λ r. ⌜ ((c : Claims) → leaving (numbered r) (world settings (stateIn (now (state .exit))) c (now (heap .exit)) (now (ids .exit)) (now (locations .exit))) ≡ writeCall (world settings (stateIn (now (state .entry))) c (now (heap .entry)) (now (ids .entry)) (now (locations .entry))) (now (batch .entry))) ⌝ }
+    ensures { λ r. ⌜ ((c : Claims) → leaving (numbered r) (world settings (stateIn (now (state .exit))) c (now (heap .exit)) (table (now (ids .exit)) (now (locations .exit)))) ≡ writeCall (world settings (stateIn (now (state .entry))) c (now (heap .entry)) (table (now (ids .entry)) (now (locations .entry)))) (now (batch .entry))) ⌝ }
 {
     let was = state_in(state);
-    let done = writepath::write(settings, was, heap, ids, locations, batch);
+    let done = marble::write(settings, was, heap, ids, locations, batch);
     let answer = done.answer;
     let after = done.state;
     put_state(state, after);
@@ -96,10 +96,10 @@ pub extern "C" fn marble_read(
     offset: &mut u64,
     size: &mut u64,
 ) -> u64
-    ensures { λ r. ⌜ ((c : Claims) → given r (now (offset .exit) ∷ now (size .exit) ∷ []) ≡ shown 2 (readCall (world settings (stateIn (now (state .entry))) c (now (heap .entry)) (now (ids .entry)) (now (locations .entry))) id .answer)) ⌝ }
+    ensures { λ r. ⌜ ((c : Claims) → given r (now (offset .exit) ∷ now (size .exit) ∷ []) ≡ shown 2 (readCall (world settings (stateIn (now (state .entry))) c (now (heap .entry)) (table (now (ids .entry)) (now (locations .entry)))) id .answer)) ⌝ }
 {
     let was = state_in(state);
-    let found = read_shown(readpath::read_answer(settings, was, heap, ids, locations, id));
+    let found = read_shown(marble::read_answer(settings, was, heap, ids, locations, id));
     *offset = found.first;
     *size = found.second;
     found.number
@@ -116,11 +116,11 @@ pub extern "C" fn marble_claim(
     locations: &[u64],
     slot: u64,
 ) -> u64
-    ensures { λ r. ⌜ leaving (numbered r) (world settings (stateIn (now (state .entry))) (claimsIn (now (claims .exit))) (now (heap .entry)) (now (ids .entry)) (now (locations .entry))) ≡ claimCall (world settings (stateIn (now (state .entry))) (claimsIn (now (claims .entry))) (now (heap .entry)) (now (ids .entry)) (now (locations .entry))) slot ⌝ }
+    ensures { λ r. ⌜ leaving (numbered r) (world settings (stateIn (now (state .entry))) (claimsIn (now (claims .exit))) (now (heap .entry)) (table (now (ids .entry)) (now (locations .entry)))) ≡ claimCall (world settings (stateIn (now (state .entry))) (claimsIn (now (claims .entry))) (now (heap .entry)) (table (now (ids .entry)) (now (locations .entry)))) slot ⌝ }
 {
     let was = state_in(state);
     let held = claims_in(claims);
-    let done = claims::claim(settings, was, held, heap, ids, locations, slot);
+    let done = marble::claim(settings, was, held, heap, ids, locations, slot);
     let answer = done.answer;
     let kept = done.claims;
     put_claims(claims, kept);
@@ -138,11 +138,11 @@ pub extern "C" fn marble_release(
     locations: &[u64],
     slot: u64,
 ) -> u64
-    ensures { λ r. ⌜ leaving (numbered r) (world settings (stateIn (now (state .entry))) (claimsIn (now (claims .exit))) (now (heap .entry)) (now (ids .entry)) (now (locations .entry))) ≡ releaseCall (world settings (stateIn (now (state .entry))) (claimsIn (now (claims .entry))) (now (heap .entry)) (now (ids .entry)) (now (locations .entry))) slot ⌝ }
+    ensures { λ r. ⌜ leaving (numbered r) (world settings (stateIn (now (state .entry))) (claimsIn (now (claims .exit))) (now (heap .entry)) (table (now (ids .entry)) (now (locations .entry)))) ≡ releaseCall (world settings (stateIn (now (state .entry))) (claimsIn (now (claims .entry))) (now (heap .entry)) (table (now (ids .entry)) (now (locations .entry)))) slot ⌝ }
 {
     let was = state_in(state);
     let held = claims_in(claims);
-    let done = claims::release(settings, was, held, heap, ids, locations, slot);
+    let done = marble::release(settings, was, held, heap, ids, locations, slot);
     let answer = done.answer;
     let kept = done.claims;
     put_claims(claims, kept);
@@ -159,11 +159,11 @@ pub extern "C" fn marble_prune(
     ids: &[u64],
     locations: &[u64],
 ) -> u64
-    ensures { λ r. ⌜ leaving (numbered r) (world settings (stateIn (now (state .exit))) (claimsIn (now (claims .entry))) (now (heap .exit)) (now (ids .entry)) (now (locations .entry))) ≡ pruneCall (world settings (stateIn (now (state .entry))) (claimsIn (now (claims .entry))) (now (heap .entry)) (now (ids .entry)) (now (locations .entry))) ⌝ }
+    ensures { λ r. ⌜ leaving (numbered r) (world settings (stateIn (now (state .exit))) (claimsIn (now (claims .entry))) (now (heap .exit)) (table (now (ids .entry)) (now (locations .entry)))) ≡ pruneCall (world settings (stateIn (now (state .entry))) (claimsIn (now (claims .entry))) (now (heap .entry)) (table (now (ids .entry)) (now (locations .entry)))) ⌝ }
 {
     let was = state_in(state);
     let held = claims_in(claims);
-    let done = prune::prune(settings, was, held, heap, ids, locations);
+    let done = marble::prune(settings, was, held, heap, ids, locations);
     let answer = done.answer;
     let after = done.state;
     put_state(state, after);
@@ -182,11 +182,11 @@ pub extern "C" fn marble_maintain(
     generation: &mut u64,
     moved: &mut u64,
 ) -> u64
-    ensures { λ r. ⌜ leaving (given r (now (generation .exit) ∷ now (moved .exit) ∷ [])) (world settings (stateIn (now (state .exit))) (claimsIn (now (claims .entry))) (now (heap .exit)) (now (ids .exit)) (now (locations .exit))) ≡ stopAfter (maintainCall (world settings (stateIn (now (state .entry))) (claimsIn (now (claims .entry))) (now (heap .entry)) (now (ids .entry)) (now (locations .entry)))) ⌝ }
+    ensures { λ r. ⌜ leaving (given r (now (generation .exit) ∷ now (moved .exit) ∷ [])) (world settings (stateIn (now (state .exit))) (claimsIn (now (claims .entry))) (now (heap .exit)) (table (now (ids .exit)) (now (locations .exit)))) ≡ stopAfter (maintainCall (world settings (stateIn (now (state .entry))) (claimsIn (now (claims .entry))) (now (heap .entry)) (table (now (ids .entry)) (now (locations .entry))))) ⌝ }
 {
     let was = state_in(state);
     let held = claims_in(claims);
-    let done = gc::maintain(settings, was, held, heap, ids, locations);
+    let done = marble::maintain(settings, was, held, heap, ids, locations);
     let answer = done.answer;
     let after = done.state;
     put_state(state, after);
@@ -206,10 +206,10 @@ pub extern "C" fn marble_counts(
     locations: &[u64],
     counts: &mut [u64; 4],
 ) -> u64
-    ensures { λ r. ⌜ ((c : Claims) → given r (now (counts .exit)) ≡ shown 4 (countsCall (world settings (stateIn (now (state .entry))) c (now (heap .entry)) (now (ids .entry)) (now (locations .entry))) .answer)) ⌝ }
+    ensures { λ r. ⌜ ((c : Claims) → given r (now (counts .exit)) ≡ shown 4 (countsCall (world settings (stateIn (now (state .entry))) c (now (heap .entry)) (table (now (ids .entry)) (now (locations .entry)))) .answer)) ⌝ }
 {
     let was = state_in(state);
-    let done = counts_shown(claims::counts(settings, was, heap, ids, locations));
+    let done = counts_shown(marble::counts(settings, was, heap, ids, locations));
     let sums = done.counts;
     put_counts(counts, sums);
     done.number
@@ -221,7 +221,7 @@ pub extern "C" fn marble_counts(
 pub extern "C" fn marble_load(ids: &[u64], locations: &[u64], id: u64, location: &mut u64) -> u64
     ensures { λ r. ⌜ given r (now (location .exit) ∷ []) ≡ shown 1 (loadCall (table (now (ids .entry)) (now (locations .entry))) id .answer) ⌝ }
 {
-    let held = load_shown(location_table::load(ids, locations, id));
+    let held = load_shown(marble::load(ids, locations, id));
     *location = held.value;
     held.number
 }
@@ -234,9 +234,9 @@ pub extern "C" fn marble_store(
     id: u64,
     location: u64,
 ) -> u64
-    ensures { λ r. ⌜ tableLeaving (numbered r) (now (ids .exit)) (now (locations .exit)) ≡ storeCall (table (now (ids .entry)) (now (locations .entry))) id location ⌝ }
+    ensures { λ r. ⌜ tableLeaving (numbered r) (table (now (ids .exit)) (now (locations .exit))) ≡ storeCall (table (now (ids .entry)) (now (locations .entry))) id location ⌝ }
 {
-    number(location_table::store(ids, locations, id, location))
+    number(marble::store(ids, locations, id, location))
 }
 
 // "A compare that differs stores nothing and gives the current location"
@@ -249,9 +249,9 @@ pub extern "C" fn marble_compare_and_store(
     location: u64,
     current: &mut u64,
 ) -> u64
-    ensures { λ r. ⌜ tableLeaving (given r (now (current .exit) ∷ [])) (now (ids .exit)) (now (locations .exit)) ≡ shownTable 1 (compareCall (table (now (ids .entry)) (now (locations .entry))) id old location) ⌝ }
+    ensures { λ r. ⌜ tableLeaving (given r (now (current .exit) ∷ [])) (table (now (ids .exit)) (now (locations .exit))) ≡ shownTable 1 (compareCall (table (now (ids .entry)) (now (locations .entry))) id old location) ⌝ }
 {
-    let held = compare_shown(location_table::compare_and_store(ids, locations, id, old, location));
+    let held = compare_shown(marble::compare_and_store(ids, locations, id, old, location));
     *current = held.value;
     held.number
 }
@@ -265,9 +265,9 @@ pub extern "C" fn marble_store_if_greater(
     location: u64,
     held: &mut u64,
 ) -> u64
-    ensures { λ r. ⌜ tableLeaving (given r (now (held .exit) ∷ [])) (now (ids .exit)) (now (locations .exit)) ≡ shownTable 1 (greaterCall (table (now (ids .entry)) (now (locations .entry))) id location) ⌝ }
+    ensures { λ r. ⌜ tableLeaving (given r (now (held .exit) ∷ [])) (table (now (ids .exit)) (now (locations .exit))) ≡ shownTable 1 (greaterCall (table (now (ids .entry)) (now (locations .entry))) id location) ⌝ }
 {
-    let was = load_shown(location_table::store_if_greater(ids, locations, id, location));
+    let was = load_shown(marble::store_if_greater(ids, locations, id, location));
     *held = was.value;
     was.number
 }

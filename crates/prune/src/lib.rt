@@ -23,6 +23,7 @@ ghost use Rattle.rules.specs.Stores.{made};
 ghost use Rattle.rules.specs.Prune.{isDead, emptiedFrom, pruned, pruneCall};
 ghost use Rattle.rules.specs.PruneLaws.{emptying};
 ghost use Rattle.rules.specs.World.{world, leaving, answerGiven};
+ghost use Rattle.rules.specs.Layout.{table};
 ghost use Rattle.stores.specs.Runs.{Made};
 ghost use Rattle.prune.specs.Labels.{LabelsIn};
 
@@ -111,7 +112,7 @@ pub fn prune_stores(
 // For a call that has decided refusal 1: the state after it, where a prune is due.
 pub fn pruned(settings: Settings, state: State, claims: Claims, heap: &mut [u8], due: bool) -> State
     requires { ⌜ (due ≡ true → LabelsIn (settings .«slot_bytes») (state .files .records) (length (now heap))) ⌝ }
-    ensures { λ r. ⌜ ((ids locations : List ℕ) → world settings r claims (now (heap .exit)) ids locations ≡ pick due (pruned (world settings state claims (now (heap .entry)) ids locations)) (world settings state claims (now (heap .entry)) ids locations)) ⌝ }
+    ensures { λ r. ⌜ ((ids locations : List ℕ) → world settings r claims (now (heap .exit)) (table ids locations) ≡ pick due (pruned (world settings state claims (now (heap .entry)) (table ids locations))) (world settings state claims (now (heap .entry)) (table ids locations))) ⌝ }
 {
     let files = state.files;
     let next = prune_stores(heap, settings.slot_bytes, claims, files, 256, due);
@@ -138,7 +139,7 @@ pub fn prune(
     ids: &[u64],
     locations: &[u64],
 ) -> PruneAnswer
-    ensures { λ r. ⌜ leaving (answerGiven (r .answer)) (world settings (r .state) claims (now (heap .exit)) (now (ids .entry)) (now (locations .entry))) ≡ pruneCall (world settings state claims (now (heap .entry)) (now (ids .entry)) (now (locations .entry))) ⌝ }
+    ensures { λ r. ⌜ leaving (answerGiven (r .answer)) (world settings (r .state) claims (now (heap .exit)) (table (now (ids .entry)) (now (locations .entry)))) ≡ pruneCall (world settings state claims (now (heap .entry)) (table (now (ids .entry)) (now (locations .entry)))) ⌝ }
 {
     let files = state.files;
     let bad = bad_files(settings, heap.len() as u64, ids, locations, files);

@@ -19,6 +19,7 @@ ghost use Rattle.rules.specs.SlotFile.{slotBytes, fileIn};
 ghost use Rattle.rules.specs.Object.{storedAt};
 ghost use Rattle.rules.specs.Read.{readOf, partOf};
 ghost use Rattle.rules.specs.World.{world};
+ghost use Rattle.rules.specs.Layout.{table};
 ghost use Rattle.slot_file.specs.Objects.{bodyOf};
 ghost use Rattle.readpath.specs.Reads.{Lies, inHeap, Within, placeOf};
 
@@ -59,7 +60,7 @@ pub fn read_answer(
     locations: &[u64],
     id: u64,
 ) -> ReadAnswer
-    ensures { λ r. ⌜ ((c : Claims) → r ≡ readOf (world settings state c (now (heap .entry)) (now (ids .entry)) (now (locations .entry))) id) ⌝ }
+    ensures { λ r. ⌜ ((c : Claims) → r ≡ readOf (world settings state c (now (heap .entry)) (table (now (ids .entry)) (now (locations .entry)))) id) ⌝ }
 {
     let files = state.files;
     let lsns = file_map::lsns(files);
@@ -116,8 +117,8 @@ pub fn read<'a>(
     locations: &[u64],
     id: u64,
 ) -> &'a [u8]
-    ensures { λ r. ⌜ ((c : Claims) → now r ≡ partOf (readOf (world settings state c (now (heap .entry)) (now (ids .entry)) (now (locations .entry))) id) (now (heap .entry))) ⌝ }
-    ensures { λ r. ⌜ ((c : Claims) → r .ptr ≡ placeOf (readOf (world settings state c (now (heap .entry)) (now (ids .entry)) (now (locations .entry))) id) (heap .entry .ptr)) ⌝ }
+    ensures { λ r. ⌜ ((c : Claims) → now r ≡ partOf (readOf (world settings state c (now (heap .entry)) (table (now (ids .entry)) (now (locations .entry)))) id) (now (heap .entry))) ⌝ }
+    ensures { λ r. ⌜ ((c : Claims) → r .ptr ≡ placeOf (readOf (world settings state c (now (heap .entry)) (table (now (ids .entry)) (now (locations .entry)))) id) (heap .entry .ptr)) ⌝ }
 {
     let answer = read_answer(settings, state, heap, ids, locations, id);
     part(heap, answer)

@@ -15,9 +15,9 @@ ghost use mathlib.Core.Path.{_≡_};
 ghost use mathlib.Core.List.{map};
 ghost use Prim.Native.Nat.{_^_, _<_};
 ghost use Rattle.rules.specs.Base.{larger};
-ghost use Rattle.rules.specs.Layout.{usedEntries};
+ghost use Rattle.rules.specs.Layout.{table, usedEntries};
 ghost use Rattle.rules.specs.Reopen.{mappedInto};
-ghost use Rattle.location_table.specs.Tables.{table, Formed};
+ghost use Rattle.location_table.specs.Tables.{Formed};
 ghost use Rattle.rebuild.specs.Records.{counted, nextFrom};
 
 // "a file's live count is the ids mapped into it, deletes included"

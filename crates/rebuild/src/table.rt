@@ -19,7 +19,8 @@ ghost use Rattle.rules.specs.Base.{each};
 ghost use Rattle.rules.specs.Trailer.{absolute, countIn, entriesIn};
 ghost use Rattle.rules.specs.SlotFile.{viewIn, viewsIn};
 ghost use Rattle.rules.specs.Reopen.{fileOf, filesIn};
-ghost use Rattle.location_table.specs.Tables.{table, Formed};
+ghost use Rattle.rules.specs.Layout.{table};
+ghost use Rattle.location_table.specs.Tables.{Formed};
 ghost use Rattle.reopen_tests.specs.Shown.{Shown, Surveyed};
 ghost use Rattle.rebuild.specs.Filled.{replaces, Filled, Placed, rowsOf};
 

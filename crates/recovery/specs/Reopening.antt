@@ -4,7 +4,7 @@ use Rattle.rules.specs.Base.{List, [], _∷_, ℕ, length, ltb}
 use Rattle.rules.specs.Refusal.{_gives_, decide, after}
 use Rattle.rules.specs.FileMap.{noFiles}
 use Rattle.rules.specs.Claims.{noClaims}
-use Rattle.rules.specs.Layout.{Buffers, capacityOf, cleared}
+use Rattle.rules.specs.Layout.{Buffers, table, capacityOf, cleared}
 use Rattle.rules.specs.SlotFile.{View, viewsIn}
 use Rattle.rules.specs.Reopen.{filesIn, tableOf, reopenTests, givenUp, opened}
 use Rattle.rules.specs.World.{World, world, slotsOf, noState, answerGiven, After, leaving}
@@ -27,11 +27,11 @@ handedBack settings heapLen tableLen r = record { answer = Refused r; state = st
 
 -- what a reopening left, as its result and the lent buffers give it
 abbrev pub leaves : Settings → Reopened → List ℕ → List ℕ → List ℕ → After
-leaves settings r heap ids locations = leaving (answerGiven (r .answer)) (world settings (r .state) (r .claims) heap ids locations)
+leaves settings r heap ids locations = leaving (answerGiven (r .answer)) (world settings (r .state) (r .claims) heap (table ids locations))
 
 -- settings and buffers alone: past 1 the old state and claims count no more
 abbrev pub bare : Settings → List ℕ → List ℕ → List ℕ → World
-bare settings heap ids locations = world settings noState noClaims heap ids locations
+bare settings heap ids locations = world settings noState noClaims heap (table ids locations)
 
 -- a table that was cleared
 pub record Blank (b : Buffers) : Type 0 where

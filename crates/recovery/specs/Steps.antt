@@ -9,11 +9,11 @@ use Rattle.rules.specs.Base.{true, false, List, [], _∷_, _++_, ℕ, length, r
 use Rattle.rules.specs.Refusal.{Test, _gives_, decide, after, decide-early, decide-late, decide-first, decide-next, decide-none, after-refused, after-done}
 use Rattle.rules.specs.Claims.{noClaims}
 use Rattle.rules.specs.Condition1.{outOfRange}
-use Rattle.rules.specs.Layout.{Buffers, capacityOf, usedEntries, laidOut, cleared}
+use Rattle.rules.specs.Layout.{Buffers, table, capacityOf, usedEntries, laidOut, cleared}
 use Rattle.rules.specs.SlotFile.{View}
 use Rattle.rules.specs.Reopen.{viewTests, filesIn, overlapping, latestFrom, tableOf, reopenTests, recordsFrom, nextAfter, givenUp, opened, reopenCall}
 use Rattle.rules.specs.World.{World, world, After}
-use Rattle.location_table.specs.Tables.{table, Formed}
+use Rattle.location_table.specs.Tables.{Formed}
 use Rattle.rules.specs.TableLaws.{rise-end}
 use Rattle.rules.specs.LayoutLaws.{used-laid-out}
 use Rattle.location_table.specs.LayoutLaws.{laid-out-formed}
@@ -28,7 +28,7 @@ use Rattle.recovery.specs.Reopening.{stateBy, handedBack, leaves, bare, 
 module _ (settings : Settings) (state : State) (claims : Claims) (heap ids locations : List ℕ) where
   -- "1 hands everything back": nothing changes
   pub at-limits : outOfRange settings (length heap) (table ids locations) ≡ true
-      → leaves settings (record { answer = Refused Limits; state = state; claims = claims }) heap ids locations ≡ reopenCall (world settings state claims heap ids locations)
+      → leaves settings (record { answer = Refused Limits; state = state; claims = claims }) heap ids locations ≡ reopenCall (world settings state claims heap (table ids locations))
   unfolding reopenCall
   at-limits e =
       sym (after-refused (decide (outOfRange settings (length heap) (table ids locations) gives Limits ∷ [])) Limits _ _
@@ -36,7 +36,7 @@ module _ (settings : Settings) (state : State) (claims : Claims) (heap ids locat
 
   -- past it the old state and claims count no more
   pub past-limits : outOfRange settings (length heap) (table ids locations) ≡ false
-      → pastLimits (bare settings heap ids locations) ≡ reopenCall (world settings state claims heap ids locations)
+      → pastLimits (bare settings heap ids locations) ≡ reopenCall (world settings state claims heap (table ids locations))
   unfolding reopenCall reopenTests givenUp opened
   past-limits e =
       sym (after-done (decide (outOfRange settings (length heap) (table ids locations) gives Limits ∷ [])) _ _

@@ -22,7 +22,7 @@ ghost use Rattle.rules.specs.Condition1Laws.{InLimits};
 ghost use Rattle.rules.specs.Reopen.{reopenCall};
 ghost use Rattle.rules.specs.SlotFile.{viewsIn};
 ghost use Rattle.rules.specs.World.{answerGiven, leaving, world};
-ghost use Rattle.location_table.specs.Tables.{table};
+ghost use Rattle.rules.specs.Layout.{table};
 ghost use Rattle.reopen_tests.specs.Shown.{Surveyed};
 ghost use Rattle.recovery.specs.Reopening.{stateBy, handedBack, leaves, bare, Blank, pastTests, pastSlots, pastLimits};
 
@@ -129,7 +129,7 @@ pub fn reopen(
     ids: &mut [u64],
     locations: &mut [u64],
 ) -> Reopened
-    ensures { λ r. ⌜ leaving (answerGiven (r .answer)) (world settings (r .state) (r .claims) (now (heap .entry)) (now (ids .exit)) (now (locations .exit))) ≡ reopenCall (world settings state claims (now (heap .entry)) (now (ids .entry)) (now (locations .entry))) ⌝ }
+    ensures { λ r. ⌜ leaving (answerGiven (r .answer)) (world settings (r .state) (r .claims) (now (heap .entry)) (table (now (ids .exit)) (now (locations .exit)))) ≡ reopenCall (world settings state claims (now (heap .entry)) (table (now (ids .entry)) (now (locations .entry)))) ⌝ }
 {
     if out_of_range(settings, heap.len() as u64, ids, locations) {
         return Reopened {

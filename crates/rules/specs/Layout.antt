@@ -7,6 +7,18 @@ pub record Buffers : Type 0 where
   pub ids : List ℕ
   pub locations : List ℕ
 
+-- the two lent buffers as one table
+abbrev pub table : List ℕ → List ℕ → Buffers
+table ids locations = record { ids = ids; locations = locations }
+
+-- the ids of all its places, in the buffer that has them
+abbrev pub tableIds : List ℕ → List ℕ
+tableIds ids = ids
+
+-- the locations likewise
+abbrev pub tableLocations : List ℕ → List ℕ
+tableLocations locations = locations
+
 -- "table entries 1..65,536"
 unfoldable pub lengthsInRange : Buffers → Bool
 lengthsInRange b = eqb (length (b .ids)) (length (b .locations)) && within 1 65536 (length (b .ids))

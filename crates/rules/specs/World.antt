@@ -15,9 +15,8 @@ pub record World : Type 0 where
   pub table : Buffers
 
 -- the same, as a call's parameters give it
-abbrev pub world : Settings → State → Claims → List ℕ → List ℕ → List ℕ → World
-world settings state claims heap ids locations =
-    record { settings = settings; state = state; claims = claims; heap = heap; table = record { ids = ids; locations = locations } }
+abbrev pub world : Settings → State → Claims → List ℕ → Buffers → World
+world settings state claims heap table = record { settings = settings; state = state; claims = claims; heap = heap; table = table }
 
 -- the file map's records
 abbrev pub recordsOf : World → List Record

@@ -8,11 +8,12 @@ use Rattle.rules.specs.declared.Answer.{Answer}
 use Rattle.rules.specs.Answers.{answer-one}
 use Rattle.rules.specs.Write.{writeCall}
 use Rattle.rules.specs.World.{World, After, world, leaving, answerGiven}
+use Rattle.rules.specs.Layout.{table}
 use Rattle.writepath.specs.declared.Written.{Written}
 
 -- what the contract says of a result and the three buffers
 abbrev pub Writes : Settings → World → List ℕ → Claims → Written → List ℕ → List ℕ → List ℕ → Type 0
-Writes s w bytes c r heap ids locations = leaving (answerGiven (r .answer)) (world s (r .state) c heap ids locations) ≡ writeCall w bytes
+Writes s w bytes c r heap ids locations = leaving (answerGiven (r .answer)) (world s (r .state) c heap (table ids locations)) ≡ writeCall w bytes
 
 -- any two are equal
 pub write-one : (s : Settings) (w : World) (bytes : List ℕ) (c : Claims) (a b : Written) (h k is js ls ms : List ℕ)

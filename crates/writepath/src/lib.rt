@@ -17,7 +17,7 @@ ghost use Rattle.rules.specs.Stores.{made, fileStores};
 ghost use Rattle.rules.specs.Install.{installed};
 ghost use Rattle.rules.specs.Write.{writeCall};
 ghost use Rattle.rules.specs.World.{world, leaving, answerGiven};
-ghost use Rattle.location_table.specs.Tables.{table};
+ghost use Rattle.rules.specs.Layout.{table};
 ghost use Rattle.file_map.specs.Records.{labelled};
 ghost use Rattle.batch.specs.Reading.{opsIn};
 ghost use Rattle.batch_file.specs.Steps.{Sized};
@@ -60,7 +60,7 @@ fn add_file(
     total: u64,
 ) -> State
     requires { ⌜ Filed settings state (now heap) (table (now ids) (now locations)) (now batch) slot count total ⌝ }
-    ensures { λ r. ⌜ ((c : Claims) → world settings r c (now (heap .exit)) (now (ids .exit)) (now (locations .exit)) ≡ installed (2 ^ 62) 0 (world settings state c (now (heap .entry)) (now (ids .entry)) (now (locations .entry))) (settled (opsIn (now (batch .entry))))) ⌝ }
+    ensures { λ r. ⌜ ((c : Claims) → world settings r c (now (heap .exit)) (table (now (ids .exit)) (now (locations .exit))) ≡ installed (2 ^ 62) 0 (world settings state c (now (heap .entry)) (table (now (ids .entry)) (now (locations .entry)))) (settled (opsIn (now (batch .entry))))) ⌝ }
 {
     let new = new_label(state.next_position, count, total);
     let start = slot * settings.slot_bytes as usize;
@@ -90,7 +90,7 @@ pub fn write(
     locations: &mut [u64],
     batch: &[u8],
 ) -> Written
-    ensures { λ r. ⌜ ((c : Claims) → leaving (answerGiven (r .answer)) (world settings (r .state) c (now (heap .exit)) (now (ids .exit)) (now (locations .exit))) ≡ writeCall (world settings state c (now (heap .entry)) (now (ids .entry)) (now (locations .entry))) (now (batch .entry))) ⌝ }
+    ensures { λ r. ⌜ ((c : Claims) → leaving (answerGiven (r .answer)) (world settings (r .state) c (now (heap .exit)) (table (now (ids .exit)) (now (locations .exit)))) ≡ writeCall (world settings state c (now (heap .entry)) (table (now (ids .entry)) (now (locations .entry)))) (now (batch .entry))) ⌝ }
 {
     match plan::decided(settings, state, heap, ids, locations, batch) {
         Plan::Refused(r) => Written {

@@ -18,10 +18,10 @@ ghost use lib.ListN.{length};
 ghost use lib.Dec.{ltb};
 ghost use Rattle.rules.specs.declared.Claims.{Claims};
 ghost use Rattle.rules.specs.Ops.{settled};
-ghost use Rattle.rules.specs.Layout.{usedEntries};
+ghost use Rattle.rules.specs.Layout.{table, tableIds, usedEntries};
 ghost use Rattle.rules.specs.Write.{tooManyIds};
 ghost use Rattle.rules.specs.World.{world};
-ghost use Rattle.location_table.specs.Tables.{table, Formed};
+ghost use Rattle.location_table.specs.Tables.{Formed};
 ghost use Rattle.limits.specs.Settled.{stateOf};
 ghost use Rattle.batch.specs.Reading.{opsIn};
 ghost use Rattle.writepath.specs.NewIds.{newIds, isNew, idsOf};
@@ -63,11 +63,11 @@ fn new_ids(ids: &[u64], locations: &[u64], batch: &[u8]) -> u64
 // "6 more distinct ids than table entries": the table's and the batch's together.
 fn too_many(ids: &[u64], locations: &[u64], batch: &[u8]) -> bool
     requires { ⌜ Formed (table (now ids) (now locations)) ⌝ }
-    ensures { λ r. ⌜ r ≡ tooManyIds (length (now (ids .entry))) (usedEntries (table (now (ids .entry)) (now (locations .entry)))) (settled (opsIn (now (batch .entry)))) ⌝ }
+    ensures { λ r. ⌜ r ≡ tooManyIds (length (tableIds (now (ids .entry)))) (usedEntries (table (now (ids .entry)) (now (locations .entry)))) (settled (opsIn (now (batch .entry)))) ⌝ }
 {
     let used = location_table::used(ids, locations) as u64;
     let more = new_ids(ids, locations, batch);
-    (ids.len() as u64) < used + more
+    (location_table::capacity(ids) as u64) < used + more
 }
 
 // "7 a new file, and base + .. (T + 1) .. > 2^62": no sum that could wrap is made.
@@ -92,7 +92,7 @@ fn room(
     batch: &[u8],
 ) -> Plan
     requires { ⌜ Parsed settings (stateOf rest files) (now heap) (table (now ids) (now locations)) (now batch) ⌝ }
-    ensures { λ r. ⌜ ((c : Claims) → r ≡ planOf (world settings (stateOf rest files) c (now (heap .entry)) (now (ids .entry)) (now (locations .entry))) (now (batch .entry))) ⌝ }
+    ensures { λ r. ⌜ ((c : Claims) → r ≡ planOf (world settings (stateOf rest files) c (now (heap .entry)) (table (now (ids .entry)) (now (locations .entry)))) (now (batch .entry))) ⌝ }
 {
     let Room::Fits(count, total) = batch::sizes(batch, settings.slot_bytes) else {
         return Plan::Refused(Refusal::SlotRoom);
@@ -122,7 +122,7 @@ pub fn decided(
     locations: &[u64],
     batch: &[u8],
 ) -> Plan
-    ensures { λ r. ⌜ ((c : Claims) → r ≡ planOf (world settings state c (now (heap .entry)) (now (ids .entry)) (now (locations .entry))) (now (batch .entry))) ⌝ }
+    ensures { λ r. ⌜ ((c : Claims) → r ≡ planOf (world settings state c (now (heap .entry)) (table (now (ids .entry)) (now (locations .entry)))) (now (batch .entry))) ⌝ }
 {
     let files = state.files;
     let bad = bad_files(settings, heap.len() as u64, ids, locations, files);

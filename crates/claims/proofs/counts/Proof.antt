@@ -6,7 +6,7 @@ use Rattle.rules.specs.Counts.{countsCall}
 use Rattle.rules.specs.Refusal.{decide}
 use Rattle.rules.specs.Condition1.{conditionOne}
 use Rattle.rules.specs.Condition1Laws.{passed}
-use Rattle.location_table.specs.Tables.{table}
+use Rattle.rules.specs.Layout.{table}
 use Rattle.limits.specs.Settled.{passed-bounded}
 use Rattle.claims.proofs.counts.Tie as tie
 

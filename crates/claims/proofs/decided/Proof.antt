@@ -8,7 +8,7 @@ use Rattle.rules.specs.declared.FileMap.{FileMap}
 use Rattle.rules.specs.Refusal.{decide}
 use Rattle.rules.specs.Settings.{slotsIn}
 use Rattle.rules.specs.Condition1.{conditionOne}
-use Rattle.location_table.specs.Tables.{table}
+use Rattle.rules.specs.Layout.{table}
 use Rattle.limits.specs.Settled.{stateOf, badFiles}
 use Rattle.claims.proofs.decided.Statement.{statement}
 use Rattle.claims.proofs.decided.Tie as tie

@@ -2,10 +2,10 @@ use mathlib.Core.Path.{_∙_}
 use native.Mathlib.Omega.{arith}
 use borrow.Author.Needs.{needs}
 use lib.ListN.{length}
-use Rattle.location_table.specs.Tables.{table}
 use Rattle.gc.specs.RunLaws.{under-ready, under-after, given-course}
 use Rattle.gc.proofs.generation_step.Statement.{statement}
 use Rattle.gc.proofs.generation_step.Tie as tie
+use Rattle.rules.specs.Layout.{table}
 
 rewrite-group-requires : tie.Need-rewrite-group-requires
 rewrite-group-requires c κs =

@@ -4,7 +4,7 @@ use lib.ListN.{length}
 use Rattle.rules.specs.Condition1Laws.{passed}
 use Rattle.rules.specs.Maintenance.{finished}
 use Rattle.rules.specs.World.{world}
-use Rattle.location_table.specs.Tables.{table}
+use Rattle.rules.specs.Layout.{table}
 use Rattle.gc.specs.RunLaws.{maintain-refused, maintain-accepted}
 use Rattle.gc.proofs.maintain.Statement.{statement}
 use Rattle.gc.proofs.maintain.Tie as tie
@@ -22,7 +22,7 @@ returns : tie.Need-returns
 returns c =
     let f = c .before in
     let a = f .before .before .before .before .before .before .args in
-    maintain-refused (world (a .settings) (a .state) (a .claims) (a .heap .now) (a .ids .now) (a .locations .now)) (sym (f .refused .ensures) ∙ c .if1 .taken)
+    maintain-refused (world (a .settings) (a .state) (a .claims) (a .heap .now) (table (a .ids .now) (a .locations .now))) (sym (f .refused .ensures) ∙ c .if1 .taken)
 
 rewrite-groups-requires : tie.Need-rewrite-groups-requires
 rewrite-groups-requires c κs =
@@ -51,7 +51,7 @@ returns-2 c =
     let f = e .before in
     let a = f .before .before .before .before .before .before .args in
     z .finish .ensures _ _ ∙ ap finished (g .rewrite-groups .ensures .0)
-    ∙ maintain-accepted (world (a .settings) (a .state) (a .claims) (a .heap .now) (a .ids .now) (a .locations .now)) (sym (f .refused .ensures) ∙ e .if1 .left)
+    ∙ maintain-accepted (world (a .settings) (a .state) (a .claims) (a .heap .now) (table (a .ids .now) (a .locations .now))) (sym (f .refused .ensures) ∙ e .if1 .left)
 
 pub maintain-spec : {M : Type 1} → statement M
 maintain-spec =

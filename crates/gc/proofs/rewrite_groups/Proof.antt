@@ -2,7 +2,7 @@ use mathlib.Core.Path.{_≡_, _∙_}
 use borrow.Author.Needs.{needs}
 use lib.ListN.{length}
 use Rattle.rules.specs.World.{world}
-use Rattle.location_table.specs.Tables.{table}
+use Rattle.rules.specs.Layout.{table}
 use Rattle.file_map.proofs.Turns.{mapped-length}
 use Rattle.limits.specs.Settled.{passed-bounded}
 use Rattle.prune.specs.Labels.{passed-labels}
@@ -48,7 +48,7 @@ returns c =
     let p = g .before .before .before .before .before in
     let start = p .before .before .before .before .before in
     let a = start .args in (
-      g .generations .ensures .0 (a .claims) ∙ by-plan (world (a .settings) (a .state) (a .claims) (a .heap .now) (a .ids .now) (a .locations .now)) _ (p .plan .ensures),
+      g .generations .ensures .0 (a .claims) ∙ by-plan (world (a .settings) (a .state) (a .claims) (a .heap .now) (table (a .ids .now) (a .locations .now))) _ (p .plan .ensures),
       passed-labels (a .settings) _ _ _ (g .generations .ensures .1 .limits),
     )
 

@@ -8,10 +8,13 @@ use Rattle.gc_writer.proofs.next_filed.Statement.{statement}
 use Rattle.gc_writer.proofs.next_filed.Tie as tie
 
 abbrev Inv-loop : tie.InvT-loop
-Inv-loop ids places pieces piece from i₀ i = (from ≤ i) × ((heap : List ℕ) → filedFrom piece heap ids places pieces i ≡ filedFrom piece heap ids places pieces from)
+Inv-loop ids places pieces piece from n i₀ i = (from ≤ i) × ((heap : List ℕ) → filedFrom piece heap ids places pieces i ≡ filedFrom piece heap ids places pieces from)
 
 abbrev μ-loop : tie.MeasureT-loop
-μ-loop ids places pieces piece from i₀ i = length ids - i
+μ-loop ids places pieces piece from n i₀ i = length ids - i
+
+capacity-requires : tie.Need-capacity-requires Inv-loop μ-loop
+capacity-requires c κs = search needs
 
 loop-holds : tie.Need-loop-holds Inv-loop μ-loop
 loop-holds c = (omega arith, λ heap. refl)
@@ -47,7 +50,8 @@ loop-again : tie.Need-loop-again Inv-loop μ-loop
 loop-again c =
     let f = c .before in
     let at = f .before .before .before .before in
-    let start = at .before .before .before .before in
+    let start = at .before .before .before .before .before in
+    let entries = at .before .capacity .ensures in
     let a = start .args in
     let i = at .loop .i in
     let low : i < length (a .ids .now) = omega arith in
@@ -60,6 +64,7 @@ loop-again c =
 returns-2 : tie.Need-returns-2 Inv-loop μ-loop
 returns-2 c =
     let at = c .before in
+    let entries = at .before .capacity .ensures in
     record { on = at .loop .inv .0; here = λ low. absurd (omega (arith, c .loop-test .left)); same = at .loop .inv .1 }
 
 pub next-filed-spec : {M : Type 1} → statement M
@@ -68,6 +73,7 @@ next-filed-spec =
     (tie.spec
     Inv-loop
     μ-loop
+    capacity-requires
     loop-holds
     mul-filed
     shared-slice-read-filed

@@ -15,20 +15,23 @@ use Rattle.gc_writer.proofs.put_entries.Statement.{statement}
 use Rattle.gc_writer.proofs.put_entries.Tie as tie
 
 abbrev Inv-loop : tie.InvT-loop
-Inv-loop heap₀ at ids places pieces piece left rest₀ to₀ position₀ i₀ heap rest to position i =
+Inv-loop heap₀ at ids places pieces piece left rest₀ to₀ position₀ n i₀ heap rest to position i =
     (i < length ids → filedHere piece (getD places i 0) (getD pieces i 0) ≡ true)
     × Free at (16 * length (filedOps piece heap₀ ids places pieces)) heap ids places pieces
     × Putting entriesFrom left at (filedOps piece heap₀ ids places pieces) heap₀ rest to position (filedFrom piece heap ids places pieces i) heap
 
 abbrev μ-loop : tie.MeasureT-loop
-μ-loop heap₀ at ids places pieces piece left rest₀ to₀ position₀ i₀ heap rest to position i = length ids - i
+μ-loop heap₀ at ids places pieces piece left rest₀ to₀ position₀ n i₀ heap rest to position i = length ids - i
+
+capacity-requires : tie.Need-capacity-requires Inv-loop μ-loop
+capacity-requires c κs = search needs
 
 next-filed-requires : tie.Need-next-filed-requires Inv-loop μ-loop
 next-filed-requires c κs = search needs
 
 loop-holds : tie.Need-loop-holds Inv-loop μ-loop
 loop-holds c =
-    let start = c .before .before .before .before .before in
+    let start = c .before .before .before .before .before .before in
     let n = c .next-filed .ensures in
     (n .here, start .pre .0, putting-start entriesFrom _ _ _ _ _ (n .same (start .args .heap .now)))
 
@@ -36,12 +39,13 @@ turn-at-requires : tie.Need-turn-at-requires Inv-loop μ-loop
 turn-at-requires c κs =
     let inside = c .before in
     let inv = inside .before .loop .inv in
-    (free-walking (inv .1), (inside .loop-test .taken, inv .0 (inside .loop-test .taken)))
+    let low = rw (inside .before .before .before .capacity .ensures) at (inside .loop-test .taken) in
+    (free-walking (inv .1), (low, inv .0 low))
 
 entry-of-requires : tie.Need-entry-of-requires Inv-loop μ-loop
 entry-of-requires c κs =
     let at = c .before .before .before in
-    omega (arith, at .loop .inv .2 .bound, at .before .before .before .before .before .before .pre .1)
+    omega (arith, at .loop .inv .2 .bound, at .before .before .before .before .before .before .before .pre .1)
 
 put-entry-requires : tie.Need-put-entry-requires Inv-loop μ-loop
 put-entry-requires c κs =
@@ -53,7 +57,7 @@ add-to : tie.Need-add-to Inv-loop μ-loop
 add-to c =
     let t = c .before .before .before .before .before in
     let at = t .before .before .before in
-    let start = at .before .before .before .before .before .before in
+    let start = at .before .before .before .before .before .before .before in
     omega (arith, entry-fits (at .loop .inv .2) (t .turn-at .ensures .step), start .pre .0 .inside, start .good)
 
 add-position : tie.Need-add-position Inv-loop μ-loop
@@ -61,12 +65,12 @@ add-position c =
     let t = c .before .before .before .before .before .before in
     let at = t .before .before .before in
     let turn = t .turn-at .ensures in
-    omega (arith, turn .long, total-next (turn .step), at .loop .inv .2 .bound, at .before .before .before .before .before .before .pre .1)
+    omega (arith, turn .long, total-next (turn .step), at .loop .inv .2 .bound, at .before .before .before .before .before .before .before .pre .1)
 
 loop-less : tie.Need-loop-less Inv-loop μ-loop
 loop-less c =
     let t = c .before .before .before .before .before .before in
-    omega (arith, t .before .before .loop-test .taken, t .turn-at .ensures .on)
+    omega (arith, t .before .before .before .before .before .capacity .ensures, t .before .before .loop-test .taken, t .turn-at .ensures .on)
 
 loop-again : tie.Need-loop-again Inv-loop μ-loop
 loop-again c =
@@ -82,7 +86,7 @@ loop-again c =
     let kept = free-put (l .inv .1) (l .to) bytes (w .low) (omega (arith, entry-length (e .entry-of .result), entry-fits w (turn .step))) put in (
       turn .here,
       kept .0,
-      rw (kept .1 (at .before .before .before .before .before .before .args .piece) (t .turn-at .result .next)) (entry-put w (turn .step) (e .entry-of .ensures) (ap (λ (n : ℕ). l .position + n) (turn .long)) put),
+      rw (kept .1 (at .before .before .before .before .before .before .before .args .piece) (t .turn-at .result .next)) (entry-put w (turn .step) (e .entry-of .ensures) (ap (λ (n : ℕ). l .position + n) (turn .long)) put),
     )
 
 same-length : tie.Need-same-length Inv-loop μ-loop
@@ -92,7 +96,8 @@ returns : tie.Need-returns Inv-loop μ-loop
 returns c =
     let at = c .before in
     let l = at .loop in
-    let a = at .before .before .before .before .before .before .args in
+    let a = at .before .before .before .before .before .before .before .args in
+    let entries = at .before .before .capacity .ensures in
     entries-put (l .inv .2) (filed-end (a .piece) (l .heap) (a .ids .now) (a .places .now) (a .pieces .now) (l .i) (omega arith))
 
 pub put-entries-spec : {M : Type 1} → statement M
@@ -101,6 +106,7 @@ put-entries-spec =
     (tie.spec
     Inv-loop
     μ-loop
+    capacity-requires
     next-filed-requires
     loop-holds
     turn-at-requires

@@ -15,20 +15,23 @@ use Rattle.gc_writer.proofs.put_objects.Statement.{statement}
 use Rattle.gc_writer.proofs.put_objects.Tie as tie
 
 abbrev Inv-loop : tie.InvT-loop
-Inv-loop heap₀ at ids places pieces piece left rest₀ to₀ i₀ heap rest to i =
+Inv-loop heap₀ at ids places pieces piece left rest₀ to₀ n i₀ heap rest to i =
     (i < length ids → filedHere piece (getD places i 0) (getD pieces i 0) ≡ true)
     × Free at (length (objectsOf (filedOps piece heap₀ ids places pieces))) heap ids places pieces
     × Putting objectsFrom left at (filedOps piece heap₀ ids places pieces) heap₀ rest to 0 (filedFrom piece heap ids places pieces i) heap
 
 abbrev μ-loop : tie.MeasureT-loop
-μ-loop heap₀ at ids places pieces piece left rest₀ to₀ i₀ heap rest to i = length ids - i
+μ-loop heap₀ at ids places pieces piece left rest₀ to₀ n i₀ heap rest to i = length ids - i
+
+capacity-requires : tie.Need-capacity-requires Inv-loop μ-loop
+capacity-requires c κs = search needs
 
 next-filed-requires : tie.Need-next-filed-requires Inv-loop μ-loop
 next-filed-requires c κs = search needs
 
 loop-holds : tie.Need-loop-holds Inv-loop μ-loop
 loop-holds c =
-    let start = c .before .before .before .before .before in
+    let start = c .before .before .before .before .before .before in
     let n = c .next-filed .ensures in
     (n .here, start .pre, putting-start objectsFrom _ _ _ _ _ (n .same (start .args .heap .now)))
 
@@ -36,7 +39,8 @@ turn-at-requires : tie.Need-turn-at-requires Inv-loop μ-loop
 turn-at-requires c κs =
     let inside = c .before in
     let inv = inside .before .loop .inv in
-    (free-walking (inv .1), (inside .loop-test .taken, inv .0 (inside .loop-test .taken)))
+    let low = rw (inside .before .before .before .capacity .ensures) at (inside .loop-test .taken) in
+    (free-walking (inv .1), (low, inv .0 low))
 
 put-content-requires : tie.Need-put-content-requires Inv-loop μ-loop
 put-content-requires c κs =
@@ -52,13 +56,13 @@ add-to c =
     let t = c .before .before .before .before in
     let at = t .before .before .before in
     let turn = t .turn-at .ensures in
-    let start = at .before .before .before .before .before .before in
+    let start = at .before .before .before .before .before .before .before in
     omega (arith, object-fits (at .loop .inv .2) (turn .step), turn .long, start .pre .inside, start .good)
 
 loop-less : tie.Need-loop-less Inv-loop μ-loop
 loop-less c =
     let t = c .before .before .before .before in
-    omega (arith, t .before .before .loop-test .taken, t .turn-at .ensures .on)
+    omega (arith, t .before .before .before .before .before .capacity .ensures, t .before .before .loop-test .taken, t .turn-at .ensures .on)
 
 loop-again : tie.Need-loop-again Inv-loop μ-loop
 loop-again c =
@@ -73,7 +77,7 @@ loop-again c =
     let kept = free-put (l .inv .1) (l .to) (contentBytes (o .id) (opIn (l .heap) o .content)) (w .low) (omega (arith, object-fits w (turn .step), content-size (turn .step))) put in (
       turn .here,
       kept .0,
-      rw (kept .1 (at .before .before .before .before .before .before .args .piece) (t .turn-at .result .next)) (object-put w (turn .step) (ap (λ (n : ℕ). l .to + n) (turn .long)) (omega arith) put),
+      rw (kept .1 (at .before .before .before .before .before .before .before .args .piece) (t .turn-at .result .next)) (object-put w (turn .step) (ap (λ (n : ℕ). l .to + n) (turn .long)) (omega arith) put),
     )
 
 same-length : tie.Need-same-length Inv-loop μ-loop
@@ -83,7 +87,8 @@ returns : tie.Need-returns Inv-loop μ-loop
 returns c =
     let at = c .before in
     let l = at .loop in
-    let a = at .before .before .before .before .before .before .args in
+    let a = at .before .before .before .before .before .before .before .args in
+    let entries = at .before .before .capacity .ensures in
     objects-put (l .inv .2) (filed-end (a .piece) (l .heap) (a .ids .now) (a .places .now) (a .pieces .now) (l .i) (omega arith))
 
 pub put-objects-spec : {M : Type 1} → statement M
@@ -92,6 +97,7 @@ put-objects-spec =
     (tie.spec
     Inv-loop
     μ-loop
+    capacity-requires
     next-filed-requires
     loop-holds
     turn-at-requires

@@ -13,7 +13,7 @@ use Rattle.gc_writer.proofs.sized.Statement.{statement}
 use Rattle.gc_writer.proofs.sized.Tie as tie
 
 abbrev Inv-loop : tie.InvT-loop
-Inv-loop heap ids places pieces piece count₀ total₀ i₀ count total i =
+Inv-loop heap ids places pieces piece count₀ total₀ n i₀ count total i =
     (i < length ids → filedHere piece (getD places i 0) (getD pieces i 0) ≡ true)
     × (count + length (filedFrom piece heap ids places pieces i) ≡ length (filedOps piece heap ids places pieces))
     × (total + length (objectsOf (filedFrom piece heap ids places pieces i)) ≡ length (objectsOf (filedOps piece heap ids places pieces)))
@@ -21,7 +21,10 @@ Inv-loop heap ids places pieces piece count₀ total₀ i₀ count total i =
     × (total ≤ 1048596 * i)
 
 abbrev μ-loop : tie.MeasureT-loop
-μ-loop heap ids places pieces piece count₀ total₀ i₀ count total i = length ids - i
+μ-loop heap ids places pieces piece count₀ total₀ n i₀ count total i = length ids - i
+
+capacity-requires : tie.Need-capacity-requires Inv-loop μ-loop
+capacity-requires c κs = search needs
 
 next-filed-requires : tie.Need-next-filed-requires Inv-loop μ-loop
 next-filed-requires c κs = search needs
@@ -29,13 +32,14 @@ next-filed-requires c κs = search needs
 loop-holds : tie.Need-loop-holds Inv-loop μ-loop
 loop-holds c =
     let n = c .next-filed .ensures in
-    let same = n .same (c .before .before .before .before .before .args .heap .now) in
+    let same = n .same (c .before .before .before .before .before .before .args .heap .now) in
     (n .here, omega (arith, ap length same), omega (arith, ap (λ (os : List Op). length (objectsOf os)) same), omega arith, omega arith)
 
 turn-at-requires : tie.Need-turn-at-requires Inv-loop μ-loop
 turn-at-requires c κs =
     let at = c .before in
-    (at .before .before .before .before .before .before .pre .0, (c .loop-test .taken, at .loop .inv .0 (c .loop-test .taken)))
+    let low = rw (at .before .before .capacity .ensures) at (c .loop-test .taken) in
+    (at .before .before .before .before .before .before .before .pre .0, (low, at .loop .inv .0 low))
 
 add-count : tie.Need-add-count Inv-loop μ-loop
 add-count c = search needs
@@ -43,11 +47,12 @@ add-count c = search needs
 add-total : tie.Need-add-total Inv-loop μ-loop
 add-total c =
     let t = c .before .turn-at in
-    let start = c .before .before .before .before .before .before .before .before .before in
-    omega (arith, t .ensures .long, size-bound (t .result .operation), t .ensures .short, start .pre .1)
+    let start = c .before .before .before .before .before .before .before .before .before .before in
+    let entries = c .before .before .before .before .before .capacity .ensures in
+    omega (arith, entries, t .ensures .long, size-bound (t .result .operation), t .ensures .short, start .pre .1)
 
 loop-less : tie.Need-loop-less Inv-loop μ-loop
-loop-less c = omega (arith, c .before .turn-at .ensures .on)
+loop-less c = omega (arith, c .before .before .before .before .before .capacity .ensures, c .before .turn-at .ensures .on)
 
 loop-again : tie.Need-loop-again Inv-loop μ-loop
 loop-again c =
@@ -62,7 +67,8 @@ loop-again c =
 returns : tie.Need-returns Inv-loop μ-loop
 returns c =
     let at = c .before in
-    let a = at .before .before .before .before .before .before .args in
+    let a = at .before .before .before .before .before .before .before .args in
+    let entries = at .before .before .capacity .ensures in
     let none = filed-end (a .piece) (a .heap .now) (a .ids .now) (a .places .now) (a .pieces .now) (at .loop .i) (omega arith) in
     (omega (arith, ap length none), omega (arith, total-end none))
 
@@ -72,6 +78,7 @@ sized-spec =
     (tie.spec
     Inv-loop
     μ-loop
+    capacity-requires
     next-filed-requires
     loop-holds
     turn-at-requires

@@ -12,22 +12,25 @@ use Rattle.gc_writer.proofs.sum.Statement.{statement}
 use Rattle.gc_writer.proofs.sum.Tie as tie
 
 abbrev Inv-loop : tie.InvT-loop
-Inv-loop heap ids places pieces piece count register₀ position₀ i₀ register position i =
+Inv-loop heap ids places pieces piece count register₀ position₀ n i₀ register position i =
     (i < length ids → filedHere piece (getD places i 0) (getD pieces i 0) ≡ true)
     × Summing (filedOps piece heap ids places pieces) (filedFrom piece heap ids places pieces i) register position
 
 abbrev μ-loop : tie.MeasureT-loop
-μ-loop heap ids places pieces piece count register₀ position₀ i₀ register position i = length ids - i
+μ-loop heap ids places pieces piece count register₀ position₀ n i₀ register position i = length ids - i
 
 sum-count-requires : tie.Need-sum-count-requires Inv-loop μ-loop
 sum-count-requires c κs = search needs
+
+capacity-requires : tie.Need-capacity-requires Inv-loop μ-loop
+capacity-requires c κs = search needs
 
 next-filed-requires : tie.Need-next-filed-requires Inv-loop μ-loop
 next-filed-requires c κs = search needs
 
 loop-holds : tie.Need-loop-holds Inv-loop μ-loop
 loop-holds c =
-    let w = c .before in
+    let w = c .before .before in
     let start = w .before .before .before .before .before in
     let n = c .next-filed .ensures in
     (n .here, summing-start (n .same (start .args .heap .now)) (start .pre .1 .0) (start .pre .1 .1) (w .sum-count .ensures))
@@ -35,7 +38,8 @@ loop-holds c =
 turn-at-requires : tie.Need-turn-at-requires Inv-loop μ-loop
 turn-at-requires c κs =
     let at = c .before in
-    (at .before .before .before .before .before .before .before .pre .0, (c .loop-test .taken, at .loop .inv .0 (c .loop-test .taken)))
+    let low = rw (at .before .before .capacity .ensures) at (c .loop-test .taken) in
+    (at .before .before .before .before .before .before .before .before .pre .0, (low, at .loop .inv .0 low))
 
 entry-of-requires : tie.Need-entry-of-requires Inv-loop μ-loop
 entry-of-requires c κs = omega (arith, c .before .before .loop .inv .1 .low)
@@ -49,7 +53,7 @@ add-position c =
     omega (arith, t .turn-at .ensures .long, total-next (t .turn-at .ensures .step), t .before .before .loop .inv .1 .low)
 
 loop-less : tie.Need-loop-less Inv-loop μ-loop
-loop-less c = omega (arith, c .before .before .before .turn-at .ensures .on)
+loop-less c = omega (arith, c .before .before .before .before .before .before .before .capacity .ensures, c .before .before .before .turn-at .ensures .on)
 
 loop-again : tie.Need-loop-again Inv-loop μ-loop
 loop-again c =
@@ -64,7 +68,8 @@ sum-end-requires c κs = search needs
 returns : tie.Need-returns Inv-loop μ-loop
 returns c =
     let at = c .before .before in
-    let a = at .before .before .before .before .before .before .before .args in
+    let a = at .before .before .before .before .before .before .before .before .args in
+    let entries = at .before .before .capacity .ensures in
     let none = filed-end (a .piece) (a .heap .now) (a .ids .now) (a .places .now) (a .pieces .now) (at .loop .i) (omega arith) in
     c .sum-end .ensures ∙ summing-end (at .loop .inv .1) none
 
@@ -75,6 +80,7 @@ sum-spec =
     Inv-loop
     μ-loop
     sum-count-requires
+    capacity-requires
     next-filed-requires
     loop-holds
     turn-at-requires

@@ -6,17 +6,14 @@ use Rattle.gc_writer.specs.Walk.{filed-moved, turned}
 use Rattle.gc_writer.proofs.turn_at.Statement.{statement}
 use Rattle.gc_writer.proofs.turn_at.Tie as tie
 
+id-at-requires : tie.Need-id-at-requires
+id-at-requires c κs = search needs
+
 mul-moving-at : tie.Need-mul-moving-at
 mul-moving-at c = search needs
 
 shared-slice-read-moving-at : tie.Need-shared-slice-read-moving-at
 shared-slice-read-moving-at c = search needs
-
-mul-moving-at-2 : tie.Need-mul-moving-at-2
-mul-moving-at-2 c = search needs
-
-shared-slice-read-moving-at-2 : tie.Need-shared-slice-read-moving-at-2
-shared-slice-read-moving-at-2 c = search needs
 
 moving-at-requires : tie.Need-moving-at-requires
 moving-at-requires c κs =
@@ -30,7 +27,7 @@ size-of-requires c κs =
     let a = start .args in
     let some = filed-moved (a .piece) (getD (a .places .now) (a .i) 0) (getD (a .pieces .now) (a .i) 0) (start .pre .1 .1) in
     let told = moving-told (a .heap .now) (getD (a .ids .now) (a .i) 0) (getD (a .places .now) (a .i) 0) some (start .pre .0 .standing (a .i)) in
-    rw (c .moving-at .ensures) (omega (arith, told .short))
+    rw (c .moving-at .ensures, c .before .before .id-at .ensures) (omega (arith, told .short))
 
 add-next-filed : tie.Need-add-next-filed
 add-next-filed c = search needs
@@ -43,16 +40,15 @@ returns c =
     let size = c .before in
     let moved = size .before in
     let start = moved .before .before .before .before .before .before .before in
-    turned (start .pre .0) (start .pre .1 .0) (start .pre .1 .1) (moved .moving-at .ensures) (size .size-of .ensures) (c .next-filed .ensures)
+    turned (start .pre .0) (start .pre .1 .0) (start .pre .1 .1) (rw (moved .before .before .id-at .ensures) at (moved .moving-at .ensures)) (size .size-of .ensures) (c .next-filed .ensures)
 
 pub turn-at-spec : {M : Type 1} → statement M
 turn-at-spec =
     tie.close
     (tie.spec
+    id-at-requires
     mul-moving-at
     shared-slice-read-moving-at
-    mul-moving-at-2
-    shared-slice-read-moving-at-2
     moving-at-requires
     size-of-requires
     add-next-filed

@@ -6,9 +6,8 @@ use lib.ListN.{length, drop, getD}
 use Rattle.rules.specs.declared.Entry.{Entry}
 use Rattle.rules.specs.Trailer.{countIn, entriesIn}
 use Rattle.rules.specs.Table.{lookup, noEntry}
-use Rattle.rules.specs.Layout.{usedEntries}
+use Rattle.rules.specs.Layout.{table, usedEntries}
 use Rattle.trailer.specs.Entries.{entries-count}
-use Rattle.location_table.specs.Tables.{table}
 use Rattle.file_map.specs.Lists.{lessAt}
 use Rattle.file_map.specs.ListLaws.{length-less}
 use Rattle.install.specs.Losing.{slotHolding, losingLives, losing-next, losing-end}

@@ -8,9 +8,9 @@ use lib.ListN.{length, drop}
 use Rattle.rules.specs.declared.Entry.{Entry}
 use Rattle.rules.specs.Trailer.{countIn, entriesIn, absolute}
 use Rattle.rules.specs.Table.{insert, insertAll, full, noEntry}
-use Rattle.rules.specs.Layout.{Buffers, laidOut, usedEntries}
+use Rattle.rules.specs.Layout.{Buffers, table, laidOut, usedEntries}
 use Rattle.trailer.specs.Entries.{entries-count}
-use Rattle.location_table.specs.Tables.{table, Formed}
+use Rattle.location_table.specs.Tables.{Formed}
 use Rattle.disk_location.specs.Locations.{positionOf}
 use Rattle.location_table.specs.LayoutLaws.{laid-out}
 use Rattle.location_table.specs.StoreLaws.{formed-after, length-after, used-after}

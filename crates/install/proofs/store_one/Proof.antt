@@ -2,7 +2,7 @@ use mathlib.Core.Path.{ap, _∙_}
 use borrow.Author.Needs.{needs}
 use Rattle.rules.specs.declared.Entry.{Entry}
 use Rattle.rules.specs.TableCalls.{withStored}
-use Rattle.location_table.specs.Tables.{table}
+use Rattle.rules.specs.Layout.{table}
 use Rattle.location_table.specs.StoreLaws.{stored-is}
 use Rattle.install.proofs.store_one.Statement.{statement}
 use Rattle.install.proofs.store_one.Tie as tie

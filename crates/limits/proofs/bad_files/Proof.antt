@@ -7,7 +7,7 @@ use lib.ListN.{length, drop}
 use Rattle.limits.proofs.bad_files.Statement.{statement}
 use Rattle.rules.specs.BaseLaws.{within-true}
 use Rattle.rules.specs.Condition1.{badFrom}
-use Rattle.location_table.specs.Tables.{table}
+use Rattle.rules.specs.Layout.{table}
 use Rattle.file_map.proofs.Turns.{mapped-length}
 use Rattle.limits.specs.Settled.{badFiles, bad-files}
 use Rattle.limits.proofs.Turns.{bad-here, bad-next, bad-end}

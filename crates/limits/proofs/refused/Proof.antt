@@ -1,7 +1,7 @@
 use mathlib.Core.Path.{ap, _∙_}
 use borrow.Author.Needs.{needs}
 use Rattle.rules.specs.Condition1.{conditionOne}
-use Rattle.location_table.specs.Tables.{table}
+use Rattle.rules.specs.Layout.{table}
 use Rattle.limits.proofs.refused.Statement.{statement}
 use Rattle.limits.proofs.refused.Tie as tie
 

@@ -3,10 +3,9 @@ use mathlib.Core.Bool.{true, false, not, true≢false}
 use borrow.Author.Needs.{needs}
 use borrow.Author.Tests.{not-true, not-false, eq-eqb, ne-eqb}
 use Rattle.rules.specs.declared.FileMap.{FileMap}
-use Rattle.rules.specs.Layout.{Buffers, inForm}
+use Rattle.rules.specs.Layout.{Buffers, table, inForm}
 use Rattle.rules.specs.Condition1.{conditionOne, outOfRange, notTheStates}
 use Rattle.rules.specs.Condition1Laws.{InLimits, in-limits}
-use Rattle.location_table.specs.Tables.{table}
 use Rattle.limits.specs.Settled.{stateOf, the-states, bad-files}
 use Rattle.limits.proofs.refused_apart.Statement.{statement}
 use Rattle.limits.proofs.refused_apart.Tie as tie

@@ -6,7 +6,7 @@ use Rattle.rules.specs.declared.Answer.{Answer}
 use Rattle.rules.specs.Condition1.{conditionOne}
 use Rattle.rules.specs.Condition1Laws.{passed}
 use Rattle.rules.specs.World.{World, world, leaving, answerGiven}
-use Rattle.location_table.specs.Tables.{table}
+use Rattle.rules.specs.Layout.{table}
 use Rattle.prune.specs.Labels.{passed-labels}
 use Rattle.prune.specs.CallLaws.{prune-decided}
 use Rattle.prune.proofs.prune.Statement.{statement}
@@ -51,7 +51,7 @@ returns c =
     let p = q .before .before in
     let a = begun p .args in
     ap₂ (λ (x : Answer) (w : World). leaving (answerGiven x) w) (c .answer .ensures) (q .pruned .ensures (a .ids .now) (a .locations .now))
-    ∙ prune-decided (world (a .settings) (a .state) (a .claims) (a .heap .now) (a .ids .now) (a .locations .now)) (p .refused-apart .result) (one p)
+    ∙ prune-decided (world (a .settings) (a .state) (a .claims) (a .heap .now) (table (a .ids .now) (a .locations .now))) (p .refused-apart .result) (one p)
 
 pub prune-spec : {M : Type 1} → statement M
 prune-spec =

@@ -4,6 +4,7 @@ use Rattle.rules.specs.declared.ReadAnswer.{ReadAnswer}
 use Rattle.rules.specs.Claims.{noClaims}
 use Rattle.rules.specs.World.{world}
 use Rattle.rules.specs.Read.{partOf}
+use Rattle.rules.specs.Layout.{table}
 use Rattle.readpath.specs.Reads.{placeOf}
 use Rattle.readpath.specs.ReadLaws.{read-named}
 use Rattle.readpath.proofs.read.Statement.{statement}
@@ -15,7 +16,7 @@ read-answer-requires c κs = search needs
 part-requires : tie.Need-part-requires
 part-requires c κs =
     let a = c .before .before .before .before .args in
-    let w = world (a .settings) (a .state) noClaims (a .heap .now) (a .ids .now) (a .locations .now) in
+    let w = world (a .settings) (a .state) noClaims (a .heap .now) (table (a .ids .now) (a .locations .now)) in
     rw (c .read-answer .ensures noClaims) (read-named w (a .id))
 
 returns : tie.Need-returns

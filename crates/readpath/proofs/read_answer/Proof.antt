@@ -18,7 +18,7 @@ use Rattle.rules.specs.Object.{storedAt}
 use Rattle.rules.specs.Read.{objectIn, readFile, readHeld, readOf}
 use Rattle.rules.specs.SlotFile.{slotBytes, fileIn}
 use Rattle.rules.specs.World.{World, world, recordsOf}
-use Rattle.location_table.specs.Tables.{table}
+use Rattle.rules.specs.Layout.{table}
 use Rattle.file_map.specs.Lists.{lsnAt}
 use Rattle.file_map.specs.ListLaws.{file-for-lsns}
 use Rattle.limits.specs.Settled.{passed-formed}
@@ -48,7 +48,7 @@ through z =
 abbrev given : tie.After-refused-apart → Claims → World
 given p claims =
     let a = begun p .args in
-    world (a .settings) (a .state) claims (a .heap .now) (a .ids .now) (a .locations .now)
+    world (a .settings) (a .state) claims (a .heap .now) (table (a .ids .now) (a .locations .now))
 
 abbrev sought : tie.After-location → tie.After-refused-apart
 sought x = x .before .before .before .before

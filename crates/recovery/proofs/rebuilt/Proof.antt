@@ -4,7 +4,7 @@ use Prim.Native.Nat.{ℕ, _^_, _<_}
 use borrow.Author.Tests.{not-true, not-false}
 use Rattle.rules.specs.SlotFile.{viewsIn}
 use Rattle.rules.specs.Reopen.{filesIn, tableOf}
-use Rattle.location_table.specs.Tables.{table}
+use Rattle.rules.specs.Layout.{table}
 use Rattle.reopen_tests.specs.Shown.{sound-views}
 use Rattle.rebuild.specs.Records.{counted, nextFrom, records-counted, next-labels, next-low}
 use Rattle.recovery.specs.Types.{Entry, TableRoom}

@@ -5,7 +5,7 @@ use Rattle.rules.specs.Reopen.{viewTests}
 use Rattle.rules.specs.Settings.{slotsIn}
 use Rattle.rules.specs.SettingsLaws.{heap-whole}
 use Rattle.rules.specs.SlotFile.{viewsIn}
-use Rattle.location_table.specs.Tables.{table}
+use Rattle.rules.specs.Layout.{table}
 use Rattle.reopen_tests.specs.Labels.{surveyed}
 use Rattle.reopen_tests.specs.Tests.{told-refused, told-clear, told-labels, slots-refuse}
 use Rattle.recovery.specs.Reopening.{bare}

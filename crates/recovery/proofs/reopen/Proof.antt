@@ -1,6 +1,6 @@
 use mathlib.Core.Path.{sym, _∙_}
 use Rattle.rules.specs.Condition1Laws.{in-limits}
-use Rattle.location_table.specs.Tables.{table}
+use Rattle.rules.specs.Layout.{table}
 use Rattle.recovery.specs.Steps.{at-limits, past-limits}
 use borrow.Author.Needs.{needs}
 use lib.ListN.{length}

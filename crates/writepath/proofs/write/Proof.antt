@@ -2,6 +2,7 @@ use mathlib.Core.Path.{sym, _∙_}
 use borrow.Author.Needs.{needs}
 use Rattle.rules.specs.Claims.{noClaims}
 use Rattle.rules.specs.World.{world}
+use Rattle.rules.specs.Layout.{table}
 use Rattle.writepath.specs.Filing.{call-refused, call-kept, call-written, plan-filed}
 use Rattle.writepath.proofs.write.Statement.{statement}
 use Rattle.writepath.proofs.write.Tie as tie
@@ -23,7 +24,7 @@ add-file-requires c κs =
     let o = c .before .before .before .before in
     let d = o .before .before in
     let a = d .before .before .before .before .before .before .before .before .args in
-    plan-filed (world (a .settings) (a .state) noClaims (a .heap .now) (a .ids .now) (a .locations .now)) (a .batch .now) _ _ _ (sym (d .decided .ensures noClaims) ∙ o .slot .given .1)
+    plan-filed (world (a .settings) (a .state) noClaims (a .heap .now) (table (a .ids .now) (a .locations .now))) (a .batch .now) _ _ _ (sym (d .decided .ensures noClaims) ∙ o .slot .given .1)
 
 same-length : tie.Need-same-length
 same-length c = search needs
@@ -39,7 +40,7 @@ returns c =
     let r = c .before in
     let d = r .before .before in
     let a = d .before .before .before .before .before .before .before .before .args in
-    λ w. call-refused (world (a .settings) (a .state) w (a .heap .now) (a .ids .now) (a .locations .now)) (a .batch .now) _ (sym (d .decided .ensures w) ∙ r .r .given .1)
+    λ w. call-refused (world (a .settings) (a .state) w (a .heap .now) (table (a .ids .now) (a .locations .now))) (a .batch .now) _ (sym (d .decided .ensures w) ∙ r .r .given .1)
 
 same-length-4 : tie.Need-same-length-4
 same-length-4 c = search needs
@@ -54,7 +55,7 @@ returns-2 : tie.Need-returns-2
 returns-2 c =
     let d = c .before .before in
     let a = d .before .before .before .before .before .before .before .before .args in
-    λ w. call-kept (world (a .settings) (a .state) w (a .heap .now) (a .ids .now) (a .locations .now)) (a .batch .now) (sym (d .decided .ensures w) ∙ c .enum-told .given .1)
+    λ w. call-kept (world (a .settings) (a .state) w (a .heap .now) (table (a .ids .now) (a .locations .now))) (a .batch .now) (sym (d .decided .ensures w) ∙ c .enum-told .given .1)
 
 same-length-7 : tie.Need-same-length-7
 same-length-7 c = search needs
@@ -71,7 +72,7 @@ returns-3 c =
     let o = q .before .before .before .before .before in
     let d = o .before .before in
     let a = d .before .before .before .before .before .before .before .before .args in
-    λ w. call-written (world (a .settings) (a .state) w (a .heap .now) (a .ids .now) (a .locations .now)) (a .batch .now) _ _ _ (sym (d .decided .ensures w) ∙ o .slot .given .1) _ (q .add-file .ensures w)
+    λ w. call-written (world (a .settings) (a .state) w (a .heap .now) (table (a .ids .now) (a .locations .now))) (a .batch .now) _ _ _ (sym (d .decided .ensures w) ∙ o .slot .given .1) _ (q .add-file .ensures w)
 
 pub write-spec : {M : Type 1} → statement M
 write-spec =

@@ -15,17 +15,11 @@ least-requires c κs = search needs
 loop-holds : tie.Need-loop-holds Inv-loop μ-loop
 loop-holds c = search needs
 
-mul-entry-line : tie.Need-mul-entry-line Inv-loop μ-loop
-mul-entry-line c = search needs
+id-at-requires : tie.Need-id-at-requires Inv-loop μ-loop
+id-at-requires c κs = search needs
 
-shared-slice-read-entry-line : tie.Need-shared-slice-read-entry-line Inv-loop μ-loop
-shared-slice-read-entry-line c = search needs
-
-mul-entry-line-2 : tie.Need-mul-entry-line-2 Inv-loop μ-loop
-mul-entry-line-2 c = search needs
-
-shared-slice-read-entry-line-2 : tie.Need-shared-slice-read-entry-line-2 Inv-loop μ-loop
-shared-slice-read-entry-line-2 c = search needs
+location-at-requires : tie.Need-location-at-requires Inv-loop μ-loop
+location-at-requires c κs = search needs
 
 entry-line-requires : tie.Need-entry-line-requires Inv-loop μ-loop
 entry-line-requires c κs = search needs
@@ -50,10 +44,8 @@ entry-lines-spec =
     μ-loop
     least-requires
     loop-holds
-    mul-entry-line
-    shared-slice-read-entry-line
-    mul-entry-line-2
-    shared-slice-read-entry-line-2
+    id-at-requires
+    location-at-requires
     entry-line-requires
     add-k
     loop-less

@@ -3,7 +3,7 @@ use lib.ListN.{drop, length}
 use Rattle.rules.specs.Layout.{usedIn}
 use Rattle.bench.proofs.Entries.{locations-end, ids-end, unused, used-more}
 use Prim.Native.Nat.{_+_, _≤_, _-_}
-use mathlib.Core.Path.{_≡_}
+use mathlib.Core.Path.{_≡_, sym, _∙_}
 use native.Mathlib.Omega.{arith}
 use borrow.Author.Needs.{needs}
 use Rattle.bench.proofs.show.used.Statement.{statement}
@@ -21,21 +21,18 @@ loop-holds c = (zero-add _, omega arith)
 returns : tie.Need-returns Inv-loop μ-loop
 returns c =
     let l = c .before .before in
-    let a = l .before .args in
+    let a = l .before .before .before .args in
     let over = locations-end (a .ids .now) (a .locations .now) (l .loop .k) (c .if1 .taken) in
     omega (arith, l .loop .inv .0)
 
-mul-if2 : tie.Need-mul-if2 Inv-loop μ-loop
-mul-if2 c = search needs
-
-shared-slice-read-if2 : tie.Need-shared-slice-read-if2 Inv-loop μ-loop
-shared-slice-read-if2 c = search needs
+location-at-requires : tie.Need-location-at-requires Inv-loop μ-loop
+location-at-requires c κs = search needs
 
 returns-2 : tie.Need-returns-2 Inv-loop μ-loop
 returns-2 c =
     let l = c .before .before .before .before in
-    let a = l .before .args in
-    let over = unused (a .ids .now) (a .locations .now) (l .loop .k) (omega arith) (omega arith) (c .if2 .taken) in
+    let a = l .before .before .before .args in
+    let over = unused (a .ids .now) (a .locations .now) (l .loop .k) (omega arith) (omega arith) (sym (c .before .location-at .ensures) ∙ c .if2 .taken) in
     omega (arith, l .loop .inv .0)
 
 add-k : tie.Need-add-k Inv-loop μ-loop
@@ -47,14 +44,14 @@ loop-less c = search needs
 loop-again : tie.Need-loop-again Inv-loop μ-loop
 loop-again c =
     let l = c .before .before .before .before in
-    let a = l .before .args in
-    let more = used-more (a .ids .now) (a .locations .now) (l .loop .k) (omega arith) (omega arith) (c .if2 .left) in
+    let a = l .before .before .before .args in
+    let more = used-more (a .ids .now) (a .locations .now) (l .loop .k) (omega arith) (omega arith) (λ z. c .if2 .left (c .before .location-at .ensures ∙ z)) in
     (omega (arith, l .loop .inv .0), omega arith)
 
 returns-3 : tie.Need-returns-3 Inv-loop μ-loop
 returns-3 c =
     let l = c .before in
-    let a = l .before .args in
+    let a = l .before .before .before .args in
     let over = ids-end (a .ids .now) (a .locations .now) (l .loop .k) (omega arith) in
     omega (arith, l .loop .inv .0)
 
@@ -66,8 +63,7 @@ used-spec =
     μ-loop
     loop-holds
     returns
-    mul-if2
-    shared-slice-read-if2
+    location-at-requires
     returns-2
     add-k
     loop-less

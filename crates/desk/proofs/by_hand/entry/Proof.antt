@@ -1,7 +1,9 @@
-use mathlib.Core.Path.{refl}
+use mathlib.Core.Path.{refl, ap}
 use native.Mathlib.Omega.{arith}
 use borrow.Author.Tests.{le-leb, lt-leb}
 use lib.ListN.{length}
+use Rattle.rules.specs.Layout.{Buffers}
+use Rattle.desk.specs.Desk.{desk, changed}
 use borrow.Author.Needs.{needs}
 use Rattle.desk.proofs.by_hand.entry.Statement.{statement}
 use Rattle.desk.proofs.by_hand.entry.Tie as tie
@@ -22,17 +24,8 @@ returns-2 c =
     let a = c .before .before .before .before .before .args in
     λ heap. rw (c .bad-line2 .ensures, lt-leb (length (a .ids .now)) (a .k) (omega arith), le-leb (length (a .locations .now)) (a .k) (omega arith)) refl
 
-mul-ids : tie.Need-mul-ids
-mul-ids c = search needs
-
-slice-write-ids : tie.Need-slice-write-ids
-slice-write-ids c = search needs
-
-mul-locations : tie.Need-mul-locations
-mul-locations c = search needs
-
-slice-write-locations : tie.Need-slice-write-locations
-slice-write-locations c = search needs
+set-pair-requires : tie.Need-set-pair-requires
+set-pair-requires c κs = search needs
 
 done-requires : tie.Need-done-requires
 done-requires c κs = search needs
@@ -45,8 +38,11 @@ same-length-2 c = search needs
 
 returns-3 : tie.Need-returns-3
 returns-3 c =
-    let a = c .before .before .before .before .before .args in
-    λ heap. rw (c .done .ensures, lt-leb (length (a .ids .now)) (a .k) (omega arith), lt-leb (length (a .locations .now)) (a .k) (omega arith)) refl
+    let w = c .before .before .before .before .before in
+    let a = w .before .before .before .before .before .before .before .args in
+    λ heap.
+    rw (c .done .ensures, lt-leb (length (a .ids .now)) (a .k) (omega arith), lt-leb (length (a .locations .now)) (a .k) (omega arith))
+    (ap (λ (t : Buffers). changed (desk (a .b) heap (t .ids) (t .locations))) (w .set-pair .ensures))
 
 pub entry-spec : {M : Type 1} → statement M
-entry-spec = tie.close (tie.spec bad-line-requires returns bad-line-requires-2 returns-2 mul-ids slice-write-ids mul-locations slice-write-locations done-requires same-length same-length-2 returns-3)
+entry-spec = tie.close (tie.spec bad-line-requires returns bad-line-requires-2 returns-2 set-pair-requires done-requires same-length same-length-2 returns-3)

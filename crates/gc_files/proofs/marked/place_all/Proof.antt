@@ -12,18 +12,24 @@ use Rattle.gc_files.proofs.marked.place_all.Statement.{statement}
 use Rattle.gc_files.proofs.marked.place_all.Tie as tie
 
 abbrev Inv-loop : tie.InvT-loop
-Inv-loop locations marks lsns slot-bytes places₀ i₀ places i =
+Inv-loop locations marks lsns slot-bytes places₀ n i₀ places i =
     (i ≤ length locations)
     × (putAt places i (placesFor slot-bytes lsns (drop i locations) (drop i marks)) ≡ front (placesFor slot-bytes lsns locations marks) places₀)
     × (length places ≡ length places₀)
 
 abbrev μ-loop : tie.MeasureT-loop
-μ-loop locations marks lsns slot-bytes places₀ i₀ places i = length locations - i
+μ-loop locations marks lsns slot-bytes places₀ n i₀ places i = length locations - i
+
+capacity-requires : tie.Need-capacity-requires Inv-loop μ-loop
+capacity-requires c κs = search needs
 
 loop-holds : tie.Need-loop-holds Inv-loop μ-loop
 loop-holds c =
-    let start = c .before .before .before .before in
+    let start = c .before .before .before .before .before in
     (omega arith, put-front (start .args .places .now) (placesFor (start .args .slot-bytes) (start .args .lsns .now) (start .args .locations .now) (start .args .marks .now)), refl)
+
+location-at-requires : tie.Need-location-at-requires Inv-loop μ-loop
+location-at-requires c κs = omega (arith, c .before .before .capacity .ensures)
 
 mul-place-of : tie.Need-mul-place-of Inv-loop μ-loop
 mul-place-of c = search needs
@@ -31,20 +37,15 @@ mul-place-of c = search needs
 shared-slice-read-place-of : tie.Need-shared-slice-read-place-of Inv-loop μ-loop
 shared-slice-read-place-of c = search needs
 
-mul-place-of-2 : tie.Need-mul-place-of-2 Inv-loop μ-loop
-mul-place-of-2 c = search needs
-
-shared-slice-read-place-of-2 : tie.Need-shared-slice-read-place-of-2 Inv-loop μ-loop
-shared-slice-read-place-of-2 c = search needs
-
 place-of-requires : tie.Need-place-of-requires Inv-loop μ-loop
 place-of-requires c κs =
     let at = c .before .before .before in
-    let start = at .before .before .before .before .before in
+    let start = at .before .before .before .before .before .before in
+    let entries = at .before .capacity .ensures in
     let asked = start .pre .1 in
     let i = at .loop .i in
     let size = at .loop .inv .2 in
-    (start .pre .0, asked .each i (omega arith))
+    (start .pre .0, rw (c .before .location-at .ensures) (asked .each i (omega arith)))
 
 mul-places : tie.Need-mul-places Inv-loop μ-loop
 mul-places c = search needs
@@ -52,7 +53,8 @@ mul-places c = search needs
 slice-write-places : tie.Need-slice-write-places Inv-loop μ-loop
 slice-write-places c =
     let at = c .before .before .before .before in
-    let start = at .before .before .before .before .before in
+    let start = at .before .before .before .before .before .before in
+    let entries = at .before .capacity .ensures in
     let asked = start .pre .1 in
     let i = at .loop .i in
     let size = at .loop .inv .2 in
@@ -67,7 +69,8 @@ loop-less c = search needs
 loop-again : tie.Need-loop-again Inv-loop μ-loop
 loop-again c =
     let at = c .before .before .before .before in
-    let start = at .before .before .before .before .before in
+    let start = at .before .before .before .before .before .before in
+    let entries = at .before .capacity .ensures in
     let asked = start .pre .1 in
     let i = at .loop .i in
     let size = at .loop .inv .2 in
@@ -75,7 +78,7 @@ loop-again c =
     let room : i < length (at .loop .places) = omega (arith, asked .room) in
     let next = places-next (start .args .slot-bytes) (start .args .lsns .now) (start .args .locations .now) (start .args .marks .now) i low (omega (arith, asked .marks)) in (
       omega arith,
-      rw (c .place-of .ensures) (put-step (at .loop .places) i _ _ room ∙ ap (putAt (at .loop .places) i) (sym next) ∙ at .loop .inv .1),
+      rw (c .place-of .ensures, c .before .before .location-at .ensures) (put-step (at .loop .places) i _ _ room ∙ ap (putAt (at .loop .places) i) (sym next) ∙ at .loop .inv .1),
       length-set (at .loop .places) i _ ∙ at .loop .inv .2,
     )
 
@@ -85,7 +88,8 @@ same-length c = c .before .loop .inv .2
 returns : tie.Need-returns Inv-loop μ-loop
 returns c =
     let at = c .before in
-    let start = at .before .before .before .before .before in
+    let start = at .before .before .before .before .before .before in
+    let entries = at .before .capacity .ensures in
     let asked = start .pre .1 in
     let i = at .loop .i in
     let size = at .loop .inv .2 in
@@ -98,11 +102,11 @@ place-all-spec =
     (tie.spec
     Inv-loop
     μ-loop
+    capacity-requires
     loop-holds
+    location-at-requires
     mul-place-of
     shared-slice-read-place-of
-    mul-place-of-2
-    shared-slice-read-place-of-2
     place-of-requires
     mul-places
     slice-write-places

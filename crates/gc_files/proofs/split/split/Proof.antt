@@ -9,16 +9,22 @@ use Rattle.gc_files.proofs.split.split.Statement.{statement}
 use Rattle.gc_files.proofs.split.split.Tie as tie
 
 abbrev Inv-loop : tie.InvT-loop
-Inv-loop heap ids places sizes₀ counts₀ rounds₀ cuts₀ pieces₀ target slot-bytes t₀ i₀ sizes counts rounds cuts pieces t i =
+Inv-loop heap ids places sizes₀ counts₀ rounds₀ cuts₀ pieces₀ target slot-bytes t₀ n i₀ sizes counts rounds cuts pieces t i =
     Along target slot-bytes heap ids places pieces₀ (tally sizes₀ counts₀ rounds₀ cuts₀ t₀) (tally sizes counts rounds cuts t) pieces i
 
 abbrev μ-loop : tie.MeasureT-loop
-μ-loop heap ids places sizes₀ counts₀ rounds₀ cuts₀ pieces₀ target slot-bytes t₀ i₀ sizes counts rounds cuts pieces t i = length ids - i
+μ-loop heap ids places sizes₀ counts₀ rounds₀ cuts₀ pieces₀ target slot-bytes t₀ n i₀ sizes counts rounds cuts pieces t i = length ids - i
+
+capacity-requires : tie.Need-capacity-requires Inv-loop μ-loop
+capacity-requires c κs = search needs
 
 loop-holds : tie.Need-loop-holds Inv-loop μ-loop
 loop-holds c =
-    let start = c .before .before .before .before .before .before .before .before in
+    let start = c .before .before .before .before .before .before .before .before .before in
     along-start (start .args .target) (start .args .slot-bytes) (start .args .heap .now) (start .args .ids .now) (start .args .places .now) (start .args .pieces .now) _ (start .pre .1)
+
+id-at-requires : tie.Need-id-at-requires Inv-loop μ-loop
+id-at-requires c κs = search needs
 
 mul-split-entry : tie.Need-mul-split-entry Inv-loop μ-loop
 mul-split-entry c = search needs
@@ -26,16 +32,11 @@ mul-split-entry c = search needs
 shared-slice-read-split-entry : tie.Need-shared-slice-read-split-entry Inv-loop μ-loop
 shared-slice-read-split-entry c = search needs
 
-mul-split-entry-2 : tie.Need-mul-split-entry-2 Inv-loop μ-loop
-mul-split-entry-2 c = search needs
-
-shared-slice-read-split-entry-2 : tie.Need-shared-slice-read-split-entry-2 Inv-loop μ-loop
-shared-slice-read-split-entry-2 c = search needs
-
 split-entry-requires : tie.Need-split-entry-requires Inv-loop μ-loop
 split-entry-requires c κs =
     let at = c .before .before .before .before .before .before .before .before in
-    let start = at .before .before .before .before .before .before .before .before .before in
+    let start = at .before .before .before .before .before .before .before .before .before .before in
+    let entries = at .before .capacity .ensures in
     let along = at .loop .inv in
     let asked = start .pre .0 in
     let low : at .loop .i < length (start .args .ids .now) = omega arith in
@@ -49,7 +50,8 @@ add-i c = search needs
 loop-less : tie.Need-loop-less Inv-loop μ-loop
 loop-less c =
     let at = c .before .before .before .before .before .before .before .before .before .before .before .before .before .before .before .before .before .before .before in
-    let start = at .before .before .before .before .before .before .before .before .before in
+    let start = at .before .before .before .before .before .before .before .before .before .before in
+    let entries = at .before .capacity .ensures in
     let along = at .loop .inv in
     let asked = start .pre .0 in
     omega (arith, along .low, c .before .before .before .before .before .before .before .before .before .before .before .before .before .before .before .before .before .before .loop-test .taken)
@@ -57,20 +59,22 @@ loop-less c =
 loop-again : tie.Need-loop-again Inv-loop μ-loop
 loop-again c =
     let at = c .before .before .before .before .before .before .before .before .before .before .before .before .before .before .before .before .before .before .before in
-    let start = at .before .before .before .before .before .before .before .before .before in
+    let start = at .before .before .before .before .before .before .before .before .before .before in
+    let entries = at .before .capacity .ensures in
     let along = at .loop .inv in
     let asked = start .pre .0 in
     let done = c .before .before .before .before .before .before .before .before .before .before .split-entry .ensures in
     let i = at .loop .i in
-    let low : i < length (start .args .ids .now) = c .before .before .before .before .before .before .before .before .before .before .before .before .before .before .before .before .before .before .loop-test .taken in
+    let low : i < length (start .args .ids .now) = omega (arith, c .before .before .before .before .before .before .before .before .before .before .before .before .before .before .before .before .before .before .loop-test .taken) in
     let room : i < length (at .loop .pieces) = omega (arith, asked .pieces, along .long) in
     along-turn (start .args .target) (start .args .slot-bytes) (start .args .heap .now) (start .args .ids .now) (start .args .places .now) (start .args .pieces .now) _ _ _ (at .loop .pieces) _ i
-    low (omega (arith, asked .places)) room (asked .standing i) (omega (arith, along .entries, asked .room)) along (done .0) (done .1)
+    low (omega (arith, asked .places)) room (asked .standing i) (omega (arith, along .entries, asked .room)) along (rw (c .before .before .before .before .before .before .before .before .before .before .before .before .before .before .before .before .before .id-at .ensures) at (done .0)) (rw (c .before .before .before .before .before .before .before .before .before .before .before .before .before .before .before .before .before .id-at .ensures) at (done .1))
 
 same-length : tie.Need-same-length Inv-loop μ-loop
 same-length c =
     let at = c .before in
-    let start = at .before .before .before .before .before .before .before .before .before in
+    let start = at .before .before .before .before .before .before .before .before .before .before in
+    let entries = at .before .capacity .ensures in
     let along = at .loop .inv in
     let asked = start .pre .0 in
     along .within .sizeShards ∙ sym (start .pre .1 .sizeShards)
@@ -78,7 +82,8 @@ same-length c =
 same-length-2 : tie.Need-same-length-2 Inv-loop μ-loop
 same-length-2 c =
     let at = c .before in
-    let start = at .before .before .before .before .before .before .before .before .before in
+    let start = at .before .before .before .before .before .before .before .before .before .before in
+    let entries = at .before .capacity .ensures in
     let along = at .loop .inv in
     let asked = start .pre .0 in
     along .within .countShards ∙ sym (start .pre .1 .countShards)
@@ -86,7 +91,8 @@ same-length-2 c =
 same-length-3 : tie.Need-same-length-3 Inv-loop μ-loop
 same-length-3 c =
     let at = c .before in
-    let start = at .before .before .before .before .before .before .before .before .before in
+    let start = at .before .before .before .before .before .before .before .before .before .before in
+    let entries = at .before .capacity .ensures in
     let along = at .loop .inv in
     let asked = start .pre .0 in
     along .within .roundShards ∙ sym (start .pre .1 .roundShards)
@@ -94,7 +100,8 @@ same-length-3 c =
 same-length-4 : tie.Need-same-length-4 Inv-loop μ-loop
 same-length-4 c =
     let at = c .before in
-    let start = at .before .before .before .before .before .before .before .before .before in
+    let start = at .before .before .before .before .before .before .before .before .before .before in
+    let entries = at .before .capacity .ensures in
     let along = at .loop .inv in
     let asked = start .pre .0 in
     along .cuts
@@ -102,7 +109,8 @@ same-length-4 c =
 same-length-5 : tie.Need-same-length-5 Inv-loop μ-loop
 same-length-5 c =
     let at = c .before in
-    let start = at .before .before .before .before .before .before .before .before .before in
+    let start = at .before .before .before .before .before .before .before .before .before .before in
+    let entries = at .before .capacity .ensures in
     let along = at .loop .inv in
     let asked = start .pre .0 in
     along .long
@@ -110,7 +118,8 @@ same-length-5 c =
 returns : tie.Need-returns Inv-loop μ-loop
 returns c =
     let at = c .before in
-    let start = at .before .before .before .before .before .before .before .before .before in
+    let start = at .before .before .before .before .before .before .before .before .before .before in
+    let entries = at .before .capacity .ensures in
     let along = at .loop .inv in
     let asked = start .pre .0 in
     let past : length (start .args .ids .now) ≤ at .loop .i = omega arith in
@@ -122,11 +131,11 @@ split-spec =
     (tie.spec
     Inv-loop
     μ-loop
+    capacity-requires
     loop-holds
+    id-at-requires
     mul-split-entry
     shared-slice-read-split-entry
-    mul-split-entry-2
-    shared-slice-read-split-entry-2
     split-entry-requires
     add-i
     loop-less

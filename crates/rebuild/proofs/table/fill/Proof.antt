@@ -9,7 +9,7 @@ use Rattle.rules.specs.SlotFile.{View, viewIn, viewsIn}
 use Rattle.rules.specs.SlotLaws.{slots-apart, views-length, views-at}
 use Rattle.rules.specs.Reopen.{fileOf, filesIn}
 use Rattle.rules.specs.BaseLaws.{all-take}
-use Rattle.location_table.specs.Tables.{table}
+use Rattle.rules.specs.Layout.{table}
 use Rattle.reopen_tests.specs.Shown.{Sound, shown-at, sound-views}
 use Rattle.rebuild.specs.Filled.{rowsOf, Filled, filled-none, filled-formed}
 use Rattle.rebuild.proofs.FillTurns.{rowsIn, filled-as, chunk-in, chunk-out, slot-in, slot-out, slot-end, views-in-use}

@@ -13,7 +13,7 @@ use lib.ListN.{take, length}
 use Rattle.rules.specs.Trailer.{absolute, countIn, entriesIn}
 use Rattle.rules.specs.Table.{noEntry}
 use Rattle.rules.specs.BaseLaws.{all-at, all-take}
-use Rattle.location_table.specs.Tables.{table}
+use Rattle.rules.specs.Layout.{table}
 use native.Mathlib.Omega.{arith}
 use borrow.Author.Needs.{needs}
 use Rattle.rebuild.proofs.table.fill_file.Statement.{statement}

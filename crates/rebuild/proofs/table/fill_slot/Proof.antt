@@ -2,7 +2,7 @@ use mathlib.Core.Path.{sym, ap, _∙_}
 use mathlib.Core.List.{List, map}
 use Rattle.rules.specs.Base.{each}
 use Rattle.rules.specs.Trailer.{absolute, entriesIn}
-use Rattle.location_table.specs.Tables.{table}
+use Rattle.rules.specs.Layout.{table}
 use Rattle.reopen_tests.specs.Shown.{shown-empty, shown-file}
 use Rattle.rebuild.specs.Filled.{filled-none}
 use Rattle.rebuild.proofs.FillTurns.{filled-as, file-placed, slot-rows}

@@ -1,8 +1,7 @@
 use mathlib.Core.Path.{sym, ap, _∙_}
 use borrow.Author.Tests.{not-true, not-false}
 use Rattle.rules.specs.declared.Held.{Held}
-use Rattle.rules.specs.Layout.{Buffers, cleared}
-use Rattle.location_table.specs.Tables.{table}
+use Rattle.rules.specs.Layout.{Buffers, table, cleared}
 use Rattle.location_table.specs.StoreLaws.{room-tells, no-room-tells}
 use Rattle.rebuild.specs.Filled.{replaces, filled-kept, filled-stored, filled-full}
 use borrow.Author.Needs.{needs}

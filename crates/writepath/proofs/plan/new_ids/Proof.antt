@@ -4,10 +4,9 @@ use Prim.Native.Nat.{_+_, _≤_}
 use native.Mathlib.Omega.{arith}
 use borrow.Author.Needs.{needs}
 use lib.ListN.{length}
-use Rattle.rules.specs.Layout.{usedEntries}
+use Rattle.rules.specs.Layout.{table, usedEntries}
 use Rattle.rules.specs.Table.{lookup}
 use Rattle.rules.specs.Ops.{Op, settled}
-use Rattle.location_table.specs.Tables.{table}
 use Rattle.batch.specs.Reading.{opsIn}
 use Rattle.batch.specs.ReadingLaws.{ops-length}
 use Rattle.batch.specs.OrderLaws.{settled-length}

@@ -11,7 +11,7 @@ use Rattle.rules.specs.Install.{newSlot}
 use Rattle.rules.specs.Ops.{Op, settled}
 use Rattle.rules.specs.OpsLaws.{file-length}
 use Rattle.rules.specs.World.{World, world, slotsOf}
-use Rattle.location_table.specs.Tables.{table}
+use Rattle.rules.specs.Layout.{table}
 use Rattle.limits.specs.Settled.{stateOf, passed-formed}
 use Rattle.batch.specs.Reading.{opsIn}
 use Rattle.batch.specs.Sizes.{sizesOf}
@@ -42,7 +42,7 @@ abbrev given : tie.After-sizes → State
 given z = let a = begun z .args in stateOf (a .rest) (a .files)
 
 abbrev seen : tie.After-sizes → Claims → World
-seen z claims = let a = begun z .args in world (a .settings) (given z) claims (a .heap .now) (a .ids .now) (a .locations .now)
+seen z claims = let a = begun z .args in world (a .settings) (given z) claims (a .heap .now) (table (a .ids .now) (a .locations .now))
 
 abbrev ops : tie.After-sizes → List Op
 ops z = settled (opsIn (begun z .args .batch .now))
