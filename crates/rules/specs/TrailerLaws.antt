@@ -4,18 +4,19 @@ use mathlib.Core.List.{append-assoc, append-nil}
 use mathlib.Core.Logic.{inl, inr}
 use Prim.Native.Nat.{_≤_, _<_}
 use native.Mathlib.Omega.{arith}
-use borrow.Author.Tests.{eq-eqb, le-ltb}
+use borrow.Author.Tests.{eq-eqb, le-ltb, ltb-false}
 use lib.ListN.{length-append}
 use lib.Seq.{take-at, drop-at, drop-drop}
-use Rattle.rules.specs.Base.{not, List, [], _∷_, _++_, ℕ, suc, _+_, _*_, _^_, length, take, drop, eqb, each}
+use Rattle.rules.specs.Base.{false, not, List, [], _∷_, _++_, ℕ, suc, _+_, _*_, _^_, length, take, drop, eqb, each}
 use Rattle.rules.specs.Types.{Entry}
 use Rattle.numbers.specs.LittleEndian.{leBytes, leValue, le-length, le-round}
 use Rattle.checksum.specs.Checksum.{crc32}
+use Rattle.disk_location.specs.Locations.{positionOf}
 use Rattle.rules.specs.Refusal.{NoneHolds}
 use Rattle.rules.specs.PartLaws.{field}
 use Rattle.rules.specs.ObjectLaws.{crc-below}
 use Rattle.rules.specs.TableLaws.{Has, entry-ext}
-use Rattle.rules.specs.Trailer.{entryBytes, listed, trailerBytes, countIn, trailerTests, entriesFrom, entriesIn}
+use Rattle.rules.specs.Trailer.{entryBytes, listed, trailerBytes, countIn, trailerTests, entriesFrom, entriesIn, misplaced}
 
 -- ids and locations of 64 bits
 abbrev pub Fits : List Entry → Type 0
@@ -113,3 +114,15 @@ trailer-clear es some n =
 pub trailer-back : (es : List Entry) → length es < 2 ^ 64 → Fits es → entriesIn (trailerBytes es) ≡ es
 unfolding entriesIn
 trailer-back es n f = rw (count-back es n, listed-back es) (rw append-nil at (entries-back es [] f))
+
+-- ---- 12
+module _ (offset : ℕ) (e : Entry) where
+  -- where 12 does not hold of an entry, it stands within
+  pub placed : misplaced offset e ≡ false → positionOf (e .location) ≤ offset
+  unfolding misplaced
+  placed h = ltb-false offset (positionOf (e .location)) h
+
+  -- and the other way round
+  pub may-stand : positionOf (e .location) ≤ offset → misplaced offset e ≡ false
+  unfolding misplaced
+  may-stand h = le-ltb offset (positionOf (e .location)) h

@@ -8,7 +8,7 @@ use native.Mathlib.Nat.{sub-zero}
 use borrow.Author.Tests.{le-ltb, eq-eqb}
 use lib.ListN.{length-append, take-append-drop}
 use lib.Seq.{take-at, drop-at, take-append-seam, drop-append-seam, drop-append-le}
-use Rattle.rules.specs.Base.{false, not, List, [], _∷_, _++_, ℕ, _+_, _-_, _*_, _^_, length, set, take, drop, ltb, any}
+use Rattle.rules.specs.Base.{false, not, List, [], _∷_, _++_, ℕ, _+_, _-_, _*_, _^_, length, set, take, drop, any}
 use Rattle.rules.specs.Types.{Entry}
 use Rattle.numbers.specs.Parts.{front, putAt, front-length}
 use Rattle.disk_location.specs.Locations.{positionOf}
@@ -16,8 +16,8 @@ use Rattle.rules.specs.Refusal.{NoneHolds, decide-clear, none-append}
 use Rattle.rules.specs.TableLaws.{Has}
 use Rattle.rules.specs.Object.{objectBytes, storedAt}
 use Rattle.rules.specs.ObjectLaws.{storedObject, stored-back, stored-good}
-use Rattle.rules.specs.Trailer.{trailerBytes, trailerTests, entriesIn}
-use Rattle.rules.specs.TrailerLaws.{trailer-clear, trailer-back}
+use Rattle.rules.specs.Trailer.{trailerBytes, trailerTests, entriesIn, misplaced}
+use Rattle.rules.specs.TrailerLaws.{trailer-clear, trailer-back, may-stand}
 use Rattle.rules.specs.Ops.{put, Op, objectsOf, entriesOf, fileBytes}
 use Rattle.rules.specs.OpsLaws.{IdsFit, file-length, entries-of-length, entries-of-fits, entries-of-inside, Stands, stands-bytes, stands-inside}
 use Rattle.rules.specs.Label.{labelBytes, outOfBounds}
@@ -46,12 +46,12 @@ abbrev pub fileOfOps : ℕ → ℕ → List Op → File
 fileOfOps lsn generation ops = record { label = newLabel lsn generation ops; entries = entriesOf 0 ops; objects = objectsOf ops }
 
 -- 12 does not hold where no entry is over T
-none-over : (offset : ℕ) (es : List Entry) → ((x l : ℕ) → Has es x l → positionOf l ≤ 0 + offset) → any (λ (e : Entry). ltb offset (positionOf (e .location))) es ≡ false
+none-over : (offset : ℕ) (es : List Entry) → ((x l : ℕ) → Has es x l → positionOf l ≤ 0 + offset) → any (misplaced offset) es ≡ false
 unfolding any
 none-over offset [] low = refl
 none-over offset (e ∷ es) low =
     let here = low (e .id) (e .location) (inl (refl, refl)) in
-    rw (le-ltb offset (positionOf (e .location)) (omega arith)) (none-over offset es (λ x l h. low x l (inr h)))
+    rw (may-stand offset e (omega arith)) (none-over offset es (λ x l h. low x l (inr h)))
 
 module _ (S lsn generation : ℕ) (ops : List Op) (w : Writable S lsn generation ops) where
   -- it fits: "64 + file_size" is not over S
