@@ -54,7 +54,7 @@ unfolding maskedOf
 file-placed slot l w = record {
   some = lsn-some (length slot) l (w .bounds);
   low = all-map (λ (e : Entry). misplaced (l .«trailer_offset») e ≡ false) (λ (e : Entry). positionOf (e .location) + l .lsn < 2 ^ 63) (trailerEntries l slot)
-      (λ e q. low (positionOf (e .location)) (placed _ e q)) (any-false _ (trailerEntries l slot) (w .positions));
+      (λ e q. low (positionOf (e .location)) (placed _ e q .inside)) (any-false _ (trailerEntries l slot) (w .positions));
 }
   where
     low : (p : ℕ) → p ≤ l .«trailer_offset» → p + l .lsn < 2 ^ 63

@@ -58,12 +58,17 @@ pub fn entry(trailer: &[u8], k: u64) -> Entry
     }
 }
 
-// "12 entry position over T", of one entry.
+// "12 entry position over T", of one entry: an object's header must end at or before T. A position is below 2^63, so no sum wraps.
 pub fn misplaced(e: Entry, offset: u64) -> bool
     ensures { λ r. ⌜ r ≡ misplaced offset e ⌝ }
 {
     let relative = RelativeDiskLocation(e.location);
-    offset < relative.position()
+    let position = relative.position();
+    let header_end = position + 20;
+    if relative.is_delete() {
+        return offset < position;
+    }
+    offset < header_end
 }
 
 // 12, of all.
