@@ -1,7 +1,6 @@
 -- What a slot that holds a file tells: the file is its label's and trailer's, within 8's to 13's bounds.
 use mathlib.Core.Path.{_≡_, refl, subst}
 use mathlib.Core.Logic.{inl, inr}
-use Prim.Native.Nat.{_≤_}
 use native.Mathlib.Omega.{arith}
 use borrow.Author.Tests.{eqb-true, not-false}
 use Rattle.rules.specs.Base.{false, not, List, [], _∷_, ℕ, length, take, eqb, any}

@@ -11,7 +11,6 @@ use lib.Seq.{take-at, drop-at, take-append-seam, drop-append-seam, drop-append-l
 use Rattle.rules.specs.Base.{false, not, List, [], _∷_, _++_, ℕ, _+_, _-_, _*_, _^_, length, set, take, drop, any}
 use Rattle.rules.specs.Types.{Entry}
 use Rattle.numbers.specs.Parts.{front, putAt, front-length}
-use Rattle.disk_location.specs.Locations.{positionOf}
 use Rattle.rules.specs.Refusal.{NoneHolds, decide-clear, none-append}
 use Rattle.rules.specs.TableLaws.{Has}
 use Rattle.rules.specs.Object.{objectBytes, storedAt}

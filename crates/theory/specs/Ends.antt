@@ -1,5 +1,5 @@
 -- On a store of the invariant each object ends at or before T, header and body: none runs into the trailer.
-use mathlib.Core.Path.{_≡_, ap, sym}
+use mathlib.Core.Path.{_≡_, ap}
 use Prim.Native.Nat.{_≤_}
 use native.Mathlib.Omega.{arith}
 use borrow.Author.Tests.{ltb-false}
@@ -7,7 +7,7 @@ use lib.ListN.{length-take, length-drop}
 use Rattle.rules.specs.Base.{false, List, ℕ, _+_, length, drop}
 use Rattle.disk_location.specs.Locations.{positionOf, deleteOf}
 use Rattle.rules.specs.Refusal.{NoneHolds}
-use Rattle.rules.specs.Object.{Stored, storedAt, objectsIn}
+use Rattle.rules.specs.Object.{storedAt, objectsIn}
 use Rattle.rules.specs.Read.{objectTests}
 use Rattle.rules.specs.SlotFile.{File, holds, slotBytes, fileIn}
 use Rattle.rules.specs.SeenLaws.{Seen}

@@ -1,6 +1,6 @@
 -- W: a file that a call adds stands in the lowest empty slot as it was meant, and nothing else of the heap changes.
 use mathlib.Core.Path.{_≡_}
-use Prim.Native.Nat.{_<_, _≤_}
+use Prim.Native.Nat.{_<_}
 use native.Mathlib.Omega.{arith}
 use Rattle.rules.specs.Base.{false, List, [], _∷_, ℕ, _*_, _^_, length, set, drop}
 use Rattle.numbers.specs.Parts.{putAt}
