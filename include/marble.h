@@ -129,7 +129,7 @@ extern "C" {
 #define MARBLE_E_TRAILER_SHORT 9         /* trailer under 20 bytes */
 #define MARBLE_E_CHECKSUM 10             /* checksum */
 #define MARBLE_E_ENTRY_COUNT 11          /* more entries than the trailer has room for */
-#define MARBLE_E_ENTRY_POSITION 12       /* entry position over trailer_offset */
+#define MARBLE_E_ENTRY_POSITION 12       /* entry position, or an object's position + 20, over trailer_offset */
 #define MARBLE_E_PRESENT_COUNT 13        /* present_objects is not the count */
 #define MARBLE_E_OVERLAP 14              /* overlapping files */
 #define MARBLE_E_NOT_RISING 15           /* repeated id not rising */

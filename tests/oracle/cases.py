@@ -143,12 +143,13 @@ def made(lsn, count, *entries):
 
 def trailers():
     for count, first, second in ((1, (7, 0), (9, 43)), (2, (7, 0), (9, 43)), (3, (7, 0), (9, 43)), (2, (7, 0), (9, 44)),
-                                 (2, (7, 0), (7, 42)), (2, (7, 42), (7, 0)), (2, (7, 10), (7, 11)), (2, (9, 0), (7, 2))):
+                                 (2, (7, 0), (7, 42)), (2, (7, 0), (9, 4)), (2, (7, 0), (9, 45)), (2, (7, 0), (7, 2)), (2, (7, 2), (7, 0)),
+                                 (2, (7, 2), (7, 3)), (2, (9, 0), (7, 2))):
         Case(made(1, count, first, second) + bytes(256)).reopen()
 
 
 def pair(first, second, table=4):
-    Case(made(first, 2, (7, 0), (9, 43)) + made(second, 2, (5, 1), (7, 42)), table).reopen()
+    Case(made(first, 2, (7, 0), (9, 43)) + made(second, 2, (5, 1), (7, 2)), table).reopen()
 
 
 def overlaps():

@@ -93,11 +93,11 @@ def least_255(r):
 
 
 def least_256(r):
-    """256 files, every slot: a group of them can be rewritten only where nothing is kept, here because each entry stands behind its object"""
+    """256 files, every slot: a group of them can be rewritten only where nothing is kept, here because each entry stands one byte past its object"""
     size = HEADER + 1
     lines = store(settings(4096, 0, 256, (size + 28) * 256 + 1, 256, 64), 256, 256)
     for slot, ident in enumerate(r.sample(range(1, 257), 256)):
-        data = object_bytes(ident, b'x') + trailer((ident, 2 * size))
+        data = object_bytes(ident, b'x') + trailer((ident, 2))
         lines += pokes(slot * 4096, label_bytes((1 + slot * (size + 1) | BATCH_BIT, size, len(data), 1, 0)) + data)
     return lines + ['reopen', 'maintain', put((1, b'x')), 'claim 255', 'maintain', 'reopen']
 

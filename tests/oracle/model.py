@@ -2,7 +2,7 @@
 """Document 01 as plain Python, read from the paper alone: a second opinion beside the port.
 
 Reads the console's script on standard input and prints its answers. Nothing here is taken from crates/;
-where the paper leaves a choice, the reading D1..D15 of docs/DECISIONS.md is named at the line."""
+where the paper leaves a choice, the reading D1..D15 of docs/DECISIONS.md is named at the line. 12 is as document 02's P2 mends it."""
 import re
 import struct
 import sys
@@ -124,6 +124,11 @@ def trailer_entries(trailer):
     count = le(trailer, 4)
     refuse_if(12 + 16 * count > len(trailer), 11)
     return list(struct.iter_unpack('<QQ', trailer[12:12 + 16 * count]))
+
+
+def misplaced(trailer_offset, relative):
+    """12, of one entry: its position over T; of an object, P2: its position + 20 over T"""
+    return relative // 2 + (0 if relative % 2 == 1 else HEADER) > trailer_offset
 
 
 def batch_operations(batch):
@@ -423,7 +428,7 @@ class Store:
         lsn, trailer_offset, file_size, present, generation = numbers
         refuse_if(outside_bounds(self.given.slot_bytes, lsn, trailer_offset, file_size, generation), 8)
         entries = trailer_entries(self.file_part(slot, trailer_offset, file_size))
-        refuse_if(any(relative // 2 > trailer_offset for _, relative in entries), 12)
+        refuse_if(any(misplaced(trailer_offset, relative) for _, relative in entries), 12)
         refuse_if(present != len(entries), 13)
         return numbers, entries
 

@@ -1,12 +1,12 @@
 #!/usr/bin/env python3
-"""Scenarios within the oracle's domain (document 01: file sets in its limits, 8 to 15 clear) as console scripts.
+"""Scenarios within the oracle's domain (document 01: file sets in its limits, 8 to 15 clear, 12 as P2 mends it) as console scripts.
 
     scenarios.py SEED NUMBER      prints one"""
 import random
 import sys
 import zlib
 
-from model import BATCH_BIT, HEADER, LABEL, MAX_RECORDS, file_bytes, label_bytes, object_bytes, raw_location, to_groups
+from model import BATCH_BIT, HEADER, LABEL, MAX_RECORDS, file_bytes, label_bytes, misplaced, object_bytes, raw_location, to_groups
 
 STRANGE_IDS = [0, 127, 128, 16383, 16384, 2 ** 32, 2 ** 63, 2 ** 64 - 1]
 
@@ -90,7 +90,7 @@ class Maker:
 
     def crafted_file(self, damaged):
         """objects in any order, deletes anywhere up to T, repeated ids, unlisted objects, bytes behind the entries;
-        damaged: also wrong sums, wrong ids, entries between objects, a last object that passes T"""
+        damaged: also wrong sums, wrong ids, entries between objects, a last object whose body passes T; no object's header does (P2)"""
         r, objects, entries, last = self.r, b'', [], {}
         for _ in range(r.randint(1, 5)):
             ident, at = r.choice(self.ids), len(objects)
@@ -104,9 +104,10 @@ class Maker:
                 entries.append((ident, raw_location(at, delete)))
                 last[ident] = at
         if damaged and r.random() < 0.5:
-            ident, at = r.choice(self.ids), r.randint(0, len(objects))
-            if last.get(ident, -1) < at:
-                entries.append((ident, raw_location(at, r.random() < 0.3)))
+            ident, delete = r.choice(self.ids), r.random() < 0.3
+            at = r.randint(0, len(objects) if delete else max(0, len(objects) - HEADER))
+            if last.get(ident, -1) < at and not misplaced(len(objects), raw_location(at, delete)):
+                entries.append((ident, raw_location(at, delete)))
                 last[ident] = at
         crossing = damaged and r.random() < 0.3 and self.ids[0] not in last
         if crossing:
@@ -119,7 +120,7 @@ class Maker:
         trailer = zlib.crc32(listed).to_bytes(4, 'little') + listed
         if crossing:
             whole = object_bytes(self.ids[0], r.randbytes(3) + trailer[:r.randint(1, 16)])
-            objects += whole[:r.choice([HEADER + 3, HEADER + 3, HEADER + 1, 7])]
+            objects += whole[:r.choice([HEADER + 3, HEADER + 3, HEADER + 1, HEADER])]
         return objects + trailer, len(objects), len(entries)
 
     def crafted(self, damaged=False):

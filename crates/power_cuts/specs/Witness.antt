@@ -26,7 +26,7 @@ use Rattle.rules.specs.SettledLaws.{lastOn}
 use Rattle.rules.specs.SlotFile.{slotTests, viewIn, viewsIn, slotBytes}
 use Rattle.rules.specs.Stores.{made, storesOf, fileStores}
 use Rattle.rules.specs.Table.{lookup, insert, insertAll}
-use Rattle.rules.specs.Trailer.{listed, trailerBytes, trailerTests, entriesFrom, entriesIn}
+use Rattle.rules.specs.Trailer.{listed, trailerBytes, trailerTests, entriesFrom, entriesIn, misplaced}
 use Rattle.rules.specs.World.{World, noState}
 use Rattle.rules.specs.Write.{tooManyIds, writeTests, written, writeCall}
 use Rattle.theory.specs.History.{Call, write, maintain, prune, called}
@@ -94,5 +94,5 @@ pub cuts :
     ∷ record { stores = 114; found = old ∷ old ∷ old ∷ old ∷ old ∷ old ∷ [] }
     ∷ record { stores = 1; found = new 0 ∷ new 0 ∷ [] }
     ∷ []
-unfolding any zeros keep each sum greatest padded putOperation operationAt batchFrom batchIn anyTooLarge outOfRange notTheStates badRecord badFrom conditionOne isEmpty noFiles slotsWhere emptySlots lowestEmpty leads leadFrom fileFor fileCount newRecord newLabel losing recordsWith storesFor tableWith nextWith installed installedAll roomTests positionTests labelBytes fiveIn labelIn outOfBounds lengthsInRange formFrom inForm usedIn usedEntries laidOut worthIt cutOff joining splitFrom filesOf objectBytes storedAt objectsOf entriesOf fileBytes joined settled decide filesIn overlapping notRising latest latestFrom tableOf reopenTests mappedInto recordsFrom nextAfter opened reopenCall inRanges heapInRange sameSettings slotTests viewIn viewsIn made storesOf fileStores lookup insert insertAll listed trailerBytes trailerTests entriesFrom entriesIn tooManyIds writeTests written writeCall leBytes leValue groupsOf readGroups numberIn shiftBit shifts crcFrom crc32 objectSum maskedOf digitsIn isDead emptiedFrom pruneStores pruned pruneCall isCandidate group movedTests deleteTests deletesOf fileTests objectsFound deletesFound found groupTests rewriteGroup groupsFrom courseOf maintainCall objectsFrom objectsIn badChecksum objectTests readOf slotBytes lastOn givenUp isClaimed filesRun writeRun pruneRun groupRun groupsRun maintainRun lost finding cutsAt
+unfolding any zeros keep each sum greatest padded putOperation operationAt batchFrom batchIn anyTooLarge outOfRange notTheStates badRecord badFrom conditionOne isEmpty noFiles slotsWhere emptySlots lowestEmpty leads leadFrom fileFor fileCount newRecord newLabel losing recordsWith storesFor tableWith nextWith installed installedAll roomTests positionTests labelBytes fiveIn labelIn outOfBounds lengthsInRange formFrom inForm usedIn usedEntries laidOut worthIt cutOff joining splitFrom filesOf objectBytes storedAt objectsOf entriesOf fileBytes joined settled decide filesIn overlapping notRising latest latestFrom tableOf reopenTests mappedInto recordsFrom nextAfter opened reopenCall inRanges heapInRange sameSettings slotTests viewIn viewsIn made storesOf fileStores lookup insert insertAll listed trailerBytes trailerTests entriesFrom entriesIn misplaced tooManyIds writeTests written writeCall leBytes leValue groupsOf readGroups numberIn shiftBit shifts crcFrom crc32 objectSum maskedOf digitsIn isDead emptiedFrom pruneStores pruned pruneCall isCandidate group movedTests deleteTests deletesOf fileTests objectsFound deletesFound found groupTests rewriteGroup groupsFrom courseOf maintainCall objectsFrom objectsIn badChecksum objectTests readOf slotBytes lastOn givenUp isClaimed filesRun writeRun pruneRun groupRun groupsRun maintainRun lost finding cutsAt
 cuts = refl

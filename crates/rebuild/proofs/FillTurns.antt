@@ -4,8 +4,6 @@ use mathlib.Core.Bool.{Bool, true, false}
 use mathlib.Core.List.{List, [], _∷_, _++_, map, append-nil, append-assoc}
 use Prim.Native.Nat.{ℕ, _+_, _^_, _<_, _≤_}
 use native.Mathlib.Omega.{arith}
-use borrow.Author.Tests.{ltb-false}
-use lib.Dec.{ltb}
 use lib.ListN.{length, getD, take, drop, length-map, take-append-drop}
 use lib.Seq.{take-all}
 use Rattle.rules.specs.Base.{each}
@@ -13,7 +11,8 @@ use Rattle.rules.specs.BaseLaws.{All, all-map, any-false, all-append}
 use Rattle.rules.specs.LabelLaws.{lsn-some}
 use Rattle.rules.specs.Layout.{Buffers}
 use Rattle.disk_location.specs.Locations.{maskedOf, positionOf}
-use Rattle.rules.specs.Trailer.{absolute}
+use Rattle.rules.specs.Trailer.{absolute, misplaced}
+use Rattle.rules.specs.TrailerLaws.{placed}
 use Rattle.rules.specs.SlotFile.{View, empty, damaged, holds, trailerEntries, viewIn}
 use Rattle.rules.specs.Reopen.{fileOf, filesIn}
 use Rattle.rules.specs.Table.{noEntry}
@@ -54,8 +53,8 @@ pub file-placed : (slot : List ℕ) (l : Label) → FileAt slot l → Placed (l 
 unfolding maskedOf
 file-placed slot l w = record {
   some = lsn-some (length slot) l (w .bounds);
-  low = all-map (λ (e : Entry). ltb (l .«trailer_offset») (positionOf (e .location)) ≡ false) (λ (e : Entry). positionOf (e .location) + l .lsn < 2 ^ 63) (trailerEntries l slot)
-      (λ e q. low (positionOf (e .location)) (ltb-false _ _ q)) (any-false _ (trailerEntries l slot) (w .positions));
+  low = all-map (λ (e : Entry). misplaced (l .«trailer_offset») e ≡ false) (λ (e : Entry). positionOf (e .location) + l .lsn < 2 ^ 63) (trailerEntries l slot)
+      (λ e q. low (positionOf (e .location)) (placed _ e q .inside)) (any-false _ (trailerEntries l slot) (w .positions));
 }
   where
     low : (p : ℕ) → p ≤ l .«trailer_offset» → p + l .lsn < 2 ^ 63

@@ -8,18 +8,18 @@ use native.Mathlib.Nat.{suc-mul, not-suc-le-zero, le-of-suc-le-suc}
 use borrow.Author.Tests.{ne-eqb}
 use lib.ListN.{length-drop}
 use lib.Seq.{length-take-le}
-use Rattle.rules.specs.Base.{true, false, List, [], _∷_, _++_, map, ℕ, zero, suc, _+_, _*_, length, getD, take, drop, each}
+use Rattle.rules.specs.Base.{true, false, List, [], _∷_, _++_, map, ℕ, zero, suc, _+_, _*_, length, getD, take, drop, any, each}
 use Rattle.rules.specs.BaseLaws.{All}
 use Rattle.reopen_tests.specs.Types.{Label, Refusal, Answer, Done, Refused, LabelAnswer, Vacant, Five, Wrong}
 use Rattle.rules.specs.Refusal.{decide, NoneHolds, clear-when, decide-clear, none-first, none-rest}
-use Rattle.rules.specs.Trailer.{countIn, trailerTests}
+use Rattle.rules.specs.Trailer.{countIn, trailerTests, misplaced}
 use Rattle.rules.specs.Label.{labelIn}
 use Rattle.rules.specs.LabelLaws.{InBounds, in-bounds, lsn-some}
 use Rattle.rules.specs.FileMap.{emptyLabel}
 use Rattle.rules.specs.SlotFile.{File, View, empty, damaged, holds, slotBytes, slotTests, trailerPart, objectPart, trailerEntries, viewBy, viewIn, viewsIn}
 use Rattle.rules.specs.SlotLaws.{views-length, views-at}
 use Rattle.rules.specs.Reopen.{viewTests, fileOf}
-use Rattle.trailer.specs.Entries.{someOver, clear-fits}
+use Rattle.trailer.specs.Entries.{clear-fits}
 use Rattle.reopen_tests.specs.Labels.{noFile, labelAt, labelOf, labelsOf}
 
 -- a label within 8's bounds is a file's
@@ -35,7 +35,7 @@ pub record FileAt (slot : List ℕ) (l : Label) : Type 0 where
   pub seen : viewIn slot ≡ holds (fileSeen l slot)
   pub bounds : InBounds (length slot) l
   pub fits : 12 + 16 * countIn (trailerPart l slot) ≤ length (trailerPart l slot)
-  pub positions : someOver (l .«trailer_offset») (trailerEntries l slot) ≡ false
+  pub positions : any (misplaced (l .«trailer_offset»)) (trailerEntries l slot) ≡ false
 
 -- a slot and its label: both empty, or a file and its label
 abbrev pub Shown : List ℕ → Label → Type 0

@@ -11,7 +11,7 @@ use Rattle.disk_location.specs.Locations.{maskedOf, digitsIn, rawOf}
 use Rattle.rules.specs.Refusal.{decide}
 use Rattle.rules.specs.Settings.{defaults, inRanges, heapInRange, sameSettings}
 use Rattle.rules.specs.Object.{objectBytes, storedAt}
-use Rattle.rules.specs.Trailer.{listed, trailerBytes, trailerTests, entriesFrom, entriesIn}
+use Rattle.rules.specs.Trailer.{listed, trailerBytes, trailerTests, entriesFrom, entriesIn, misplaced}
 use Rattle.rules.specs.Ops.{put, Op, shardFor, objectsOf, entriesOf, fileBytes, joined, settled}
 use Rattle.rules.specs.Label.{labelBytes, fiveIn, labelIn, outOfBounds}
 use Rattle.rules.specs.SlotFile.{slotBytes, trailerEntries, slotTests, viewIn, viewsIn}
@@ -139,5 +139,5 @@ agree (m ∷ ms) (n ∷ ns) = eqb m n && agree ms ns
 
 -- no line differs
 pub lines-hold : any (λ (l : Line). not (agree (l .ours) (l .paper))) lines ≡ false
-unfolding lines relativeGiven absoluteGiven any zeros keep each sum greatest padded putOperation operationAt batchFrom batchIn anyTooLarge outOfRange notTheStates badRecord badFrom conditionOne isEmpty noFiles slotsWhere emptySlots lowestEmpty leads leadFrom fileFor fileCount newLabel newRecord losing recordsWith storesFor tableWith nextWith installed installedAll roomTests positionTests labelBytes fiveIn labelIn outOfBounds lengthsInRange formFrom inForm usedIn usedEntries laidOut decimal listing worthIt cutOff joining splitFrom filesOf objectBytes storedAt objectsOf entriesOf fileBytes joined settled decide filesIn overlapping notRising latest latestFrom tableOf reopenTests mappedInto recordsFrom nextAfter opened reopenCall inRanges heapInRange sameSettings slotBytes slotTests viewIn viewsIn made storesOf fileStores lookup insert insertAll listed trailerBytes trailerTests entriesFrom entriesIn tooManyIds writeTests written writeCall leBytes leValue groupsOf readGroups numberIn shiftBit shifts crcFrom crc32 objectSum maskedOf digitsIn
+unfolding lines relativeGiven absoluteGiven any zeros keep each sum greatest padded putOperation operationAt batchFrom batchIn anyTooLarge outOfRange notTheStates badRecord badFrom conditionOne isEmpty noFiles slotsWhere emptySlots lowestEmpty leads leadFrom fileFor fileCount newLabel newRecord losing recordsWith storesFor tableWith nextWith installed installedAll roomTests positionTests labelBytes fiveIn labelIn outOfBounds lengthsInRange formFrom inForm usedIn usedEntries laidOut decimal listing worthIt cutOff joining splitFrom filesOf objectBytes storedAt objectsOf entriesOf fileBytes joined settled decide filesIn overlapping notRising latest latestFrom tableOf reopenTests mappedInto recordsFrom nextAfter opened reopenCall inRanges heapInRange sameSettings slotBytes slotTests viewIn viewsIn made storesOf fileStores lookup insert insertAll listed trailerBytes trailerTests entriesFrom entriesIn misplaced tooManyIds writeTests written writeCall leBytes leValue groupsOf readGroups numberIn shiftBit shifts crcFrom crc32 objectSum maskedOf digitsIn
 lines-hold = refl

@@ -1,5 +1,6 @@
 -- Operations, and the file that they make: lengths, positions, and that it is read back.
 use mathlib.Core.Path.{_≡_, refl, sym, ap, ap₂, _∙_, subst}
+use mathlib.Core.Bool.{true≢false}
 use mathlib.Core.Logic.{_⊎_, inl, inr}
 use Prim.Native.Nat.{_≤_, _<_}
 use native.Mathlib.Omega.{arith}
@@ -7,14 +8,14 @@ use lib.ListN.{length-append}
 use lib.Seq.{drop-append-add}
 use Rattle.rules.specs.Base.{Bool, true, false, List, [], _∷_, _++_, map, ℕ, zero, suc, _+_, _-_, _*_, _/_, _^_, length, drop, each}
 use Rattle.rules.specs.Types.{Entry}
-use Rattle.disk_location.specs.Locations.{positionOf, rawOf, digitsIn}
-use Rattle.disk_location.specs.LocationLaws.{position-raw}
+use Rattle.disk_location.specs.Locations.{positionOf, deleteOf, rawOf, digitsIn}
+use Rattle.disk_location.specs.LocationLaws.{position-raw, delete-raw}
 use Rattle.rules.specs.BaseLaws.{All}
 use Rattle.rules.specs.TableLaws.{Rising, rise, rise-end, Has}
 use Rattle.rules.specs.Object.{objectBytes, Stored, objectsFrom, objectsIn}
 use Rattle.rules.specs.ObjectLaws.{object-length, storedObject, objects-none, objects-put}
 use Rattle.rules.specs.Trailer.{trailerBytes}
-use Rattle.rules.specs.TrailerLaws.{Fits, trailer-length}
+use Rattle.rules.specs.TrailerLaws.{Fits, trailer-length, WellPlaced}
 use Rattle.rules.specs.Ops.{Content, put, delete, Op, isDelete, sizeOf, shardFor, contentBytes, objectsOf, entriesOf, fileBytes}
 
 -- ids strictly rising, from a least one on
@@ -117,6 +118,18 @@ entries-of-inside q ops x l h =
     let w = entry-stands q ops x l h in
     let v = stands-inside q ops x (w .content) (positionOf l) (w .stands) in
     (v .0, omega (arith, v .1))
+
+-- no entry is misplaced: behind an object's position there is room for its header
+pub entries-of-placed : (ops : List Op) (x l : ℕ) → Has (entriesOf 0 ops) x l → WellPlaced (length (objectsOf ops)) l
+entries-of-placed ops x l h =
+    let w = entry-stands 0 ops x l h in
+    let v = stands-inside 0 ops x (w .content) (positionOf l) (w .stands) in
+    record { inside = omega (arith, v .1); header = go (w .content) (w .location) (v .1) }
+  where
+    go : (c : Content) → l ≡ rawOf (positionOf l) (isDelete c) → positionOf l + sizeOf c ≤ 0 + length (objectsOf ops)
+        → deleteOf l ≡ false → positionOf l + 20 ≤ length (objectsOf ops)
+    go (put body) e b d = omega arith
+    go delete e b d = absurd (true≢false (sym (delete-raw (positionOf l) true) ∙ ap deleteOf (sym e) ∙ d))
 
 raw-below : (p : ℕ) (d : Bool) → p < 2 ^ 63 → rawOf p d < 2 ^ 64
 raw-below p true h = omega arith

@@ -1,16 +1,15 @@
 -- What a slot that holds a file tells: the file is its label's and trailer's, within 8's to 13's bounds.
-use mathlib.Core.Path.{_≡_, refl, ap}
+use mathlib.Core.Path.{_≡_, refl, subst}
 use mathlib.Core.Logic.{inl, inr}
-use Prim.Native.Nat.{_≤_}
 use native.Mathlib.Omega.{arith}
-use borrow.Author.Tests.{ltb-false, eqb-true, not-false}
-use Rattle.rules.specs.Base.{false, not, List, [], _∷_, ℕ, length, take, ltb, eqb, any}
+use borrow.Author.Tests.{eqb-true, not-false}
+use Rattle.rules.specs.Base.{false, not, List, [], _∷_, ℕ, length, take, eqb, any}
 use Rattle.rules.specs.Types.{Entry, Label, LabelAnswer, Vacant, Five, Wrong, Answer, Done, Refused, EntryPosition, PresentCount}
-use Rattle.disk_location.specs.Locations.{positionOf}
 use Rattle.rules.specs.Refusal.{_gives_, decide, after, NoneHolds, clear-when, none-first, none-rest}
 use Rattle.rules.specs.BaseLaws.{All, any-false}
 use Rattle.rules.specs.TableLaws.{Has}
-use Rattle.rules.specs.Trailer.{trailerTests}
+use Rattle.rules.specs.Trailer.{trailerTests, misplaced}
+use Rattle.rules.specs.TrailerLaws.{WellPlaced, placed}
 use Rattle.rules.specs.Label.{labelIn}
 use Rattle.rules.specs.LabelLaws.{InBounds, in-bounds}
 use Rattle.rules.specs.SlotFile.{objectPart, trailerPart, trailerEntries, File, empty, damaged, holds, slotTests, viewBy, viewIn}
@@ -22,16 +21,16 @@ pub record Seen (slot : List ℕ) (f : File) : Type 0 where
   pub objects : objectPart (f .label) slot ≡ f .objects
   pub bounds : InBounds (length slot) (f .label)
   pub trailer : NoneHolds (trailerTests (trailerPart (f .label) slot))
-  pub inside : (x l : ℕ) → Has (f .entries) x l → positionOf l ≤ f .label .«trailer_offset»
+  pub inside : (x l : ℕ) → Has (f .entries) x l → WellPlaced (f .label .«trailer_offset») l
   pub present : f .label .«present_objects» ≡ length (f .entries)
 
--- 12 does not hold: no entry is over T
-inside-all : (offset : ℕ) (es : List Entry) → any (λ (e : Entry). ltb offset (positionOf (e .location))) es ≡ false → (x l : ℕ) → Has es x l → positionOf l ≤ offset
-inside-all offset es e = go es (any-false (λ (d : Entry). ltb offset (positionOf (d .location))) es e)
+-- 12 does not hold: each entry stands where it may
+inside-all : (offset : ℕ) (es : List Entry) → any (misplaced offset) es ≡ false → (x l : ℕ) → Has es x l → WellPlaced offset l
+inside-all offset es e = go es (any-false (misplaced offset) es e)
   where
-    go : (ds : List Entry) → All (λ (d : Entry). ltb offset (positionOf (d .location)) ≡ false) ds → (x l : ℕ) → Has ds x l → positionOf l ≤ offset
+    go : (ds : List Entry) → All (λ (d : Entry). misplaced offset d ≡ false) ds → (x l : ℕ) → Has ds x l → WellPlaced offset l
     go [] a x l h = absurd h
-    go (d ∷ ds) a x l (inl (p, q)) = let w = ltb-false offset (positionOf (d .location)) (a .0) in let s : positionOf (d .location) ≡ positionOf l = ap positionOf q in omega arith
+    go (d ∷ ds) a x l (inl (p, q)) = subst (WellPlaced offset) q (placed offset d (a .0))
     go (d ∷ ds) a x l (inr h) = go ds (a .1) x l h
 
 seen-by : (slot : List ℕ) (r : Label) → labelIn (take 64 slot) ≡ Five r → decide (slotTests r slot) ≡ Done
@@ -40,7 +39,7 @@ unfolding slotTests NoneHolds
 seen-by slot r is clear =
     let n = clear-when (slotTests r slot) clear in
     let rest =
-    any (λ (e : Entry). ltb (r .«trailer_offset») (positionOf (e .location))) (trailerEntries r slot) gives EntryPosition
+    any (misplaced (r .«trailer_offset»)) (trailerEntries r slot) gives EntryPosition
     ∷ not (eqb (r .«present_objects») (length (trailerEntries r slot))) gives PresentCount
     ∷ [] in
     let m = none-rest (trailerTests (trailerPart r slot)) rest (n .1) in

@@ -1,10 +1,9 @@
 -- A slot's bytes, and the file that is seen in them by its label.
-use Rattle.rules.specs.Base.{not, List, [], _∷_, _++_, ℕ, zero, suc, _+_, _*_, length, take, drop, ltb, eqb, any}
+use Rattle.rules.specs.Base.{not, List, [], _∷_, _++_, ℕ, zero, suc, _+_, _*_, length, take, drop, eqb, any}
 use Rattle.rules.specs.Types.{Entry, Label, Refusal, LabelBytes, EntryPosition, PresentCount, LabelAnswer, Vacant, Five, Wrong}
-use Rattle.disk_location.specs.Locations.{positionOf}
 use Rattle.rules.specs.Refusal.{Test, _gives_, decide, after}
 use Rattle.rules.specs.Label.{labelIn, outOfBounds}
-use Rattle.rules.specs.Trailer.{trailerTests, entriesIn}
+use Rattle.rules.specs.Trailer.{trailerTests, entriesIn, misplaced}
 
 -- "in N equal slots of S bytes": slot k
 unfoldable pub slotBytes : ℕ → List ℕ → ℕ → List ℕ
@@ -43,7 +42,7 @@ unfoldable pub slotTests : Label → List ℕ → List Test
 slotTests l slot =
     outOfBounds (length slot) l gives LabelBytes
     ∷ (trailerTests (trailerPart l slot)
-    ++ (any (λ (e : Entry). ltb (l .«trailer_offset») (positionOf (e .location))) (trailerEntries l slot) gives EntryPosition
+    ++ (any (misplaced (l .«trailer_offset»)) (trailerEntries l slot) gives EntryPosition
     ∷ not (eqb (l .«present_objects») (length (trailerEntries l slot))) gives PresentCount
     ∷ []))
 

@@ -1,5 +1,5 @@
 -- "File bytes": the trailer.
-use Rattle.rules.specs.Base.{not, List, [], _∷_, _++_, ℕ, zero, suc, _+_, _*_, length, take, drop, ltb, eqb, each}
+use Rattle.rules.specs.Base.{Bool, not, List, [], _∷_, _++_, ℕ, zero, suc, _+_, _*_, length, take, drop, ltb, eqb, each, pick}
 use Rattle.rules.specs.Types.{Entry, TrailerShort, Checksum, EntryCount}
 use Rattle.numbers.specs.LittleEndian.{leBytes, leValue}
 use Rattle.checksum.specs.Checksum.{crc32}
@@ -45,3 +45,7 @@ entriesFrom (suc k) (b ∷ bs) =
 -- as many entries as the count says; "Later bytes are checksummed and otherwise ignored"
 unfoldable pub entriesIn : List ℕ → List Entry
 entriesIn trailer = entriesFrom (countIn trailer) (drop 12 trailer)
+
+-- "12 entry position over T", of one entry; "An object entry needs its position + 20 to be at most T; only a delete may stand at T."
+unfoldable pub misplaced : ℕ → Entry → Bool
+misplaced offset e = pick (deleteOf (e .location)) (ltb offset (positionOf (e .location))) (ltb offset (positionOf (e .location) + 20))

@@ -1,21 +1,23 @@
 -- The trailer: its length, and that what was written is read back.
 use mathlib.Core.Path.{_≡_, refl, sym, ap, ap₂, _∙_}
+use mathlib.Core.Bool.{true≢false}
 use mathlib.Core.List.{append-assoc, append-nil}
 use mathlib.Core.Logic.{inl, inr}
 use Prim.Native.Nat.{_≤_, _<_}
 use native.Mathlib.Omega.{arith}
-use borrow.Author.Tests.{eq-eqb, le-ltb}
+use borrow.Author.Tests.{eq-eqb, le-ltb, ltb-false}
 use lib.ListN.{length-append}
 use lib.Seq.{take-at, drop-at, drop-drop}
-use Rattle.rules.specs.Base.{not, List, [], _∷_, _++_, ℕ, suc, _+_, _*_, _^_, length, take, drop, eqb, each}
+use Rattle.rules.specs.Base.{Bool, true, false, not, List, [], _∷_, _++_, ℕ, suc, _+_, _*_, _^_, length, take, drop, ltb, eqb, each, pick}
 use Rattle.rules.specs.Types.{Entry}
 use Rattle.numbers.specs.LittleEndian.{leBytes, leValue, le-length, le-round}
 use Rattle.checksum.specs.Checksum.{crc32}
+use Rattle.disk_location.specs.Locations.{positionOf, deleteOf}
 use Rattle.rules.specs.Refusal.{NoneHolds}
 use Rattle.rules.specs.PartLaws.{field}
 use Rattle.rules.specs.ObjectLaws.{crc-below}
 use Rattle.rules.specs.TableLaws.{Has, entry-ext}
-use Rattle.rules.specs.Trailer.{entryBytes, listed, trailerBytes, countIn, trailerTests, entriesFrom, entriesIn}
+use Rattle.rules.specs.Trailer.{entryBytes, listed, trailerBytes, countIn, trailerTests, entriesFrom, entriesIn, misplaced}
 
 -- ids and locations of 64 bits
 abbrev pub Fits : List Entry → Type 0
@@ -113,3 +115,29 @@ trailer-clear es some n =
 pub trailer-back : (es : List Entry) → length es < 2 ^ 64 → Fits es → entriesIn (trailerBytes es) ≡ es
 unfolding entriesIn
 trailer-back es n f = rw (count-back es n, listed-back es) (rw append-nil at (entries-back es [] f))
+
+-- ---- 12
+-- where an entry of this raw location may stand: its position is not over T, nor is an object's position + 20
+pub record WellPlaced (offset l : ℕ) : Type 0 where
+  pub inside : positionOf l ≤ offset
+  pub header : deleteOf l ≡ false → positionOf l + 20 ≤ offset
+
+module _ (offset : ℕ) (e : Entry) where
+  -- where 12 does not hold of an entry, it stands so
+  pub placed : misplaced offset e ≡ false → WellPlaced offset (e .location)
+  unfolding misplaced
+  placed h = go (deleteOf (e .location)) refl h
+    where
+      go : (d : Bool) → deleteOf (e .location) ≡ d → pick d (ltb offset (positionOf (e .location))) (ltb offset (positionOf (e .location) + 20)) ≡ false
+          → WellPlaced offset (e .location)
+      go true q f = record { inside = ltb-false offset (positionOf (e .location)) f; header = λ n. absurd (true≢false (sym q ∙ n)) }
+      go false q f = let w = ltb-false offset (positionOf (e .location) + 20) f in record { inside = omega arith; header = λ n. w }
+
+  -- and the other way round
+  pub may-stand : WellPlaced offset (e .location) → misplaced offset e ≡ false
+  unfolding misplaced
+  may-stand w = go (deleteOf (e .location)) refl
+    where
+      go : (d : Bool) → deleteOf (e .location) ≡ d → pick d (ltb offset (positionOf (e .location))) (ltb offset (positionOf (e .location) + 20)) ≡ false
+      go true q = le-ltb offset (positionOf (e .location)) (w .inside)
+      go false q = le-ltb offset (positionOf (e .location) + 20) (w .header q)

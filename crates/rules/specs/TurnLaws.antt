@@ -16,6 +16,15 @@ pub left-none : {A : Type 0} (xs : List A) (i : ℕ) → length xs ≤ i → dro
 left-none xs i h = drop-of-length-le xs h
 
 module _ {A : Type 0} (xs : List A) (i : ℕ) (d : A) (h : i < length xs) where
+  -- whether some element passes: this one does, or the rest decides
+  pub any-here : (f : A → Bool) → f (getD xs i d) ≡ true → any f (drop i xs) ≡ true
+  unfolding any
+  any-here f e = rw (left-next xs i d h, e) refl
+
+  pub any-later : (f : A → Bool) → f (getD xs i d) ≡ false → any f (drop (i + 1) xs) ≡ any f (drop i xs)
+  unfolding any
+  any-later f e = rw (left-next xs i d h, e) refl
+
   -- what each gives
   pub each-next : {B : Type 0} (f : A → List B) → each f (drop i xs) ≡ f (getD xs i d) ++ each f (drop (i + 1) xs)
   unfolding each

@@ -8,18 +8,17 @@ use native.Mathlib.Nat.{sub-zero}
 use borrow.Author.Tests.{le-ltb, eq-eqb}
 use lib.ListN.{length-append, take-append-drop}
 use lib.Seq.{take-at, drop-at, take-append-seam, drop-append-seam, drop-append-le}
-use Rattle.rules.specs.Base.{false, not, List, [], _∷_, _++_, ℕ, _+_, _-_, _*_, _^_, length, set, take, drop, ltb, any}
+use Rattle.rules.specs.Base.{false, not, List, [], _∷_, _++_, ℕ, _+_, _-_, _*_, _^_, length, set, take, drop, any}
 use Rattle.rules.specs.Types.{Entry}
 use Rattle.numbers.specs.Parts.{front, putAt, front-length}
-use Rattle.disk_location.specs.Locations.{positionOf}
 use Rattle.rules.specs.Refusal.{NoneHolds, decide-clear, none-append}
 use Rattle.rules.specs.TableLaws.{Has}
 use Rattle.rules.specs.Object.{objectBytes, storedAt}
 use Rattle.rules.specs.ObjectLaws.{storedObject, stored-back, stored-good}
-use Rattle.rules.specs.Trailer.{trailerBytes, trailerTests, entriesIn}
-use Rattle.rules.specs.TrailerLaws.{trailer-clear, trailer-back}
+use Rattle.rules.specs.Trailer.{trailerBytes, trailerTests, entriesIn, misplaced}
+use Rattle.rules.specs.TrailerLaws.{trailer-clear, trailer-back, WellPlaced, may-stand}
 use Rattle.rules.specs.Ops.{put, Op, objectsOf, entriesOf, fileBytes}
-use Rattle.rules.specs.OpsLaws.{IdsFit, file-length, entries-of-length, entries-of-fits, entries-of-inside, Stands, stands-bytes, stands-inside}
+use Rattle.rules.specs.OpsLaws.{IdsFit, file-length, entries-of-length, entries-of-fits, entries-of-placed, Stands, stands-bytes, stands-inside}
 use Rattle.rules.specs.Label.{labelBytes, outOfBounds}
 use Rattle.rules.specs.LabelLaws.{InBounds, bounds-in, lsn-some, LabelFits, label-length, label-back}
 use Rattle.rules.specs.SlotFile.{slotBytes, File, empty, holds, slotTests, viewIn, viewsIn}
@@ -45,13 +44,11 @@ slotFile lsn generation ops = labelBytes (newLabel lsn generation ops) ++ fileBy
 abbrev pub fileOfOps : ℕ → ℕ → List Op → File
 fileOfOps lsn generation ops = record { label = newLabel lsn generation ops; entries = entriesOf 0 ops; objects = objectsOf ops }
 
--- 12 does not hold where no entry is over T
-none-over : (offset : ℕ) (es : List Entry) → ((x l : ℕ) → Has es x l → positionOf l ≤ 0 + offset) → any (λ (e : Entry). ltb offset (positionOf (e .location))) es ≡ false
+-- 12 does not hold where each entry stands where it may
+none-misplaced : (offset : ℕ) (es : List Entry) → ((x l : ℕ) → Has es x l → WellPlaced offset l) → any (misplaced offset) es ≡ false
 unfolding any
-none-over offset [] low = refl
-none-over offset (e ∷ es) low =
-    let here = low (e .id) (e .location) (inl (refl, refl)) in
-    rw (le-ltb offset (positionOf (e .location)) (omega arith)) (none-over offset es (λ x l h. low x l (inr h)))
+none-misplaced offset [] low = refl
+none-misplaced offset (e ∷ es) low = rw (may-stand offset e (low (e .id) (e .location) (inl (refl, refl)))) (none-misplaced offset es (λ x l h. low x l (inr h)))
 
 module _ (S lsn generation : ℕ) (ops : List Op) (w : Writable S lsn generation ops) where
   -- it fits: "64 + file_size" is not over S
@@ -117,7 +114,7 @@ module _ (S lsn generation : ℕ) (ops : List Op) (w : Writable S lsn generation
         let t = drop (length (objectsOf ops)) (take (length (fileBytes ops)) (drop 64 (front (slotFile lsn generation ops) slot))) in (
           rw n (bounds-in S (newLabel lsn generation ops) (w .bounds)),
           none-append (trailerTests t) _ (rw trailer-part (trailer-clear (entriesOf 0 ops) (omega (arith, entries-of-length 0 ops)) few)) (
-            rw entries-part (none-over (length (objectsOf ops)) (entriesOf 0 ops) (λ x k h. entries-of-inside 0 ops x k h .1)),
+            rw entries-part (none-misplaced (length (objectsOf ops)) (entriesOf 0 ops) (entries-of-placed ops)),
             (rw (entries-part, eq-eqb (length ops) (length (entriesOf 0 ops)) (sym (entries-of-length 0 ops))), tt),
           ),
         )

@@ -7,15 +7,16 @@ use native.Mathlib.Omega.{arith}
 use lib.Dec.{eqb}
 use lib.ListN.{length, drop, length-drop}
 use lib.Seq.{length-take-le}
+use Rattle.rules.specs.Base.{any}
 use Rattle.rules.specs.declared.Label.{Label}
 use Rattle.rules.specs.declared.Refusal.the-variants.{EntryPosition, PresentCount}
 use Rattle.rules.specs.declared.Refusal.{Refusal}
 use Rattle.rules.specs.declared.Answer.the-variants.{Done, Refused}
 use Rattle.rules.specs.Refusal.{Test, _gives_, decide, decide-append, clear-when, decide-early}
 use Rattle.numbers.specs.Choice.{pick}
-use Rattle.rules.specs.Trailer.{trailerTests, entriesIn, countIn}
+use Rattle.rules.specs.Trailer.{trailerTests, entriesIn, countIn, misplaced}
 use Rattle.rules.specs.SlotFile.{View, empty, damaged, holds, fileIn}
-use Rattle.trailer.specs.Entries.{someOver, entries-count, clear-fits}
+use Rattle.trailer.specs.Entries.{entries-count, clear-fits}
 use Rattle.slot_file.specs.declared.SlotAnswer.{SlotAnswer}
 use Rattle.slot_file.specs.declared.SlotAnswer.the-variants.{Empty, Damaged, Holds}
 
@@ -29,7 +30,7 @@ shownBy (holds f) = Holds (f .label)
 unfoldable pub entryTests : Label → List ℕ → List Test
 entryTests l trailer =
     trailerTests trailer
-    ++ (someOver (l .«trailer_offset») (entriesIn trailer) gives EntryPosition
+    ++ (any (misplaced (l .«trailer_offset»)) (entriesIn trailer) gives EntryPosition
     ∷ not (eqb (l .«present_objects») (length (entriesIn trailer))) gives PresentCount
     ∷ [])
 
@@ -41,7 +42,7 @@ module _ (l : Label) (trailer : List ℕ) where
   -- 9, 10 and 11 are clear: 12 and 13 decide
   pub entry-clear : decide (trailerTests trailer) ≡ Done
       → decide (entryTests l trailer)
-      ≡ pick (someOver (l .«trailer_offset») (entriesIn trailer)) (Refused EntryPosition)
+      ≡ pick (any (misplaced (l .«trailer_offset»)) (entriesIn trailer)) (Refused EntryPosition)
       (pick (not (eqb (l .«present_objects») (countIn trailer))) (Refused PresentCount) Done)
   unfolding entryTests decide
   entry-clear e = decide-append (trailerTests trailer) _ (clear-when (trailerTests trailer) e) ∙ rw (entries-count trailer (clear-fits trailer e)) refl

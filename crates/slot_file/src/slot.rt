@@ -71,7 +71,7 @@ fn check_trailer(bytes: &[u8], l: Label) -> Answer
     match trailer::check(bytes) {
         Answer::Refused(refusal) => Answer::Refused(refusal),
         Answer::Done => {
-            if trailer::some_over(bytes, l.trailer_offset) {
+            if trailer::some_misplaced(bytes, l.trailer_offset) {
                 return Answer::Refused(Refusal::EntryPosition);
             }
             if l.present_objects != trailer::count(bytes) {

@@ -232,8 +232,8 @@ fn show_slots(slots: &[u8]) {
     }
 }
 
-// Files that the original wrote, and damaged copies of each: tests/oracle/slots.py made them, with the answers of its model.
-fn of_the_original() {
+// Files that the original wrote, damaged copies of each, and entries around T: tests/oracle/slots.py made them, with the answers of its model.
+fn made_slots() {
     let mut slots = io::large_buffer();
     let n = io::read_full(0, &mut slots);
     show_slots(&slots[..n]);
@@ -243,5 +243,5 @@ fn main() {
     whole();
     wrong_numbers();
     cut_off();
-    of_the_original();
+    made_slots();
 }

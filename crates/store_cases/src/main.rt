@@ -188,15 +188,19 @@ fn every_byte() {
     each_byte(84, 130);
 }
 
-// Counts of 1, 2 and 3; a position past T; an id twice, rising and not, and as object and delete of one position.
+// Counts of 1, 2 and 3; T is 21: an object past it, at it and at T - 19, a delete past it; an id twice, rising and not, and as object and
+// delete of one position.
 fn trailers() {
     heaps::one(made(1, 1, entry(7, 0), entry(9, 43)));
     heaps::one(made(1, 2, entry(7, 0), entry(9, 43)));
     heaps::one(made(1, 3, entry(7, 0), entry(9, 43)));
     heaps::one(made(1, 2, entry(7, 0), entry(9, 44)));
     heaps::one(made(1, 2, entry(7, 0), entry(7, 42)));
-    heaps::one(made(1, 2, entry(7, 42), entry(7, 0)));
-    heaps::one(made(1, 2, entry(7, 10), entry(7, 11)));
+    heaps::one(made(1, 2, entry(7, 0), entry(9, 4)));
+    heaps::one(made(1, 2, entry(7, 0), entry(9, 45)));
+    heaps::one(made(1, 2, entry(7, 0), entry(7, 2)));
+    heaps::one(made(1, 2, entry(7, 2), entry(7, 0)));
+    heaps::one(made(1, 2, entry(7, 2), entry(7, 3)));
     heaps::one(made(1, 2, entry(9, 0), entry(7, 2)));
 }
 
@@ -206,7 +210,7 @@ fn pair(first: u64, second: u64) {
     let mut locations = [0u64; 4];
     heaps::two(
         made(first, 2, entry(7, 0), entry(9, 43)),
-        made(second, 2, entry(5, 1), entry(7, 42)),
+        made(second, 2, entry(5, 1), entry(7, 2)),
         &mut ids,
         &mut locations,
     );
@@ -230,7 +234,7 @@ fn table_room() {
     let mut ids = [8u64; 3];
     let mut locations = [8u64; 3];
     let f = made(1, 2, entry(7, 0), entry(9, 43));
-    let g = made(30, 2, entry(5, 1), entry(7, 42));
+    let g = made(30, 2, entry(5, 1), entry(7, 2));
     heaps::two(f, g, &mut ids, &mut locations);
     let mut few_ids = [8u64; 2];
     let mut few_locations = [8u64; 2];

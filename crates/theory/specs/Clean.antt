@@ -104,7 +104,7 @@ shown-narrow w h k f e x l a =
 
 -- ---- what a store of the invariant says is what reads give
 -- an object that the walk finds, by its place
-starts-clear : (objects : List ℕ) (os : List Stored) (x p : ℕ) → All (StandsIn objects) os → All (λ (o : Stored). NoneHolds (objectTests (o .id) o)) os → StartsAt os x p
+pub starts-clear : (objects : List ℕ) (os : List Stored) (x p : ℕ) → All (StandsIn objects) os → All (λ (o : Stored). NoneHolds (objectTests (o .id) o)) os → StartsAt os x p
     → NoneHolds (objectTests x (storedAt p (drop p objects)))
 starts-clear objects [] x p a b h = absurd h
 starts-clear objects (o ∷ os) x p a b (inl (i, e)) =

@@ -12,7 +12,7 @@ use Rattle.disk_location.specs.Locations.{maskedOf, positionOf, deleteOf}
 use Rattle.rules.specs.BaseLaws.{or-false}
 use Rattle.rules.specs.Refusal.{NoneHolds, decide}
 use Rattle.rules.specs.Object.{objectBytes, storedAt, objectsFrom, objectsIn, badChecksum}
-use Rattle.rules.specs.Trailer.{listed, trailerBytes, trailerTests, entriesFrom, entriesIn}
+use Rattle.rules.specs.Trailer.{listed, trailerBytes, trailerTests, entriesFrom, entriesIn, misplaced}
 use Rattle.rules.specs.TableLaws.{Has}
 use Rattle.rules.specs.Claims.{noClaims}
 use Rattle.rules.specs.SlotFile.{File, View, empty, holds}
@@ -80,7 +80,7 @@ all-bytes (b ∷ bs) h zero = leb-false 256 b (or-false (leb 256 b) (any (leb 25
 all-bytes (b ∷ bs) h (suc i) = all-bytes bs (or-false (leb 256 b) (any (leb 256) bs) h .1) i
 
 views : viewsOf foreign ≡ holds file ∷ empty ∷ []
-unfolding any zeros each padded labelBytes fiveIn labelIn outOfBounds objectBytes decide slotTests viewIn viewsIn listed trailerTests entriesFrom entriesIn leBytes leValue groupsOf readGroups numberIn shiftBit shifts crcFrom crc32 objectSum maskedOf digitsIn slotBytes
+unfolding any zeros each padded labelBytes fiveIn labelIn outOfBounds objectBytes decide slotTests viewIn viewsIn listed trailerTests entriesFrom entriesIn misplaced leBytes leValue groupsOf readGroups numberIn shiftBit shifts crcFrom crc32 objectSum maskedOf digitsIn slotBytes
 views = refl
 
 file-whole : WholeFile file
@@ -101,7 +101,7 @@ file-whole = record {
 
 -- a reopening accepts it
 reopened : reopenCall foreign .answer ≡ accepted []
-unfolding any zeros keep each greatest padded outOfRange labelBytes fiveIn labelIn outOfBounds lengthsInRange objectBytes decide filesIn overlapping notRising latest latestFrom tableOf reopenTests opened reopenCall inRanges heapInRange slotTests viewIn viewsIn listed trailerTests entriesFrom entriesIn leBytes leValue groupsOf readGroups numberIn shiftBit shifts crcFrom crc32 objectSum maskedOf digitsIn slotBytes givenUp
+unfolding any zeros keep each greatest padded outOfRange labelBytes fiveIn labelIn outOfBounds lengthsInRange objectBytes decide filesIn overlapping notRising latest latestFrom tableOf reopenTests opened reopenCall inRanges heapInRange slotTests viewIn viewsIn listed trailerTests entriesFrom entriesIn misplaced leBytes leValue groupsOf readGroups numberIn shiftBit shifts crcFrom crc32 objectSum maskedOf digitsIn slotBytes givenUp
 reopened = refl
 
 -- LAW: it is clean
@@ -120,5 +120,5 @@ pub foreign-answers :
     ≡ bytes (0x42 ∷ 0x43 ∷ []) ∷ nothing ∷ bytes (0x44 ∷ []) ∷ nothing ∷ [])
     × (maintainCall (reopenCall foreign .world) .answer ≡ maintainGiven (Stopped ObjectSize 3 0))
     × (writeCall (reopenCall foreign .world) (0x03 ∷ 0x00 ∷ []) .answer ≡ refused PositionsSpent)
-unfolding any zeros keep each sum greatest padded operationAt batchFrom batchIn anyTooLarge outOfRange notTheStates badRecord badFrom conditionOne isEmpty noFiles slotsWhere emptySlots leads leadFrom fileFor fileCount roomTests positionTests labelBytes fiveIn labelIn outOfBounds lengthsInRange formFrom inForm usedIn usedEntries laidOut worthIt cutOff joining splitFrom filesOf objectBytes storedAt objectsOf entriesOf fileBytes joined settled decide filesIn overlapping notRising latest latestFrom tableOf reopenTests mappedInto recordsFrom nextAfter opened reopenCall inRanges heapInRange sameSettings slotTests viewIn viewsIn lookup insert insertAll listed trailerBytes trailerTests entriesFrom entriesIn tooManyIds writeTests writeCall leBytes leValue groupsOf readGroups numberIn shiftBit shifts crcFrom crc32 objectSum maskedOf digitsIn isClaimed isCandidate group movedTests deleteTests deletesOf fileTests objectsFound deletesFound found groupTests rewriteGroup groupsFrom courseOf maintainCall objectsFrom objectsIn badChecksum objectTests readOf slotBytes givenUp
+unfolding any zeros keep each sum greatest padded operationAt batchFrom batchIn anyTooLarge outOfRange notTheStates badRecord badFrom conditionOne isEmpty noFiles slotsWhere emptySlots leads leadFrom fileFor fileCount roomTests positionTests labelBytes fiveIn labelIn outOfBounds lengthsInRange formFrom inForm usedIn usedEntries laidOut worthIt cutOff joining splitFrom filesOf objectBytes storedAt objectsOf entriesOf fileBytes joined settled decide filesIn overlapping notRising latest latestFrom tableOf reopenTests mappedInto recordsFrom nextAfter opened reopenCall inRanges heapInRange sameSettings slotTests viewIn viewsIn lookup insert insertAll listed trailerBytes trailerTests entriesFrom entriesIn misplaced tooManyIds writeTests writeCall leBytes leValue groupsOf readGroups numberIn shiftBit shifts crcFrom crc32 objectSum maskedOf digitsIn isClaimed isCandidate group movedTests deleteTests deletesOf fileTests objectsFound deletesFound found groupTests rewriteGroup groupsFrom courseOf maintainCall objectsFrom objectsIn badChecksum objectTests readOf slotBytes givenUp
 foreign-answers = (refl, refl, refl)

@@ -35,6 +35,7 @@ pub mod Small
 -- demand 3, and that stores accept writes
 pub mod History
 pub mod Clean
+pub mod Ends
 pub mod Accepting
 pub mod Writes
 -- C: which refusals and which count maintenance answers

@@ -104,7 +104,7 @@ shown-made n size heap k f h =
     let e = views-at n size heap k (omega arith) in
     let s = seen (slotBytes size heap k) f (sym e ∙ h) in
     let b = s .bounds in
-    record { placed = b .masked; low = b .lsn; within = b .end; sized = b .offset; inside = s .inside }
+    record { placed = b .masked; low = b .lsn; within = b .end; sized = b .offset; inside = λ x l h. s .inside x l h .inside }
 
 -- every entry of a table of well made files has a location
 pub rows-used : (views : List View) → ((k : ℕ) (f : File) → viewAt views k ≡ holds f → WellMade f) → Used (tableOf (filesIn views))

@@ -1,16 +1,16 @@
 -- W: a file that a call adds stands in the lowest empty slot as it was meant, and nothing else of the heap changes.
 use mathlib.Core.Path.{_≡_}
-use Prim.Native.Nat.{_<_, _≤_}
+use Prim.Native.Nat.{_<_}
 use native.Mathlib.Omega.{arith}
 use Rattle.rules.specs.Base.{false, List, [], _∷_, ℕ, _*_, _^_, length, set, drop}
 use Rattle.numbers.specs.Parts.{putAt}
-use Rattle.disk_location.specs.Locations.{positionOf}
 use Rattle.rules.specs.Refusal.{NoneHolds}
 use Rattle.rules.specs.SettingsLaws.{slot-within}
 use Rattle.rules.specs.Object.{storedAt}
 use Rattle.rules.specs.ObjectLaws.{storedObject}
+use Rattle.rules.specs.TrailerLaws.{WellPlaced}
 use Rattle.rules.specs.Ops.{put, Op, objectsOf, entriesOf, fileBytes}
-use Rattle.rules.specs.OpsLaws.{Stands, stands-entry, stands-inside, entries-of-inside}
+use Rattle.rules.specs.OpsLaws.{Stands, stands-entry, stands-inside, entries-of-placed}
 use Rattle.rules.specs.Batch.{anyTooLarge}
 use Rattle.rules.specs.SlotFile.{empty, holds}
 use Rattle.rules.specs.TableLaws.{Has}
@@ -34,8 +34,8 @@ pub record Stood (bit g : ℕ) (w : World) (os : List Op) : Type 0 where
   pub views : viewsOf (installed bit g w os) ≡ set (viewsOf w) (newSlot w) (holds (fileOfOps (newLsn bit w) g os))
   -- label and file stand at the slot's start; the heap's bytes before and behind them are as they were
   pub heap : installed bit g w os .heap ≡ putAt (w .heap) (newSlot w * w .settings .«slot_bytes») (slotFile (newLsn bit w) g os)
-  -- no entry's position is over T
-  pub inside : (x l : ℕ) → Has (entriesOf 0 os) x l → positionOf l ≤ length (objectsOf os)
+  -- no entry's position is over T, nor an object's position + 20
+  pub inside : (x l : ℕ) → Has (entriesOf 0 os) x l → WellPlaced (length (objectsOf os)) l
   -- each put is read at its position with its id and body, and none of 16, 10, 17 refuses it
   pub objects : (x : ℕ) (body : List ℕ) (p : ℕ) → Stands 0 os x (put body) p
       → (behind : ℕ) × (storedAt p (drop p (fileBytes os)) ≡ storedObject p x body behind) × NoneHolds (objectTests x (storedObject p x body behind))
@@ -60,7 +60,7 @@ module _ (w : World) (told : ℕ → Said) (s : SoundWorld w told) (bit g : ℕ)
     free = free-slot w told s (f .free) .1;
     views = views-after w told s bit g os f;
     heap = heap-after;
-    inside = λ x l h. let a = entries-of-inside 0 os x l h in let b = a .1 in omega arith;
+    inside = entries-of-placed os;
     objects = λ x body p h.
         let a = stands-inside 0 os x (put body) p h in
         let b = a .1 in

@@ -11,9 +11,9 @@ ghost use mathlib.Core.Path.{_≡_};
 ghost use Prim.Native.Nat.{_+_, _*_, _≤_, _<_};
 ghost use lib.ListN.{length, getD};
 ghost use Rattle.rules.specs.Refusal.{decide};
-ghost use Rattle.rules.specs.Trailer.{countIn, trailerTests, entriesIn};
+ghost use Rattle.rules.specs.Base.{any};
+ghost use Rattle.rules.specs.Trailer.{countIn, trailerTests, entriesIn, misplaced};
 ghost use Rattle.rules.specs.Table.{noEntry};
-ghost use Rattle.trailer.specs.Entries.{someOver};
 
 // "entry count 8"
 pub fn count(trailer: &[u8]) -> u64
@@ -58,17 +58,28 @@ pub fn entry(trailer: &[u8], k: u64) -> Entry
     }
 }
 
-// "12 entry position over T"
-pub fn some_over(trailer: &[u8], offset: u64) -> bool
+// "12 entry position over T", of one entry: an object's header must end at or before T. A position is below 2^63, so no sum wraps.
+pub fn misplaced(e: Entry, offset: u64) -> bool
+    ensures { λ r. ⌜ r ≡ misplaced offset e ⌝ }
+{
+    let relative = RelativeDiskLocation(e.location);
+    let position = relative.position();
+    let header_end = position + 20;
+    if relative.is_delete() {
+        return offset < position;
+    }
+    offset < header_end
+}
+
+// 12, of all.
+pub fn some_misplaced(trailer: &[u8], offset: u64) -> bool
     requires { ⌜ 12 + 16 * countIn (now trailer) ≤ length (now trailer) ⌝ }
-    ensures { λ r. ⌜ r ≡ someOver offset (entriesIn (now (trailer .entry))) ⌝ }
+    ensures { λ r. ⌜ r ≡ any (misplaced offset) (entriesIn (now (trailer .entry))) ⌝ }
 {
     let n = count(trailer);
     let mut k: u64 = 0;
     while k < n {
-        let e = entry(trailer, k);
-        let relative = RelativeDiskLocation(e.location);
-        if offset < relative.position() {
+        if misplaced(entry(trailer, k), offset) {
             return true;
         }
         k += 1;

@@ -1,12 +1,11 @@
 use mathlib.Core.Path.{sym, ap, _∙_, _≡_}
 use Rattle.trailer.specs.Entries.{entries-count}
 use Rattle.rules.specs.declared.Entry.{Entry}
-use Rattle.reopen_tests.proofs.Turns.{any-here, any-later}
 use lib.ListN.{drop, getD}
 use Rattle.rules.specs.Base.{any}
 use Rattle.rules.specs.Trailer.{countIn, entriesIn}
 use Rattle.rules.specs.Table.{noEntry}
-use Rattle.rules.specs.TurnLaws.{any-end}
+use Rattle.rules.specs.TurnLaws.{any-here, any-later, any-end}
 use Rattle.reopen_tests.specs.Ascending.{repeats}
 use Prim.Native.Nat.{_+_, _≤_, _-_}
 use native.Mathlib.Omega.{arith}
@@ -44,7 +43,7 @@ returns c =
     let es = entriesIn t in
     let l = c .before .before .before .before .loop in
     let found = ap (repeats (c .before .before .before .before .before .entry .result)) (sym (c .before .before .entry2 .ensures)) ∙ sym (c .before .repeats .ensures) ∙ c .if1 .taken in
-    sym (any-here _ noEntry es (l .j) (omega (arith, entries-count t (c .before .before .before .before .before .before .before .before .pre .1), l .inv)) found) ∙ l .inv .3
+    sym (any-here es (l .j) noEntry (omega (arith, entries-count t (c .before .before .before .before .before .before .before .before .pre .1), l .inv)) _ found) ∙ l .inv .3
     ∙ ap (λ (e : Entry). any (repeats e) (drop (c .before .before .before .before .before .before .before .before .args .k + 1) es)) (l .inv .2)
 
 add-j-2 : tie.Need-add-j-2 Inv-loop μ-loop
@@ -59,7 +58,7 @@ loop-again c =
     let es = entriesIn t in
     let l = c .before .before .before .before .loop in
     let found = ap (repeats (c .before .before .before .before .before .entry .result)) (sym (c .before .before .entry2 .ensures)) ∙ sym (c .before .repeats .ensures) ∙ c .if1 .left in
-    (l .inv .0, omega arith, l .inv .2, any-later _ noEntry es (l .j) (omega (arith, entries-count t (c .before .before .before .before .before .before .before .before .pre .1), l .inv)) found ∙ l .inv .3)
+    (l .inv .0, omega arith, l .inv .2, any-later es (l .j) noEntry (omega (arith, entries-count t (c .before .before .before .before .before .before .before .before .pre .1), l .inv)) _ found ∙ l .inv .3)
 
 returns-2 : tie.Need-returns-2 Inv-loop μ-loop
 returns-2 c =

@@ -27,14 +27,14 @@ enum-known-refusal c = search needs
 enum-told : tie.Need-enum-told
 enum-told c = search needs
 
-some-over-requires : tie.Need-some-over-requires
-some-over-requires c κs = clear-fits (begun c .args .bytes .now) (clear c)
+some-misplaced-requires : tie.Need-some-misplaced-requires
+some-misplaced-requires c κs = clear-fits (begun c .args .bytes .now) (clear c)
 
 returns : tie.Need-returns
 returns c =
     let k = c .before .before in
     let a = begun k .args in
-    sym (entry-clear (a .l) (a .bytes .now) (clear k) ∙ rw (← c .before .some-over .ensures, c .if1 .taken) refl)
+    sym (entry-clear (a .l) (a .bytes .now) (clear k) ∙ rw (← c .before .some-misplaced .ensures, c .if1 .taken) refl)
 
 count-requires : tie.Need-count-requires
 count-requires c κs =
@@ -48,7 +48,7 @@ returns-2 c =
     let a = begun k .args in
     let t = a .bytes .now in
     sym (entry-clear (a .l) t (clear k)
-    ∙ rw (← n .before .before .some-over .ensures, n .before .if1 .left, ne-eqb (a .l .«present_objects») (countIn t) (λ e. c .if2 .taken (e ∙ sym (n .count .ensures)))) refl)
+    ∙ rw (← n .before .before .some-misplaced .ensures, n .before .if1 .left, ne-eqb (a .l .«present_objects») (countIn t) (λ e. c .if2 .taken (e ∙ sym (n .count .ensures)))) refl)
 
 returns-3 : tie.Need-returns-3
 returns-3 c =
@@ -64,7 +64,7 @@ returns-4 c =
     let a = begun k .args in
     let t = a .bytes .now in
     sym (entry-clear (a .l) t (clear k)
-    ∙ rw (← n .before .before .some-over .ensures, n .before .if1 .left, eq-eqb (a .l .«present_objects») (countIn t) (c .if2 .left ∙ n .count .ensures)) refl)
+    ∙ rw (← n .before .before .some-misplaced .ensures, n .before .if1 .left, eq-eqb (a .l .«present_objects») (countIn t) (c .if2 .left ∙ n .count .ensures)) refl)
 
 pub check-trailer-spec : {M : Type 1} → statement M
 check-trailer-spec =
@@ -73,7 +73,7 @@ check-trailer-spec =
     check-requires
     enum-known-refusal
     enum-told
-    some-over-requires
+    some-misplaced-requires
     returns
     count-requires
     returns-2
