@@ -53,17 +53,20 @@ def misplaced(path):
 
 
 def refuser(crate, label):
-    """What the first error of an edit's log stands at: a function of the code, or a law with its file."""
+    """What refuses an edit by its log: a function of the code, or a law with its file; and whether the proof only no longer fits. A function that
+    needs no proof file has no error of its own: the search does not close a need of it, and its callers cannot be checked."""
     with open(os.path.join(ROOT, 'target', 'must-fail', crate, label, '.log'), encoding='utf-8', errors='replace') as log:
-        for line in log:
-            at = re.search(r'/(proofs|specs)/([^ :]*)\.antt:\d+:\d+: error: `([^`]*)`', line)
-            if not at:
-                continue
-            part, where, name = at.groups()
-            if part == 'proofs' and where.endswith('/Proof'):
-                return '`%s`' % '::'.join(where.split('/')[:-1]).lstrip('+'), bool(MISFIT.search(line))
-            return '`%s` (`%s`)' % (name, where), bool(MISFIT.search(line))
-    return None, True
+        text = log.read()
+    unclosed = re.search(r'^fn \w+::(\S+): no proof: .*`search` does not close', text, re.M)
+    for line in text.split('\n'):
+        at = re.search(r'/(proofs|specs)/([^ :]*)\.antt:\d+:\d+: error: `([^`]*)`', line)
+        if not at or unclosed and 'was not admitted' in line:
+            continue
+        part, where, name = at.groups()
+        if part == 'proofs' and where.endswith('/Proof'):
+            return '`%s`' % '::'.join(where.split('/')[:-1]).lstrip('+'), bool(MISFIT.search(line))
+        return '`%s` (`%s`)' % (name, where), bool(MISFIT.search(line))
+    return ('`%s`' % unclosed.group(1), False) if unclosed else (None, True)
 
 
 def named(crate, by):

@@ -31,7 +31,9 @@ static uint8_t digit(char c) { return (uint8_t)(c <= '9' ? c - '0' : c - 'a' + 1
 static void hex(void) {
     char *word = strtok(0, " ");
     bytes = (uint8_t *)word;
-    for (bytes_len = 0; word[0] != '-' && word[2 * bytes_len] != 0; bytes_len++)
+    bytes_len = 0;
+    if (word[0] == '-') return;
+    for (; word[2 * bytes_len] != 0; bytes_len++)
         bytes[bytes_len] = (uint8_t)(digit(word[2 * bytes_len]) << 4 | digit(word[2 * bytes_len + 1]));
 }
 
