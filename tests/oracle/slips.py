@@ -52,9 +52,9 @@ ON_ARBITRARY_STATES = {'files looked up by masked location': ['--count', '300']}
 
 
 def noticed(folder, name, words):
-    """a difference is found: anything else that ends the run is not taken for one"""
+    """a difference is found: anything else that ends the run is not taken for one. The original's process may have said something before it"""
     done = subprocess.run([sys.executable, os.path.join(folder, name)] + words, capture_output=True, text=True)
-    if done.returncode != 0 and not done.stderr.startswith('DIFFERENCE'):
+    if done.returncode != 0 and not any(line.startswith('DIFFERENCE') for line in done.stderr.split('\n')):
         raise SystemExit(f'{name} ended with {done.stderr[-500:]}')
     return done.returncode != 0
 
