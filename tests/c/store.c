@@ -297,6 +297,7 @@ uint64_t compare_and_store(uint64_t id, uint64_t old, uint64_t location) {
     uint64_t n = marble_compare_and_store(w.ids, w.ids_len, w.locations, w.locations_len, id, old, location, OUT(0));
     stack_below(COMPARE, 0);
     behind(COMPARE, n == MARBLE_OK && *OUT(0) == 0 ? HEAP | STATE | CLAIMS : ALL);
+    if (n != MARBLE_OK) expect("refused compare: 0", out[0], 0);
     return n;
 }
 
@@ -306,6 +307,7 @@ uint64_t store_if_greater(uint64_t id, uint64_t location) {
     uint64_t n = marble_store_if_greater(w.ids, w.ids_len, w.locations, w.locations_len, id, location, OUT(0));
     stack_below(GREATER, 0);
     behind(GREATER, n == MARBLE_OK && *OUT(0) < location ? HEAP | STATE | CLAIMS : ALL);
+    if (n != MARBLE_OK) expect("refused store-if-greater: 0", out[0], 0);
     return n;
 }
 
