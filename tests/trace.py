@@ -7,7 +7,7 @@
     `Module.x`            in that module of the page's own crates, the first that has one; else of the one crate that has one
     `Record.x`            a field of a record of the page's own crates
     `crate/label`         crates/CRATE/must-fail/LABEL.edit
-    `x`, `y` (`Module`)   both stand in that module; so do `x`, `y` in `Module`
+    `x`, `y a` (`Module`) both stand in that module, whatever y is given; so do `x`, `y` in `Module`
     `Module.x`, `y`       a name behind a comma stands where the one before it does; `crate::f`, `g` and `crate/label`, `label` too
     `x`                   in the page's own crates, or in one that its section names
 
@@ -120,15 +120,17 @@ class Page:
         """each name that is not where it is said to be, with its line"""
         spans = [(m.start(), m.end(), m[1]) for m in SPAN.finditer(self.text)]
         carried, self.seen = None, 0
-        for k, (start, end, name) in enumerate(spans):
+        for k, (start, _, name) in enumerate(spans):
             line = self.text.count('\n', 0, start) + 1
             between = self.text[spans[k - 1][1]:start] if k else ''
             if not COMMA.fullmatch(between):
                 carried = None
+            said = self.said_behind(spans, k)
+            if said is not None:
+                name = name.split()[0]  # with what it is given
             if not NAME.fullmatch(name) or len(name) < 3 or name in WORDS or name.endswith('.rs'):
                 continue
             self.seen += 1
-            said = self.said_behind(spans, k)
             place = self.place(name)
             crate, _, label = name.partition('/')
             if said is not None and place is None:
