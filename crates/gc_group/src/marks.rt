@@ -27,7 +27,7 @@ ghost use Rattle.rules.specs.Layout.{table, tableIds};
 ghost use Rattle.location_table.specs.Tables.{Formed};
 ghost use Rattle.location_table.specs.LayoutLaws.{used};
 ghost use Rattle.file_map.specs.Lists.{lsnsOf};
-ghost use Rattle.gc_group.specs.Plan.{planned};
+ghost use Rattle.gc_candidates.specs.Plan.{planned};
 ghost use Rattle.gc_group.specs.Source.{Lies, source, Ready};
 ghost use Rattle.gc_group.specs.Checks.{groupChecks};
 ghost use Rattle.gc_group.specs.Clear.{Inside, SumFits, Clear};

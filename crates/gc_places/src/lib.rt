@@ -16,7 +16,7 @@ ghost use Rattle.rules.specs.SettingsLaws.{InRanges};
 ghost use Rattle.rules.specs.Layout.{table, tableIds};
 ghost use Rattle.location_table.specs.Tables.{Formed};
 ghost use Rattle.location_table.specs.LayoutLaws.{used};
-ghost use Rattle.gc_group.specs.Plan.{planned};
+ghost use Rattle.gc_candidates.specs.Plan.{planned};
 ghost use Rattle.gc_group.specs.Source.{source, Ready};
 ghost use Rattle.gc_group.specs.Checks.{groupChecks};
 ghost use Rattle.gc_group.specs.Marks.{foundAt};

@@ -1,3 +1,4 @@
+// The candidates of maintenance (`src/gc.rs`), fixed as the call starts, and the groups that they make: a new generation for each slot.
 use claims::is_claimed;
 use file_map::is_empty;
 use rules::Claims;
@@ -11,7 +12,7 @@ ghost use Rattle.rules.specs.Base.{larger};
 ghost use Rattle.rules.specs.SettingsLaws.{InRanges};
 ghost use Rattle.rules.specs.Maintenance.{worthIt, newGeneration, isCandidate};
 ghost use Rattle.file_map.specs.Records.{Small, Bounded};
-ghost use Rattle.gc_group.specs.Plan.{planFor, planOf, planned};
+ghost use Rattle.gc_candidates.specs.Plan.{planFor, planOf, planned};
 
 // "max(present, 1)"
 fn at_least_one(n: u64) -> u64

@@ -1,10 +1,10 @@
 use Prim.Native.Nat.{_-_}
 use native.Mathlib.Omega.{arith}
 use borrow.Author.Needs.{needs}
-use Rattle.gc_group.proofs.plan.worth_it.Statement.{statement}
-use Rattle.gc_group.proofs.plan.worth_it.Tie as tie
+use Rattle.gc_candidates.proofs.worth_it.Statement.{statement}
+use Rattle.gc_candidates.proofs.worth_it.Tie as tie
 use native.Mathlib.Nat.{mul-le-mul-right}
-use Rattle.gc_group.proofs.Worth.{worth-share, worth-few, worth-many}
+use Rattle.gc_candidates.proofs.Worth.{worth-share, worth-few, worth-many}
 
 mul-share : tie.Need-mul-share
 mul-share c = search needs

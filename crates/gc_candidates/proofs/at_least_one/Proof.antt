@@ -1,8 +1,8 @@
 use Prim.Native.Nat.{_-_}
 use mathlib.Core.Path.{sym, ap}
 use native.Mathlib.Omega.{arith}
-use Rattle.gc_group.proofs.plan.at_least_one.Statement.{statement}
-use Rattle.gc_group.proofs.plan.at_least_one.Tie as tie
+use Rattle.gc_candidates.proofs.at_least_one.Statement.{statement}
+use Rattle.gc_candidates.proofs.at_least_one.Tie as tie
 use mathlib.Core.Bool.{Bool}
 use borrow.Author.Tests.{le-leb, lt-leb}
 use Rattle.rules.specs.Base.{pick}

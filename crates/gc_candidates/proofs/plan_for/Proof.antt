@@ -1,9 +1,9 @@
 use Prim.Native.Nat.{_-_}
 use mathlib.Core.Path.{sym, _∙_}
 use borrow.Author.Needs.{needs}
-use Rattle.gc_group.proofs.plan.plan_for.Statement.{statement}
-use Rattle.gc_group.proofs.plan.plan_for.Tie as tie
-use Rattle.gc_group.specs.Plan.{planFor}
+use Rattle.gc_candidates.proofs.plan_for.Statement.{statement}
+use Rattle.gc_candidates.proofs.plan_for.Tie as tie
+use Rattle.gc_candidates.specs.Plan.{planFor}
 
 is-candidate-requires : tie.Need-is-candidate-requires
 is-candidate-requires c κs = search needs

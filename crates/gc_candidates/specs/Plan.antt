@@ -5,7 +5,7 @@ use Prim.Native.Nat.{_≤_, _<_}
 use native.Mathlib.Nat.{not-suc-le-zero, le-of-suc-le-suc, zero-add}
 use native.Mathlib.Numerals.{add-one}
 use native.Mathlib.Omega.{arith}
-use lib.ListN.{drop-of-length-le}
+use lib.ListN.{List·getD-eq-default, drop-of-length-le}
 use lib.Seq.{drop-cons}
 use borrow.Author.Tests.{eq-eqb, ne-eqb}
 use Rattle.rules.specs.Base.{Bool, true, false, _&&_, List, [], _∷_, ℕ, zero, suc, _+_, length, getD, drop, eqb, pick}
@@ -14,8 +14,9 @@ use Rattle.rules.specs.BaseLaws.{All, same?}
 use Rattle.rules.specs.declared.Record.{Record}
 use Rattle.rules.specs.declared.Settings.{Settings}
 use Rattle.rules.specs.declared.Claims.{Claims}
-use Rattle.rules.specs.FileMap.{recordAt, slotsWhere, fileCount}
+use Rattle.rules.specs.FileMap.{isEmpty, recordAt, slotsWhere, fileCount}
 use Rattle.rules.specs.Maintenance.{newGeneration, isCandidate, group}
+use Rattle.rules.specs.MaintenanceLaws.{candidate}
 use Rattle.rules.specs.World.{World, recordsOf}
 
 -- a candidate's new generation; 0 for any other slot
@@ -81,6 +82,24 @@ plan-length s claims rs = from-length s claims (fileCount rs) 0 rs
 pub plan-at : (s : Settings) (claims : Claims) (rs : List Record) (k : ℕ) → k < length rs → getD (planOf s claims rs) k 0 ≡ planFor s claims (fileCount rs) k (recordAt rs k)
 unfolding planOf
 plan-at s claims rs k h = from-at s claims (fileCount rs) 0 rs k h ∙ ap (λ (n : ℕ). planFor s claims (fileCount rs) n (recordAt rs k)) (zero-add k)
+
+plan-some : (s : Settings) (claims : Claims) (files slot : ℕ) (r : Record) → 0 < planFor s claims files slot r → isEmpty r ≡ false
+unfolding planFor
+plan-some s claims files slot r h = go (isCandidate s claims files slot r) refl h
+  where
+    go : (t : Bool) → isCandidate s claims files slot r ≡ t → 0 < pick t (newGeneration (r .label .generation)) 0 → isEmpty r ≡ false
+    go true e h = candidate s claims files slot r e .file
+    go false e h = absurd (omega arith)
+
+-- a slot of the plan has a file
+pub plan-files : (s : Settings) (claims : Claims) (rs : List Record) (k : ℕ) → 0 < getD (planOf s claims rs) k 0 → isEmpty (recordAt rs k) ≡ false
+plan-files s claims rs k h = go (either-way k (length rs))
+  where
+    go : (k < length rs) ⊎ (length rs ≤ k) → isEmpty (recordAt rs k) ≡ false
+    go (inl i) = let n = plan-at s claims rs k i in plan-some s claims (fileCount rs) k (recordAt rs k) (omega arith)
+    go (inr i) =
+        let z : getD (planOf s claims rs) k 0 ≡ 0 = List·getD-eq-default (planOf s claims rs) 0 {n = k} (omega (arith, plan-length s claims rs)) in
+        absurd (omega arith)
 
 -- ---- a turn over the slots of a group
 module _ (plan : List ℕ) (generation i : ℕ) (h : i < length plan) where

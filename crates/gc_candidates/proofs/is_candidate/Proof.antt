@@ -1,8 +1,8 @@
 use Prim.Native.Nat.{_-_}
 use mathlib.Core.Path.{sym, _∙_}
 use borrow.Author.Needs.{needs}
-use Rattle.gc_group.proofs.plan.is_candidate.Statement.{statement}
-use Rattle.gc_group.proofs.plan.is_candidate.Tie as tie
+use Rattle.gc_candidates.proofs.is_candidate.Statement.{statement}
+use Rattle.gc_candidates.proofs.is_candidate.Tie as tie
 use borrow.Author.Tests.{eq-eqb, ne-eqb}
 use Rattle.rules.specs.Maintenance.{isCandidate}
 

@@ -3,10 +3,10 @@ use mathlib.Core.Path.{_≡_, ap}
 use native.Mathlib.Omega.{arith}
 use borrow.Author.Needs.{needs}
 use lib.ListN.{length, drop}
-use Rattle.gc_group.proofs.plan.group_count.Statement.{statement}
-use Rattle.gc_group.proofs.plan.group_count.Tie as tie
+use Rattle.gc_candidates.proofs.group_count.Statement.{statement}
+use Rattle.gc_candidates.proofs.group_count.Tie as tie
 use mathlib.Core.Logic.{⊎-elim}
-use Rattle.gc_group.specs.Plan.{planned, plannedFrom, planned-here, planned-next, planned-start, planned-end}
+use Rattle.gc_candidates.specs.Plan.{planned, plannedFrom, planned-here, planned-next, planned-start, planned-end}
 
 abbrev Inv-loop : tie.InvT-loop
 Inv-loop plan generation n₀ i₀ n i = (i ≤ length plan) × (n ≤ i) × (length (planned plan generation) ≡ n + length (plannedFrom i (drop i plan) generation))

@@ -2,8 +2,8 @@ use Prim.Native.Nat.{_-_, suc}
 use mathlib.Core.Path.{sym, ap, _∙_}
 use native.Mathlib.Omega.{arith}
 use borrow.Author.Needs.{needs}
-use Rattle.gc_group.proofs.plan.new_generation.Statement.{statement}
-use Rattle.gc_group.proofs.plan.new_generation.Tie as tie
+use Rattle.gc_candidates.proofs.new_generation.Statement.{statement}
+use Rattle.gc_candidates.proofs.new_generation.Tie as tie
 use native.Mathlib.Numerals.{add-one}
 use mathlib.Core.Bool.{Bool}
 use borrow.Author.Tests.{le-leb, lt-leb}
