@@ -1,8 +1,10 @@
 // Looking: the listing, and everything.
 use crate::say;
 use desk::Bench;
+use location_table::capacity;
 use rules::Claims;
 use rules::FileMap;
+use rules::RECORDS;
 use rules::Record;
 ghost use mathlib.Core.Path.{_≡_};
 ghost use lib.ListN.{length};
@@ -24,7 +26,7 @@ fn file_line(slot: u64, r: Record) {
 
 fn file_lines(files: FileMap) {
     let mut i: usize = 0;
-    while i < 256 {
+    while i < RECORDS {
         let r = files.records[i];
         file_line(i as u64, r);
         i += 1;
@@ -35,9 +37,10 @@ fn file_lines(files: FileMap) {
 fn used(ids: &[u64], locations: &[u64]) -> usize
     ensures { λ r. ⌜ r ≡ length (usedIn (now (ids .entry)) (now (locations .entry))) ⌝ }
 {
+    let n = capacity(ids);
     let mut k: usize = 0;
-    while k < ids.len() {
-        if locations.len() <= k {
+    while k < n {
+        if capacity(locations) <= k {
             return k;
         }
         if location_table::location_at(locations, k) == 0 {
@@ -73,7 +76,7 @@ fn record_line(slot: u64, r: Record) {
 
 fn record_lines(files: FileMap) {
     let mut i: usize = 0;
-    while i < 256 {
+    while i < RECORDS {
         let r = files.records[i];
         record_line(i as u64, r);
         i += 1;
@@ -82,7 +85,7 @@ fn record_lines(files: FileMap) {
 
 fn claimed_lines(c: Claims) {
     let mut slot: u64 = 0;
-    while slot < 256 {
+    while slot < RECORDS {
         if claims::is_claimed(c, slot) {
             say::named(b"claimed", slot);
         }
@@ -102,7 +105,7 @@ fn entry_line(k: u64, id: u64, location: u64) {
 }
 
 fn entry_lines(ids: &[u64], locations: &[u64]) {
-    let n = desk::least(ids.len(), locations.len());
+    let n = desk::least(capacity(ids), capacity(locations));
     let mut k: usize = 0;
     while k < n {
         let id = location_table::id_at(ids, k);

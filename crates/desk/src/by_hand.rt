@@ -3,7 +3,9 @@ use crate::Bench;
 use crate::Turn;
 use crate::turns::bad_line;
 use crate::turns::done;
+use location_table::capacity;
 use rules::Claims;
+use rules::RECORDS;
 use rules::Record;
 use rules::Settings;
 ghost use mathlib.Core.Path.{_≡_};
@@ -66,10 +68,10 @@ pub fn table(
     ensures { λ r. ⌜ ((heap : List ℕ) → left r heap (now (ids .exit)) (now (locations .exit)) ≡ tableBy count «locations_count» (desk b heap (now (ids .entry)) (now (locations .entry)))) ⌝ }
 {
     let mut next = b;
-    if (ids.len() as u64) < count {
+    if (capacity(ids) as u64) < count {
         return bad_line(b);
     }
-    if (locations.len() as u64) < locations_count {
+    if (capacity(locations) as u64) < locations_count {
         return bad_line(b);
     }
     location_table::clear(ids, locations);
@@ -102,10 +104,10 @@ pub fn entry(
 ) -> Turn
     ensures { λ r. ⌜ ((heap : List ℕ) → left r heap (now (ids .exit)) (now (locations .exit)) ≡ entryBy k id location (desk b heap (now (ids .entry)) (now (locations .entry)))) ⌝ }
 {
-    if (ids.len() as u64) <= k {
+    if capacity(ids) as u64 <= k {
         return bad_line(b);
     }
-    if (locations.len() as u64) <= k {
+    if capacity(locations) as u64 <= k {
         return bad_line(b);
     }
     let at = k as usize;
@@ -138,7 +140,7 @@ pub fn record(b: Bench, n: [u64; 9]) -> Turn
 {
     let mut next = b;
     let slot = n[0];
-    if 256 <= slot {
+    if RECORDS as u64 <= slot {
         return bad_line(b);
     }
     let mut s = b.state;

@@ -4,6 +4,7 @@ use limits::bad_files;
 use limits::refused_apart;
 use limits::rest_of;
 use rules::Held;
+use rules::LABEL_BYTES;
 use rules::Label;
 use rules::ReadAnswer;
 use rules::Refusal;
@@ -28,7 +29,7 @@ fn file_part(heap: &[u8], slot_bytes: u64, slot: u64, l: Label) -> &[u8]
     requires { ⌜ Lies «slot_bytes» l slot (length (now heap)) ⌝ }
     ensures { λ x. ⌜ now x ≡ fileIn l (slotBytes «slot_bytes» (now (heap .entry)) slot) ⌝ }
 {
-    let start = (slot * slot_bytes) as usize + 64;
+    let start = (slot * slot_bytes) as usize + LABEL_BYTES;
     let end = start + l.file_size as usize;
     &heap[start..end]
 }
@@ -46,7 +47,9 @@ fn object_at(
     ensures { λ x. ⌜ x ≡ inHeap (slot * «slot_bytes» + 64) (bodyOf id (storedAt position (drop position (fileIn l (slotBytes «slot_bytes» (now (heap .entry)) slot))))) ⌝ }
 {
     match slot_file::object::read(file_part(heap, slot_bytes, slot, l), position, id) {
-        BodyAnswer::Body(start, size) => { ReadAnswer::Found(slot * slot_bytes + 64 + start, size) }
+        BodyAnswer::Body(start, size) => {
+            ReadAnswer::Found(slot * slot_bytes + LABEL_BYTES as u64 + start, size)
+        }
         BodyAnswer::Unread(refusal) => ReadAnswer::ReadRefused(refusal),
     }
 }
