@@ -5,7 +5,6 @@ use desk::Bench;
 use desk::Look;
 use desk::Reply;
 use desk::Turn;
-use location_table::capacity;
 use rules::CompareAnswer;
 use rules::CountsAnswer;
 use rules::LoadAnswer;
@@ -30,8 +29,8 @@ fn body(b: Bench, heap: &[u8], ids: &[u64], locations: &[u64], id: u64) {
 // The body is read again from the lent parts, which a read leaves alone.
 fn found(b: Bench, heap: &[u8], ids: &[u64], locations: &[u64], id: u64) {
     let h = desk::least(b.heap_len, heap.len());
-    let i = desk::least(b.ids_len, capacity(ids));
-    let l = desk::least(b.locations_len, capacity(locations));
+    let i = desk::least(b.ids_len, ids.len());
+    let l = desk::least(b.locations_len, locations.len());
     body(b, &heap[0..h], &ids[0..i], &locations[0..l], id);
 }
 
@@ -90,15 +89,15 @@ fn comment(line: &[u8]) {
 }
 
 fn listed(b: Bench, ids: &[u64], locations: &[u64]) {
-    let i = desk::least(b.ids_len, capacity(ids));
-    let l = desk::least(b.locations_len, capacity(locations));
+    let i = desk::least(b.ids_len, ids.len());
+    let l = desk::least(b.locations_len, locations.len());
     show::list(b, &ids[0..i], &locations[0..l]);
 }
 
 fn dumped(b: Bench, heap: &[u8], ids: &[u64], locations: &[u64]) {
     let h = desk::least(b.heap_len, heap.len());
-    let i = desk::least(b.ids_len, capacity(ids));
-    let l = desk::least(b.locations_len, capacity(locations));
+    let i = desk::least(b.ids_len, ids.len());
+    let l = desk::least(b.locations_len, locations.len());
     show::dump(b, &heap[0..h], &ids[0..i], &locations[0..l]);
 }
 

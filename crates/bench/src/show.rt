@@ -1,7 +1,6 @@
 // Looking: the listing, and everything.
 use crate::say;
 use desk::Bench;
-use location_table::capacity;
 use rules::Claims;
 use rules::FileMap;
 use rules::RECORDS;
@@ -37,10 +36,9 @@ fn file_lines(files: FileMap) {
 fn used(ids: &[u64], locations: &[u64]) -> usize
     ensures { λ r. ⌜ r ≡ length (usedIn (now (ids .entry)) (now (locations .entry))) ⌝ }
 {
-    let n = capacity(ids);
     let mut k: usize = 0;
-    while k < n {
-        if capacity(locations) <= k {
+    while k < ids.len() {
+        if locations.len() <= k {
             return k;
         }
         if location_table::location_at(locations, k) == 0 {
@@ -105,7 +103,7 @@ fn entry_line(k: u64, id: u64, location: u64) {
 }
 
 fn entry_lines(ids: &[u64], locations: &[u64]) {
-    let n = desk::least(capacity(ids), capacity(locations));
+    let n = desk::least(ids.len(), locations.len());
     let mut k: usize = 0;
     while k < n {
         let id = location_table::id_at(ids, k);

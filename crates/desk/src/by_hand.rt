@@ -3,7 +3,6 @@ use crate::Bench;
 use crate::Turn;
 use crate::turns::bad_line;
 use crate::turns::done;
-use location_table::capacity;
 use rules::Claims;
 use rules::RECORDS;
 use rules::Record;
@@ -68,10 +67,10 @@ pub fn table(
     ensures { λ r. ⌜ ((heap : List ℕ) → left r heap (now (ids .exit)) (now (locations .exit)) ≡ tableBy count «locations_count» (desk b heap (now (ids .entry)) (now (locations .entry)))) ⌝ }
 {
     let mut next = b;
-    if (capacity(ids) as u64) < count {
+    if (ids.len() as u64) < count {
         return bad_line(b);
     }
-    if (capacity(locations) as u64) < locations_count {
+    if (locations.len() as u64) < locations_count {
         return bad_line(b);
     }
     location_table::clear(ids, locations);
@@ -104,10 +103,10 @@ pub fn entry(
 ) -> Turn
     ensures { λ r. ⌜ ((heap : List ℕ) → left r heap (now (ids .exit)) (now (locations .exit)) ≡ entryBy k id location (desk b heap (now (ids .entry)) (now (locations .entry)))) ⌝ }
 {
-    if capacity(ids) as u64 <= k {
+    if (ids.len() as u64) <= k {
         return bad_line(b);
     }
-    if capacity(locations) as u64 <= k {
+    if (locations.len() as u64) <= k {
         return bad_line(b);
     }
     let at = k as usize;

@@ -4,7 +4,6 @@ pub mod by_hand;
 pub mod calls;
 mod turns;
 
-use location_table::capacity;
 use rules::Answer;
 use rules::Claims;
 use rules::CompareAnswer;
@@ -205,8 +204,8 @@ fn lent(
     ensures { λ r. ⌜ left r (now (heap .exit)) (now (ids .exit)) (now (locations .exit)) ≡ onLent (lentBy keyword n (now (bytes .entry))) (desk b (now (heap .entry)) (now (ids .entry)) (now (locations .entry))) ⌝ }
 {
     let h = least(b.heap_len, heap.len());
-    let i = least(b.ids_len, capacity(ids));
-    let l = least(b.locations_len, capacity(locations));
+    let i = least(b.ids_len, ids.len());
+    let l = least(b.locations_len, locations.len());
     after_lent(
         b,
         keyword,

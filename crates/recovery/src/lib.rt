@@ -2,7 +2,6 @@
 use claims::no_claims;
 use file_map::no_files;
 use limits::out_of_range;
-use location_table::capacity;
 use location_table::clear;
 use rebuild::counts::next_position;
 use rebuild::counts::with_live_counts;
@@ -71,7 +70,7 @@ fn rebuilt(
     ensures { λ r. ⌜ leaves settings r (now (heap .entry)) (now (ids .exit)) (now (locations .exit)) ≡ pastTests (bare settings (now (heap .entry)) (now (ids .entry)) (now (locations .entry))) (viewsIn n size (now (heap .entry))) ⌝ }
 {
     let heap_len = heap.len() as u64;
-    let table_len = capacity(ids) as u64;
+    let table_len = ids.len() as u64;
     if !fill(heap, size, n, slots, ids, locations) {
         return given_up(settings, heap_len, table_len, Refusal::TableRoom);
     }
@@ -97,7 +96,7 @@ fn tested(
     ensures { λ r. ⌜ leaves settings r (now (heap .entry)) (now (ids .exit)) (now (locations .exit)) ≡ pastSlots (bare settings (now (heap .entry)) (now (ids .entry)) (now (locations .entry))) (viewsIn n size (now (heap .entry))) ⌝ }
 {
     match check(heap, size, n, slots) {
-        Answer::Refused(r) => given_up(settings, heap.len() as u64, capacity(ids) as u64, r),
+        Answer::Refused(r) => given_up(settings, heap.len() as u64, ids.len() as u64, r),
         Answer::Done => rebuilt(settings, heap, size, n, slots, ids, locations),
     }
 }
@@ -113,7 +112,7 @@ fn recovered(settings: Settings, heap: &[u8], ids: &mut [u64], locations: &mut [
     let found = survey(heap, size, n);
     let answer = found.answer;
     match answer {
-        Answer::Refused(r) => given_up(settings, heap.len() as u64, capacity(ids) as u64, r),
+        Answer::Refused(r) => given_up(settings, heap.len() as u64, ids.len() as u64, r),
         Answer::Done => {
             let slots = found.slots;
             tested(settings, heap, size, n, slots, ids, locations)
