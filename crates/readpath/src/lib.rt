@@ -24,6 +24,9 @@ ghost use Rattle.rules.specs.Layout.{table};
 ghost use Rattle.slot_file.specs.Objects.{bodyOf};
 ghost use Rattle.readpath.specs.Reads.{Lies, inHeap, Within, placeOf};
 
+// The label's bytes, where the heap is counted in u64.
+const LABEL: u64 = LABEL_BYTES as u64;
+
 // "a 64-byte label, then the file": the file of a slot, a part of the lent heap.
 fn file_part(heap: &[u8], slot_bytes: u64, slot: u64, l: Label) -> &[u8]
     requires { ⌜ Lies «slot_bytes» l slot (length (now heap)) ⌝ }
@@ -48,7 +51,7 @@ fn object_at(
 {
     match slot_file::object::read(file_part(heap, slot_bytes, slot, l), position, id) {
         BodyAnswer::Body(start, size) => {
-            ReadAnswer::Found(slot * slot_bytes + LABEL_BYTES as u64 + start, size)
+            ReadAnswer::Found(slot * slot_bytes + LABEL + start, size)
         }
         BodyAnswer::Unread(refusal) => ReadAnswer::ReadRefused(refusal),
     }
