@@ -83,7 +83,7 @@ fn record_lines(files: FileMap) {
 
 fn claimed_lines(c: Claims) {
     let mut slot: u64 = 0;
-    while slot < RECORDS {
+    while slot < RECORDS as u64 {
         if claims::is_claimed(c, slot) {
             say::named(b"claimed", slot);
         }
