@@ -3,6 +3,7 @@ use claims::is_claimed;
 use file_map::is_empty;
 use rules::Claims;
 use rules::FileMap;
+use rules::RECORDS;
 use rules::Record;
 use rules::Settings;
 ghost use mathlib.Core.Path.{_≡_};
@@ -83,15 +84,15 @@ fn plan_for(s: Settings, claims: Claims, files: u64, slot: u64, r: Record) -> u6
 }
 
 // "Candidates, fixed as the call starts": the file count is of all files, claimed and dead ones too.
-pub fn plan(s: Settings, claims: Claims, m: FileMap) -> [u64; 256]
+pub fn plan(s: Settings, claims: Claims, m: FileMap) -> [u64; RECORDS]
     requires { ⌜ InRanges s ⌝ }
     requires { ⌜ Bounded (m .records) ⌝ }
     ensures { λ p. ⌜ p ≡ planOf s claims (m .records) ⌝ }
 {
     let files = file_map::counts(m).files;
-    let mut p = [0u64; 256];
+    let mut p = [0u64; RECORDS];
     let mut i: usize = 0;
-    while i < 256 {
+    while i < RECORDS {
         p[i] = plan_for(s, claims, files, i as u64, m.records[i]);
         i += 1;
     }

@@ -8,6 +8,8 @@ use rules::Answer;
 use rules::Entry;
 use rules::FileMap;
 use rules::Label;
+use rules::OBJECT_HEADER;
+use rules::RECORDS;
 use rules::Settings;
 use slot_file::Step;
 use slot_file::object;
@@ -72,7 +74,7 @@ fn mark_objects(
             Step::Here(h) => {
                 let location = DiskLocation::new(lsn + position, false);
                 mark_id(ids, locations, marks, h.id, location.raw(), mark);
-                position += 20 + h.size;
+                position += OBJECT_HEADER as u64 + h.size;
             }
         }
     }
@@ -173,7 +175,7 @@ pub fn mark_group(
 {
     unmark(marks);
     let mut i: usize = 0;
-    while i < 256 {
+    while i < RECORDS {
         let r = m.records[i];
         let l = r.label;
         lsns[i] = l.lsn;

@@ -3,6 +3,7 @@ use crate::Survey;
 use file_map::no_label;
 use rules::Answer;
 use rules::Label;
+use rules::RECORDS;
 use rules::Refusal;
 use slot_file::SlotAnswer;
 use slot_file::slot;
@@ -25,7 +26,9 @@ fn no_labels() -> Labels
     ensures { λ s. ⌜ s .labels ≡ noLabels ⌝ }
 {
     let l = no_label();
-    Labels { labels: [l; 256] }
+    Labels {
+        labels: [l; RECORDS],
+    }
 }
 
 fn refusal(shown: SlotAnswer) -> Answer
