@@ -22,13 +22,6 @@ fn reads(s: Settings, state: State, heap: &[u8], ids: &[u64], locations: &[u64])
     test_host::text(b"\n");
 }
 
-// A store under its heading, and every read.
-fn shown(s: Settings, state: State, heap: &[u8], ids: &[u64], locations: &[u64], heading: &[u8]) {
-    test_host::text(heading);
-    test_host::store(state, heap, ids, locations);
-    reads(s, state, heap, ids, locations);
-}
-
 // Four batches on a fresh store, what is done by hand, the maintenance, then a reopening: what each left, and every read before and after.
 fn case(s: Settings, hand: ByHand, a: &[u64], b: &[u64], c: &[u64], d: &[u64]) {
     let mut heap = [0u8; 8192];
@@ -41,11 +34,15 @@ fn case(s: Settings, hand: ByHand, a: &[u64], b: &[u64], c: &[u64], d: &[u64]) {
     state = host::write(s, state, &mut heap, &mut ids, &mut locations, d);
     host::heap_by_hand(&mut heap, hand);
     state = host::state_by_hand(state, hand);
-    shown(s, state, &heap, &ids, &locations, b"before");
+    test_host::text(b"before");
+    test_host::store(state, &heap, &ids, &locations);
+    reads(s, state, &heap, &ids, &locations);
     state = host::maintain(s, state, hand, &mut heap, &mut ids, &mut locations);
     reads(s, state, &heap, &ids, &locations);
     state = host::reopened(s, &heap, &mut ids, &mut locations);
-    shown(s, state, &heap, &ids, &locations, b"reopened");
+    test_host::text(b"reopened");
+    test_host::store(state, &heap, &ids, &locations);
+    reads(s, state, &heap, &ids, &locations);
 }
 
 // "3 live of 4 at 75: no candidate; 2 of 3 (66): a candidate."
@@ -119,78 +116,97 @@ fn generations() -> ByHand {
     hand
 }
 
-// The three files in groups as `hand` says, each group large enough, under their heading.
-fn three_groups(heading: &[u8], hand: ByHand) {
-    test_host::text(heading);
-    three_files(settings(75, 1, 1024, 256), hand, 5);
-}
-
-// One group, a delete in it; three groups; three that are too small.
+// One group, a delete in it; three groups; three that are too small; the first file claimed; two of a generation, the third alone.
 fn groups() {
     test_host::text(b"one group\n");
     three_files(settings(75, 2, 1024, 256), nothing(), 5);
-    three_groups(b"three groups\n", generations());
+    test_host::text(b"three groups\n");
+    three_files(settings(75, 1, 1024, 256), generations(), 5);
     test_host::text(b"three skipped\n");
     three_files(settings(75, 2, 1024, 256), generations(), 5);
-}
-
-// The first file claimed; two of a generation, the third alone.
-fn left_out() {
+    test_host::text(b"claimed\n");
     let mut claimed = generations();
     claimed.claimed = 1;
-    three_groups(b"claimed\n", claimed);
+    three_files(settings(75, 1, 1024, 256), claimed, 5);
     test_host::text(b"one of two\n");
     let mut two = nothing();
     two.third = 1;
     three_files(settings(75, 2, 1024, 256), two, 5);
 }
 
-// Four files, every one of them full.
-fn full_files(heading: &[u8], s: Settings) {
-    test_host::text(heading);
-    case(s, nothing(), &[1, 5], &[2, 6], &[3, 7], &[4, DELETE]);
-}
-
-// File count at the threshold, and one below it; a file size that is no longer below the target.
+// File count at the threshold, and one below it: every file is full.
 fn small_files() {
-    full_files(b"threshold 4\n", settings(75, 2, 1024, 4));
-    full_files(b"threshold 5\n", settings(75, 2, 1024, 5));
-    full_files(b"file size at the target\n", settings(75, 2, 106, 4));
+    test_host::text(b"threshold 4\n");
+    case(
+        settings(75, 2, 1024, 4),
+        nothing(),
+        &[1, 5],
+        &[2, 6],
+        &[3, 7],
+        &[4, DELETE],
+    );
+    test_host::text(b"threshold 5\n");
+    case(
+        settings(75, 2, 1024, 5),
+        nothing(),
+        &[1, 5],
+        &[2, 6],
+        &[3, 7],
+        &[4, DELETE],
+    );
+    test_host::text(b"file size at the target\n");
+    case(
+        settings(75, 2, 106, 4),
+        nothing(),
+        &[1, 5],
+        &[2, 6],
+        &[3, 7],
+        &[4, DELETE],
+    );
 }
 
 // The body's first byte of the second file, then of the first: 10 in generation 2, and in generation 1; a length (16); a trailer byte (10).
 fn damaged() {
+    test_host::text(b"10 in the second group\n");
     let mut hand = generations();
     hand.damaged = 1108;
-    three_groups(b"10 in the second group\n", hand);
+    three_files(settings(75, 1, 1024, 256), hand, 5);
+    test_host::text(b"10 in the first group\n");
     hand.damaged = 84;
-    three_groups(b"10 in the first group\n", hand);
+    three_files(settings(75, 1, 1024, 256), hand, 5);
+    test_host::text(b"length\n");
     hand.damaged = 83;
-    three_groups(b"length\n", hand);
+    three_files(settings(75, 1, 1024, 256), hand, 5);
+    test_host::text(b"length, small\n");
     hand.damaged = 76;
-    three_groups(b"length, small\n", hand);
+    three_files(settings(75, 1, 1024, 256), hand, 5);
+    test_host::text(b"id\n");
     hand.damaged = 68;
-    three_groups(b"id\n", hand);
+    three_files(settings(75, 1, 1024, 256), hand, 5);
 }
 
 // The second file's trailer, in the second group: 19 bytes of it, as the record says (9); 20, so its checksum is wrong (10); then with a
 // checksum made good a count of 252 (11), and a delete entry whose position and lsn together reach 2^63 (20).
 fn trailers() {
+    test_host::text(b"9 in the second group\n");
     let mut hand = generations();
     hand.size = 70;
-    three_groups(b"9 in the second group\n", hand);
+    three_files(settings(75, 1, 1024, 256), hand, 5);
+    test_host::text(b"trailer of 20 bytes\n");
     hand.size = 71;
-    three_groups(b"trailer of 20 bytes\n", hand);
+    three_files(settings(75, 1, 1024, 256), hand, 5);
+    test_host::text(b"11 in the second group\n");
     hand.size = 0;
     hand.damaged = 1143;
     hand.sum = 2185209830;
-    three_groups(b"11 in the second group\n", hand);
+    three_files(settings(75, 1, 1024, 256), hand, 5);
+    test_host::text(b"20 in the second group\n");
     hand.damaged = 1182;
     hand.sum = 958860330;
-    three_groups(b"20 in the second group\n", hand);
+    three_files(settings(75, 1, 1024, 256), hand, 5);
 }
 
-// Four objects of one shard in a slot of 1,024 bytes; five files for four empty slots.
+// Four objects of one shard in a slot of 1,024 bytes; five files for four empty slots; the last positions.
 fn refused() {
     test_host::text(b"4\n");
     case(
@@ -210,17 +226,15 @@ fn refused() {
         &[7, 5],
         &[7, 6],
     );
-}
-
-// No empty slot for a later group; the last positions.
-fn refused_later() {
     test_host::text(b"5 in the third group\n");
     three_files(settings(75, 1, 1024, 256), generations(), 9);
+    test_host::text(b"7\n");
     let mut hand = generations();
     hand.next = 4611686018427387854;
-    three_groups(b"7\n", hand);
+    three_files(settings(75, 1, 1024, 256), hand, 5);
+    test_host::text(b"7 in the second group\n");
     hand.next = 4611686018427387853;
-    three_groups(b"7 in the second group\n", hand);
+    three_files(settings(75, 1, 1024, 256), hand, 5);
 }
 
 // Settings that are not the state's: nothing was reopened with slots of 100 bytes.
@@ -239,11 +253,9 @@ fn main() {
     p8();
     p9();
     groups();
-    left_out();
     small_files();
     damaged();
     trailers();
     refused();
-    refused_later();
     limits();
 }

@@ -14,12 +14,6 @@ fn reads(state: State, heap: &[u8], ids: &[u64], locations: &[u64]) {
     host::read(state, heap, ids, locations, 5);
 }
 
-// The store reopened, and id 7 read.
-fn reopened(heap: &[u8], ids: &mut [u64], locations: &mut [u64]) {
-    let state = host::reopen(heap, ids, locations);
-    host::read(state, heap, ids, locations, 7);
-}
-
 // Line P10.
 fn p10() {
     let mut heap = [0u8; 512];
@@ -34,7 +28,8 @@ fn p10() {
         b"\x07\x01\x01\x41\x09\x00",
     );
     reads(state, &heap, &ids, &locations);
-    reopened(&heap, &mut ids, &mut locations);
+    let again = host::reopen(&heap, &mut ids, &mut locations);
+    host::read(again, &heap, &ids, &locations, 7);
 }
 
 // A batch on a fresh store, then the store reopened and id 7 read.
@@ -44,7 +39,8 @@ fn alone(batch: &[u8]) {
     let mut locations = [0u64; 4];
     let fresh = host::fresh(&heap, &mut ids, &mut locations);
     host::write(fresh, &mut heap, &mut ids, &mut locations, batch);
-    reopened(&heap, &mut ids, &mut locations);
+    let state = host::reopen(&heap, &mut ids, &mut locations);
+    host::read(state, &heap, &ids, &locations, 7);
 }
 
 // Three batches, one after the other, from a next position set by hand.
@@ -58,7 +54,8 @@ fn three(next: u64, a: &[u8], b: &[u8], c: &[u8]) {
     state = host::write(state, &mut heap, &mut ids, &mut locations, b);
     state = host::write(state, &mut heap, &mut ids, &mut locations, c);
     host::read(state, &heap, &ids, &locations, 7);
-    reopened(&heap, &mut ids, &mut locations);
+    let again = host::reopen(&heap, &mut ids, &mut locations);
+    host::read(again, &heap, &ids, &locations, 7);
 }
 
 // The last operation on an id counts: put and put, put and delete, delete and put, among others.
@@ -93,15 +90,11 @@ fn cut_short() {
     beginnings(b"\xac\x02\x01\x02AB\x07\x01\x01C\xac\x02\x00");
 }
 
-// Tag 2; an id and a length not in their shortest form.
+// Tag 2; a number not in its shortest form; lengths of 2^32, 2^63 and 2^64 - 1; an id and a length over 64 bits.
 fn wrong_bytes() {
     alone(b"\x07\x02");
     alone(b"\x87\x00\x00");
     alone(b"\x07\x01\x81\x00A");
-}
-
-// Lengths of 2^32, 2^63 and 2^64 - 1; an id and a length over 64 bits.
-fn large_numbers() {
     alone(b"\x07\x01\x80\x80\x80\x80\x10A");
     alone(b"\x07\x01\x80\x80\x80\x80\x80\x80\x80\x80\x80\x01A");
     alone(b"\x07\x01\xff\xff\xff\xff\xff\xff\xff\xff\xff\x01A");
@@ -195,28 +188,20 @@ fn every_byte() {
     each_byte(84, 130);
 }
 
-// A file from position 1: its count, then id and raw location of two entries.
-fn trailer(count: u64, id: u64, raw: u64, second_id: u64, second_raw: u64) {
-    heaps::one(made(1, count, entry(id, raw), entry(second_id, second_raw)));
-}
-
-// Counts of 1, 2 and 3; T is 21: an object past it, at it and at T - 19, a delete past it.
+// Counts of 1, 2 and 3; T is 21: an object past it, at it and at T - 19, a delete past it; an id twice, rising and not, and as object and
+// delete of one position.
 fn trailers() {
-    trailer(1, 7, 0, 9, 43);
-    trailer(2, 7, 0, 9, 43);
-    trailer(3, 7, 0, 9, 43);
-    trailer(2, 7, 0, 9, 44);
-    trailer(2, 7, 0, 7, 42);
-    trailer(2, 7, 0, 9, 4);
-    trailer(2, 7, 0, 9, 45);
-}
-
-// An id twice, rising and not, and as object and delete of one position; ids that fall.
-fn two_entries() {
-    trailer(2, 7, 0, 7, 2);
-    trailer(2, 7, 2, 7, 0);
-    trailer(2, 7, 2, 7, 3);
-    trailer(2, 9, 0, 7, 2);
+    heaps::one(made(1, 1, entry(7, 0), entry(9, 43)));
+    heaps::one(made(1, 2, entry(7, 0), entry(9, 43)));
+    heaps::one(made(1, 3, entry(7, 0), entry(9, 43)));
+    heaps::one(made(1, 2, entry(7, 0), entry(9, 44)));
+    heaps::one(made(1, 2, entry(7, 0), entry(7, 42)));
+    heaps::one(made(1, 2, entry(7, 0), entry(9, 4)));
+    heaps::one(made(1, 2, entry(7, 0), entry(9, 45)));
+    heaps::one(made(1, 2, entry(7, 0), entry(7, 2)));
+    heaps::one(made(1, 2, entry(7, 2), entry(7, 0)));
+    heaps::one(made(1, 2, entry(7, 2), entry(7, 3)));
+    heaps::one(made(1, 2, entry(9, 0), entry(7, 2)));
 }
 
 // Two files of the same ids, in a table of four.
@@ -271,7 +256,8 @@ fn stale_bytes() {
         &mut locations,
         b"\x07\x01\x01A\x09\x00",
     );
-    reopened(&heap, &mut ids, &mut locations);
+    let state = host::reopen(&heap, &mut ids, &mut locations);
+    host::read(state, &heap, &ids, &locations, 7);
 }
 
 fn main() {
@@ -280,7 +266,6 @@ fn main() {
     small_batches();
     cut_short();
     wrong_bytes();
-    large_numbers();
     object_sizes();
     slot_room();
     full_heap();
@@ -288,7 +273,6 @@ fn main() {
     positions();
     every_byte();
     trailers();
-    two_entries();
     overlaps();
     table_room();
     stale_bytes();
