@@ -22,7 +22,7 @@ pub fn no_file(l: Label) -> bool
     l.lsn == 0
 }
 
-fn no_labels() -> Labels
+pub fn no_labels() -> Labels
     ensures { λ s. ⌜ s .labels ≡ noLabels ⌝ }
 {
     let l = no_label();
@@ -41,7 +41,7 @@ fn refusal(shown: SlotAnswer) -> Answer
     }
 }
 
-fn label(shown: SlotAnswer) -> Label
+pub fn label(shown: SlotAnswer) -> Label
     ensures { λ l. ⌜ l ≡ labelShown shown ⌝ }
 {
     match shown {
