@@ -43,11 +43,12 @@
    - A reopening refused with any number but 1 leaves an empty store that a write would use, from slot 0 on, over files that are
      still in the heap. Do not write before an accepted reopening: copy the heap away first.
 
-   When power fails. Promised, and proved of the rules (docs/requests/P8.md): power gone after any number of the single-byte stores of any
-   call, a reopening with the same settings and table length is accepted and gives every read as before the call, or every read as after
-   it. It is as after it only where all of a write's stores have landed; the last is the first byte of the label. Prune and maintenance
-   change no read. Presumed: these calls alone have written the heap, since every slot of it began with a byte 0; stores land in the order
-   in which the calls make them, which a compiler, memcpy, a cache or a flash driver could change; a byte is stored whole or not at all.
+   When power fails. Promised, and proved of the rules (request P8 of document 02: docs/requests/P8.md): power gone after any number of the
+   single-byte stores of any call, a reopening with the same settings and table length is accepted and gives every read as before the
+   call, or every read as after it. It is as after it only where all of a write's stores have landed; the last is the first byte of the
+   label. Prune and maintenance change no read. Presumed: these calls alone have written the heap, since every slot of it began with a byte
+   0; stores land in the order in which the calls make them, which a compiler, memcpy, a cache or a flash driver could change; a byte is
+   stored whole or not at all.
 
    Processor and libraries. The archive is code for x86-64 (System V calling convention, position independent, SSE2 and nothing newer), so
    size_t has 64 bits. It needs memcpy and memset from the host, and nothing else: no allocation, no input or output, no data of its own.
@@ -258,7 +259,7 @@ MARBLE_MUST_USE uint64_t marble_counts(marble_settings settings, const marble_st
                                        marble_totals *counts);
 
 /* ---- the table alone: raw locations by id. A held location is never 0. Order: 1, 20 (a given raw 0), 18, 19, 6. */
-/* "Load": the location, or 0 for an unmapped id. 1. */
+/* "Load": the location, or 0 for an unmapped id. 1; refused: location 0 too, so look at the number. */
 MARBLE_MUST_USE uint64_t marble_load(const uint64_t *ids, size_t ids_len, const uint64_t *locations, size_t locations_len, uint64_t id,
                                      uint64_t *location);
 
@@ -266,11 +267,13 @@ MARBLE_MUST_USE uint64_t marble_load(const uint64_t *ids, size_t ids_len, const 
 MARBLE_MUST_USE uint64_t marble_store(uint64_t *ids, size_t ids_len, uint64_t *locations, size_t locations_len, uint64_t id,
                                       uint64_t location);
 
-/* "Compare-and-store": stored, and current 0; or it differs, nothing is stored, and current is the location held. 1, 20, 18. */
+/* "Compare-and-store": stored, and current 0; or it differs, nothing is stored, and current is the location held. 1, 20, 18; refused:
+   current 0 too, and nothing is stored. */
 MARBLE_MUST_USE uint64_t marble_compare_and_store(uint64_t *ids, size_t ids_len, uint64_t *locations, size_t locations_len, uint64_t id,
                                                   uint64_t old, uint64_t location, uint64_t *current);
 
-/* "Store-if-greater": held is the location before or 0; a lower one is not stored. 1, 20, 19 (equal), 6. */
+/* "Store-if-greater": held is the location before or 0; a lower one is not stored. 1, 20, 19 (equal), 6; refused: held 0 too, and nothing
+   is stored. */
 MARBLE_MUST_USE uint64_t marble_store_if_greater(uint64_t *ids, size_t ids_len, uint64_t *locations, size_t locations_len, uint64_t id,
                                                  uint64_t location, uint64_t *held);
 

@@ -116,7 +116,7 @@ static void sized(void) {
     }
 }
 
-/* P1 to P3, and where P10's batch put its object and its delete */
+/* Lines P1 to P3, and where line P10's batch put its object and its delete */
 static void located(void) {
     const uint8_t p10[] = {0x07, 1, 1, 0x41, 0x09, 0};
     expect("raw 10", MARBLE_LOCATION_POSITION(10), 5);

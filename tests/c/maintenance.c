@@ -26,25 +26,25 @@ static void of_which_replaced(uint64_t n, uint64_t k) {
     for (uint64_t i = n - k; i < n; i++) expect("replaced", put(i + 1, 1, 'b'), MARBLE_OK);
 }
 
-/* P6 3 live of 4 at 75: no candidate; 2 of 3 (66): a candidate. */
+/* Line P6: 3 live of 4 at 75: no candidate; 2 of 3 (66): a candidate. */
 static void p6(void) {
     opened(alone(), 8, 16);
     of_which_replaced(4, 1);
-    expect("P6 maintain", maintain(), MARBLE_OK);
-    expect("P6 3 of 4: none moved", out[1], 0);
-    expect("P6 3 of 4: stays", w.state->records[0].live, 3);
+    expect("line P6 maintain", maintain(), MARBLE_OK);
+    expect("line P6 3 of 4: none moved", out[1], 0);
+    expect("line P6 3 of 4: stays", w.state->records[0].live, 3);
     opened(alone(), 8, 16);
     of_which_replaced(3, 1);
-    expect("P6 maintain", maintain(), MARBLE_OK);
-    expect("P6 2 of 3: moved", out[1], 2);
-    expect("P6 2 of 3: pruned", w.state->records[0].lsn, 0);
-    expect("P6 the new file", w.state->records[2].live, 2);
+    expect("line P6 maintain", maintain(), MARBLE_OK);
+    expect("line P6 2 of 3: moved", out[1], 2);
+    expect("line P6 2 of 3: pruned", w.state->records[0].lsn, 0);
+    expect("line P6 the new file", w.state->records[2].live, 2);
     holds(1, 1, 'a');
     holds(2, 1, 'a');
     holds(3, 1, 'b');
 }
 
-/* P7 generations 0, 3, 255 give 1, 3, 3. */
+/* Line P7: generations 0, 3, 255 give 1, 3, 3. */
 static void p7(uint64_t generation, uint64_t want) {
     uint8_t two[42], one[21];
     const uint8_t a = 'a', b = 'b';
@@ -54,12 +54,12 @@ static void p7(uint64_t generation, uint64_t want) {
     object(two + 21, 2, &a, 1);
     file_in(0, sound(5, generation, two, 42, first, 2));
     file_in(1, sound(BATCH_BIT + 1000, 0, one, object(one, 2, &b, 1), later, 1));
-    expect("P7 reopen", reopen(), MARBLE_OK);
-    expect("P7 maintain", maintain(), MARBLE_OK);
-    expect("P7 moved", out[1], 1);
-    expect("P7 no stop", out[0], 0);
-    expect("P7 generation", w.state->records[2].generation, want);
-    expect("P7 no batch bit", w.state->records[2].lsn < BATCH_BIT, 1);
+    expect("line P7 reopen", reopen(), MARBLE_OK);
+    expect("line P7 maintain", maintain(), MARBLE_OK);
+    expect("line P7 moved", out[1], 1);
+    expect("line P7 no stop", out[0], 0);
+    expect("line P7 generation", w.state->records[2].generation, want);
+    expect("line P7 no batch bit", w.state->records[2].lsn < BATCH_BIT, 1);
     holds(1, 1, 'a');
     holds(2, 1, 'b');
 }
@@ -85,16 +85,16 @@ static void of_lengths(const size_t *lengths, uint64_t n, uint64_t k) {
     expect("deleted", write_batch(batch, at), MARBLE_OK);
 }
 
-/* P8 lengths 0, 1, 60, 255, 256: shards 0, 1, 6, 8, 9. A file each, in that order. */
+/* Line P8: lengths 0, 1, 60, 255, 256: shards 0, 1, 6, 8, 9. A file each, in that order. */
 static void p8(void) {
     const size_t lengths[] = {256, 255, 60, 1, 0}, want[] = {20, 21, 80, 275, 276};
     opened(alone(), 8, 16);
     of_lengths(lengths, 5, 2);
-    expect("P8 maintain", maintain(), MARBLE_OK);
-    expect("P8 moved", out[1], 5);
+    expect("line P8 maintain", maintain(), MARBLE_OK);
+    expect("line P8 moved", out[1], 5);
     for (size_t i = 0; i < 5; i++) {
-        expect("P8 one entry", w.state->records[2 + i].present_objects, 1);
-        expect("P8 by ascending shard", w.state->records[2 + i].trailer_offset, want[i]);
+        expect("line P8 one entry", w.state->records[2 + i].present_objects, 1);
+        expect("line P8 by ascending shard", w.state->records[2 + i].trailer_offset, want[i]);
     }
     for (size_t i = 0; i < 5; i++) holds(i + 1, lengths[i], (uint8_t)('a' + i));
 }
@@ -103,21 +103,21 @@ static uint64_t entry_id(size_t slot, uint64_t k) {
     return from_le(w.heap + slot * w.s.slot_bytes + MARBLE_LABEL_BYTES + w.state->records[slot].trailer_offset + 12 + 16 * k, 8);
 }
 
-/* P9 target 100, ids 1, 2, 3 of 60 bytes each: files {3}, then {1, 2}. */
+/* Line P9: target 100, ids 1, 2, 3 of 60 bytes each: files {3}, then {1, 2}. */
 static void p9(void) {
     const size_t lengths[] = {60, 60, 60};
     marble_settings s = alone();
     s.target_file_size = 100;
     opened(s, 8, 16);
     of_lengths(lengths, 3, 2);
-    expect("P9 maintain", maintain(), MARBLE_OK);
-    expect("P9 moved", out[1], 3);
-    expect("P9 the rest first", w.state->records[2].present_objects, 1);
-    expect("P9 it is 3", entry_id(2, 0), 3);
-    expect("P9 then the fragment", w.state->records[3].present_objects, 2);
-    expect("P9 it has 1", entry_id(3, 0), 1);
-    expect("P9 and 2", entry_id(3, 1), 2);
-    expect("P9 no third", w.state->records[4].lsn, 0);
+    expect("line P9 maintain", maintain(), MARBLE_OK);
+    expect("line P9 moved", out[1], 3);
+    expect("line P9 the rest first", w.state->records[2].present_objects, 1);
+    expect("line P9 it is 3", entry_id(2, 0), 3);
+    expect("line P9 then the fragment", w.state->records[3].present_objects, 2);
+    expect("line P9 it has 1", entry_id(3, 0), 1);
+    expect("line P9 and 2", entry_id(3, 1), 2);
+    expect("line P9 no third", w.state->records[4].lsn, 0);
     for (size_t i = 0; i < 3; i++) holds(i + 1, 60, (uint8_t)('a' + i));
 }
 

@@ -98,7 +98,7 @@ static const size_t allowed[CALLS] = {
 static size_t used[CALLS];
 
 /* ---- copies of the file map, and of a reopening's labels: the archive's memcpy is this one, so each is counted in a run. Handing it in
-   and out is a loop over words that is no copy of this kind. DECISIONS F19 says what each is for; maintenance.c has maintenance's by groups and files. */
+   and out is a loop over words that is no copy of this kind. docs/ARCHITECTURE.md, "Stack and copies", says what each is for; maintenance.c has maintenance's by groups and files. */
 /* 256 labels, five numbers each: a file map is longer */
 #define LABELS_BYTES (256 * 5 * sizeof(uint64_t))
 static const size_t copies_allowed[CALLS] = {6, 5, 0, 0, 0, 1, 25, 1, 0, 0, 0, 0};
@@ -135,7 +135,7 @@ void costs_told(void) {
     for (int k = 0; k < CALLS; k++) {
         printf("marble_%s: stack %llu of %llu, copies of the file map %llu of %llu\n", names[k], (unsigned long long)used[k], (unsigned long long)allowed[k], (unsigned long long)copied[k], (unsigned long long)copies_allowed[k]);
         if (used[k] > allowed[k]) printf("tests/c: marble_%s needs more stack than the header says\n", names[k]);
-        if (copied[k] > copies_allowed[k]) printf("tests/c: marble_%s copies the file map more often than README says\n", names[k]);
+        if (copied[k] > copies_allowed[k]) printf("tests/c: marble_%s copies the file map more often than docs/ARCHITECTURE.md says\n", names[k]);
         expect("stack within the figure", used[k] <= allowed[k], 1);
         expect("copies within the figure", copied[k] <= copies_allowed[k], 1);
     }
@@ -297,6 +297,7 @@ uint64_t compare_and_store(uint64_t id, uint64_t old, uint64_t location) {
     uint64_t n = marble_compare_and_store(w.ids, w.ids_len, w.locations, w.locations_len, id, old, location, OUT(0));
     stack_below(COMPARE, 0);
     behind(COMPARE, n == MARBLE_OK && *OUT(0) == 0 ? HEAP | STATE | CLAIMS : ALL);
+    if (n != MARBLE_OK) expect("refused compare: 0", out[0], 0);
     return n;
 }
 
@@ -306,6 +307,7 @@ uint64_t store_if_greater(uint64_t id, uint64_t location) {
     uint64_t n = marble_store_if_greater(w.ids, w.ids_len, w.locations, w.locations_len, id, location, OUT(0));
     stack_below(GREATER, 0);
     behind(GREATER, n == MARBLE_OK && *OUT(0) < location ? HEAP | STATE | CLAIMS : ALL);
+    if (n != MARBLE_OK) expect("refused store-if-greater: 0", out[0], 0);
     return n;
 }
 

@@ -11,7 +11,7 @@ import zlib
 from model import BATCH_BIT, label_bytes, object_bytes
 
 KNOWN = {
-    'delete position': "document 01 (P10) has the object bytes before it, writepath.rs:172 stores 0; entries are compared as (id, body or delete)",
+    'delete position': "document 01 (line P10) has the object bytes before it, writepath.rs:172 stores 0; entries are compared as (id, body or delete)",
     'order': "ids, and shards of a rewrite, follow hash buckets (lib.rs:168): files are compared as sets, and where a rewrite gave several "
              "files neither their positions nor the next position after a reopening is",
     'cut': "where a shard could be cut in some order (writepath.rs:84) every id's read and the count moved are compared, then both sides go "
@@ -119,8 +119,8 @@ def directed():
     three_there = 'write ' + ' '.join(f'{i}=' + '41' * 60 for i in (1, 2, 4)) + ' 9=-'
     return [
         # both sides the same: positions and table, document 01's lines P1 to P3; claims
-        case(None, 'P1', nothing, ['store 1 11', 'load 1'], 'ok 11', ['absolute 5 1'], 'ok 11'),
-        case(None, 'P3', nothing, ['store 1 18446744073709551615', 'load 1'], 'ok 18446744073709551615',
+        case(None, 'line P1', nothing, ['store 1 11', 'load 1'], 'ok 11', ['absolute 5 1'], 'ok 11'),
+        case(None, 'line P3', nothing, ['store 1 18446744073709551615', 'load 1'], 'ok 18446744073709551615',
              ['absolute 9223372036854775807 1'], 'ok 18446744073709551615'),
         case(None, 'maintenance', Made(one()), ['maintain'], 'ok 1', ['maintain'], 'ok 1 73'),
         case(None, '.. on a claimed file', Made(one()), ['claim 0', 'maintain'], 'ok 0', ['claim 1', 'maintain'], 'ok 0 51'),
@@ -206,7 +206,7 @@ def directed():
         case(25, '14', Made(one(1), one(22)), ['reopen'], 'refused 14', [], 'ok 72'),
         case(25, '14: equal lsns', Made(one(), two(1, 1)), ['reopen'], 'refused 14', [], 'panic recovery.rs:102'),
         case(26, '15', Made((1, 21, body + trailer((1, 0), (1, 0)), 2, 0)), ['reopen'], 'refused 15', [], 'panic recovery.rs:73'),
-        case(27, 'P2: absolute raw 0', nothing, ['store 1 0'], 'refused 20', ['absolute 0 0'], 'panic disk_location.rs:62'),
+        case(27, 'line P2: absolute raw 0', nothing, ['store 1 0'], 'refused 20', ['absolute 0 0'], 'panic disk_location.rs:62'),
         case(27, 'sum of 2^63, of a trailer changed after the open', Made(one()), [nothing.poke(0, deleted(1, 2 ** 64 - 1)), 'maintain'], 'refused 20 1 0',
              [Made.raw(deleted(1, 2 ** 64 - 1)), 'maintain'], 'panic disk_location.rs:4'),
         case(27, 'sum of 2^64', Made((2 ** 64 - 1, 21, body + trailer((1, 2)), 1, 0)), ['reopen'], 'refused 8', [], 'panic disk_location.rs:41'),

@@ -2,7 +2,7 @@
 """Document 01 as plain Python, read from the paper alone: a second opinion beside the port.
 
 Reads the console's script on standard input and prints its answers. Nothing here is taken from crates/;
-where the paper leaves a choice, the reading D1..D15 of docs/DECISIONS.md is named at the line. 12 is as document 02's P2 mends it."""
+where the paper leaves a choice, the reading D1..D15 of docs/DECISIONS.md is named at the line. 12 is as document 02's request P2 mends it."""
 import re
 import struct
 import sys
@@ -127,7 +127,7 @@ def trailer_entries(trailer):
 
 
 def misplaced(trailer_offset, relative):
-    """12, of one entry: its position over T; of an object, P2: its position + 20 over T"""
+    """12, of one entry: its position over T; of an object, request P2: its position + 20 over T"""
     return relative // 2 + (0 if relative % 2 == 1 else HEADER) > trailer_offset
 
 

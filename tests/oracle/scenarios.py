@@ -1,5 +1,5 @@
 #!/usr/bin/env python3
-"""Scenarios within the oracle's domain (document 01: file sets in its limits, 8 to 15 clear, 12 as P2 mends it) as console scripts.
+"""Scenarios within the oracle's domain (document 01: file sets in its limits, 8 to 15 clear, 12 as request P2 mends it) as console scripts.
 
     scenarios.py SEED NUMBER      prints one"""
 import random
@@ -90,7 +90,7 @@ class Maker:
 
     def crafted_file(self, damaged):
         """objects in any order, deletes anywhere up to T, repeated ids, unlisted objects, bytes behind the entries;
-        damaged: also wrong sums, wrong ids, entries between objects, a last object whose body passes T; no object's header does (P2)"""
+        damaged: also wrong sums, wrong ids, entries between objects, a last object whose body passes T; no object's header does (request P2)"""
         r, objects, entries, last = self.r, b'', [], {}
         for _ in range(r.randint(1, 5)):
             ident, at = r.choice(self.ids), len(objects)

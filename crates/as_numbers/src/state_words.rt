@@ -3,6 +3,7 @@ use file_map::labelled;
 use file_map::no_files;
 use file_map::recorded;
 use rules::FileMap;
+use rules::RECORDS;
 use rules::Record;
 use rules::Settings;
 use rules::State;
@@ -35,7 +36,7 @@ fn files_in(words: &[u64]) -> FileMap
 {
     let mut files = no_files();
     let mut k: usize = 0;
-    while k < 256 {
+    while k < RECORDS {
         let r = record_at(words, 8 + 6 * k);
         files.records[k] = r;
         k += 1;
@@ -91,7 +92,7 @@ fn put_files(words: &mut [u64], files: FileMap)
     ensures { λ _. ⌜ now (words .exit) ≡ putAt (now (words .entry)) 8 (recordsWords (files .records)) ⌝ }
 {
     let mut k: usize = 0;
-    while k < 256 {
+    while k < RECORDS {
         put_record(words, 8 + 6 * k, files.records[k]);
         k += 1;
     }

@@ -4,7 +4,11 @@ use batch::Operation;
 use batch::Step;
 use disk_location::RelativeDiskLocation;
 use rules::Entry;
+use rules::LABEL_BYTES;
 use rules::Label;
+use rules::OBJECT_HEADER;
+use rules::TRAILER_ENTRY;
+use rules::TRAILER_HEAD;
 use trailer::write;
 ghost use mathlib.Core.Path.{_≡_};
 ghost use Prim.Native.Nat.{_+_, _*_, _≤_, _<_, _^_};
@@ -40,7 +44,7 @@ fn behind(position: u64, o: Operation) -> u64
     if o.delete {
         return position;
     }
-    position + (20 + o.len as u64)
+    position + (OBJECT_HEADER as u64 + o.len as u64)
 }
 
 // "checksum 4, over all that follows it": the count and the entries.
@@ -108,7 +112,7 @@ fn put_entries(file: &mut [u8], at: usize, batch: &[u8], left: u64) -> u64
         };
         let e = entry_of(o, position);
         rest = write::put_entry(file, place, e, rest);
-        place += 16;
+        place += TRAILER_ENTRY;
         position = behind(position, o);
         cursor = after;
     }
@@ -121,7 +125,7 @@ fn put_trailer(file: &mut [u8], at: usize, batch: &[u8], count: u64, left: u64) 
 {
     let checksum = sum(batch, count);
     let rest = write::put_head(file, at, checksum, count, left);
-    put_entries(file, at + 12, batch, rest)
+    put_entries(file, at + TRAILER_HEAD, batch, rest)
 }
 
 // The whole file, in the heap's part behind its slot's label: the objects, then the trailer.
@@ -146,7 +150,7 @@ pub fn write_file(
     requires { ⌜ Sized (now batch) count total × (start + (64 + length (fileBytes (settled (opsIn (now batch))))) ≤ length (now heap)) ⌝ }
     ensures { λ r. ⌜ Made k (fileStores start (labelBytes new) (fileBytes (settled (opsIn (now (batch .entry)))))) (now (heap .entry)) (now (heap .exit)) r ⌝ }
 {
-    let behind_label = start + 64;
+    let behind_label = start + LABEL_BYTES;
     let rest = put_file(&mut heap[behind_label..], batch, count, total, k);
     slot_writer::label::put(heap, start, new, rest)
 }

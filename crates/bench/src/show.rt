@@ -3,6 +3,7 @@ use crate::say;
 use desk::Bench;
 use rules::Claims;
 use rules::FileMap;
+use rules::RECORDS;
 use rules::Record;
 ghost use mathlib.Core.Path.{_≡_};
 ghost use lib.ListN.{length};
@@ -24,7 +25,7 @@ fn file_line(slot: u64, r: Record) {
 
 fn file_lines(files: FileMap) {
     let mut i: usize = 0;
-    while i < 256 {
+    while i < RECORDS {
         let r = files.records[i];
         file_line(i as u64, r);
         i += 1;
@@ -73,7 +74,7 @@ fn record_line(slot: u64, r: Record) {
 
 fn record_lines(files: FileMap) {
     let mut i: usize = 0;
-    while i < 256 {
+    while i < RECORDS {
         let r = files.records[i];
         record_line(i as u64, r);
         i += 1;
@@ -82,7 +83,7 @@ fn record_lines(files: FileMap) {
 
 fn claimed_lines(c: Claims) {
     let mut slot: u64 = 0;
-    while slot < 256 {
+    while slot < RECORDS as u64 {
         if claims::is_claimed(c, slot) {
             say::named(b"claimed", slot);
         }

@@ -8,6 +8,7 @@ use rules::Answer;
 use rules::Claims;
 use rules::CountsAnswer;
 use rules::FileMap;
+use rules::RECORDS;
 use rules::Refusal;
 use rules::Settings;
 use rules::State;
@@ -16,13 +17,14 @@ ghost use mathlib.Core.Bool.{_||_};
 ghost use mathlib.Core.List.{[], _∷_};
 ghost use Prim.Native.Nat.{_-_, _^_, _<_};
 ghost use lib.Bits.{bitOr, bitAnd};
+ghost use lib.Dec.{leb};
 ghost use lib.ListN.{length};
 ghost use Rattle.rules.specs.Refusal.{_gives_, decide};
 ghost use Rattle.rules.specs.Condition1.{refused1};
 ghost use Rattle.rules.specs.FileMap.{isEmpty, recordAt};
-ghost use Rattle.rules.specs.Claims.{noClaims, wordOf, withWord, isClaimed, claimSet, claimCleared, notAFile, claimCall, releaseCall};
+ghost use Rattle.rules.specs.Claims.{noClaims, wordOf, withWord, isClaimed, claimSet, claimCleared, claimCall, releaseCall};
 ghost use Rattle.rules.specs.Counts.{countsCall};
-ghost use Rattle.rules.specs.World.{world, leaving, answerGiven, countsGiven};
+ghost use Rattle.rules.specs.World.{world, slotsOf, leaving, answerGiven, countsGiven};
 ghost use Rattle.rules.specs.declared.Claims.{Claims};
 ghost use Rattle.rules.specs.declared.FileMap.{FileMap};
 ghost use Rattle.rules.specs.declared.Refusal.the-variants.{Limits, Claim};
@@ -124,35 +126,31 @@ pub fn without_claim(c: Claims, slot: u64) -> Claims
 fn empty_at(files: FileMap, slot: u64) -> bool
     ensures { λ b. ⌜ b ≡ isEmpty (recordAt (files .records) slot) ⌝ }
 {
-    if 256 <= slot {
+    if RECORDS as u64 <= slot {
         return true;
     }
     let i = slot as usize;
     is_empty(files.records[i])
 }
 
-// 1; then 21 for "a slot out of range, an empty slot", or for one whose claim bars the call. `bad` and `empty` are what was found of the
+// 1; then 21 for "a slot out of range", or where the slot bars the call: it is empty, or its claim does. `bad` is what was found of the
 // state's records.
 fn decided(
     s: Settings,
     rest: Rest,
     bad: bool,
-    empty: bool,
     heap: &[u8],
     ids: &[u64],
     locations: &[u64],
     slot: u64,
     barred: bool,
 ) -> Answer
-    ensures { λ r. ⌜ ((files : FileMap) (c : Claims) → bad ≡ badFiles s (length (now (heap .entry))) (table (now (ids .entry)) (now (locations .entry))) (files .records) → empty ≡ isEmpty (recordAt (files .records) slot) → let w = world s (stateOf rest files) c (now (heap .entry)) (table (now (ids .entry)) (now (locations .entry))) in r ≡ decide (refused1 w gives Limits ∷ (notAFile w slot || barred) gives Claim ∷ [])) ⌝ }
+    ensures { λ r. ⌜ ((files : FileMap) (c : Claims) → bad ≡ badFiles s (length (now (heap .entry))) (table (now (ids .entry)) (now (locations .entry))) (files .records) → let w = world s (stateOf rest files) c (now (heap .entry)) (table (now (ids .entry)) (now (locations .entry))) in r ≡ decide (refused1 w gives Limits ∷ (leb (slotsOf w) slot || barred) gives Claim ∷ [])) ⌝ }
 {
     if refused_apart(s, heap.len() as u64, ids, locations, rest, bad) {
         return Answer::Refused(Refusal::Limits);
     }
     if heap.len() as u64 / s.slot_bytes <= slot {
-        return Answer::Refused(Refusal::Claim);
-    }
-    if empty {
         return Answer::Refused(Refusal::Claim);
     }
     if barred {
@@ -181,17 +179,15 @@ pub fn claim(
 {
     let files = state.files;
     let bad = bad_files(s, heap.len() as u64, ids, locations, files);
-    let empty = empty_at(files, slot);
     match decided(
         s,
         rest_of(state),
         bad,
-        empty,
         heap,
         ids,
         locations,
         slot,
-        is_claimed(claims, slot),
+        empty_at(files, slot) | is_claimed(claims, slot),
     ) {
         Answer::Refused(refusal) => ClaimAnswer {
             answer: Answer::Refused(refusal),
@@ -221,17 +217,15 @@ pub fn release(
 {
     let files = state.files;
     let bad = bad_files(s, heap.len() as u64, ids, locations, files);
-    let empty = empty_at(files, slot);
     match decided(
         s,
         rest_of(state),
         bad,
-        empty,
         heap,
         ids,
         locations,
         slot,
-        !is_claimed(claims, slot),
+        empty_at(files, slot) | !is_claimed(claims, slot),
     ) {
         Answer::Refused(refusal) => ClaimAnswer {
             answer: Answer::Refused(refusal),

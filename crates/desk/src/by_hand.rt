@@ -4,6 +4,7 @@ use crate::Turn;
 use crate::turns::bad_line;
 use crate::turns::done;
 use rules::Claims;
+use rules::RECORDS;
 use rules::Record;
 use rules::Settings;
 ghost use mathlib.Core.Path.{_≡_};
@@ -138,7 +139,7 @@ pub fn record(b: Bench, n: [u64; 9]) -> Turn
 {
     let mut next = b;
     let slot = n[0];
-    if 256 <= slot {
+    if RECORDS as u64 <= slot {
         return bad_line(b);
     }
     let mut s = b.state;

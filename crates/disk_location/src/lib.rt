@@ -4,10 +4,11 @@ ghost use mathlib.Core.Path.{_≡_};
 ghost use Prim.Native.Nat.{_+_, _^_, _<_};
 ghost use Rattle.disk_location.specs.Locations.{positionOf, deleteOf, rawOf, locatedAt, relativeAt, told, relativeTold, maskedOf, batchOf, hasBatch, shardOf};
 
-const BATCH: u64 = 1 << 62;
+// "the batch bit, 2^62": positions of files end below it, so 7 and 8 hold a sum against it too.
+pub const BATCH_BIT: u64 = 1 << 62;
 
-// What no position reaches: 2^63.
-const POSITIONS: u64 = 1 << 63;
+// "a position or sum of 2^63 or more"
+pub const POSITIONS: u64 = 1 << 63;
 
 // A raw location that counts from its file's lsn.
 pub struct RelativeDiskLocation(pub u64);
@@ -166,14 +167,14 @@ impl DiskLocation {
 pub fn masked(x: u64) -> u64
     ensures { λ r. ⌜ r ≡ maskedOf x ⌝ }
 {
-    x & !BATCH
+    x & !BATCH_BIT
 }
 
 // The position with the batch bit set: a fresh batch's lsn.
 pub fn with_batch(x: u64) -> u64
     ensures { λ r. ⌜ r ≡ batchOf x ⌝ }
 {
-    x | BATCH
+    x | BATCH_BIT
 }
 
 // Whether the batch bit is set.

@@ -1,7 +1,11 @@
 // The file map (`src/file_map.rs`): 256 records by value, and the flat lists of lsns and live counts that a call on many ids works on.
+use disk_location::BATCH_BIT;
+use disk_location::POSITIONS;
 use rules::Counts;
 use rules::FileMap;
+use rules::LABEL_BYTES;
 use rules::Label;
+use rules::RECORDS;
 use rules::Record;
 use rules::Slot;
 ghost use mathlib.Core.Path.{_≡_};
@@ -72,32 +76,22 @@ pub fn fresh(label: Label) -> Record
 pub fn is_empty(r: Record) -> bool
     ensures { λ b. ⌜ b ≡ isEmpty r ⌝ }
 {
-    if r.label.lsn != 0 {
-        return false;
-    }
-    if r.label.trailer_offset != 0 {
-        return false;
-    }
-    if r.label.file_size != 0 {
-        return false;
-    }
-    if r.label.present_objects != 0 {
-        return false;
-    }
-    if r.label.generation != 0 {
-        return false;
-    }
-    r.live == 0
+    (r.label.lsn == 0)
+        & (r.label.trailer_offset == 0)
+        & (r.label.file_size == 0)
+        & (r.label.present_objects == 0)
+        & (r.label.generation == 0)
+        & (r.live == 0)
 }
 
 // What a slot has behind its label.
 fn room(slot_bytes: u64) -> u64
     ensures { λ n. ⌜ n ≡ «slot_bytes» - 64 ⌝ }
 {
-    if slot_bytes < 64 {
+    if slot_bytes < LABEL_BYTES as u64 {
         return 0;
     }
-    slot_bytes - 64
+    slot_bytes - LABEL_BYTES as u64
 }
 
 // 8's bounds; a sum is only held against what is left of its bound, so that it cannot wrap.
@@ -114,10 +108,10 @@ pub fn out_of_bounds(slot_bytes: u64, l: Label) -> bool
     if at == 0 {
         return true;
     }
-    if 9223372036854775808 <= l.lsn {
+    if POSITIONS <= l.lsn {
         return true;
     }
-    if 4611686018427387904 - at <= l.trailer_offset {
+    if BATCH_BIT - at <= l.trailer_offset {
         return true;
     }
     255 < l.generation
@@ -129,7 +123,9 @@ pub fn no_files() -> FileMap
     ensures { λ m. ⌜ m .records ≡ noFiles ⌝ }
 {
     let e = empty();
-    FileMap { records: [e; 256] }
+    FileMap {
+        records: [e; RECORDS],
+    }
 }
 
 // A slot's record replaced: a file added, or emptied.
@@ -167,7 +163,7 @@ pub fn counts(m: FileMap) -> Counts
     let mut present: u64 = 0;
     let mut live: u64 = 0;
     let mut i: usize = 0;
-    while i < 256 {
+    while i < RECORDS {
         let r = m.records[i];
         if !is_empty(r) {
             files += 1;
@@ -186,24 +182,24 @@ pub fn counts(m: FileMap) -> Counts
 }
 
 // ---- flat lists: a call on many ids copies the map once, not once for each id
-pub fn lsns(m: FileMap) -> [u64; 256]
+pub fn lsns(m: FileMap) -> [u64; RECORDS]
     ensures { λ r. ⌜ r ≡ lsnsOf (m .records) ⌝ }
 {
-    let mut r = [0u64; 256];
+    let mut r = [0u64; RECORDS];
     let mut i: usize = 0;
-    while i < 256 {
+    while i < RECORDS {
         r[i] = m.records[i].label.lsn;
         i += 1;
     }
     r
 }
 
-pub fn lives(m: FileMap) -> [u64; 256]
+pub fn lives(m: FileMap) -> [u64; RECORDS]
     ensures { λ r. ⌜ r ≡ livesOf (m .records) ⌝ }
 {
-    let mut r = [0u64; 256];
+    let mut r = [0u64; RECORDS];
     let mut i: usize = 0;
-    while i < 256 {
+    while i < RECORDS {
         r[i] = m.records[i].live;
         i += 1;
     }
@@ -216,7 +212,7 @@ pub fn with_lives(m: FileMap, lives: &[u64]) -> FileMap
 {
     let mut n = m;
     let mut i: usize = 0;
-    while i < 256 {
+    while i < RECORDS {
         n.records[i] = with_live(n.records[i], lives[i]);
         i += 1;
     }

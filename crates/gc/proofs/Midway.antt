@@ -9,7 +9,7 @@ use Rattle.rules.specs.declared.Claims.{Claims}
 use Rattle.rules.specs.Maintenance.{Course, rewriteGroup}
 use Rattle.rules.specs.World.{world}
 use Rattle.rules.specs.Layout.{table}
-use Rattle.gc_group.specs.Plan.{planned}
+use Rattle.gc_candidates.specs.Plan.{planned}
 use Rattle.gc.specs.declared.Halt.the-variants.{Going}
 use Rattle.gc.specs.declared.Run.{Run}
 use Rattle.gc.specs.Runs.{isGoing, standing, stepped, byPlan, Underway}

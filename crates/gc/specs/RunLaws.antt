@@ -21,8 +21,8 @@ use Rattle.rules.specs.Condition1Laws.{Passed}
 use Rattle.rules.specs.Maintenance.{Stop, going, Course, rewriteGroup, onward, groupsFrom, courseOf, finished, maintainCall}
 use Rattle.rules.specs.Prune.{pruned}
 use Rattle.rules.specs.World.{World, recordsOf, maintainGiven, leaving}
-use Rattle.gc_group.specs.Plan.{planOf, planned, group-planned, plan-length}
-use Rattle.gc_group.specs.Source.{Ready, passed-lie, plan-files}
+use Rattle.gc_candidates.specs.Plan.{planOf, planned, group-planned, plan-length, plan-files}
+use Rattle.gc_group.specs.Source.{Ready, passed-lie}
 use Rattle.gc_rewrite.specs.Courses.{courseGiven}
 use Rattle.gc.specs.declared.Halt.{Halt}
 use Rattle.gc.specs.declared.Halt.the-variants.{Going, Halted}

@@ -13,7 +13,7 @@ use Rattle.rules.specs.FileMap.{isEmpty, recordAt}
 use Rattle.rules.specs.Condition1Laws.{Passed}
 use Rattle.rules.specs.Maintenance.{Stop, going, stopped, Course, onward}
 use Rattle.rules.specs.World.{World}
-use Rattle.gc_group.specs.Plan.{planned}
+use Rattle.gc_candidates.specs.Plan.{planned}
 use Rattle.gc.specs.declared.Halt.{Halt}
 use Rattle.gc.specs.declared.Halt.the-variants.{Going, Halted}
 use Rattle.gc.specs.declared.Run.{Run}

@@ -1,7 +1,7 @@
 // Maintenance (`src/gc.rs`): the groups of the candidates, generation by generation, then a prune.
 
-use gc_group::plan::group_count;
-use gc_group::plan::plan;
+use gc_candidates::group_count;
+use gc_candidates::plan;
 use gc_rewrite::rewrite_group;
 use prune::pruned;
 use rules::Answer;
@@ -22,7 +22,7 @@ ghost use Rattle.rules.specs.Maintenance.{rewriteGroup, courseOf, finished, mai
 ghost use Rattle.rules.specs.World.{world, leaving, maintainGiven};
 ghost use Rattle.rules.specs.Layout.{table};
 ghost use Rattle.prune.specs.Labels.{LabelsIn};
-ghost use Rattle.gc_group.specs.Plan.{planned};
+ghost use Rattle.gc_candidates.specs.Plan.{planned};
 ghost use Rattle.gc.specs.Runs.{isGoing, stopOf, stopGiven, standing, answerOf, byPlan, Underway};
 
 // What maintenance answers, and the state after it.

@@ -1,6 +1,7 @@
 use disk_location::DiskLocation;
 use location_table::capacity;
 use location_table::location_at;
+use rules::LABEL_BYTES;
 ghost use mathlib.Core.Path.{_≡_};
 ghost use Prim.Native.Nat.{_^_, _≤_};
 ghost use Rattle.numbers.specs.Parts.{front};
@@ -21,7 +22,7 @@ fn place_of(location: u64, mark: u32, lsns: &[u64], slot_bytes: u64) -> u32
         return 1;
     }
     let k = mark as usize - 1;
-    let start = k as u64 * slot_bytes + 64;
+    let start = k as u64 * slot_bytes + LABEL_BYTES as u64;
     (start + (at.position() - lsns[k])) as u32
 }
 

@@ -1,5 +1,7 @@
 use batch::Operation;
 use numbers::little_endian;
+use rules::LENGTH_AT;
+use rules::OBJECT_HEADER;
 ghost use mathlib.Core.Path.{_≡_};
 ghost use Prim.Native.Nat.{_<_};
 ghost use Rattle.numbers.specs.Choice.{pick};
@@ -21,12 +23,12 @@ pub fn moving_at(heap: &[u8], id: u64, place: u32) -> Operation
         };
     }
     let at = place as usize;
-    let behind_id = at + 12;
+    let behind_id = at + LENGTH_AT;
     let size = little_endian::get(&heap[behind_id..], 8);
     Operation {
         id: id,
         delete: false,
-        start: at + 20,
+        start: at + OBJECT_HEADER,
         len: size as usize,
     }
 }

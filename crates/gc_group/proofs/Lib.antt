@@ -1,3 +1,1 @@
-pub mod Worth
-pub mod Turns
 pub mod MarkTurns

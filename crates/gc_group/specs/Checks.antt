@@ -20,8 +20,7 @@ use Rattle.disk_location.specs.LocationLaws.{located-large, located-at}
 use Rattle.rules.specs.Refusal.{Test, decide, NoneHolds, clear-when, decide-none, decide-early, decide-late}
 use Rattle.rules.specs.Table.{lookup, unmapped}
 use Rattle.slot_file.specs.declared.Header.{Header}
-use Rattle.slot_file.specs.declared.Step.{Step}
-use Rattle.slot_file.specs.Objects.{objectsAt, objects-next, objects-end, stepOf, Walked, CutOff, Told, step-told}
+use Rattle.slot_file.specs.Objects.{objectsAt, objects-next, objects-end, Walked, CutOff, header-size, header-id, header-room, header-begins, header-fits}
 use Rattle.rules.specs.Trailer.{trailerTests, entriesIn}
 use Rattle.rules.specs.SlotFile.{objectPart, trailerPart}
 use Rattle.rules.specs.Object.{Stored, storedAt, badChecksum, objectsIn}
@@ -86,61 +85,42 @@ module _ (limit : ℕ) (table : List Entry) (objects : List ℕ) (position : ℕ
   abbrev here : Stored
   here = storedAt position (drop position objects)
 
-  size-is : h .size ≡ here .size
-  size-is = ap (λ (x : Header). x .size) (w .header)
-
-  id-is : h .id ≡ here .id
-  id-is = ap (λ (x : Header). x .id) (w .header)
-
-  room-is : h .room ≡ here .room
-  room-is = ap (λ (x : Header). x .room) (w .header)
-
-  -- there are 20 bytes
-  pub moved-room : (20 ≤ h .room) × (position + h .room ≡ length objects)
-  unfolding storedAt
-  moved-room =
-      let n = length-drop position objects in
-      let at = w .inside in
-      (omega (arith, room-is), omega (arith, room-is))
-
   pub moved-large : limit ≤ h .size → decide (movedTests limit table here) ≡ Refused ObjectSize
   unfolding movedTests decide
-  moved-large a = rw (le-ltb (here .room) 20 (omega (arith, room-is, moved-room .0)), le-leb limit (here .size) (omega (arith, size-is))) refl
+  moved-large a = rw (le-ltb (here .room) 20 (omega (arith, header-room objects position h w, header-fits objects position h w .0)), le-leb limit (here .size) (omega (arith, header-size objects position h w))) refl
 
   pub moved-unmapped : h .size < limit → unmapped (lookup table (h .id)) ≡ true → decide (movedTests limit table here) ≡ Refused NotThere
   unfolding movedTests decide
   moved-unmapped a b =
-      let u : unmapped (lookup table (here .id)) ≡ true = rw id-is at b in
-      rw (le-ltb (here .room) 20 (omega (arith, room-is, moved-room .0)), lt-leb limit (here .size) (omega (arith, size-is)), u) refl
+      let u : unmapped (lookup table (here .id)) ≡ true = rw (header-id objects position h w) at b in
+      rw (le-ltb (here .room) 20 (omega (arith, header-room objects position h w, header-fits objects position h w .0)), lt-leb limit (here .size) (omega (arith, header-size objects position h w)), u) refl
 
   module _ (a : h .size < limit) (b : unmapped (lookup table (h .id)) ≡ false) where
     pub moved-short : h .room < 20 + h .size → decide (movedTests limit table here) ≡ Refused CutShort
     unfolding movedTests decide
     moved-short d =
-        let u : unmapped (lookup table (here .id)) ≡ false = rw id-is at b in
+        let u : unmapped (lookup table (here .id)) ≡ false = rw (header-id objects position h w) at b in
         rw (
-          le-ltb (here .room) 20 (omega (arith, room-is, moved-room .0)),
-          lt-leb limit (here .size) (omega (arith, size-is)),
+          le-ltb (here .room) 20 (omega (arith, header-room objects position h w, header-fits objects position h w .0)),
+          lt-leb limit (here .size) (omega (arith, header-size objects position h w)),
           u,
-          lt-ltb (here .room) (20 + here .size) (omega (arith, size-is, room-is)),
+          lt-ltb (here .room) (20 + here .size) (omega (arith, header-size objects position h w, header-room objects position h w)),
         ) refl
 
     -- the checksum decides
     pub moved-sum : 20 + h .size ≤ h .room → decide (movedTests limit table here) ≡ pick (badChecksum here) (Refused Checksum) Done
     unfolding movedTests decide
     moved-sum d =
-        let u : unmapped (lookup table (here .id)) ≡ false = rw id-is at b in
+        let u : unmapped (lookup table (here .id)) ≡ false = rw (header-id objects position h w) at b in
         rw (
-          le-ltb (here .room) 20 (omega (arith, room-is, moved-room .0)),
-          lt-leb limit (here .size) (omega (arith, size-is)),
+          le-ltb (here .room) 20 (omega (arith, header-room objects position h w, header-fits objects position h w .0)),
+          lt-leb limit (here .size) (omega (arith, header-size objects position h w)),
           u,
-          le-ltb (here .room) (20 + here .size) (omega (arith, size-is, room-is)),
+          le-ltb (here .room) (20 + here .size) (omega (arith, header-size objects position h w, header-room objects position h w)),
         ) refl
 
 -- ---- the walk
 -- what a step's answer says
-pub told-by : (objects : List ℕ) (position : ℕ) (s : Step) → stepOf (objectsAt objects position) ≡ s → Told objects position s
-told-by objects position s e = subst (Told objects position) e (step-told objects position)
 
 module _ (limit : ℕ) (table : List Entry) (objects : List ℕ) (position : ℕ) where
   abbrev rest : ℕ → Answer
@@ -165,15 +145,12 @@ module _ (limit : ℕ) (table : List Entry) (objects : List ℕ) (position : ℕ
       walk-step (w .begins) ∙ rw (lt-ltb (length (drop position objects)) 20 (omega arith)) refl
 
   module _ (h : Header) (w : Walked objects position h) where
-    begins : position < length objects
-    begins = let a = w .inside in omega arith
-
     pub walk-refused : (r : Refusal) → decide (movedTests limit table (storedAt position (drop position objects))) ≡ Refused r → rest position ≡ Refused r
-    walk-refused r e = walk-step begins ∙ decide-early _ _ r e
+    walk-refused r e = walk-step (header-begins objects position h w) ∙ decide-early _ _ r e
 
     pub walk-on : decide (movedTests limit table (storedAt position (drop position objects))) ≡ Done → rest position ≡ rest (position + (20 + h .size))
     walk-on e =
-        walk-step begins ∙ decide-late _ _ e
+        walk-step (header-begins objects position h w) ∙ decide-late _ _ e
         ∙ ap (λ (n : ℕ). rest (position + (20 + n))) (sym (ap (λ (x : Header). x .size) (w .header)))
 
     -- an object that passes lies within

@@ -1,4 +1,3 @@
-pub mod Plan
 pub mod Source
 pub mod Checks
 pub mod Clear

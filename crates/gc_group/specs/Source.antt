@@ -1,15 +1,13 @@
 -- What a group is read from: the slots, their records and the table; and what is known of them once refusal 1 is decided.
-use mathlib.Core.Path.{_≡_, refl, _∙_}
-use mathlib.Core.Bool.{Bool, true, false}
-use mathlib.Core.Logic.{_⊎_, inl, inr, ⊎-elim}
+use mathlib.Core.Path.{_≡_, _∙_}
+use mathlib.Core.Logic.{⊎-elim}
 use Prim.Native.Nat.{_≤_, _<_, zero-le}
 use native.Mathlib.Omega.{arith}
 use lib.Dec.{lit<}
 use native.Mathlib.Nat.{min-le-left}
-use lib.ListN.{List·getD-eq-default, length-take}
-use Rattle.numbers.specs.GroupLaws.{either-way}
+use lib.ListN.{length-take}
 use Rattle.disk_location.specs.Locations.{maskedOf}
-use Rattle.rules.specs.Base.{List, ℕ, _+_, _-_, _*_, _^_, length, getD, pick}
+use Rattle.rules.specs.Base.{List, ℕ, _+_, _-_, _*_, _^_, length, getD}
 use Rattle.rules.specs.declared.Entry.{Entry}
 use Rattle.rules.specs.declared.Label.{Label}
 use Rattle.rules.specs.declared.Record.{Record}
@@ -18,15 +16,13 @@ use Rattle.rules.specs.declared.State.{State}
 use Rattle.rules.specs.declared.Claims.{Claims}
 use Rattle.rules.specs.Layout.{Buffers}
 use Rattle.rules.specs.SlotFile.{slotBytes, fileIn, objectPart}
-use Rattle.rules.specs.FileMap.{emptyLabel, isEmpty, recordAt, fileCount}
+use Rattle.rules.specs.FileMap.{emptyLabel, recordAt}
 use Rattle.rules.specs.FileMapLaws.{empty-is, empty-or-not}
 use Rattle.rules.specs.LabelLaws.{InBounds}
 use Rattle.rules.specs.SettingsLaws.{slot-within}
 use Rattle.rules.specs.Condition1Laws.{Passed}
-use Rattle.rules.specs.Maintenance.{newGeneration, isCandidate}
-use Rattle.rules.specs.MaintenanceLaws.{candidate}
 use Rattle.rules.specs.World.{World, recordsOf, mappings}
-use Rattle.gc_group.specs.Plan.{planFor, planOf, plan-length, plan-at}
+use Rattle.gc_candidates.specs.Plan.{planOf, plan-length, plan-files}
 
 -- slots of that many bytes, their records, and the table's used entries
 pub record Source : Type 0 where
@@ -76,24 +72,6 @@ passed-lie s heapLen b t w k = ⊎-elim
     (λ e. rw (empty-is (recordAt (t .files .records) k) e) (empty-lies (s .«slot_bytes»)))
     (λ e. bounds-lie (s .«slot_bytes») (recordAt (t .files .records) k .label) (w .records k e .bounds))
     (empty-or-not (recordAt (t .files .records) k))
-
-plan-some : (s : Settings) (claims : Claims) (files slot : ℕ) (r : Record) → 0 < planFor s claims files slot r → isEmpty r ≡ false
-unfolding planFor
-plan-some s claims files slot r h = go (isCandidate s claims files slot r) refl h
-  where
-    go : (t : Bool) → isCandidate s claims files slot r ≡ t → 0 < pick t (newGeneration (r .label .generation)) 0 → isEmpty r ≡ false
-    go true e h = candidate s claims files slot r e .file
-    go false e h = absurd (omega arith)
-
--- a slot of the plan has a file
-pub plan-files : (s : Settings) (claims : Claims) (rs : List Record) (k : ℕ) → 0 < getD (planOf s claims rs) k 0 → isEmpty (recordAt rs k) ≡ false
-plan-files s claims rs k h = go (either-way k (length rs))
-  where
-    go : (k < length rs) ⊎ (length rs ≤ k) → isEmpty (recordAt rs k) ≡ false
-    go (inl i) = let n = plan-at s claims rs k i in plan-some s claims (fileCount rs) k (recordAt rs k) (omega arith)
-    go (inr i) =
-        let z : getD (planOf s claims rs) k 0 ≡ 0 = List·getD-eq-default (planOf s claims rs) 0 {n = k} (omega (arith, plan-length s claims rs)) in
-        absurd (omega arith)
 
 -- a planned slot is one of the heap's
 pub planned-within : (s : Settings) (claims : Claims) (heapLen : ℕ) (b : Buffers) (t : State) → Passed s heapLen b t

@@ -4,6 +4,7 @@ use rules::Answer;
 use rules::Entry;
 use rules::Held;
 use rules::Label;
+use rules::OBJECT_HEADER;
 use rules::Refusal;
 use slot_file::Header;
 use slot_file::Step;
@@ -56,7 +57,7 @@ fn check_object(
     if unmapped(ids, locations, h.id) {
         return Answer::Refused(Refusal::NotThere);
     }
-    if h.room - 20 < h.size {
+    if (h.room - OBJECT_HEADER as u64) < h.size {
         return Answer::Refused(Refusal::CutShort);
     }
     if object::bad_checksum(objects, position, h) {
@@ -80,7 +81,7 @@ fn check_objects(objects: &[u8], ids: &[u64], locations: &[u64], limit: u64) -> 
                     Answer::Refused(refusal) => return Answer::Refused(refusal),
                     Answer::Done => {}
                 }
-                position += 20 + h.size;
+                position += OBJECT_HEADER as u64 + h.size;
             }
         }
     }

@@ -1,5 +1,4 @@
-// One group of maintenance (`src/gc.rs`): which files it has, their checks, and what is found in them.
+// One group of maintenance (`src/gc.rs`): the checks of its files, and what is found in them.
 
 pub mod check;
 pub mod marks;
-pub mod plan;

@@ -8,7 +8,7 @@ use Rattle.rules.specs.Refusal.{decide}
 use Rattle.rules.specs.Layout.{table}
 use Rattle.location_table.specs.Tables.{Formed}
 use Rattle.location_table.specs.LayoutLaws.{used}
-use Rattle.gc_group.specs.Plan.{planned}
+use Rattle.gc_candidates.specs.Plan.{planned}
 use Rattle.gc_group.specs.Source.{source, Ready}
 use Rattle.gc_group.specs.Checks.{groupChecks}
 use Rattle.gc_files.specs.Places.{Whole, InSlot}

@@ -29,7 +29,7 @@ use Rattle.rules.specs.Layout.{table}
 use Rattle.location_table.specs.Tables.{Formed}
 use Rattle.location_table.specs.LayoutLaws.{used, used-id, used-location, used-rising, used-fits}
 use Rattle.file_map.specs.Lists.{lsnsOf}
-use Rattle.gc_group.specs.Plan.{planned, planned-all}
+use Rattle.gc_candidates.specs.Plan.{planned, planned-all}
 use Rattle.gc_group.specs.Source.{Source, source, Ready, part-length}
 use Rattle.gc_group.specs.Checks.{groupChecks}
 use Rattle.gc_group.specs.Marks.{foundAt, idsOf, marked, marksFrom, marksOf, contentAt, markedOps}

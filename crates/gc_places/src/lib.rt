@@ -4,6 +4,7 @@ use gc_files::marked::place_all;
 use gc_group::marks::mark_group;
 use rules::Answer;
 use rules::FileMap;
+use rules::RECORDS;
 use rules::Settings;
 ghost use mathlib.Core.Path.{_≡_};
 ghost use Prim.Native.Nat.{_≤_};
@@ -16,7 +17,7 @@ ghost use Rattle.rules.specs.SettingsLaws.{InRanges};
 ghost use Rattle.rules.specs.Layout.{table, tableIds};
 ghost use Rattle.location_table.specs.Tables.{Formed};
 ghost use Rattle.location_table.specs.LayoutLaws.{used};
-ghost use Rattle.gc_group.specs.Plan.{planned};
+ghost use Rattle.gc_candidates.specs.Plan.{planned};
 ghost use Rattle.gc_group.specs.Source.{source, Ready};
 ghost use Rattle.gc_group.specs.Checks.{groupChecks};
 ghost use Rattle.gc_group.specs.Marks.{foundAt};
@@ -43,7 +44,7 @@ pub fn place_group(
     ensures { λ r. ⌜ r ≡ decide (groupChecks (s .«max_object_size») (source (s .«slot_bytes») (now (heap .entry)) (m .records) (used (now (ids .entry)) (now (locations .entry)))) (planned (now (plan .entry)) generation)) ⌝ }
     ensures { λ r. ⌜ (r ≡ Done → (placedOps (now (heap .entry)) (tableIds (now (ids .entry))) (now (places .exit)) ≡ settled (each (foundAt (source (s .«slot_bytes») (now (heap .entry)) (m .records) (used (now (ids .entry)) (now (locations .entry))))) (planned (now (plan .entry)) generation))) × (OfUsed (now (ids .entry)) (now (locations .entry)) (now (places .exit)) × (Standing (now (heap .entry)) (now (places .exit)) × InGroup (s .«slot_bytes») (now (heap .entry)) (now (plan .entry)) generation (now (places .exit))))) ⌝ }
 {
-    let mut lsns = [0u64; 256];
+    let mut lsns = [0u64; RECORDS];
     match mark_group(
         s,
         heap,

@@ -18,7 +18,7 @@ use Rattle.rules.specs.Maintenance.{rewriteGroup}
 use Rattle.rules.specs.World.{world}
 use Rattle.rules.specs.Layout.{table}
 use Rattle.location_table.specs.LayoutLaws.{used}
-use Rattle.gc_group.specs.Plan.{planned}
+use Rattle.gc_candidates.specs.Plan.{planned}
 use Rattle.gc_group.specs.Source.{source, Ready}
 use Rattle.gc_group.specs.Checks.{groupChecks}
 use Rattle.gc_group.specs.Marks.{foundAt}

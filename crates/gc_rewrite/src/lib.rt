@@ -15,7 +15,7 @@ ghost use Rattle.rules.specs.Condition1Laws.{Passed};
 ghost use Rattle.rules.specs.Maintenance.{rewriteGroup};
 ghost use Rattle.rules.specs.World.{world};
 ghost use Rattle.rules.specs.Layout.{table};
-ghost use Rattle.gc_group.specs.Plan.{planned};
+ghost use Rattle.gc_candidates.specs.Plan.{planned};
 ghost use Rattle.gc_group.specs.Source.{Ready};
 ghost use Rattle.gc_rewrite.specs.Courses.{courseGiven};
 ghost use Rattle.gc_rewrite.specs.Putting.{Kept};

@@ -1,13 +1,15 @@
 // The split of a group's entries into files (`src/writepath.rs`), by sizes alone: no entry is held, each gets the number
 // of the piece that it is in.
 
+use new_file::spent;
+use new_file::too_large;
 use rules::Answer;
 use rules::Refusal;
 ghost use mathlib.Core.Path.{_≡_};
 ghost use mathlib.Core.Bool.{_||_};
 ghost use mathlib.Core.List.{_++_};
 ghost use Prim.Native.Nat.{_+_, _*_, _^_, _≤_, _<_};
-ghost use lib.Dec.{ltb, eqb};
+ghost use lib.Dec.{eqb};
 ghost use lib.ListN.{length, getD, set, take};
 ghost use Rattle.numbers.specs.Choice.{pick};
 ghost use Rattle.numbers.specs.Parts.{front, putAt};
@@ -15,23 +17,12 @@ ghost use Rattle.rules.specs.Refusal.{decide};
 ghost use Rattle.gc_split.specs.TotalLaws.{totalsTests};
 ghost use Rattle.gc_split.specs.Tally.{tally, pieceNo, closing, cutting, taking, closingRests, restOf, restsFrom, Within, Closable, Numbered};
 
-// Where positions end: 2^62.
-const POSITIONS: u64 = 1 << 62;
-
 // Entries taken, files closed, the sum of T + 1 over these, and whether one is too large for a slot.
 pub struct Totals {
     pub entries: u64,
     pub files: u64,
     pub positions: u64,
     pub large: bool,
-}
-
-// "64 + file_size > S"
-fn too_large(slot_bytes: u64, size: u64, count: u64) -> bool
-    requires { ⌜ (size ≤ 2 ^ 40) × (count ≤ 65536) ⌝ }
-    ensures { λ r. ⌜ r ≡ ltb «slot_bytes» (64 + (size + (12 + 16 * count))) ⌝ }
-{
-    slot_bytes < 64 + (size + (12 + 16 * count))
 }
 
 fn either(a: bool, b: bool) -> bool
@@ -182,10 +173,7 @@ pub fn decided(t: Totals, empty: u64, base: u64) -> Answer
     if t.files == 0 {
         return Answer::Done;
     }
-    if POSITIONS < base {
-        return Answer::Refused(Refusal::PositionsSpent);
-    }
-    if POSITIONS - base < t.positions {
+    if spent(base, t.positions) {
         return Answer::Refused(Refusal::PositionsSpent);
     }
     Answer::Done

@@ -6,7 +6,10 @@ use batch_file::entry_of;
 use gc_files::places::moving_at;
 use location_table::capacity;
 use location_table::id_at;
+use rules::LABEL_BYTES;
 use rules::Label;
+use rules::TRAILER_ENTRY;
+use rules::TRAILER_HEAD;
 use trailer::write;
 ghost use mathlib.Core.Logic.{_⊎_};
 ghost use mathlib.Core.Path.{_≡_};
@@ -185,7 +188,7 @@ fn put_entries(
         let t = turn_at(heap, ids, places, pieces, piece, i);
         let e = entry_of(t.operation, position);
         rest = write::put_entry(heap, to, e, rest);
-        to += 16;
+        to += TRAILER_ENTRY;
         position += t.size;
         i = t.next;
     }
@@ -210,7 +213,7 @@ fn put_trailer(
 {
     let checksum = sum(heap, ids, places, pieces, piece, count);
     let rest = write::put_head(heap, at, checksum, count, left);
-    put_entries(heap, at + 12, ids, places, pieces, piece, rest)
+    put_entries(heap, at + TRAILER_HEAD, ids, places, pieces, piece, rest)
 }
 
 // A piece's file and its label into the slot that begins at `start`, in the order of the file's run.
@@ -230,7 +233,7 @@ pub fn write_piece(
     requires { ⌜ Writing start «slot_bytes» (now heap) (tableIds (now ids)) (now places) (now pieces) piece count total ⌝ }
     ensures { λ r. ⌜ Made k (fileStores start (labelBytes new) (fileBytes (filedOps piece (now (heap .entry)) (tableIds (now (ids .entry))) (now (places .entry)) (now (pieces .entry))))) (now (heap .entry)) (now (heap .exit)) r ⌝ }
 {
-    let objects = start + 64;
+    let objects = start + LABEL_BYTES;
     let behind_objects = put_objects(heap, objects, ids, places, pieces, piece, k);
     let trailer = objects + total as usize;
     let behind_trailer = put_trailer(

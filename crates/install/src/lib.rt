@@ -3,8 +3,11 @@ use disk_location::RelativeDiskLocation;
 use rules::Entry;
 use rules::FileMap;
 use rules::Held;
+use rules::LABEL_BYTES;
 use rules::Label;
 use rules::State;
+use rules::TRAILER_ENTRY;
+use rules::TRAILER_HEAD;
 ghost use mathlib.Core.Path.{_≡_};
 ghost use mathlib.Core.Bool.{false};
 ghost use Prim.Native.Nat.{_+_, _*_, _^_, _≤_, _<_};
@@ -112,7 +115,13 @@ pub fn new_label(lsn: u64, count: u64, total: u64, generation: u64) -> Label
     requires { ⌜ total + (12 + 16 * count) < 2 ^ 63 ⌝ }
     ensures { λ l. ⌜ l ≡ labelled lsn total (total + (12 + 16 * count)) count generation ⌝ }
 {
-    file_map::labelled(lsn, total, total + (12 + 16 * count), count, generation)
+    file_map::labelled(
+        lsn,
+        total,
+        total + (TRAILER_HEAD as u64 + TRAILER_ENTRY as u64 * count),
+        count,
+        generation,
+    )
 }
 
 // The entries of a trailer: live counts, then table.
@@ -146,8 +155,8 @@ pub fn install(
     requires { ⌜ Installable (now lsns) (now lives) (table (now ids) (now locations)) (now heap) start count total lsn ⌝ }
     ensures { λ _. ⌜ (now (lives .exit) ≡ losingLives (now (lsns .entry)) (usedEntries (table (now (ids .entry)) (now (locations .entry)))) (entriesIn (trailerAt (now (heap .entry)) start count total)) (now (lives .entry))) × (table (now (ids .exit)) (now (locations .exit)) ≡ laidOut (length (tableIds (now (ids .entry)))) (insertAll (usedEntries (table (now (ids .entry)) (now (locations .entry)))) (taken lsn (entriesIn (trailerAt (now (heap .entry)) start count total))))) ⌝ }
 {
-    let from = start + 64 + total as usize;
-    let end = from + (12 + 16 * count as usize);
+    let from = start + LABEL_BYTES + total as usize;
+    let end = from + (TRAILER_HEAD + TRAILER_ENTRY * count as usize);
     by_trailer(lsns, lives, ids, locations, &heap[from..end], lsn);
 }
 

@@ -1,10 +1,12 @@
 // Refusal 1, "first in every call".
 use file_map::is_empty;
 use file_map::out_of_bounds;
+use location_table::capacity;
 use location_table::in_form;
 use location_table::lengths_in_range;
 use location_table::within;
 use rules::FileMap;
+use rules::RECORDS;
 use rules::Record;
 use rules::Settings;
 use rules::State;
@@ -37,22 +39,12 @@ pub fn defaults() -> Settings
 fn in_ranges(s: Settings) -> bool
     ensures { λ r. ⌜ r ≡ inRanges s ⌝ }
 {
-    if !within(128, 1048576, s.slot_bytes) {
-        return false;
-    }
-    if !within(0, 100, s.file_compaction_percent) {
-        return false;
-    }
-    if !within(1, 256, s.min_compaction_files) {
-        return false;
-    }
-    if !within(1, 1048576, s.target_file_size) {
-        return false;
-    }
-    if !within(0, 256, s.small_file_cleanup_threshold) {
-        return false;
-    }
-    within(1, 1048576, s.max_object_size)
+    within(128, 1048576, s.slot_bytes)
+        & within(0, 100, s.file_compaction_percent)
+        & within(1, 256, s.min_compaction_files)
+        & within(1, 1048576, s.target_file_size)
+        & within(0, 256, s.small_file_cleanup_threshold)
+        & within(1, 1048576, s.max_object_size)
 }
 
 // "slots N = heap length / S, exact: 1..256"
@@ -63,7 +55,7 @@ fn heap_in_range(s: Settings, heap: u64) -> bool
     if heap % s.slot_bytes != 0 {
         return false;
     }
-    within(1, 256, heap / s.slot_bytes)
+    within(1, RECORDS as u64, heap / s.slot_bytes)
 }
 
 // "settings or buffer lengths outside the ranges": all of 1 for a reopening. `heap` is the heap's length.
@@ -82,22 +74,12 @@ pub fn out_of_range(s: Settings, heap: u64, ids: &[u64], locations: &[u64]) -> b
 fn same_settings(s: Settings, t: Settings) -> bool
     ensures { λ r. ⌜ r ≡ sameSettings s t ⌝ }
 {
-    if s.slot_bytes != t.slot_bytes {
-        return false;
-    }
-    if s.file_compaction_percent != t.file_compaction_percent {
-        return false;
-    }
-    if s.min_compaction_files != t.min_compaction_files {
-        return false;
-    }
-    if s.target_file_size != t.target_file_size {
-        return false;
-    }
-    if s.small_file_cleanup_threshold != t.small_file_cleanup_threshold {
-        return false;
-    }
-    s.max_object_size == t.max_object_size
+    (s.slot_bytes == t.slot_bytes)
+        & (s.file_compaction_percent == t.file_compaction_percent)
+        & (s.min_compaction_files == t.min_compaction_files)
+        & (s.target_file_size == t.target_file_size)
+        & (s.small_file_cleanup_threshold == t.small_file_cleanup_threshold)
+        & (s.max_object_size == t.max_object_size)
 }
 
 // What a state holds beside its records.
@@ -125,13 +107,7 @@ fn the_states(s: Settings, heap: u64, entries: u64, rest: Rest) -> bool
     ensures { λ r. ⌜ r ≡ theStates s heap entries rest ⌝ }
 {
     let t = rest.settings;
-    if !same_settings(s, t) {
-        return false;
-    }
-    if heap != rest.heap_len {
-        return false;
-    }
-    entries == rest.table_len
+    same_settings(s, t) & (heap == rest.heap_len) & (entries == rest.table_len)
 }
 
 // "a non-empty record at slot N or above, outside 8's bounds, or with present over file_size or live over the table's length"
@@ -151,7 +127,7 @@ fn bad_record(s: Settings, heap: u64, ids: &[u64], locations: &[u64], slot: u64,
     if r.label.file_size < r.label.present_objects {
         return true;
     }
-    (ids.len() as u64) < r.live
+    (capacity(ids) as u64) < r.live
 }
 
 // Some record is such, or S is out of its range. Every call asks this before its first branch: there, compiled, it reads the caller's
@@ -163,7 +139,7 @@ pub fn bad_files(s: Settings, heap: u64, ids: &[u64], locations: &[u64], files: 
         return true;
     }
     let mut i: usize = 0;
-    while i < 256 {
+    while i < RECORDS {
         if bad_record(s, heap, ids, locations, i as u64, files.records[i]) {
             return true;
         }
@@ -187,7 +163,7 @@ pub fn refused_apart(
     if out_of_range(s, heap, ids, locations) {
         return true;
     }
-    if !the_states(s, heap, ids.len() as u64, rest) {
+    if !the_states(s, heap, capacity(ids) as u64, rest) {
         return true;
     }
     if !in_form(ids, locations) {

@@ -43,7 +43,7 @@ fn show(files: FileMap, used: u64) {
 
 // A store that refusal 1 bars has no listing.
 fn list(settings: Settings, state: State, heap: &[u8], ids: &[u64], locations: &[u64]) {
-    if limits::refused(settings, heap.len() as u64, ids, locations, state) {
+    if marble::refused(settings, heap.len() as u64, ids, locations, state) {
         return;
     }
     let used = location_table::used(ids, locations) as u64;
@@ -58,7 +58,7 @@ fn written(
     locations: &mut [u64],
     batch: &[u8],
 ) -> State {
-    let fresh = recovery::reopen(
+    let fresh = marble::reopen(
         settings,
         no_state(settings),
         no_claims(),
@@ -67,7 +67,7 @@ fn written(
         locations,
     );
     let opened = fresh.state;
-    let after = writepath::write(settings, opened, heap, ids, locations, batch);
+    let after = marble::write(settings, opened, heap, ids, locations, batch);
     after.state
 }
 
@@ -75,7 +75,7 @@ fn main() {
     let mut heap = io::buffer();
     let mut ids = [0u64; 4];
     let mut locations = [0u64; 4];
-    let settings = limits::defaults();
+    let settings = marble::defaults();
     let state = written(
         settings,
         &mut heap,

@@ -1,20 +1,14 @@
 -- The two lent buffers as one table, and what the functions below the four calls do to it.
 use mathlib.Core.Path.{_≡_}
 use Rattle.rules.specs.Base.{Bool, true, not, List, [], _∷_, _++_, ℕ, zero, suc, _-_, length, getD, set, take, drop, pick}
-use Rattle.rules.specs.declared.Refusal.the-variants.{Limits, Location}
-use Rattle.rules.specs.Refusal.{Test, _gives_}
 use Rattle.rules.specs.Layout.{Buffers, inForm, capacityOf, usedEntries}
 use Rattle.rules.specs.Table.{full}
 use Rattle.rules.specs.World.{Given}
-use Rattle.rules.specs.TableCalls.{TableAfter, notForm, withStored}
+use Rattle.rules.specs.TableCalls.{TableAfter, withStored}
 
 -- what a table call left, as its result and the lent buffers give it
 abbrev pub leaving : Given → Buffers → TableAfter
 leaving answer table = record { answer = answer; table = table }
-
--- "Order: 1, 20 (a given raw 0)": what each call that stores asks first
-abbrev pub frontTests : Buffers → Bool → List Test
-frontTests b absent = notForm b gives Limits ∷ absent gives Location ∷ []
 
 -- what a call that is not refused with 1 knows of the table
 pub record Formed (b : Buffers) : Type 0 where

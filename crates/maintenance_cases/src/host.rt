@@ -52,7 +52,7 @@ fn claim_words(first: u64) -> Claims {
 }
 
 pub fn reopened(s: Settings, heap: &[u8], ids: &mut [u64], locations: &mut [u64]) -> State {
-    let r = recovery::reopen(s, no_state(s), no_claims(), heap, ids, locations);
+    let r = marble::reopen(s, no_state(s), no_claims(), heap, ids, locations);
     let state = r.state;
     state
 }
@@ -67,7 +67,7 @@ pub fn write(
 ) -> State {
     let mut batch = [0u8; 2048];
     let end = batches::make(&mut batch, pairs);
-    let w = writepath::write(s, state, heap, ids, locations, &batch[0..end]);
+    let w = marble::write(s, state, heap, ids, locations, &batch[0..end]);
     let after = w.state;
     after
 }
@@ -152,16 +152,16 @@ pub fn maintain(
     ids: &mut [u64],
     locations: &mut [u64],
 ) -> State {
-    let m = gc::maintain(s, state, claim_words(hand.claimed), heap, ids, locations);
+    let m = marble::maintain(s, state, claim_words(hand.claimed), heap, ids, locations);
     let answer = m.answer;
     let after = m.state;
     show::maintained(answer);
     test_host::store(after, heap, ids, locations);
-    show::counted(claims::counts(s, after, heap, ids, locations));
+    show::counted(marble::counts(s, after, heap, ids, locations));
     after
 }
 
 pub fn read(s: Settings, state: State, heap: &[u8], ids: &[u64], locations: &[u64], id: u64) {
-    let body = readpath::read(s, state, heap, ids, locations, id);
+    let body = marble::read(s, state, heap, ids, locations, id);
     show::body(id, body);
 }

@@ -32,10 +32,10 @@ use Rattle.gc.proofs.maintain.Reads as maintain
 use Rattle.prune.specs.declared.PruneAnswer.{PruneAnswer}
 use Rattle.prune.proofs.prune.Reads as prune
 use Rattle.location_table.specs.Tables.{leaving as tableLeaving}
-use Rattle.location_table.proofs.load.Reads as load
-use Rattle.location_table.proofs.store.Reads as store
-use Rattle.location_table.proofs.«compare_and_store».Reads as compare
-use Rattle.location_table.proofs.«store_if_greater».Reads as greater
+use Rattle.table_calls.proofs.load.Reads as load
+use Rattle.table_calls.proofs.store.Reads as store
+use Rattle.table_calls.proofs.«compare_and_store».Reads as compare
+use Rattle.table_calls.proofs.«store_if_greater».Reads as greater
 use Rattle.marble.specs.Results.{wrote, maintained, pruned, claimed, released, reopened, answered, read, counted, Admitted}
 
 -- a lent buffer of numbers: where it is, and what it holds

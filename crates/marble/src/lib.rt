@@ -35,7 +35,7 @@ pub use prune::PruneAnswer;
 pub use prune::prune;
 
 // "Table": load, store, compare-and-store, store-if-greater.
-pub use location_table::compare_and_store;
-pub use location_table::load;
-pub use location_table::store;
-pub use location_table::store_if_greater;
+pub use table_calls::compare_and_store;
+pub use table_calls::load;
+pub use table_calls::store;
+pub use table_calls::store_if_greater;

@@ -54,35 +54,35 @@ fn say_slot(s: Slot) {
 
 // A table of two entries: 20 and 6, a compare that differs, 18, 19, a lower location not stored.
 fn stores(ids: &mut [u64], locations: &mut [u64]) {
-    say_load(location_table::load(ids, locations, 7));
-    say_answer(location_table::store(ids, locations, 7, 10));
-    say_answer(location_table::store(ids, locations, 3, 0));
-    say_answer(location_table::store(ids, locations, 3, 11));
-    say_answer(location_table::store(ids, locations, 9, 12));
-    say_load(location_table::load(ids, locations, 7));
+    say_load(table_calls::load(ids, locations, 7));
+    say_answer(table_calls::store(ids, locations, 7, 10));
+    say_answer(table_calls::store(ids, locations, 3, 0));
+    say_answer(table_calls::store(ids, locations, 3, 11));
+    say_answer(table_calls::store(ids, locations, 9, 12));
+    say_load(table_calls::load(ids, locations, 7));
 }
 
 fn compares(ids: &mut [u64], locations: &mut [u64]) {
-    say_compare(location_table::compare_and_store(ids, locations, 7, 10, 14));
-    say_compare(location_table::compare_and_store(ids, locations, 7, 10, 16));
-    say_compare(location_table::compare_and_store(ids, locations, 5, 10, 16));
-    say_compare(location_table::compare_and_store(ids, locations, 7, 0, 16));
+    say_compare(table_calls::compare_and_store(ids, locations, 7, 10, 14));
+    say_compare(table_calls::compare_and_store(ids, locations, 7, 10, 16));
+    say_compare(table_calls::compare_and_store(ids, locations, 5, 10, 16));
+    say_compare(table_calls::compare_and_store(ids, locations, 7, 0, 16));
 }
 
 fn greaters(ids: &mut [u64], locations: &mut [u64]) {
-    say_load(location_table::store_if_greater(ids, locations, 7, 14));
-    say_load(location_table::store_if_greater(ids, locations, 7, 12));
-    say_load(location_table::store_if_greater(ids, locations, 7, 20));
-    say_load(location_table::store_if_greater(ids, locations, 9, 20));
-    say_load(location_table::load(ids, locations, 7));
+    say_load(table_calls::store_if_greater(ids, locations, 7, 14));
+    say_load(table_calls::store_if_greater(ids, locations, 7, 12));
+    say_load(table_calls::store_if_greater(ids, locations, 7, 20));
+    say_load(table_calls::store_if_greater(ids, locations, 9, 20));
+    say_load(table_calls::load(ids, locations, 7));
 }
 
 // A table with a hole is not in form; nor is one of no entries.
 fn forms() {
     let ids = [3u64, 0, 7];
     let locations = [11u64, 0, 10];
-    say_load(location_table::load(&ids, &locations, 7));
-    say_load(location_table::load(&ids[0..0], &locations[0..0], 7));
+    say_load(table_calls::load(&ids, &locations, 7));
+    say_load(table_calls::load(&ids[0..0], &locations[0..0], 7));
 }
 
 // A batch file of base 101 in slot 0, the same one in slot 2, a rewritten one of base 205 in slot 1: raw locations decide, the lowest slot of equals.

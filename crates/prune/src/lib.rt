@@ -6,6 +6,7 @@ use limits::rest_of;
 use rules::Answer;
 use rules::Claims;
 use rules::FileMap;
+use rules::RECORDS;
 use rules::Record;
 use rules::Refusal;
 use rules::Settings;
@@ -79,7 +80,7 @@ fn first(due: bool) -> usize
     if due {
         return 0;
     }
-    256
+    RECORDS
 }
 
 // One store for each dead file, ascending by slot, as far as `left` reaches; every dead file's record emptied. Nothing where it is not due.
@@ -98,7 +99,7 @@ pub fn prune_stores(
     let mut n = files;
     let mut rest = left;
     let mut i = first(due);
-    while i < 256 {
+    while i < RECORDS {
         let r = n.records[i];
         let dead = is_dead(claims, i as u64, r);
         rest = zero_label(heap, slot_bytes, i as u64, dead, rest);
@@ -115,7 +116,14 @@ pub fn pruned(settings: Settings, state: State, claims: Claims, heap: &mut [u8],
     ensures { λ r. ⌜ ((ids locations : List ℕ) → world settings r claims (now (heap .exit)) (table ids locations) ≡ pick due (pruned (world settings state claims (now (heap .entry)) (table ids locations))) (world settings state claims (now (heap .entry)) (table ids locations))) ⌝ }
 {
     let files = state.files;
-    let next = prune_stores(heap, settings.slot_bytes, claims, files, 256, due);
+    let next = prune_stores(
+        heap,
+        settings.slot_bytes,
+        claims,
+        files,
+        RECORDS as u64,
+        due,
+    );
     let mut after = state;
     after.files = next;
     after

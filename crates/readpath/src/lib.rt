@@ -4,6 +4,7 @@ use limits::bad_files;
 use limits::refused_apart;
 use limits::rest_of;
 use rules::Held;
+use rules::LABEL_BYTES;
 use rules::Label;
 use rules::ReadAnswer;
 use rules::Refusal;
@@ -23,12 +24,15 @@ ghost use Rattle.rules.specs.Layout.{table};
 ghost use Rattle.slot_file.specs.Objects.{bodyOf};
 ghost use Rattle.readpath.specs.Reads.{Lies, inHeap, Within, placeOf};
 
+// The label's bytes, where the heap is counted in u64.
+const LABEL: u64 = LABEL_BYTES as u64;
+
 // "a 64-byte label, then the file": the file of a slot, a part of the lent heap.
 fn file_part(heap: &[u8], slot_bytes: u64, slot: u64, l: Label) -> &[u8]
     requires { ⌜ Lies «slot_bytes» l slot (length (now heap)) ⌝ }
     ensures { λ x. ⌜ now x ≡ fileIn l (slotBytes «slot_bytes» (now (heap .entry)) slot) ⌝ }
 {
-    let start = (slot * slot_bytes) as usize + 64;
+    let start = (slot * slot_bytes) as usize + LABEL_BYTES;
     let end = start + l.file_size as usize;
     &heap[start..end]
 }
@@ -46,7 +50,9 @@ fn object_at(
     ensures { λ x. ⌜ x ≡ inHeap (slot * «slot_bytes» + 64) (bodyOf id (storedAt position (drop position (fileIn l (slotBytes «slot_bytes» (now (heap .entry)) slot))))) ⌝ }
 {
     match slot_file::object::read(file_part(heap, slot_bytes, slot, l), position, id) {
-        BodyAnswer::Body(start, size) => { ReadAnswer::Found(slot * slot_bytes + 64 + start, size) }
+        BodyAnswer::Body(start, size) => {
+            ReadAnswer::Found(slot * slot_bytes + LABEL + start, size)
+        }
         BodyAnswer::Unread(refusal) => ReadAnswer::ReadRefused(refusal),
     }
 }

@@ -1,13 +1,13 @@
 -- The table filled chunk by chunk: an entry of a trailer, or all entries of a slot's file.
 use mathlib.Core.Path.{_≡_, refl, sym, ap, _∙_, subst}
 use mathlib.Core.Bool.{Bool, true, false}
-use mathlib.Core.List.{List, [], _∷_, _++_, map, append-nil, append-assoc}
+use mathlib.Core.List.{List, [], _∷_, _++_, map, append-nil}
 use Prim.Native.Nat.{ℕ, _+_, _^_, _<_, _≤_}
 use native.Mathlib.Omega.{arith}
 use lib.ListN.{length, getD, take, drop, length-map, take-append-drop}
 use lib.Seq.{take-all}
 use Rattle.rules.specs.Base.{each}
-use Rattle.rules.specs.BaseLaws.{All, all-map, any-false, all-append}
+use Rattle.rules.specs.BaseLaws.{All, all-map, any-false, all-append, each-append}
 use Rattle.rules.specs.LabelLaws.{lsn-some}
 use Rattle.rules.specs.Layout.{Buffers}
 use Rattle.disk_location.specs.Locations.{maskedOf, positionOf}
@@ -67,11 +67,6 @@ file-placed slot l w = record {
 pub slot-rows : (slot : List ℕ) (l : Label) → FileAt slot l → each rowsOf (fileOf (viewIn slot)) ≡ map (absolute (l .lsn)) (trailerEntries l slot)
 unfolding each
 slot-rows slot l w = ap (each rowsOf) (file-of slot l w) ∙ append-nil _
-
-each-append : {A B : Type 0} (f : A → List B) (xs ys : List A) → each f (xs ++ ys) ≡ each f xs ++ each f ys
-unfolding each
-each-append f [] ys = refl
-each-append {B = B} f (x ∷ xs) ys = ap (λ (l : List B). f x ++ l) (each-append f xs ys) ∙ sym (append-assoc (f x) (each f xs) (each f ys))
 
 -- of the files in all slots
 abbrev pub rowsIn : List View → List Entry

@@ -10,6 +10,7 @@ use reopen_tests::overlap::in_range;
 use reopen_tests::slots::no_file;
 use rules::FileMap;
 use rules::Label;
+use rules::RECORDS;
 use rules::Record;
 ghost use mathlib.Core.Path.{_≡_};
 ghost use mathlib.Core.List.{map};
@@ -54,7 +55,7 @@ pub fn with_live_counts(ids: &[u64], locations: &[u64], slots: Labels) -> FileMa
 {
     let mut m = no_files();
     let mut k: usize = 0;
-    while k < 256 {
+    while k < RECORDS {
         m.records[k] = counted(ids, locations, slots.labels[k]);
         k += 1;
     }
@@ -78,7 +79,7 @@ pub fn next_position(slots: Labels) -> u64
     let mut lsn: u64 = 0;
     let mut size: u64 = 0;
     let mut k: usize = 0;
-    while k < 256 {
+    while k < RECORDS {
         let l = slots.labels[k];
         lsn = larger(lsn, masked(l.lsn));
         size = larger(size, l.file_size);

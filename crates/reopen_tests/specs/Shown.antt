@@ -103,7 +103,7 @@ clear-view [] k h none = absurd (not-suc-le-zero h)
 clear-view (v ∷ vs) zero h none = decide-clear (viewTests v) (none-first (viewTests v) (each viewTests vs) none)
 clear-view (v ∷ vs) (suc k) h none = clear-view vs k (le-of-suc-le-suc h) (none-rest (viewTests v) (each viewTests vs) none)
 
-label-at : (views : List View) (rest : List Label) (k : ℕ) → k < length views → labelAt (map labelOf views ++ rest) k ≡ labelOf (getD views k empty)
+pub label-at : (views : List View) (rest : List Label) (k : ℕ) → k < length views → labelAt (map labelOf views ++ rest) k ≡ labelOf (getD views k empty)
 label-at [] rest k h = absurd (not-suc-le-zero h)
 label-at (v ∷ vs) rest zero h = refl
 label-at (v ∷ vs) rest (suc k) h = label-at vs rest k (le-of-suc-le-suc h)

@@ -7,10 +7,11 @@ pub mod slots;
 
 use rules::Answer;
 use rules::Label;
+use rules::RECORDS;
 
 // The labels of the 256 slots: zeros for a slot without a file.
 pub struct Labels {
-    pub labels: [Label; 256],
+    pub labels: [Label; RECORDS],
 }
 
 // The first refusal and no labels, or the labels of all slots. The labels stand first: behind an answer's few bytes they would be

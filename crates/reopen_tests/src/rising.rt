@@ -80,7 +80,7 @@ fn some_repeated(trailer: &[u8]) -> bool
 }
 
 // "A repeated id in one trailer needs strictly rising positions": pairs are compared only where ids do not ascend.
-fn falls(trailer: &[u8]) -> bool
+pub fn falls(trailer: &[u8]) -> bool
     requires { ⌜ 12 + 16 * countIn (now trailer) ≤ length (now trailer) ⌝ }
     ensures { λ b. ⌜ b ≡ notRising (entriesIn (now (trailer .entry))) ⌝ }
 {

@@ -3,6 +3,7 @@ use crate::Survey;
 use file_map::no_label;
 use rules::Answer;
 use rules::Label;
+use rules::RECORDS;
 use rules::Refusal;
 use slot_file::SlotAnswer;
 use slot_file::slot;
@@ -21,11 +22,13 @@ pub fn no_file(l: Label) -> bool
     l.lsn == 0
 }
 
-fn no_labels() -> Labels
+pub fn no_labels() -> Labels
     ensures { λ s. ⌜ s .labels ≡ noLabels ⌝ }
 {
     let l = no_label();
-    Labels { labels: [l; 256] }
+    Labels {
+        labels: [l; RECORDS],
+    }
 }
 
 fn refusal(shown: SlotAnswer) -> Answer
@@ -38,7 +41,7 @@ fn refusal(shown: SlotAnswer) -> Answer
     }
 }
 
-fn label(shown: SlotAnswer) -> Label
+pub fn label(shown: SlotAnswer) -> Label
     ensures { λ l. ⌜ l ≡ labelShown shown ⌝ }
 {
     match shown {

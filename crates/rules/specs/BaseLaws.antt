@@ -1,5 +1,6 @@
 -- Laws of tests and lists: no word of the paper is here.
-use mathlib.Core.Path.{_≡_, refl, sym, ap₂, _∙_}
+use mathlib.Core.Path.{_≡_, refl, sym, ap, ap₂, _∙_}
+use mathlib.Core.List.{append-assoc}
 use mathlib.Core.Bool.{true≢false, false≢true}
 use mathlib.Core.Logic.{_⊎_, inl, inr, ⊎-elim}
 use Prim.Native.Nat.{_≤_, _<_}
@@ -7,7 +8,7 @@ use native.Mathlib.Nat.{eq-or-lt-of-le, le-of-suc-le-suc, not-suc-le-zero}
 use native.Mathlib.Omega.{arith}
 use lib.ListN.{length-append, length-replicate}
 use borrow.Author.Tests.{ltb-true, ltb-false, leb-true, eqb-true, eqb-false, le-leb, eq-eqb}
-use Rattle.rules.specs.Base.{Bool, true, false, not, _&&_, _||_, List, [], _∷_, _++_, ℕ, zero, suc, _-_, length, replicate, leb, ltb, eqb, within, any, zeros, padded, getD, take}
+use Rattle.rules.specs.Base.{Bool, true, false, not, _&&_, _||_, List, [], _∷_, _++_, ℕ, zero, suc, _-_, length, replicate, leb, ltb, eqb, within, any, each, zeros, padded, getD, take}
 
 -- ---- tests
 -- no test of a chain of `||` holds
@@ -94,6 +95,12 @@ all-map P Q (x ∷ xs) f a = (f x (a .0), all-map P Q xs f (a .1))
 pub all-append : {A : Type 0} (P : A → Type 0) (xs ys : List A) → All P xs → All P ys → All P (xs ++ ys)
 all-append P [] ys a b = b
 all-append P (x ∷ xs) ys a b = (a .0, all-append P xs ys (a .1) b)
+
+-- of two lists, what each makes of both
+pub each-append : {A B : Type 0} (f : A → List B) (xs ys : List A) → each f (xs ++ ys) ≡ each f xs ++ each f ys
+unfolding each
+each-append f [] ys = refl
+each-append {B = B} f (x ∷ xs) ys = ap (λ (l : List B). f x ++ l) (each-append f xs ys) ∙ sym (append-assoc (f x) (each f xs) (each f ys))
 
 -- two things at once
 pub all-both : {A : Type 0} (P Q : A → Type 0) (xs : List A) → All P xs → All Q xs → All (λ (x : A). P x × Q x) xs

@@ -75,6 +75,16 @@ pub stored-good : (position id : ℕ) (body : List ℕ) (behind : ℕ) → badCh
 unfolding badChecksum
 stored-good position id body behind = rw (eq-eqb (objectSum id body) (objectSum id body) refl)
 
+-- what is read at a position of bytes stands there, and has all of them behind it
+module _ (position : ℕ) (bytes : List ℕ) where
+  pub stored-position : storedAt position bytes .position ≡ position
+  unfolding storedAt
+  stored-position = refl
+
+  pub stored-room : storedAt position bytes .room ≡ length bytes
+  unfolding storedAt
+  stored-room = refl
+
 -- ---- the walk over object bytes, one object on
 pub objects-none : (k position : ℕ) → objectsFrom k position [] ≡ []
 unfolding objectsFrom

@@ -1,4 +1,25 @@
-// The shared types of document 01. Its rules are the definitions in specs/.
+// The shared types of document 01, and the numbers of its bytes. Its rules are the definitions in specs/.
+
+// "a 64-byte label"
+pub const LABEL_BYTES: usize = 64;
+
+// "checksum 4, id 8, length 8 .. so the header is 20"
+pub const OBJECT_HEADER: usize = 20;
+
+// Where an object's length stands, behind "checksum 4, id 8".
+pub const LENGTH_AT: usize = 12;
+
+// A trailer before its entries: "checksum 4 .. entry count 8".
+pub const TRAILER_HEAD: usize = 12;
+
+// "per entry id 8 and raw relative location 8"
+pub const TRAILER_ENTRY: usize = 16;
+
+// "9 trailer under 20 bytes"
+pub const TRAILER_LEAST: usize = 20;
+
+// "a file map of 256 records", and as many slots at most
+pub const RECORDS: usize = 256;
 
 // "Settings": the six that a caller chooses; slots and table entries come from the buffers.
 #[repr(C)]
@@ -37,7 +58,7 @@ pub struct Entry {
 // "a file map of 256 records"
 #[repr(C)]
 pub struct FileMap {
-    pub records: [Record; 256],
+    pub records: [Record; RECORDS],
 }
 
 // What a reopening hands to the calls after it.

@@ -1,5 +1,5 @@
 -- Objects as the code answers them, and the walk over them.
-use mathlib.Core.Path.{_≡_, refl, ap, _∙_}
+use mathlib.Core.Path.{_≡_, refl, ap, _∙_, subst}
 use mathlib.Core.Bool.{Bool, true, false}
 use mathlib.Core.List.{List, [], _∷_}
 use Prim.Native.Nat.{ℕ, zero, suc, _+_, _≤_, _<_}
@@ -12,7 +12,7 @@ use Rattle.numbers.specs.Choice.{pick}
 use Rattle.rules.specs.Refusal.{decide, after}
 use Rattle.rules.specs.Object.{Stored, storedAt, objectsFrom, objectsIn}
 use Rattle.rules.specs.Read.{objectTests}
-use Rattle.rules.specs.ObjectLaws.{objects-enough, objects-next as objects-cons}
+use Rattle.rules.specs.ObjectLaws.{stored-room, objects-enough, objects-next as objects-cons}
 use Rattle.slot_file.specs.declared.Header.{Header}
 use Rattle.slot_file.specs.declared.Step.{Step}
 use Rattle.slot_file.specs.declared.Step.the-variants.{End, HeaderCut, Here}
@@ -102,3 +102,28 @@ step-told objects position = go (ltb position (length objects)) (ltb (length (dr
     go true false p q =
         rw (step-inside objects position (ltb-true position (length objects) p), q)
         (record { inside = omega (arith, ltb-false (length (drop position objects)) 20 q, length-drop position objects); header = refl })
+
+pub told-by : (objects : List ℕ) (position : ℕ) (s : Step) → stepOf (objectsAt objects position) ≡ s → Told objects position s
+told-by objects position s e = subst (Told objects position) e (step-told objects position)
+
+-- an object whose header is whole: its numbers, and where it begins and ends
+module _ (objects : List ℕ) (position : ℕ) (h : Header) (w : Walked objects position h) where
+  pub header-size : h .size ≡ storedAt position (drop position objects) .size
+  header-size = ap (λ (x : Header). x .size) (w .header)
+
+  pub header-id : h .id ≡ storedAt position (drop position objects) .id
+  header-id = ap (λ (x : Header). x .id) (w .header)
+
+  pub header-room : h .room ≡ storedAt position (drop position objects) .room
+  header-room = ap (λ (x : Header). x .room) (w .header)
+
+  pub header-begins : position < length objects
+  header-begins = let a = w .inside in omega arith
+
+  -- there are 20 bytes
+  pub header-fits : (20 ≤ h .room) × (position + h .room ≡ length objects)
+  header-fits =
+      let n = length-drop position objects in
+      let at = w .inside in
+      let room = stored-room position (drop position objects) in
+      (omega (arith, header-room), omega (arith, header-room))

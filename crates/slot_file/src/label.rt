@@ -1,6 +1,7 @@
 use file_map::labelled;
 use numbers::Number;
 use numbers::groups;
+use rules::LABEL_BYTES;
 use rules::LabelAnswer;
 ghost use mathlib.Core.Path.{_≡_};
 ghost use lib.ListN.{take, drop};
@@ -63,8 +64,8 @@ fn in_label(s: &[u8]) -> LabelAnswer
 pub fn read(slot: &[u8]) -> LabelAnswer
     ensures { λ r. ⌜ r ≡ labelIn (take 64 (now (slot .entry))) ⌝ }
 {
-    if slot.len() < 64 {
+    if slot.len() < LABEL_BYTES {
         return in_label(slot);
     }
-    in_label(&slot[..64])
+    in_label(&slot[..LABEL_BYTES])
 }

@@ -2,6 +2,8 @@ use crate::BodyAnswer;
 use crate::Header;
 use crate::Step;
 use numbers::little_endian;
+use rules::LENGTH_AT;
+use rules::OBJECT_HEADER;
 use rules::Refusal;
 ghost use mathlib.Core.Path.{_≡_};
 ghost use Prim.Native.Nat.{_+_, _-_, _≤_};
@@ -29,7 +31,7 @@ fn header(bytes: &[u8], position: u64) -> Header
     let sum = little_endian::get(&bytes[at..], 4);
     let behind_sum = at + 4;
     let id = little_endian::get(&bytes[behind_sum..], 8);
-    let behind_id = at + 12;
+    let behind_id = at + LENGTH_AT;
     let size = little_endian::get(&bytes[behind_id..], 8);
     Header {
         checksum: sum,
@@ -44,7 +46,7 @@ pub fn bad_checksum(bytes: &[u8], position: u64, h: Header) -> bool
     requires { ⌜ (h ≡ headerOf (storedAt position (drop position (now bytes)))) × (20 + h .size ≤ h .room) ⌝ }
     ensures { λ r. ⌜ r ≡ badChecksum (storedAt position (drop position (now (bytes .entry)))) ⌝ }
 {
-    let start = position as usize + 20;
+    let start = position as usize + OBJECT_HEADER;
     let end = start + h.size as usize;
     let right = checksum::object_sum(h.id, &bytes[start..end]) as u64;
     h.checksum != right
@@ -58,7 +60,7 @@ pub fn step(objects: &[u8], position: u64) -> Step
     if left == 0 {
         return Step::End;
     }
-    if left < 20 {
+    if left < OBJECT_HEADER as u64 {
         return Step::HeaderCut;
     }
     Step::Here(header(objects, position))
@@ -68,11 +70,11 @@ pub fn step(objects: &[u8], position: u64) -> Step
 pub fn read(file: &[u8], position: u64, id: u64) -> BodyAnswer
     ensures { λ r. ⌜ r ≡ bodyOf id (storedAt position (drop position (now (file .entry)))) ⌝ }
 {
-    if room(file, position) < 20 {
+    if room(file, position) < OBJECT_HEADER as u64 {
         return BodyAnswer::Unread(Refusal::CutShort);
     }
     let h = header(file, position);
-    let most = h.room - 20;
+    let most = h.room - OBJECT_HEADER as u64;
     if most < h.size {
         return BodyAnswer::Unread(Refusal::CutShort);
     }
@@ -82,5 +84,5 @@ pub fn read(file: &[u8], position: u64, id: u64) -> BodyAnswer
     if h.id != id {
         return BodyAnswer::Unread(Refusal::OtherId);
     }
-    BodyAnswer::Body(position + 20, h.size)
+    BodyAnswer::Body(position + OBJECT_HEADER as u64, h.size)
 }

@@ -2,6 +2,7 @@ use crate::SlotAnswer;
 use crate::label;
 use file_map::out_of_bounds;
 use rules::Answer;
+use rules::LABEL_BYTES;
 use rules::Label;
 use rules::LabelAnswer;
 use rules::Refusal;
@@ -28,10 +29,10 @@ pub fn slot_at(heap: &[u8], size: usize, k: usize) -> &[u8]
 fn behind_label(slot: &[u8]) -> &[u8]
     ensures { λ r. ⌜ now r ≡ drop 64 (now (slot .entry)) ⌝ }
 {
-    if slot.len() < 64 {
+    if slot.len() < LABEL_BYTES {
         return &slot[0..0];
     }
-    &slot[64..]
+    &slot[LABEL_BYTES..]
 }
 
 // The file that a label describes, a part of the lent slot.

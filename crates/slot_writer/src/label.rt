@@ -1,4 +1,5 @@
 use numbers::groups;
+use rules::LABEL_BYTES;
 use rules::Label;
 ghost use mathlib.Core.Path.{_≡_};
 ghost use Prim.Native.Nat.{_+_, _≤_};
@@ -30,10 +31,10 @@ fn put_five(label: &mut [u8], l: Label)
 }
 
 // "Zeros fill the 64 bytes."
-fn bytes_of(l: Label) -> [u8; 64]
+fn bytes_of(l: Label) -> [u8; LABEL_BYTES]
     ensures { λ x. ⌜ x ≡ labelBytes l ⌝ }
 {
-    let mut label = [0u8; 64];
+    let mut label = [0u8; LABEL_BYTES];
     put_five(&mut label, l);
     label
 }
@@ -45,6 +46,6 @@ pub fn put(heap: &mut [u8], start: usize, l: Label, left: u64) -> u64
 {
     let label = bytes_of(l);
     let second = start + 1;
-    let behind = stores::put_bytes(heap, second, &label[1..64], left);
+    let behind = stores::put_bytes(heap, second, &label[1..LABEL_BYTES], left);
     stores::put_bytes(heap, start, &label[0..1], behind)
 }

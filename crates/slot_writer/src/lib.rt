@@ -3,6 +3,8 @@
 
 pub mod label;
 
+use rules::LENGTH_AT;
+use rules::OBJECT_HEADER;
 ghost use mathlib.Core.List.{_++_};
 ghost use mathlib.Core.Logic.{_⊎_};
 ghost use Prim.Native.Nat.{_+_, _≤_};
@@ -19,7 +21,7 @@ fn put_header(heap: &mut [u8], at: usize, sum: u32, id: u64, size: u64, left: u6
 {
     let behind_sum = stores::put_number(heap, at, 4, sum as u64, left);
     let behind_id = stores::put_number(heap, at + 4, 8, id, behind_sum);
-    stores::put_number(heap, at + 12, 8, size, behind_id)
+    stores::put_number(heap, at + LENGTH_AT, 8, size, behind_id)
 }
 
 // An object whose body is a piece of another buffer, from `at` on.
@@ -29,7 +31,7 @@ pub fn put_object(heap: &mut [u8], at: usize, id: u64, body: &[u8], left: u64) -
 {
     let sum = checksum::object_sum(id, body);
     let behind = put_header(heap, at, sum, id, body.len() as u64, left);
-    stores::put_bytes(heap, at + 20, body, behind)
+    stores::put_bytes(heap, at + OBJECT_HEADER, body, behind)
 }
 
 // An object whose body is a piece of the heap itself, apart from where it goes.
@@ -40,5 +42,5 @@ pub fn move_object(heap: &mut [u8], at: usize, id: u64, from: usize, size: usize
     let end = from + size;
     let sum = checksum::object_sum(id, &heap[from..end]);
     let behind = put_header(heap, at, sum, id, size as u64, left);
-    stores::move_bytes(heap, at + 20, from, size, behind)
+    stores::move_bytes(heap, at + OBJECT_HEADER, from, size, behind)
 }

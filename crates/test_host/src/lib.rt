@@ -3,6 +3,7 @@ use as_numbers::answers::refusal_number;
 use libc::STDOUT_FILENO;
 use rules::Claims;
 use rules::FileMap;
+use rules::RECORDS;
 use rules::Record;
 use rules::Refusal;
 use rules::Settings;
@@ -59,7 +60,7 @@ fn file(slot: u64, r: Record) {
 
 fn files(m: FileMap) {
     let mut slot: usize = 0;
-    while slot < 256 {
+    while slot < RECORDS {
         file(slot as u64, m.records[slot]);
         slot += 1;
     }

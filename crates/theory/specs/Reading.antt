@@ -11,6 +11,7 @@ use Rattle.disk_location.specs.Locations.{positionOf, deleteOf}
 use Rattle.rules.specs.Refusal.{decide, after, NoneHolds, clear-when, decide-clear}
 use Rattle.numbers.specs.LittleEndian.{leValue}
 use Rattle.rules.specs.Object.{Stored, storedAt, badChecksum}
+use Rattle.rules.specs.ObjectLaws.{stored-position, stored-room}
 use Rattle.rules.specs.Ops.{put, delete, Op}
 use Rattle.rules.specs.SettledLaws.{Last, silent, last, lastOn}
 use Rattle.rules.specs.PartLaws.{drop-take}
@@ -98,10 +99,6 @@ object-loud x o = go (decide (objectTests x o))
     go Done = (λ e. let z : _≡_ {A = ℕ} 0 1 = cc in omega arith, λ e. let z : _≡_ {A = ℕ} 0 1 = cc in omega arith)
     go (Refused r) = (λ e. let z : _≡_ {A = ℕ} 0 1 = cc in omega arith, λ e. let z : _≡_ {A = ℕ} 0 1 = cc in omega arith)
 
-room-is : (position : ℕ) (bs : List ℕ) → storedAt position bs .room ≡ length bs
-unfolding storedAt
-room-is position bs = refl
-
 -- its body is so many of its bytes
 pub body-is : (position : ℕ) (bs : List ℕ) → storedAt position bs .body ≡ take (storedAt position bs .size) (drop 20 bs)
 unfolding storedAt
@@ -120,7 +117,7 @@ read-back position t x objects bytes b e h =
     let o = storedAt position (drop position objects) in
     let v = says x o b h in
     let r = rooms x o (v .clear) in
-    let n : o .room ≡ length (drop position objects) = room-is position (drop position objects) in
+    let n : o .room ≡ length (drop position objects) = stored-room position (drop position objects) in
     let r0 = r .0 in
     let r1 = r .1 in
     let a = length-drop position objects in
@@ -164,10 +161,6 @@ part-of-heap heap size k fileSize position m h =
     ∙ part-take (64 + (position + 20)) m size (drop (k * size) heap) e
     ∙ ap (take m) (drop-drop (64 + (position + 20)) (k * size) heap ∙ ap (λ (i : ℕ). drop i heap) n)
 
-position-is : (position : ℕ) (bs : List ℕ) → storedAt position bs .position ≡ position
-unfolding storedAt
-position-is position bs = refl
-
 -- where the body of an object of slot k's file starts in the heap
 abbrev pub bodyStart : World → ℕ → ℕ → ℕ
 bodyStart w k position = k * w .settings .«slot_bytes» + 64 + position + 20
@@ -184,7 +177,7 @@ module _ (w : World) (told : ℕ → Said) (s : SoundWorld w told) where
         ap (λ (n : ℕ). readObject w x k (storedAt position (drop position (take n (drop 64 slot))))) q
             ∙ ap (λ (a : Answer). after a ReadRefused (Found (found-at (fileIn (f .label) slot)) (storedAt position (drop position (fileIn (f .label) slot)) .size))) (decide-clear _ (r .clear))
             ∙ ap (Found (found-at (fileIn (f .label) slot))) (r .size)
-            ∙ ap (λ (n : ℕ). Found (k * w .settings .«slot_bytes» + 64 + n + 20) (length b)) (position-is position (drop position (fileIn (f .label) slot))),
+            ∙ ap (λ (n : ℕ). Found (k * w .settings .«slot_bytes» + 64 + n + 20) (length b)) (stored-position position (drop position (fileIn (f .label) slot))),
         sym (part-of-heap (w .heap) (w .settings .«slot_bytes») k (f .label .«file_size») position (length b) (r .room)) ∙ r .part,
       )
     where

@@ -6,7 +6,11 @@ use disk_location::RelativeDiskLocation;
 use numbers::little_endian;
 use rules::Answer;
 use rules::Entry;
+use rules::OBJECT_HEADER;
 use rules::Refusal;
+use rules::TRAILER_ENTRY;
+use rules::TRAILER_HEAD;
+use rules::TRAILER_LEAST;
 ghost use mathlib.Core.Path.{_≡_};
 ghost use Prim.Native.Nat.{_+_, _*_, _≤_, _<_};
 ghost use lib.ListN.{length, getD};
@@ -27,7 +31,7 @@ pub fn count(trailer: &[u8]) -> u64
 pub fn check(trailer: &[u8]) -> Answer
     ensures { λ r. ⌜ r ≡ decide (trailerTests (now (trailer .entry))) ⌝ }
 {
-    if trailer.len() < 20 {
+    if trailer.len() < TRAILER_LEAST {
         return Answer::Refused(Refusal::TrailerShort);
     }
     let stored = little_endian::get(trailer, 4);
@@ -36,7 +40,7 @@ pub fn check(trailer: &[u8]) -> Answer
         return Answer::Refused(Refusal::Checksum);
     }
     let n = count(trailer);
-    let room = ((trailer.len() - 12) / 16) as u64;
+    let room = ((trailer.len() - TRAILER_HEAD) / TRAILER_ENTRY) as u64;
     if room < n {
         return Answer::Refused(Refusal::EntryCount);
     }
@@ -48,7 +52,7 @@ pub fn entry(trailer: &[u8], k: u64) -> Entry
     requires { ⌜ (k < countIn (now trailer)) × (12 + 16 * countIn (now trailer) ≤ length (now trailer)) ⌝ }
     ensures { λ r. ⌜ r ≡ getD (entriesIn (now (trailer .entry))) k noEntry ⌝ }
 {
-    let at = 12 + 16 * (k as usize);
+    let at = TRAILER_HEAD + TRAILER_ENTRY * (k as usize);
     let id = little_endian::get(&trailer[at..], 8);
     let mid = at + 8;
     let location = little_endian::get(&trailer[mid..], 8);
@@ -64,7 +68,7 @@ pub fn misplaced(e: Entry, offset: u64) -> bool
 {
     let relative = RelativeDiskLocation(e.location);
     let position = relative.position();
-    let header_end = position + 20;
+    let header_end = position + OBJECT_HEADER as u64;
     if relative.is_delete() {
         return offset < position;
     }

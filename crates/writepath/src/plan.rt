@@ -6,6 +6,7 @@ use limits::Rest;
 use limits::bad_files;
 use limits::refused_apart;
 use limits::rest_of;
+use new_file::spent;
 use rules::Answer;
 use rules::FileMap;
 use rules::Held;
@@ -13,9 +14,8 @@ use rules::Refusal;
 use rules::Settings;
 use rules::State;
 ghost use mathlib.Core.Path.{_≡_};
-ghost use Prim.Native.Nat.{_+_, _≤_, _<_, _^_};
+ghost use Prim.Native.Nat.{_≤_};
 ghost use lib.ListN.{length};
-ghost use lib.Dec.{ltb};
 ghost use Rattle.rules.specs.declared.Claims.{Claims};
 ghost use Rattle.rules.specs.Ops.{settled};
 ghost use Rattle.rules.specs.Layout.{table, tableIds, usedEntries};
@@ -70,17 +70,6 @@ fn too_many(ids: &[u64], locations: &[u64], batch: &[u8]) -> bool
     (location_table::capacity(ids) as u64) < used + more
 }
 
-// "7 a new file, and base + .. (T + 1) .. > 2^62": no sum that could wrap is made.
-fn spent(base: u64, total: u64) -> bool
-    requires { ⌜ total < 2 ^ 62 ⌝ }
-    ensures { λ r. ⌜ r ≡ ltb (2 ^ 62) (base + (total + 1)) ⌝ }
-{
-    if 1 << 62 < base {
-        return true;
-    }
-    1 << 62 < base + (total + 1)
-}
-
 // 4 to 7, for a batch that passed 1 to 3; an empty one passes.
 fn room(
     settings: Settings,
@@ -108,7 +97,7 @@ fn room(
     if too_many(ids, locations, batch) {
         return Plan::Refused(Refusal::TableRoom);
     }
-    if spent(rest.next_position, total) {
+    if spent(rest.next_position, total + 1) {
         return Plan::Refused(Refusal::PositionsSpent);
     }
     Plan::File(slot, count, total)

@@ -13,7 +13,7 @@ use Rattle.limits.specs.Settled.{stateOf, badFiles}
 use Rattle.claims.proofs.decided.Statement.{statement}
 use Rattle.claims.proofs.decided.Tie as tie
 
--- ---- each test as it was left, for the records that `bad` and `empty` tell of
+-- ---- each test as it was left, for the records that `bad` tells of
 abbrev begun : tie.After-refused-apart → tie.Start
 begun p = p .before .before .before .before
 
@@ -39,16 +39,13 @@ first z = z .before .before
 below : (z : tie.Else2) → let a = begun (first z .before) .args in leb (slotsIn (a .s) (length (a .heap .now))) (a .slot) ≡ false
 below z = lt-leb _ _ (z .if2 .left)
 
-held : (z : tie.Else3) {none : Bool} → begun (first (z .before) .before) .args .empty ≡ none → none ≡ false
-held z empty = sym empty ∙ z .if3 .left
-
 -- ---- the call
 refused-apart-requires : tie.Need-refused-apart-requires
 refused-apart-requires c κs = search needs
 
 returns : tie.Need-returns
 unfolding decide
-returns c = λ files claims bad empty. rw (asked (c .before) files bad ∙ c .if1 .taken) refl
+returns c = λ files claims bad. rw (asked (c .before) files bad ∙ c .if1 .taken) refl
 
 div-if2 : tie.Need-div-if2
 div-if2 c =
@@ -61,26 +58,20 @@ unfolding decide
 returns-2 c =
     let z = c .before .before in
     let a = begun (z .before) .args in
-    λ files claims bad empty. rw (clear z files bad, le-leb (slotsIn (a .s) (length (a .heap .now))) (a .slot) (c .if2 .taken)) refl
+    λ files claims bad. rw (clear z files bad, le-leb (slotsIn (a .s) (length (a .heap .now))) (a .slot) (c .if2 .taken)) refl
 
 returns-3 : tie.Need-returns-3
 unfolding decide
 returns-3 c =
     let z = c .before in
-    λ files claims bad empty. rw (clear (first z) files bad, below z, sym empty ∙ c .if3 .taken) refl
+    λ files claims bad. rw (clear (first z) files bad, below z, c .if3 .taken) refl
 
 returns-4 : tie.Need-returns-4
 unfolding decide
 returns-4 c =
-    let z = c .before .before in
-    λ files claims bad empty. rw (clear (first z) files bad, below z, held (c .before) empty, c .if4 .taken) refl
-
-returns-5 : tie.Need-returns-5
-unfolding decide
-returns-5 c =
-    let z = c .before .before in
-    λ files claims bad empty. rw (clear (first z) files bad, below z, held (c .before) empty, c .if4 .left) refl
+    let z = c .before in
+    λ files claims bad. rw (clear (first z) files bad, below z, c .if3 .left) refl
 
 pub decided-spec : {M : Type 1} → statement M
 decided-spec =
-    tie.close (tie.spec refused-apart-requires returns div-if2 returns-2 returns-3 returns-4 returns-5)
+    tie.close (tie.spec refused-apart-requires returns div-if2 returns-2 returns-3 returns-4)

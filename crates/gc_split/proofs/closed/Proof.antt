@@ -2,7 +2,6 @@ use mathlib.Core.Path.{refl}
 use Rattle.gc_split.specs.Tally.{closing}
 use Prim.Native.Nat.{_-_}
 use borrow.Author.Needs.{needs}
-use borrow.Author.Needs.{needs}
 use Rattle.gc_split.proofs.closed.Statement.{statement}
 use Rattle.gc_split.proofs.closed.Tie as tie
 

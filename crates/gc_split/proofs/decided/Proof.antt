@@ -1,9 +1,9 @@
-use mathlib.Core.Path.{refl}
-use Prim.Native.Nat.{_^_}
+use mathlib.Core.Path.{refl, sym, _∙_}
+use borrow.Author.Needs.{needs}
 use borrow.Author.Tests.{lt-ltb, le-ltb}
 use Rattle.rules.specs.Refusal.{decide}
 use Rattle.gc_split.specs.TotalLaws.{totalsTests}
-use Prim.Native.Nat.{_+_, _≤_, _<_, _-_}
+use Prim.Native.Nat.{_≤_, _<_}
 use native.Mathlib.Omega.{arith}
 use Rattle.gc_split.proofs.decided.Statement.{statement}
 use Rattle.gc_split.proofs.decided.Tie as tie
@@ -31,38 +31,28 @@ returns-3 c =
     let none : t .files ≤ 0 = omega arith in
     rw (c .before .before .before .before .if1 .left, le-ltb empty (t .files) (omega (arith, c .before .before .if2 .left)), le-ltb 0 (t .files) none) refl
 
+spent-requires : tie.Need-spent-requires
+spent-requires c κs = search needs
+
 returns-4 : tie.Need-returns-4
 unfolding totalsTests decide
 returns-4 c =
-    let start = c .before .before .before .before .before .before in
+    let w = c .before .before in
+    let start = w .before .before .before .before .before in
     let t = start .args .t in
     let empty = start .args .empty in
-    let base = start .args .base in
     let some : 0 < t .files = omega arith in
-    let far : 2 ^ 62 < base + t .positions = omega arith in
-    rw (c .before .before .before .before .before .if1 .left, le-ltb empty (t .files) (omega (arith, c .before .before .before .if2 .left)), lt-ltb 0 (t .files) some, lt-ltb (2 ^ 62) (base + t .positions) far) refl
+    rw (w .before .before .before .before .if1 .left, le-ltb empty (t .files) (omega (arith, w .before .before .if2 .left)), lt-ltb 0 (t .files) some, sym (c .before .spent .ensures) ∙ c .if4 .taken) refl
 
 returns-5 : tie.Need-returns-5
 unfolding totalsTests decide
 returns-5 c =
-    let start = c .before .before .before .before .before .before .before .before in
+    let w = c .before .before in
+    let start = w .before .before .before .before .before in
     let t = start .args .t in
     let empty = start .args .empty in
-    let base = start .args .base in
     let some : 0 < t .files = omega arith in
-    let far : 2 ^ 62 < base + t .positions = omega arith in
-    rw (c .before .before .before .before .before .before .before .if1 .left, le-ltb empty (t .files) (omega (arith, c .before .before .before .before .before .if2 .left)), lt-ltb 0 (t .files) some, lt-ltb (2 ^ 62) (base + t .positions) far) refl
-
-returns-6 : tie.Need-returns-6
-unfolding totalsTests decide
-returns-6 c =
-    let start = c .before .before .before .before .before .before .before .before in
-    let t = start .args .t in
-    let empty = start .args .empty in
-    let base = start .args .base in
-    let some : 0 < t .files = omega arith in
-    let near : base + t .positions ≤ 2 ^ 62 = omega arith in
-    rw (c .before .before .before .before .before .before .before .if1 .left, le-ltb empty (t .files) (omega (arith, c .before .before .before .before .before .if2 .left)), lt-ltb 0 (t .files) some, le-ltb (2 ^ 62) (base + t .positions) near) refl
+    rw (w .before .before .before .before .if1 .left, le-ltb empty (t .files) (omega (arith, w .before .before .if2 .left)), lt-ltb 0 (t .files) some, sym (c .before .spent .ensures) ∙ c .if4 .left) refl
 
 pub decided-spec : {M : Type 1} → statement M
-decided-spec = tie.close (tie.spec returns returns-2 returns-3 returns-4 returns-5 returns-6)
+decided-spec = tie.close (tie.spec returns returns-2 returns-3 spent-requires returns-4 returns-5)

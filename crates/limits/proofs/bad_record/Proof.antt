@@ -64,13 +64,17 @@ returns-4 c =
     let r = begun (first w) .args .r in
     rw (some (first w), below w, bounded z, lt-ltb (r .label .«file_size») (r .label .«present_objects») (c .if4 .taken)) refl
 
+capacity-requires : tie.Need-capacity-requires
+capacity-requires c κs = search needs
+
 returns-5 : tie.Need-returns-5
 unfolding badRecord
 returns-5 c =
-    let z = c .before .before .before in
+    let p = c .before in
+    let z = p .before .before .before in
     let w = second z in
     let r = begun (first w) .args .r in
-    rw (some (first w), below w, bounded z, le-ltb (r .label .«file_size») (r .label .«present_objects») (c .before .if4 .left)) refl
+    rw (some (first w), below w, bounded z, le-ltb (r .label .«file_size») (r .label .«present_objects») (p .before .if4 .left), p .capacity .ensures) refl
 
 pub bad-record-spec : {M : Type 1} → statement M
 bad-record-spec =
@@ -83,4 +87,5 @@ bad-record-spec =
     out-of-bounds-requires
     returns-3
     returns-4
+    capacity-requires
     returns-5)

@@ -1,12 +1,14 @@
 use mathlib.Core.Path.{_≡_, refl, sym, ap, _∙_}
 use mathlib.Core.Bool.{true, false, not, true≢false}
+use Prim.Native.Nat.{ℕ}
 use borrow.Author.Needs.{needs}
+use lib.ListN.{length}
 use borrow.Author.Tests.{not-true, not-false, eq-eqb, ne-eqb}
 use Rattle.rules.specs.declared.FileMap.{FileMap}
 use Rattle.rules.specs.Layout.{Buffers, table, inForm}
 use Rattle.rules.specs.Condition1.{conditionOne, outOfRange, notTheStates}
 use Rattle.rules.specs.Condition1Laws.{InLimits, in-limits}
-use Rattle.limits.specs.Settled.{stateOf, the-states, bad-files}
+use Rattle.limits.specs.Settled.{stateOf, theStates, the-states, bad-files}
 use Rattle.limits.proofs.refused_apart.Statement.{statement}
 use Rattle.limits.proofs.refused_apart.Tie as tie
 
@@ -18,7 +20,7 @@ abbrev buffers : tie.Else1 → Buffers
 buffers z = table (begun z .args .ids .now) (begun z .args .locations .now)
 
 abbrev first : tie.Else2 → tie.Else1
-first z = z .before .before
+first z = z .before .before .before
 
 abbrev second : tie.Else3 → tie.Else2
 second z = z .before .before
@@ -29,10 +31,16 @@ in-range z = sym (z .before .out-of-range .ensures) ∙ z .if1 .left
 limited : (z : tie.Else1) → InLimits (begun z .args .s) (begun z .args .heap) (buffers z)
 limited z = in-limits (begun z .args .s) (begun z .args .heap) (buffers z) (in-range z)
 
+-- lengths and settings, as they were found
+told : (p : tie.After-the-states) → let a = begun (p .before .before) .args in theStates (a .s) (a .heap) (length (a .ids .now)) (a .rest) ≡ p .the-states .result
+told p =
+    let a = begun (p .before .before) .args in
+    sym (p .the-states .ensures ∙ ap (λ (n : ℕ). theStates (a .s) (a .heap) n (a .rest)) (p .before .capacity .ensures))
+
 settled : (z : tie.Else2) (files : FileMap) → let a = begun (first z) .args in notTheStates (a .s) (a .heap) (buffers (first z)) (stateOf (a .rest) files) ≡ false
 settled z files =
     let a = begun (first z) .args in
-    the-states (a .s) (a .heap) (buffers (first z)) (a .rest) files ∙ ap not (sym (z .before .the-states .ensures) ∙ not-false _ (z .if2 .left))
+    the-states (a .s) (a .heap) (buffers (first z)) (a .rest) files ∙ ap not (told (z .before) ∙ not-false _ (z .if2 .left))
 
 formed : (z : tie.Else3) → inForm (buffers (first (second z))) ≡ true
 formed z = sym (z .before .in-form .ensures) ∙ not-false _ (z .if3 .left)
@@ -49,15 +57,18 @@ returns : tie.Need-returns
 unfolding conditionOne
 returns c = (λ files bad. rw (sym (c .before .out-of-range .ensures) ∙ c .if1 .taken) refl, refused)
 
+capacity-requires : tie.Need-capacity-requires
+capacity-requires c κs = search needs
+
 the-states-requires : tie.Need-the-states-requires
 the-states-requires c κs = search needs
 
 returns-2 : tie.Need-returns-2
 unfolding conditionOne
 returns-2 c =
-    let z = c .before .before in
+    let z = c .before .before .before in
     let a = begun z .args in
-    let other = sym (c .before .the-states .ensures) ∙ not-true _ (c .if2 .taken) in
+    let other = told (c .before) ∙ not-true _ (c .if2 .taken) in
     (λ files bad. rw (in-range z, the-states (a .s) (a .heap) (buffers z) (a .rest) files ∙ ap not other) refl, refused)
 
 in-form-requires : tie.Need-in-form-requires
@@ -93,6 +104,7 @@ refused-apart-spec =
     (tie.spec
     out-of-range-requires
     returns
+    capacity-requires
     the-states-requires
     returns-2
     in-form-requires

@@ -9,7 +9,8 @@ use Rattle.numbers.specs.Choice.{pick}
 use Rattle.rules.specs.declared.Answer.the-variants.{Done, Refused}
 use Rattle.rules.specs.declared.Refusal.the-variants.{Checksum}
 use Rattle.location_table.specs.LayoutLaws.{used}
-use Rattle.gc_group.specs.Checks.{moved-room, moved-large, moved-unmapped, moved-short, moved-sum}
+use Rattle.slot_file.specs.Objects.{header-fits}
+use Rattle.gc_group.specs.Checks.{moved-large, moved-unmapped, moved-short, moved-sum}
 
 returns : tie.Need-returns
 returns c =
@@ -33,7 +34,7 @@ sub-if3 c =
     let small = known .before .before in
     let start = small .before .before .before .before .before in
     let a = start .args in
-    omega (arith, moved-room (a .limit) (used (a .ids .now) (a .locations .now)) (a .objects .now) (a .position) (a .h) (start .pre .0) .0)
+    omega (arith, header-fits (a .objects .now) (a .position) (a .h) (start .pre .0) .0)
 
 returns-3 : tie.Need-returns-3
 returns-3 c =
@@ -43,7 +44,7 @@ returns-3 c =
     let a = start .args in
     let table = used (a .ids .now) (a .locations .now) in
     sym (moved-short (a .limit) table (a .objects .now) (a .position) (a .h) (start .pre .0) (small .if1 .left) (sym (known .before .unmapped .ensures) ∙ known .if2 .left)
-    (omega (arith, moved-room (a .limit) table (a .objects .now) (a .position) (a .h) (start .pre .0) .0)))
+    (omega (arith, header-fits (a .objects .now) (a .position) (a .h) (start .pre .0) .0)))
 
 bad-checksum-requires : tie.Need-bad-checksum-requires
 bad-checksum-requires c κs =
@@ -51,7 +52,7 @@ bad-checksum-requires c κs =
     let small = known .before .before in
     let start = small .before .before .before .before .before in
     let a = start .args in
-    (start .pre .0 .header, omega (arith, moved-room (a .limit) (used (a .ids .now) (a .locations .now)) (a .objects .now) (a .position) (a .h) (start .pre .0) .0))
+    (start .pre .0 .header, omega (arith, header-fits (a .objects .now) (a .position) (a .h) (start .pre .0) .0))
 
 returns-4 : tie.Need-returns-4
 returns-4 c =
@@ -62,7 +63,7 @@ returns-4 c =
     let table = used (a .ids .now) (a .locations .now) in
     sym (
     moved-sum (a .limit) table (a .objects .now) (a .position) (a .h) (start .pre .0) (small .if1 .left) (sym (known .before .unmapped .ensures) ∙ known .if2 .left)
-    (omega (arith, moved-room (a .limit) table (a .objects .now) (a .position) (a .h) (start .pre .0) .0))
+    (omega (arith, header-fits (a .objects .now) (a .position) (a .h) (start .pre .0) .0))
     ∙ ap (λ (t : Bool). pick t (Refused Checksum) Done) (sym (c .before .bad-checksum .ensures) ∙ c .if4 .taken))
 
 returns-5 : tie.Need-returns-5
@@ -74,7 +75,7 @@ returns-5 c =
     let table = used (a .ids .now) (a .locations .now) in
     sym (
     moved-sum (a .limit) table (a .objects .now) (a .position) (a .h) (start .pre .0) (small .if1 .left) (sym (known .before .unmapped .ensures) ∙ known .if2 .left)
-    (omega (arith, moved-room (a .limit) table (a .objects .now) (a .position) (a .h) (start .pre .0) .0))
+    (omega (arith, header-fits (a .objects .now) (a .position) (a .h) (start .pre .0) .0))
     ∙ ap (λ (t : Bool). pick t (Refused Checksum) Done) (sym (c .before .bad-checksum .ensures) ∙ c .if4 .left))
 
 pub check-object-spec : {M : Type 1} → statement M

@@ -10,9 +10,9 @@ use Rattle.rules.specs.Base.{each}
 use Rattle.rules.specs.Object.{Stored, objectsIn}
 use Rattle.rules.specs.Refusal.{decide}
 use Rattle.rules.specs.Maintenance.{movedTests}
-use Rattle.slot_file.specs.Objects.{Walked, objectsAt, objects-start}
+use Rattle.slot_file.specs.Objects.{Walked, objectsAt, objects-start, told-by}
 use Rattle.location_table.specs.LayoutLaws.{used}
-use Rattle.gc_group.specs.Checks.{told-by, walk-end, walk-cut, walk-refused, walk-on, walk-inside}
+use Rattle.gc_group.specs.Checks.{walk-end, walk-cut, walk-refused, walk-on, walk-inside}
 
 abbrev Inv-loop : tie.InvT-loop
 Inv-loop objects ids locations limit position₀ position =

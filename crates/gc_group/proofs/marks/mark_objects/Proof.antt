@@ -8,9 +8,8 @@ use Rattle.gc_group.proofs.marks.mark_objects.Tie as tie
 use Rattle.rules.specs.Base.{each}
 use Rattle.rules.specs.BaseLaws.{All}
 use Rattle.rules.specs.Object.{objectsIn, Stored}
-use Rattle.slot_file.specs.Objects.{Walked, objectsAt, objects-start}
+use Rattle.slot_file.specs.Objects.{Walked, objectsAt, objects-start, told-by}
 use Rattle.location_table.specs.LayoutLaws.{used}
-use Rattle.gc_group.specs.Checks.{told-by}
 use Rattle.gc_group.specs.Clear.{Inside}
 use Rattle.gc_group.specs.Marks.{objectId, marked, current}
 use Rattle.gc_group.specs.MarkLaws.{located-raw, marked-length}

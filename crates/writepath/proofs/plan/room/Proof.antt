@@ -114,12 +114,15 @@ returns-4 c =
     let start = begun (sized k) in
     λ w. plan-6 (seen (sized k) w) (start .args .batch .now) (start .pre .passed) (start .pre .parsed) (count k) (total k) (fits k) (some (free e2)) (room-left e2 w) (sym (c .before .too-many .ensures) ∙ c .if3 .taken)
 
-spent-requires : tie.Need-spent-requires
-spent-requires c κs =
+add-spent : tie.Need-add-spent
+add-spent c =
     let k = counted (free (mapped c)) in
     let high = clear (sized k) .limits .settings .slot-high in
     let told = fits-told _ (ops (sized k)) (count k) (total k) (fits k) in
     omega (arith, told .0, told .2, file-length (ops (sized k)))
+
+spent-requires : tie.Need-spent-requires
+spent-requires c κs = search needs
 
 returns-5 : tie.Need-returns-5
 returns-5 c =
@@ -156,6 +159,7 @@ room-spec =
     returns-3
     too-many-requires
     returns-4
+    add-spent
     spent-requires
     returns-5
     returns-6)
