@@ -41,7 +41,7 @@
    - Give every call the settings and lengths of the accepted reopening. Others are refused with 1.
    - After power comes back, heap alone is enough: zero the rest and reopen.
    - A reopening refused with any number but 1 leaves an empty store that a write would use, from slot 0 on, over files that are
-     still in the heap. Do not write before an accepted reopening: copy the heap away first.
+     still in the heap. Do not write before an accepted reopening: copy the heap away first. marble_check lists what is wrong with it.
 
    When power fails. Promised, and proved of the rules (request P8 of document 02: docs/requests/P8.md): power gone after any number of the
    single-byte stores of any call, a reopening with the same settings and table length is accepted and gives every read as before the
@@ -65,7 +65,7 @@ extern "C" {
 
 /* ---- version: the header's. marble_version() is the archive's; a host stops where they differ. A new major number: a host must change. */
 #define MARBLE_VERSION_MAJOR 1
-#define MARBLE_VERSION_MINOR 0
+#define MARBLE_VERSION_MINOR 1
 #define MARBLE_VERSION (MARBLE_VERSION_MAJOR * 1000 + MARBLE_VERSION_MINOR)
 
 /* ---- limits: the column "Range" */
@@ -115,6 +115,7 @@ extern "C" {
 #define MARBLE_STACK_PRUNE 25600
 #define MARBLE_STACK_MAINTAIN 589824
 #define MARBLE_STACK_COUNTS 25600
+#define MARBLE_STACK_CHECK 32768
 #define MARBLE_STACK_TABLE 128 /* each of the four table calls */
 
 /* ---- answers: success, and the refusal numbers */
@@ -191,6 +192,15 @@ typedef struct marble_totals {
     uint64_t live;
 } marble_totals;
 
+/* A line of the checker: a refusal's number and, where has_position is 1, an object's position in the slot's file, which may be 0. Where it
+   is 0, so is position. */
+typedef struct marble_fault {
+    uint64_t slot;
+    uint64_t number;
+    uint64_t has_position;
+    uint64_t position;
+} marble_fault;
+
 /* ---- the archive's sizes, held against the host's compiler */
 #if defined(__cplusplus)
 #define MARBLE_HOLDS(name, what) static_assert(what, #name)
@@ -207,6 +217,7 @@ MARBLE_HOLDS(records_from_word_8, offsetof(marble_state, records) == 64);
 MARBLE_HOLDS(next_position_last, offsetof(marble_state, next_position) == 12352);
 MARBLE_HOLDS(claims_of_four_words, sizeof(marble_claims) == 32);
 MARBLE_HOLDS(totals_of_four_words, sizeof(marble_totals) == 32);
+MARBLE_HOLDS(fault_of_four_words, sizeof(marble_fault) == 32);
 #undef MARBLE_HOLDS
 
 /* MARBLE_VERSION of the archive. */
@@ -257,6 +268,25 @@ MARBLE_MUST_USE uint64_t marble_maintain(marble_settings settings, marble_state 
 MARBLE_MUST_USE uint64_t marble_counts(marble_settings settings, const marble_state *state, const uint8_t *heap, size_t heap_len,
                                        const uint64_t *ids, size_t ids_len, const uint64_t *locations, size_t locations_len,
                                        marble_totals *counts);
+
+/* ---- the checker: for a heap that another hand made. It is lent what a reopening is, all of it only to be read; no state, no claims. */
+/* "Check": everything wrong with the heap, ascending by slot. The first of 8 to 13 and 15 is a slot's only line. A slot without one has its
+   objects walked: 10 for a bad checksum, then 17 where no object entry has its id and position; one that passes trailer_offset has 16 alone
+   and ends the walk. Then 17 for each object entry without its object, and 14 where its range meets that of an earlier such slot. At the
+   end 6, with the number of slots as its slot, where those slots have more distinct ids than the table has entries: of the table only the
+   lengths count. listing takes four words to a line, as marble_fault has them: the lines that fit, in order, and every other word of it
+   stays as it was. faults is how many there are, also of those that do not fit; 0: nothing is wrong. A reopening is accepted exactly if
+   every line has a position. 1 only, as of a reopening; refused: listing stays, faults 0. */
+MARBLE_MUST_USE uint64_t marble_check(marble_settings settings, const uint8_t *heap, size_t heap_len, const uint64_t *ids, size_t ids_len,
+                                      const uint64_t *locations, size_t locations_len, uint64_t *listing, size_t listing_len,
+                                      uint64_t *faults);
+
+/* The same with room for so many lines. The host's compiler compiles it; it is tested, not proved. */
+MARBLE_MUST_USE static inline uint64_t marble_check_lines(marble_settings settings, const uint8_t *heap, size_t heap_len,
+                                                          const uint64_t *ids, size_t ids_len, const uint64_t *locations,
+                                                          size_t locations_len, marble_fault *lines, size_t room, uint64_t *faults) {
+    return marble_check(settings, heap, heap_len, ids, ids_len, locations, locations_len, (uint64_t *)lines, 4 * room, faults);
+}
 
 /* ---- the table alone: raw locations by id. A held location is never 0. Order: 1, 20 (a given raw 0), 18, 19, 6. */
 /* "Load": the location, or 0 for an unmapped id. 1; refused: location 0 too, so look at the number. */

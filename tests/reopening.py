@@ -1,7 +1,8 @@
 #!/usr/bin/env python3
 """A large store reopened through the console: it must find every id again, and take no longer than what else it does with the same ids.
-reopening.py [--table LENGTH] [IDS ..]: 40,000 ids in a table of 65,536 where nothing else is said. Files have up to 4,000 deletes each, ids
-ascending, in slots of 65,536 bytes.
+reopening.py [--table LENGTH] [--check] [--puts] [IDS ..]: 40,000 ids in a table of 65,536 where nothing else is said. Files have up to 4,000
+deletes each, ids ascending, in slots of 65,536 bytes; with --puts objects of no bytes instead, up to 1,800 to a file, 28,000 in all. --check
+measures a check of the same heap too, and what that is to a reopening; it fails by no time.
 
 What is measured, all of it processor time of the console (not the clock), each as the difference of two runs:
 - a reopening: two more of them, halved;
@@ -22,7 +23,8 @@ sys.path.insert(0, os.path.join(HERE, 'oracle'))
 from port import console_command  # noqa: E402
 
 CONSOLE = os.path.join(os.path.dirname(HERE), 'target', 'tests', 'console')
-IN_A_FILE, SLOT, LOADS, TRIES = 4000, 65536, 10000, 3
+SLOT, LOADS, TRIES = 65536, 10000, 3
+IN_A_FILE, PUTS_IN_A_FILE = 4000, 1800
 MOST_WRITES, MOST_LOADS = 2, 2
 
 
@@ -37,10 +39,11 @@ def fresh(table):
     return [f'settings {SLOT} 75 2 2048 64 1024', f'heap {16 * SLOT}', f'table {table} {table}', 'reopen']
 
 
-def writes(ids):
-    """a delete of every id"""
-    for first in range(1, ids + 1, IN_A_FILE):
-        batch = b''.join(groups(n) + b'\0' for n in range(first, min(first + IN_A_FILE, ids + 1)))
+def writes(ids, puts):
+    """a delete of every id, or a put of no bytes"""
+    in_a_file, operation = (PUTS_IN_A_FILE, b'\1\0') if puts else (IN_A_FILE, b'\0')
+    for first in range(1, ids + 1, in_a_file):
+        batch = b''.join(groups(n) + operation for n in range(first, min(first + in_a_file, ids + 1)))
         yield 'write ' + batch.hex()
 
 
@@ -53,38 +56,49 @@ def run(script):
     return after.ru_utime - before.ru_utime + after.ru_stime - before.ru_stime, answers
 
 
-def held(ids, table, reopenings):
-    """processor seconds of a script that writes the ids, reopens and counts them; every answer must be the right one"""
-    files = -(-ids // IN_A_FILE)
-    seconds, answers = run(fresh(table) + list(writes(ids)) + ['reopen'] * reopenings + ['counts'])
-    wanted = ['ok'] * (4 + files + reopenings) + [f'ok {files} {16 * ids + 12 * files} {ids} {ids}']
+def held(ids, table, puts, reopenings, checks=0):
+    """processor seconds of a script that writes the ids, reopens, checks and counts them; every answer must be the right one"""
+    batches = list(writes(ids, puts))
+    files = len(batches)
+    seconds, answers = run(fresh(table) + batches + ['reopen'] * reopenings + ['check 1'] * checks + ['counts'])
+    wanted = ['ok'] * (4 + files + reopenings) + ['ok 0'] * checks + [f'ok {files} {(36 if puts else 16) * ids + 12 * files} {ids} {ids}']
     if answers != wanted:
         sys.exit(f'reopening: {ids} ids: {answers[-3:]} instead of {wanted[-3:]}')
     return seconds
 
 
-def measured(ids, table):
+def measured(ids, table, puts):
     """seconds of a reopening, of the writes, and of a load for each id"""
-    nothing, written = run(fresh(table))[0], held(ids, table, 0)
+    nothing, written = run(fresh(table))[0], held(ids, table, puts, 0)
     loads = run(fresh(table) + ['load 1'] * LOADS)[0] - nothing
-    return (held(ids, table, 2) - written) / 2, written - nothing, loads / LOADS * ids
+    return (held(ids, table, puts, 2) - written) / 2, written - nothing, loads / LOADS * ids
+
+
+def checked(ids, table, puts):
+    """seconds of a check"""
+    return (held(ids, table, puts, 0, 2) - held(ids, table, puts, 0)) / 2
 
 
 def main():
     words = argparse.ArgumentParser(description=__doc__, formatter_class=argparse.RawDescriptionHelpFormatter)
     words.add_argument('ids', nargs='*', type=int, default=[40000])
     words.add_argument('--table', type=int, default=65536)
+    words.add_argument('--check', action='store_true')
+    words.add_argument('--puts', action='store_true')
     given = words.parse_args()
     subprocess.run([os.path.join(HERE, 'unproved'), 'console', CONSOLE], check=True)
     for ids in given.ids:
         for _ in range(TRIES):
-            reopening, written, loaded = measured(ids, given.table)
+            reopening, written, loaded = measured(ids, given.table, given.puts)
             print(f'reopening: {ids} ids, a table of {given.table}: {reopening:.2f} s of processor time, {reopening / written:.2f} times the '
                   f'writes (at most {MOST_WRITES}), {reopening / loaded:.2f} loads for each id (at most {MOST_LOADS})')
             if reopening <= MOST_WRITES * written and reopening <= MOST_LOADS * loaded:
                 break
         else:
             sys.exit('reopening: too slow')
+        if given.check:
+            check = checked(ids, given.table, given.puts)
+            print(f'reopening: {ids} ids, a table of {given.table}: a check of the same heap {check:.2f} s, {check / reopening:.2f} times the reopening')
 
 
 main()

@@ -10,6 +10,7 @@ int memcmp(const void *, const void *, size_t);
 #define TABLE_MOST 256
 #define BATCH_MOST 4096
 #define BATCH_BIT (1ull << 62)
+#define LISTING_MOST (4 * 16)
 
 /* ---- checks */
 void expect(const char *what, uint64_t got, uint64_t want);
@@ -44,6 +45,8 @@ uint64_t release(uint64_t slot);
 uint64_t prune(void);
 uint64_t maintain(void);
 uint64_t counts(void);
+/* a listing of so many words */
+uint64_t check(size_t words);
 uint64_t load(uint64_t id);
 uint64_t store_at(uint64_t id, uint64_t location);
 uint64_t compare_and_store(uint64_t id, uint64_t old, uint64_t location);
@@ -51,6 +54,8 @@ uint64_t store_if_greater(uint64_t id, uint64_t location);
 /* the out-parameters of the last call */
 extern uint64_t out[2];
 extern marble_totals totals;
+/* the lines of the last check */
+extern const marble_fault *listed;
 
 /* put of len bytes, all of them b; delete */
 uint64_t put(uint64_t id, size_t len, uint8_t b);
@@ -94,3 +99,4 @@ void lines(void);
 void life(void);
 void maintenance(void);
 void refusals(void);
+void faults(void);

@@ -25,6 +25,7 @@ GUARDED(state_area, sizeof(marble_state));
 GUARDED(claims_area, sizeof(marble_claims));
 GUARDED(out_area, 3 * GUARD);
 GUARDED(totals_area, sizeof(marble_totals));
+GUARDED(listing_area, 8 * LISTING_MOST);
 /* what stood there before a call */
 static uint8_t heap_was[HEAP_MOST], ids_was[8 * TABLE_MOST], locations_was[8 * TABLE_MOST], state_was[sizeof(marble_state)], claims_was[sizeof(marble_claims)];
 
@@ -33,10 +34,12 @@ store w;
 static size_t heap_room, table_room;
 uint64_t out[2];
 marble_totals totals;
+const marble_fault *listed = (const marble_fault *)(listing_area + GUARD);
 #define BATCH (batch_area + GUARD)
 /* the two out-parameters, with guards between them too */
 #define OUT(k) ((uint64_t *)(out_area + GUARD + (k) * (8 + GUARD)))
 #define TOTALS ((marble_totals *)(totals_area + GUARD))
+#define LISTING ((uint64_t *)(listing_area + GUARD))
 
 static void paint(uint8_t *area, size_t len, size_t whole) {
     memset(area, PAINT, GUARD);
@@ -88,12 +91,12 @@ marble_settings small(uint64_t slot_bytes) {
 
 /* ---- stack: painted before each call, looked at behind it */
 #define DEPTH (4096 * 1024)
-enum { REOPEN, WRITE, READ, CLAIM, RELEASE, PRUNE, MAINTAIN, COUNTS, LOAD, STORE, COMPARE, GREATER, CALLS };
-static const char *const names[CALLS] = {"reopen", "write", "read", "claim", "release", "prune", "maintain", "counts", "load", "store", "compare_and_store", "store_if_greater"};
+enum { REOPEN, WRITE, READ, CLAIM, RELEASE, PRUNE, MAINTAIN, COUNTS, CHECK, LOAD, STORE, COMPARE, GREATER, CALLS };
+static const char *const names[CALLS] = {"reopen", "write", "read", "claim", "release", "prune", "maintain", "counts", "check", "load", "store", "compare_and_store", "store_if_greater"};
 /* a call that needs more than the header says fails here */
 static const size_t allowed[CALLS] = {
-    MARBLE_STACK_REOPEN, MARBLE_STACK_WRITE,    MARBLE_STACK_READ,   MARBLE_STACK_CLAIM, MARBLE_STACK_RELEASE, MARBLE_STACK_PRUNE,
-    MARBLE_STACK_MAINTAIN, MARBLE_STACK_COUNTS, MARBLE_STACK_TABLE, MARBLE_STACK_TABLE, MARBLE_STACK_TABLE,   MARBLE_STACK_TABLE,
+    MARBLE_STACK_REOPEN, MARBLE_STACK_WRITE,  MARBLE_STACK_READ,  MARBLE_STACK_CLAIM, MARBLE_STACK_RELEASE, MARBLE_STACK_PRUNE, MARBLE_STACK_MAINTAIN,
+    MARBLE_STACK_COUNTS, MARBLE_STACK_CHECK,  MARBLE_STACK_TABLE, MARBLE_STACK_TABLE, MARBLE_STACK_TABLE,   MARBLE_STACK_TABLE,
 };
 static size_t used[CALLS];
 
@@ -101,7 +104,7 @@ static size_t used[CALLS];
    and out is a loop over words that is no copy of this kind. docs/ARCHITECTURE.md, "Stack and copies", says what each is for; maintenance.c has maintenance's by groups and files. */
 /* 256 labels, five numbers each: a file map is longer */
 #define LABELS_BYTES (256 * 5 * sizeof(uint64_t))
-static const size_t copies_allowed[CALLS] = {6, 5, 0, 0, 0, 1, 25, 1, 0, 0, 0, 0};
+static const size_t copies_allowed[CALLS] = {6, 5, 0, 0, 0, 1, 25, 1, 259, 0, 0, 0, 0};
 static size_t copies, copied[CALLS], last_copied;
 
 void *memcpy(void *to, const void *from, size_t len) {
@@ -269,6 +272,19 @@ uint64_t counts(void) {
     behind(COUNTS, ALL);
     totals = *TOTALS;
     if (n != MARBLE_OK) expect("refused counts: zeros", totals.files | totals.bytes | totals.present | totals.live, 0);
+    return n;
+}
+
+uint64_t check(size_t words) {
+    const size_t lines = words / 4;
+    memset(listing_area, PAINT, sizeof listing_area);
+    before();
+    stack_below(CHECK, 1);
+    uint64_t n = marble_check(w.s, w.heap, w.heap_len, w.ids, w.ids_len, w.locations, w.locations_len, words ? LISTING : NULL, words, OUT(0));
+    stack_below(CHECK, 0);
+    behind(CHECK, ALL);
+    if (n != MARBLE_OK) expect("refused check: no faults", out[0], 0);
+    guard("check", "the lines", listing_area, 32 * (out[0] < lines ? out[0] : lines), sizeof listing_area);
     return n;
 }
 

@@ -1,5 +1,6 @@
 #!/usr/bin/env python3
-"""Document 01 as plain Python, read from the paper alone: a second opinion beside the port.
+"""Document 01 as plain Python, read from the paper alone: a second opinion beside the port. Of document 02: request P5's
+checker.
 
 Reads the console's script on standard input and prints its answers. Nothing here is taken from crates/;
 where the paper leaves a choice, the reading D1..D15 of docs/DECISIONS.md is named at the line. 12 is as document 02's request P2 mends it."""
@@ -7,7 +8,7 @@ import re
 import struct
 import sys
 import zlib
-from collections import Counter
+from collections import Counter, namedtuple
 from operator import itemgetter, lt
 
 U64 = 1 << 64
@@ -16,6 +17,8 @@ LABEL = 64
 HEADER = 20
 MAX_RECORDS = 256
 EMPTY = (0, 0, 0, 0, 0, 0)  # lsn, trailer_offset, file_size, present_objects, generation, live
+# a line of the checker's list; position is None where it has none; of: what the fault is of, which the call does not give
+Fault = namedtuple('Fault', 'slot number position of')
 
 
 class Refused(Exception):
@@ -441,6 +444,51 @@ class Store:
             last[ident] = relative // 2
         return False
 
+    # -- check (document 02, P5)
+
+    def check(self):
+        """everything wrong with the heap, by labels and trailers alone; of the table only the length matters"""
+        refuse_if(not self.lengths_in_range(), 1)
+        faults, ranges, distinct = [], [], set()
+        for slot in range(self.slots()):
+            at = slot * self.given.slot_bytes
+            if self.heap[at] == 0:
+                continue
+            try:
+                numbers, entries = self.labelled(slot, label_numbers(bytes(self.heap[at:at + LABEL])))
+                refuse_if(self.not_rising(entries), 15)
+            except Refused as first:
+                faults.append(Fault(slot, first.number, None, 'a slot'))
+                continue
+            # a sound slot
+            faults += self.object_faults(slot, numbers[1], entries)
+            start, end = masked(numbers[0]), masked(numbers[0]) + numbers[1]
+            if any(start <= e and s <= end for s, e in ranges):
+                faults.append(Fault(slot, 14, None, 'a range'))
+            ranges.append((start, end))
+            distinct.update(ident for ident, _ in entries)
+        if len(distinct) > len(self.ids):
+            faults.append(Fault(self.slots(), 6, None, 'the table'))
+        return faults
+
+    def object_faults(self, slot, trailer_offset, entries):
+        """a sound slot's objects walked from 0 by their lengths; then its object entries, each against the walked objects"""
+        data, faults, walked, at = self.file_part(slot, 0, trailer_offset), [], set(), 0
+        listed = {(ident, relative // 2) for ident, relative in entries if relative % 2 == 0}
+        while at < trailer_offset:
+            if at + HEADER > trailer_offset or at + HEADER + le(data, at + 12) > trailer_offset:
+                faults.append(Fault(slot, 16, at, 'an object'))
+                break
+            ident, length = le(data, at + 4), le(data, at + 12)
+            if object_sum(ident, data[at + HEADER:at + HEADER + length]) != le(data, at, 4):
+                faults.append(Fault(slot, 10, at, 'an object'))
+            if (ident, at) not in listed:
+                faults.append(Fault(slot, 17, at, 'an object'))
+            walked.add((ident, at))
+            at += HEADER + length
+        return faults + [Fault(slot, 17, relative // 2, 'an entry') for ident, relative in entries
+                         if relative % 2 == 0 and (ident, relative // 2) not in walked]
+
     # -- table calls (D3: the two buffers alone)
 
     def load(self, ident):
@@ -501,7 +549,7 @@ def hex_bytes(word):
 
 class Console:
     """what the console answers; wide: with the room that host.c has"""
-    MAX_LINE, MAX_HEAP, MAX_TABLE = 131200, 1048576, 65536
+    MAX_LINE, MAX_HEAP, MAX_TABLE, MAX_ROOM, MAX_BYTES = 131200, 1048576, 65536, 4096, 65536
 
     def __init__(self, wide=False):
         self.store = Store()
@@ -612,7 +660,19 @@ class Console:
         held = self.store.store_if_greater(number(ident), number(raw))
         return 'ok nothing' if held is None else f'ok {held}'
 
+    def do_check(self, room):
+        room = number(room, self.MAX_ROOM + 1)
+        faults = self.store.check()
+        lines = [f'fault {f.slot} {f.number}' + ('' if f.position is None else f' {f.position}') for f in faults[:room]]
+        return lines + [f'ok {len(faults)}']
+
     # looking
+
+    def do_bytes(self, offset, count):
+        offset, count = number(offset), number(count, self.MAX_BYTES + 1)
+        if offset + count > len(self.store.heap):
+            raise BadLine
+        return f'ok {self.store.heap[offset:offset + count].hex() or "-"}'
 
     def do_help(self):
         return []

@@ -7,7 +7,7 @@ import zlib
 
 from model import Console
 
-BLOCK_END = {'dump': 'end', 'list': 'ids '}
+BLOCK_END = {'dump': 'end', 'list': 'ids ', 'check': 'ok '}
 
 
 class Model:

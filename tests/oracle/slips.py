@@ -46,6 +46,33 @@ AT_A_LIMIT = {
     'a lower location not taken': ('{**table, **{i: r + 2 * lsn for i, r in places}}',
                                    '{**table, **{i: max(r + 2 * lsn, table.get(i, 0)) for i, r in places}}', 'table_calls_among_writes'),
 }
+# these are the checker's, which the original does not have: noticed beside the right model on damaged heaps
+IN_THE_CHECKER = {
+    '17 before 10 of one object': ("""            if object_sum(ident, data[at + HEADER:at + HEADER + length]) != le(data, at, 4):
+                faults.append(Fault(slot, 10, at, 'an object'))
+            if (ident, at) not in listed:
+                faults.append(Fault(slot, 17, at, 'an object'))
+""", """            if (ident, at) not in listed:
+                faults.append(Fault(slot, 17, at, 'an object'))
+            if object_sum(ident, data[at + HEADER:at + HEADER + length]) != le(data, at, 4):
+                faults.append(Fault(slot, 10, at, 'an object'))
+"""),
+    'an object that passes T counts as walked': ("faults.append(Fault(slot, 16, at, 'an object'))\n",
+                                                 "faults.append(Fault(slot, 16, at, 'an object'))\n                walked.add((le(data, at + 4), at))\n"),
+    'the walk goes on behind a 16': ("Fault(slot, 16, at, 'an object'))\n                break\n",
+                                     "Fault(slot, 16, at, 'an object'))\n                at += HEADER\n                continue\n"),
+    'a delete stands for an object entry': ('listed = {(ident, relative // 2) for ident, relative in entries if relative % 2 == 0}',
+                                            'listed = {(ident, relative // 2) for ident, relative in entries}'),
+    'an entry satisfied by an object of another id': ('(ident, relative // 2) not in walked]', 'relative // 2 not in {at for _, at in walked}]'),
+    '14 only by slots that 14 does not strike': ('            ranges.append((start, end))\n', '            else:\n                ranges.append((start, end))\n'),
+    'ranges that share one position are apart': ('start <= e and s <= end', 'start < e and s < end'),
+    'ranges by unmasked lsn': ('start, end = masked(numbers[0]), masked(numbers[0]) + numbers[1]', 'start, end = numbers[0], numbers[0] + numbers[1]'),
+    'ids of unsound slots counted': ('                refuse_if(self.not_rising(entries), 15)\n',
+                                     '                distinct.update(ident for ident, _ in entries)\n                refuse_if(self.not_rising(entries), 15)\n'),
+    'a full table is too small': ('if len(distinct) > len(self.ids):', 'if len(distinct) >= len(self.ids):'),
+    'the closing 6 with the last slot': ('Fault(self.slots(), 6, None', 'Fault(self.slots() - 1, 6, None'),
+    'only what fits is counted': ("lines + [f'ok {len(faults)}']", "lines + [f'ok {len(lines)}']"),
+}
 # masked ranges are disjoint in the oracle's domain and every location is in a file, so both lookups find the same file there: this one is
 # noticed beside the right model on arbitrary states
 ON_ARBITRARY_STATES = {'files looked up by masked location': ['--count', '300']}
@@ -68,6 +95,7 @@ def main():
     slips = [(*slip, ['--seed', '56', '--small', '--count', '300']) for slip in SLIPS.items()]
     if not options.stored:  # no scenario at the limits is stored
         slips += [(name, slip[:2], ['--seed', '56', '--limit', slip[2], '--count', '0']) for name, slip in AT_A_LIMIT.items()]
+    slips += [(*slip, None) for slip in IN_THE_CHECKER.items()]
     began, missed = time.time(), []
     with open(os.path.join(HERE, 'model.py')) as file:
         model = file.read()
@@ -79,7 +107,9 @@ def main():
             shutil.copytree(HERE, copy)
             with open(os.path.join(copy, 'model.py'), 'w') as out:
                 out.write(model.replace(right, slip))
-            if name in ON_ARBITRARY_STATES:
+            if name in IN_THE_CHECKER:
+                found = noticed(HERE, 'damaged.py', ['--console', os.path.join(copy, 'model.py')])
+            elif name in ON_ARBITRARY_STATES:
                 found = noticed(HERE, 'hostile.py', ['--console', os.path.join(copy, 'model.py')] + ON_ARBITRARY_STATES[name])
             else:
                 found = noticed(copy, 'compare.py', beside + words)

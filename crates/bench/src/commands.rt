@@ -101,12 +101,26 @@ fn dumped(b: Bench, heap: &[u8], ids: &[u64], locations: &[u64]) {
     show::dump(b, &heap[0..h], &ids[0..i], &locations[0..l]);
 }
 
+fn checked(b: Bench, heap: &[u8], ids: &[u64], locations: &[u64], room: u64) {
+    let h = desk::least(b.heap_len, heap.len());
+    let i = desk::least(b.ids_len, ids.len());
+    let l = desk::least(b.locations_len, locations.len());
+    show::check(b, &heap[0..h], &ids[0..i], &locations[0..l], room);
+}
+
+fn bytes_shown(b: Bench, heap: &[u8], at: u64, count: u64) {
+    let h = desk::least(b.heap_len, heap.len());
+    show::bytes(&heap[0..h], at, count);
+}
+
 fn shown(look: Look, b: Bench, line: &[u8], heap: &[u8], ids: &[u64], locations: &[u64]) {
     match look {
         Look::Comment => comment(line),
         Look::Help => say::help(),
         Look::List => listed(b, ids, locations),
         Look::Dump => dumped(b, heap, ids, locations),
+        Look::Check(room) => checked(b, heap, ids, locations, room),
+        Look::Bytes(at, count) => bytes_shown(b, heap, at, count),
     }
 }
 

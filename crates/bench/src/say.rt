@@ -112,9 +112,15 @@ pub fn help() {
         b"# reopen   write HEX   read ID   claim SLOT   release SLOT   prune   maintain   counts\n",
     );
     text(b"# load ID   store ID RAW   cas ID OLD NEW   max ID RAW     the table alone\n");
+    text(
+        b"# check ROOM            bytes OFFSET COUNT                 what is wrong with the lent heap, ROOM lines (up to 4096); its bytes (up to 65536)\n",
+    );
     text(b"# list   dump   help\n");
     text(
         b"# Answers: ok .., nothing, differs RAW, refused NUMBER ..; bad line for anything else, and nothing changes.\n",
+    );
+    text(
+        b"# A check answers fault SLOT NUMBER, or fault SLOT NUMBER POSITION, for each fault that fits, then ok FAULTS.\n",
     );
     text(
         b"# A write after a refused reopening takes slot 0 whatever its label says: reopen first, and look at the answer.\n",

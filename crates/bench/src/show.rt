@@ -1,6 +1,7 @@
-// Looking: the listing, and everything.
+// Looking: the listing, everything, what is wrong with the heap, its bytes.
 use crate::say;
 use desk::Bench;
+use marble::CheckAnswer;
 use rules::Claims;
 use rules::FileMap;
 use rules::RECORDS;
@@ -123,4 +124,75 @@ pub fn dump(b: Bench, heap: &[u8], ids: &[u64], locations: &[u64]) {
     entry_lines(ids, locations);
     say::named(b"heap", checksum::sum(heap) as u64);
     say::text(b"end\n");
+}
+
+// "fault SLOT NUMBER", and the position of an object.
+fn fault_line(slot: u64, refusal: u64, placed: u64, position: u64) {
+    say::text(b"fault");
+    say::number(slot);
+    say::number(refusal);
+    if placed != 0 {
+        say::number(position);
+    }
+    say::end();
+}
+
+// Four words to a line.
+fn fault_lines(listing: &[u64]) {
+    let mut at: usize = 0;
+    while 4 <= listing.len() - at {
+        fault_line(
+            listing[at],
+            listing[at + 1],
+            listing[at + 2],
+            listing[at + 3],
+        );
+        at += 4;
+    }
+}
+
+// Each line that fits, then how many there are.
+fn faults(count: u64, listing: &[u64]) {
+    let lines = desk::least(count as usize, listing.len() / 4);
+    let end = lines * 4;
+    fault_lines(&listing[0..end]);
+    say::named(b"ok", count);
+}
+
+fn checked(answer: CheckAnswer, listing: &[u64]) {
+    match answer {
+        CheckAnswer::Faults(count) => faults(count, listing),
+        CheckAnswer::CheckRefused(r) => say::refused(r),
+    }
+}
+
+// Of these words so many lines are lent.
+fn check_into(b: Bench, heap: &[u8], ids: &[u64], locations: &[u64], room: u64, words: &mut [u64]) {
+    let settings = b.settings;
+    let lines = desk::least(room as usize, words.len() / 4);
+    let end = lines * 4;
+    let answer = marble::check(settings, heap, ids, locations, &mut words[0..end]);
+    checked(answer, &words[0..end]);
+}
+
+// 4,096 lines.
+fn listing_words() -> [u64; 16384]
+    ensures { λ r. ⌜ 16384 ≡ length r ⌝ }
+{
+    [0u64; 16384]
+}
+
+pub fn check(b: Bench, heap: &[u8], ids: &[u64], locations: &[u64], room: u64) {
+    let mut words = listing_words();
+    check_into(b, heap, ids, locations, room, &mut words);
+}
+
+// The command has seen that they are there.
+pub fn bytes(heap: &[u8], at: u64, count: u64) {
+    let from = desk::least(at as usize, heap.len());
+    let n = desk::least(count as usize, heap.len() - from);
+    let end = from + n;
+    say::text(b"ok ");
+    say::hex(&heap[from..end]);
+    say::end();
 }

@@ -16,7 +16,8 @@ use Rattle.desk.specs.Commands.{lentBy, doneBy}
 abbrev keywords : List Keyword
 keywords =
     key.Blank ∷ key.Bad ∷ key.Settings ∷ key.Heap ∷ key.Table ∷ key.Poke ∷ key.Entry ∷ key.State ∷ key.Record ∷ key.Claims ∷ key.Reopen ∷ key.Write ∷ key.Claim
-    ∷ key.Release ∷ key.Prune ∷ key.Read ∷ key.Maintain ∷ key.Counts ∷ key.Load ∷ key.Store ∷ key.Cas ∷ key.Max ∷ key.List ∷ key.Dump ∷ key.Help ∷ []
+    ∷ key.Release ∷ key.Prune ∷ key.Read ∷ key.Maintain ∷ key.Counts ∷ key.Check ∷ key.Load ∷ key.Store ∷ key.Cas ∷ key.Max ∷ key.List ∷ key.Dump ∷ key.Bytes
+    ∷ key.Help ∷ []
 
 numbered : (k : Keyword) → getD keywords (number k) key.Bad ≡ k
 numbered key.Blank = refl
@@ -37,12 +38,14 @@ numbered key.Prune = refl
 numbered key.Read = refl
 numbered key.Maintain = refl
 numbered key.Counts = refl
+numbered key.Check = refl
 numbered key.Load = refl
 numbered key.Store = refl
 numbered key.Cas = refl
 numbered key.Max = refl
 numbered key.List = refl
 numbered key.Dump = refl
+numbered key.Bytes = refl
 numbered key.Help = refl
 
 -- two of one number are one
@@ -98,18 +101,18 @@ last told z k p h = last-one told z k p (not-told (map number told) keywords (nu
 -- ---- the commands on the lent parts
 -- those that are not
 abbrev pub whole : List Keyword
-whole = key.Blank ∷ key.Bad ∷ key.Settings ∷ key.Heap ∷ key.Table ∷ key.State ∷ key.Record ∷ key.Claims ∷ key.List ∷ key.Dump ∷ key.Help ∷ []
+whole = key.Blank ∷ key.Bad ∷ key.Settings ∷ key.Heap ∷ key.Table ∷ key.State ∷ key.Record ∷ key.Claims ∷ key.Check ∷ key.List ∷ key.Dump ∷ key.Help ∷ []
 
 -- those that are
 abbrev pub parts : List Keyword
 parts =
     key.Poke ∷ key.Entry ∷ key.Reopen ∷ key.Write ∷ key.Claim ∷ key.Release ∷ key.Prune ∷ key.Read ∷ key.Maintain ∷ key.Counts ∷ key.Load ∷ key.Store ∷ key.Cas
-    ∷ key.Max ∷ []
+    ∷ key.Max ∷ key.Bytes ∷ []
 
 pub lent-rest : (n bytes : List ℕ) (d : Desk) (k : Keyword) → Among whole k → badLine d ≡ lentBy k n bytes d
 unfolding lentBy
-lent-rest n bytes d = each (λ (k : Keyword). badLine d ≡ lentBy k n bytes d) whole (refl, (refl, (refl, (refl, (refl, (refl, (refl, (refl, (refl, (refl, (refl, tt)))))))))))
+lent-rest n bytes d = each (λ (k : Keyword). badLine d ≡ lentBy k n bytes d) whole (refl, (refl, (refl, (refl, (refl, (refl, (refl, (refl, (refl, (refl, (refl, (refl, tt))))))))))))
 
 pub done-rest : (n bytes : List ℕ) (d : Desk) (k : Keyword) → Among parts k → onLent (lentBy k n bytes) d ≡ doneBy k n bytes d
 unfolding doneBy
-done-rest n bytes d = each (λ (k : Keyword). onLent (lentBy k n bytes) d ≡ doneBy k n bytes d) parts (refl, (refl, (refl, (refl, (refl, (refl, (refl, (refl, (refl, (refl, (refl, (refl, (refl, (refl, tt))))))))))))))
+done-rest n bytes d = each (λ (k : Keyword). onLent (lentBy k n bytes) d ≡ doneBy k n bytes d) parts (refl, (refl, (refl, (refl, (refl, (refl, (refl, (refl, (refl, (refl, (refl, (refl, (refl, (refl, (refl, tt)))))))))))))))

@@ -15,7 +15,7 @@ use Rattle.rules.specs.Write.{writeCall}
 use Rattle.file_map.specs.Records.{labelled}
 use Rattle.numbers.specs.Parts.{putAt}
 use Rattle.script.specs.declared.Keyword.the-variants as key
-use Rattle.desk.specs.Types.{Settings, Record, State, Claims, Keyword, Bench, Comment, Help, Listing, Dump, BadLine, Turn}
+use Rattle.desk.specs.Types.{Settings, Record, State, Claims, Keyword, Bench, Comment, Help, Listing, Dump, Check, Bytes, BadLine, Shown, Turn}
 use Rattle.desk.specs.Desk.{Desk, desk, plain, found, moved, counted, located, compared, raised, Outcome, left, replied, done, badLine, looked, changed, called, onTable, onLent}
 
 -- number k of a line
@@ -96,6 +96,15 @@ abbrev pub entryBy : ℕ → ℕ → ℕ → Desk → Outcome
 entryBy k id raw d =
     pick (leb (length (d .ids)) k || leb (length (d .locations)) k) (badLine d) (changed (desk (d .bench) (d .heap) (set (d .ids) k id) (set (d .locations) k raw)))
 
+-- ---- looks
+-- `check ROOM`: room for so many lines, up to 4,096
+abbrev pub checkBy : ℕ → Bench → Turn
+checkBy room b = pick (ltb 4096 room) (replied BadLine b) (replied (Shown (Check room)) b)
+
+-- `bytes OFFSET COUNT`: up to 65,536, within the lent heap
+abbrev pub bytesBy : ℕ → ℕ → Desk → Outcome
+bytesBy at count d = pick (ltb 65536 count || ltb (length (d .heap)) (at + count)) (badLine d) (looked (Bytes at count) d)
+
 -- ---- the commands: a keyword, its numbers and bytes
 -- those on the lent parts
 unfoldable pub lentBy : Keyword → List ℕ → List ℕ → Desk → Outcome
@@ -110,6 +119,7 @@ lentBy key.Claim n bytes d = called plain (λ (w : World). claimCall w (nth n 0)
 lentBy key.Release n bytes d = called plain (λ (w : World). releaseCall w (nth n 0)) d
 lentBy key.Counts n bytes d = called counted countsCall d
 lentBy key.Load n bytes d = called located (onTable (λ (t : Buffers). loadCall t (nth n 0))) d
+lentBy key.Bytes n bytes d = bytesBy (nth n 0) (nth n 1) d
 lentBy key.Store n bytes d = called plain (onTable (λ (t : Buffers). storeCall t (nth n 0) (nth n 1))) d
 lentBy key.Cas n bytes d = called compared (onTable (λ (t : Buffers). compareCall t (nth n 0) (nth n 1) (nth n 2))) d
 lentBy key.Max n bytes d = called raised (onTable (λ (t : Buffers). greaterCall t (nth n 0) (nth n 1))) d
@@ -121,6 +131,7 @@ lentBy key.Table n bytes d = badLine d
 lentBy key.State n bytes d = badLine d
 lentBy key.Record n bytes d = badLine d
 lentBy key.Claims n bytes d = badLine d
+lentBy key.Check n bytes d = badLine d
 lentBy key.List n bytes d = badLine d
 lentBy key.Dump n bytes d = badLine d
 lentBy key.Help n bytes d = badLine d
@@ -135,6 +146,7 @@ doneBy key.Record n bytes d = left (recordBy n (d .bench)) (d .heap) (d .ids) (d
 doneBy key.Claims n bytes d = left (done (withClaims (d .bench) (claimsFrom n))) (d .heap) (d .ids) (d .locations)
 doneBy key.Heap n bytes d = heapBy (nth n 0) d
 doneBy key.Table n bytes d = tableBy (nth n 0) (nth n 1) d
+doneBy key.Check n bytes d = left (checkBy (nth n 0) (d .bench)) (d .heap) (d .ids) (d .locations)
 doneBy key.List n bytes d = looked Listing d
 doneBy key.Dump n bytes d = looked Dump d
 doneBy key.Help n bytes d = looked Help d
@@ -149,6 +161,7 @@ doneBy key.Claim n bytes d = onLent (lentBy key.Claim n bytes) d
 doneBy key.Release n bytes d = onLent (lentBy key.Release n bytes) d
 doneBy key.Counts n bytes d = onLent (lentBy key.Counts n bytes) d
 doneBy key.Load n bytes d = onLent (lentBy key.Load n bytes) d
+doneBy key.Bytes n bytes d = onLent (lentBy key.Bytes n bytes) d
 doneBy key.Store n bytes d = onLent (lentBy key.Store n bytes) d
 doneBy key.Cas n bytes d = onLent (lentBy key.Cas n bytes) d
 doneBy key.Max n bytes d = onLent (lentBy key.Max n bytes) d

@@ -25,9 +25,9 @@ use Rattle.theory.specs.History.{called as calling}
 use Rattle.theory.specs.Writes.{refused-unchanged}
 use Rattle.theory.specs.Writes.{Plain as PlainCall}
 use Rattle.script.specs.declared.Keyword.the-variants as key
-use Rattle.desk.specs.Types.{Refusal, Limits, Answer, Done, Refused, Keyword, Bench, BadLine}
-use Rattle.desk.specs.Desk.{Desk, desk, Words, plain, found, moved, counted, located, compared, raised, Said, bad-line, gave, shows, Outcome, left, replied, done, badLine, changed, worldOf, deskOf, answered, called, onTable, lentOf, putBack, onLent}
-use Rattle.desk.specs.Commands.{nth, recordFrom, withState, withRecord, lendingHeap, lendingTable, heapBy, tableBy, pokeBy, entryBy, lentBy, doneBy}
+use Rattle.desk.specs.Types.{Refusal, Limits, Answer, Done, Refused, Keyword, Bench, Check, Bytes, BadLine, Shown}
+use Rattle.desk.specs.Desk.{Desk, desk, Words, plain, found, moved, counted, located, compared, raised, Said, bad-line, gave, shows, Outcome, left, replied, done, badLine, looked, changed, worldOf, deskOf, answered, called, onTable, lentOf, putBack, onLent}
+use Rattle.desk.specs.Commands.{nth, recordFrom, withState, withRecord, lendingHeap, lendingTable, heapBy, tableBy, pokeBy, entryBy, checkBy, bytesBy, lentBy, doneBy}
 
 -- `bad line`, or a refusal's number
 abbrev pub failing : Said → Bool
@@ -55,12 +55,14 @@ Kept key.Prune = Unit {0}
 Kept key.Read = Unit {0}
 Kept key.Maintain = ⊥
 Kept key.Counts = Unit {0}
+Kept key.Check = Unit {0}
 Kept key.Load = Unit {0}
 Kept key.Store = Unit {0}
 Kept key.Cas = Unit {0}
 Kept key.Max = Unit {0}
 Kept key.List = Unit {0}
 Kept key.Dump = Unit {0}
+Kept key.Bytes = Unit {0}
 Kept key.Help = Unit {0}
 
 -- a refused answer is no success
@@ -91,6 +93,23 @@ record-kept : (t : Bool) (d : Desk) (b : Bench) → failing (left (pick t (repli
     → left (pick t (replied BadLine (d .bench)) (done b)) (d .heap) (d .ids) (d .locations) .desk ≡ d
 record-kept true d b h = refl
 record-kept false d b h = absurd (false≢true h)
+
+-- ---- looks
+-- LAW: a check changes nothing, whatever is said
+pub check-unchanged : (room : ℕ) (d : Desk) → left (checkBy room (d .bench)) (d .heap) (d .ids) (d .locations) .desk ≡ d
+check-unchanged room d = go (ltb 4096 room)
+  where
+    go : (t : Bool) → left (pick t (replied BadLine (d .bench)) (replied (Shown (Check room)) (d .bench))) (d .heap) (d .ids) (d .locations) .desk ≡ d
+    go true = refl
+    go false = refl
+
+-- LAW: nor do bytes shown
+pub bytes-unchanged : (at count : ℕ) (d : Desk) → bytesBy at count d .desk ≡ d
+bytes-unchanged at count d = go (ltb 65536 count || ltb (length (d .heap)) (at + count))
+  where
+    go : (t : Bool) → pick t (badLine d) (looked (Bytes at count) d) .desk ≡ d
+    go true = refl
+    go false = refl
 
 -- ---- the lent parts
 -- parts that come back as they were lent are the buffers as they were
@@ -183,6 +202,7 @@ failed-unchanged key.Maintain p n bytes d h = absurd p
 failed-unchanged key.Counts p n bytes d h = back-same d (lentBy key.Counts n bytes (lentOf d)) (world-kept counted countsCall (lentOf d) (counts-kept (worldOf (lentOf d))))
 failed-unchanged key.Load p n bytes d h =
     back-same d (lentBy key.Load n bytes (lentOf d)) (on-table located (λ (t : Buffers). loadCall t (nth n 0)) (lentOf d) (load-kept (worldOf (lentOf d) .table) (nth n 0)))
+failed-unchanged key.Bytes p n bytes d h = back-same d (lentBy key.Bytes n bytes (lentOf d)) (bytes-unchanged (nth n 0) (nth n 1) (lentOf d))
 failed-unchanged key.Store p n bytes d h =
     back-same d (lentBy key.Store n bytes (lentOf d))
     (on-table plain (λ (t : Buffers). storeCall t (nth n 0) (nth n 1)) (lentOf d) (store-kept (worldOf (lentOf d) .table) (nth n 0) (nth n 1) h))
@@ -192,6 +212,7 @@ failed-unchanged key.Cas p n bytes d h =
 failed-unchanged key.Max p n bytes d h =
     back-same d (lentBy key.Max n bytes (lentOf d))
     (on-table raised (λ (t : Buffers). greaterCall t (nth n 0) (nth n 1)) (lentOf d) (greater-kept (worldOf (lentOf d) .table) (nth n 0) (nth n 1) h))
+failed-unchanged key.Check p n bytes d h = check-unchanged (nth n 0) d
 failed-unchanged key.List p n bytes d h = refl
 failed-unchanged key.Dump p n bytes d h = refl
 failed-unchanged key.Help p n bytes d h = refl

@@ -16,11 +16,11 @@ Among ks k = OneOf (map number ks) (number k)
 
 -- commands that touch no buffer
 abbrev pub atBench : List Keyword
-atBench = key.Blank ∷ key.Bad ∷ key.Settings ∷ key.State ∷ key.Record ∷ key.Claims ∷ key.List ∷ key.Dump ∷ key.Help ∷ []
+atBench = key.Blank ∷ key.Bad ∷ key.Settings ∷ key.State ∷ key.Record ∷ key.Claims ∷ key.Check ∷ key.List ∷ key.Dump ∷ key.Help ∷ []
 
--- calls that change no buffer
+-- commands that look at the buffers and change none
 abbrev pub asking : List Keyword
-asking = key.Claim ∷ key.Release ∷ key.Read ∷ key.Counts ∷ key.Load ∷ []
+asking = key.Claim ∷ key.Release ∷ key.Read ∷ key.Counts ∷ key.Load ∷ key.Bytes ∷ []
 
 -- commands that change the table alone
 abbrev pub tabling : List Keyword

@@ -2,6 +2,7 @@
 // written for a reply is not stated here (crate `bench`).
 pub mod by_hand;
 pub mod calls;
+pub mod looks;
 mod turns;
 
 use rules::Answer;
@@ -35,12 +36,14 @@ pub struct Bench {
     pub locations_len: usize,
 }
 
-// Lines that show something and change nothing.
+// Lines that show something and change nothing. Check: with room for so many lines; Bytes: an offset and how many.
 pub enum Look {
     Comment,
     Help,
     List,
     Dump,
+    Check(u64),
+    Bytes(u64, u64),
 }
 
 // What a command answers.
@@ -120,13 +123,14 @@ fn at_bench(b: Bench, keyword: Keyword, n: [u64; 9]) -> Turn
         Keyword::State => by_hand::state(b, n),
         Keyword::Record => by_hand::record(b, n),
         Keyword::Claims => by_hand::claims(b, n),
+        Keyword::Check => looks::check(b, n),
         Keyword::List => shown(Look::List, b),
         Keyword::Dump => shown(Look::Dump, b),
         _ => shown(Look::Help, b),
     }
 }
 
-// Calls that change no buffer.
+// Commands that look at the buffers and change none.
 fn asked(
     b: Bench,
     keyword: Keyword,
@@ -144,7 +148,8 @@ fn asked(
         Keyword::Release => calls::release(b, heap, ids, locations, x),
         Keyword::Read => calls::read(b, heap, ids, locations, x),
         Keyword::Counts => calls::counts(b, heap, ids, locations),
-        _ => calls::load(b, ids, locations, x),
+        Keyword::Load => calls::load(b, ids, locations, x),
+        _ => looks::bytes(b, x, n[1], heap),
     }
 }
 
@@ -185,9 +190,12 @@ fn after_lent(
         Keyword::Entry | Keyword::Store | Keyword::Cas | Keyword::Max => {
             on_table(b, keyword, n, ids, locations)
         }
-        Keyword::Claim | Keyword::Release | Keyword::Read | Keyword::Counts | Keyword::Load => {
-            asked(b, keyword, n, heap, ids, locations)
-        }
+        Keyword::Claim
+        | Keyword::Release
+        | Keyword::Read
+        | Keyword::Counts
+        | Keyword::Load
+        | Keyword::Bytes => asked(b, keyword, n, heap, ids, locations),
         _ => bad_line(b),
     }
 }
@@ -238,6 +246,7 @@ pub fn after_order(
         | Keyword::State
         | Keyword::Record
         | Keyword::Claims
+        | Keyword::Check
         | Keyword::List
         | Keyword::Dump
         | Keyword::Help => at_bench(b, keyword, n),

@@ -31,12 +31,14 @@ use Rattle.gc.specs.declared.Maintained.{Maintained}
 use Rattle.gc.proofs.maintain.Reads as maintain
 use Rattle.prune.specs.declared.PruneAnswer.{PruneAnswer}
 use Rattle.prune.proofs.prune.Reads as prune
+use Rattle.checker.specs.declared.CheckAnswer.{CheckAnswer}
+use Rattle.checker.proofs.check.Reads as check
 use Rattle.location_table.specs.Tables.{leaving as tableLeaving}
 use Rattle.table_calls.proofs.load.Reads as load
 use Rattle.table_calls.proofs.store.Reads as store
 use Rattle.table_calls.proofs.«compare_and_store».Reads as compare
 use Rattle.table_calls.proofs.«store_if_greater».Reads as greater
-use Rattle.marble.specs.Results.{wrote, maintained, pruned, claimed, released, reopened, answered, read, counted, Admitted}
+use Rattle.marble.specs.Results.{wrote, maintained, pruned, claimed, released, reopened, answered, read, counted, checked, Admitted}
 
 -- a lent buffer of numbers: where it is, and what it holds
 abbrev pub Lent : Type 0
@@ -90,6 +92,13 @@ module _ (settings : Settings) (state : State) (heap ids locations : Lent) where
         → release.Learnt κs (settings, (state, (claims, (heap, (ids, (locations, (slot, tt))))))) r (settings, (state, (claims, (heap, (ids, (locations, (slot, tt)))))))
         ≡ Admitted (world settings state claims (now heap) (table (now ids) (now locations))) (released slot r)
     release-contract slot r = refl
+
+-- ---- check: settings, heap and table, and the listing before and after; whatever state and claims the host has
+module _ (settings : Settings) (heap ids locations listing : Lent) where
+  pub check-contract : (κs : Lfts 4) (r : CheckAnswer) (listing′ : Lent) (state : State) (claims : Claims)
+      → check.Learnt κs (settings, (heap, (ids, (locations, (listing, tt))))) r (settings, (heap, (ids, (locations, (listing′, tt)))))
+      ≡ Admitted (world settings state claims (now heap) (table (now ids) (now locations))) (checked (now listing) r (now listing′))
+  check-contract κs r listing′ state claims = refl
 
 -- ---- the table's calls: both buffers before and after
 module _ (κs : Lfts 2) (ids locations : Lent) (id : ℕ) where

@@ -20,7 +20,7 @@ use Rattle.power_cuts.specs.Cuts as cuts
 use Rattle.power_cuts.specs.PowerCut.{sound-history-cut, any-history-cut, power-cut-again}
 use Rattle.recovery.specs.declared.Reopened.{Reopened}
 use Rattle.writepath.specs.declared.Written.{Written}
-use Rattle.marble.specs.Results.{Result, wrote, maintained, pruned, claimed, released, reopened, answered, read, counted, left, Admitted, hearing, Event, gave, cut, Happens, next, lives, AllHappen, begun, Lived, reached}
+use Rattle.marble.specs.Results.{Result, wrote, maintained, pruned, claimed, released, reopened, answered, read, counted, checked, left, Admitted, hearing, Event, gave, cut, Happens, next, lives, AllHappen, begun, Lived, reached}
 
 -- the bytes that the last operation on an id leaves
 abbrev pub bodyLast : Last → List ℕ
@@ -40,6 +40,7 @@ theCalls (gave (reopened r ids locations)) es = done reopen ∷ es
 theCalls (gave (answered id r)) es = es
 theCalls (gave (read id part)) es = es
 theCalls (gave (counted r)) es = es
+theCalls (gave (checked before r after)) es = es
 theCalls (cut k c v r ids locations) es = cuts.cut k c v ∷ es
 
 unfoldable calls : List Event → List cuts.Event
@@ -57,6 +58,7 @@ theCall (reopened r ids locations) cs = reopen ∷ cs
 theCall (answered id r) cs = cs
 theCall (read id part) cs = cs
 theCall (counted r) cs = cs
+theCall (checked before r after) cs = cs
 
 unfoldable pub callsOf : List Result → List Call
 callsOf [] = []
@@ -105,6 +107,7 @@ alike l (e ∷ es) h = go e (h .0) (alike (next l e) es (h .1))
     go (gave (answered id r)) a b = record { happen = b .happen; same = b .same }
     go (gave (read id part)) a b = record { happen = b .happen; same = b .same }
     go (gave (counted r)) a b = record { happen = b .happen; same = b .same }
+    go (gave (checked before r after)) a b = record { happen = b .happen; same = b .same }
     go (cut k c v r ids locations) a b =
         alike-then l (cut k c v r ids locations) (cuts.cut k c v) es (calls es)
         (record { happens = a .0; same = λ i. record { world = a .1 i .world; history = hearsCut k (l .world) (l .history) c } }) b
@@ -122,6 +125,7 @@ uncut l (reopened r ids locations ∷ rs) = uncut (happened l (done reopen)) rs
 uncut l (answered id r ∷ rs) = uncut l rs
 uncut l (read id part ∷ rs) = uncut l rs
 uncut l (counted r ∷ rs) = uncut l rs
+uncut l (checked before r after ∷ rs) = uncut l rs
 
 -- ---- the demands, of every store by its life
 module _ (l : Lived) where

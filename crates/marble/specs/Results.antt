@@ -24,7 +24,9 @@ use Rattle.gc.specs.declared.Maintained.{Maintained}
 use Rattle.gc.specs.Unique.{Maintains}
 use Rattle.prune.specs.declared.PruneAnswer.{PruneAnswer}
 use Rattle.prune.specs.CallLaws.{Prunes}
-use Rattle.marble.specs.Unique.{Claims-leaves}
+use Rattle.faults.specs.Faults.{checkCall}
+use Rattle.checker.specs.declared.CheckAnswer.{CheckAnswer}
+use Rattle.marble.specs.Unique.{Claims-leaves, Checks}
 
 -- a call and what it gave: what was asked, what it returned, and the buffers that it may change, as it left them
 pub data Result : Type 0 where
@@ -43,6 +45,8 @@ pub data Result : Type 0 where
   answered : ℕ → ReadAnswer → Result
   read : ℕ → List ℕ → Result
   counted : CountsAnswer → Result
+  -- the listing before; after
+  checked : List ℕ → CheckAnswer → List ℕ → Result
 
 -- what the host has after it
 abbrev pub left : World → Result → World
@@ -55,6 +59,7 @@ left w (reopened r ids locations) = world (w .settings) (r .state) (r .claims) (
 left w (answered id r) = w
 left w (read id part) = w
 left w (counted r) = w
+left w (checked before r after) = w
 
 -- the contract of its call admits it, where the host had w and handed it on
 abbrev pub Admitted : World → Result → Type 0
@@ -67,6 +72,7 @@ Admitted w (reopened r ids locations) = leaves (w .settings) r (w .heap) ids loc
 Admitted w (answered id r) = r ≡ readOf w id
 Admitted w (read id part) = part ≡ partOf (readOf w id) (w .heap)
 Admitted w (counted r) = leaving (countsGiven r) w ≡ countsCall w
+Admitted w (checked before r after) = Checks (checkCall (w .settings) (w .heap) (w .table) before) r after
 
 -- the plain engine hears the operations of a write whose result says `Done`, and nothing else
 abbrev pub hearing : List Op → Result → List Op
@@ -79,6 +85,7 @@ hearing history (reopened r ids locations) = history
 hearing history (answered id r) = history
 hearing history (read id part) = history
 hearing history (counted r) = history
+hearing history (checked before r after) = history
 
 -- ---- a life
 -- a call gave a result; or power was cut behind the first k stores of a call, the robot then has v, and reopening that gave a result

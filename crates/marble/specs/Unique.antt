@@ -1,5 +1,5 @@
 -- "Show that any two results it admits are equal": one law for each public call, from its contract alone.
-use mathlib.Core.Path.{_≡_, sym, ap, ap₂, _∙_}
+use mathlib.Core.Path.{_≡_, refl, sym, ap, ap₂, _∙_}
 use Rattle.rules.specs.Base.{List, ℕ}
 use Rattle.rules.specs.declared.Settings.{Settings}
 use Rattle.rules.specs.declared.State.{State}
@@ -8,13 +8,17 @@ use Rattle.rules.specs.declared.Answer.{Answer}
 use Rattle.rules.specs.declared.CountsAnswer.{CountsAnswer}
 use Rattle.rules.specs.declared.LoadAnswer.{LoadAnswer}
 use Rattle.rules.specs.declared.CompareAnswer.{CompareAnswer}
-use Rattle.rules.specs.Answers.{answer-one, counts-one, load-one, compare-one}
+use Rattle.rules.specs.Answers.{inverse-one, known, byNumber, valueAt, answer-one, counts-one, load-one, compare-one}
 use Rattle.rules.specs.Counts.{countsCall}
 use Rattle.rules.specs.World.{World, Given, After, world, leaving, answerGiven, countsGiven, loadGiven, compareGiven}
 use Rattle.rules.specs.TableCalls.{TableAfter}
 use Rattle.rules.specs.Layout.{table}
 use Rattle.location_table.specs.Tables.{leaving as tableLeaving}
 use Rattle.claims.specs.declared.ClaimAnswer.{ClaimAnswer}
+use Rattle.faults.specs.Faults.{Checked}
+use Rattle.checker.specs.declared.CheckAnswer.{CheckAnswer}
+use Rattle.checker.specs.declared.CheckAnswer.the-variants.{Faults, CheckRefused}
+use Rattle.checker.specs.Answers.{checkGiven, checked}
 -- reopen, write, read, maintain and prune have theirs beside their code
 pub use Rattle.recovery.specs.Unique.{reopen-one}
 pub use Rattle.writepath.specs.Unique.{write-one}
@@ -37,6 +41,24 @@ claim-one s state heap ids locations after a b p q =
 -- ---- counts
 pub counts-call-one : (w : World) (a b : CountsAnswer) → leaving (countsGiven a) w ≡ countsCall w → leaving (countsGiven b) w ≡ countsCall w → a ≡ b
 counts-call-one w a b p q = counts-one a b (ap (λ (x : After). x .answer) (p ∙ sym q))
+
+-- ---- check: the answer, and every word of the lent listing
+-- one number and number of faults, one answer
+check-answer-one : (a b : CheckAnswer) → checkGiven a ≡ checkGiven b → a ≡ b
+check-answer-one = inverse-one checkGiven (λ (g : Given). byNumber g CheckRefused (Faults (valueAt g 0))) go
+  where
+    go : (a : CheckAnswer) → byNumber (checkGiven a) CheckRefused (Faults (valueAt (checkGiven a) 0)) ≡ a
+    go (Faults n) = refl
+    go (CheckRefused r) = rw (known r .some, known r .back)
+
+-- what its contract says of a result, for the call's definition
+abbrev pub Checks : Checked → CheckAnswer → List ℕ → Type 0
+Checks c r listing = checked r listing ≡ c
+
+pub check-one : (c : Checked) (a b : CheckAnswer) (xs ys : List ℕ) → Checks c a xs → Checks c b ys → (a ≡ b) × (xs ≡ ys)
+check-one c a b xs ys p q =
+    let e = p ∙ sym q in
+    (check-answer-one a b (ap (λ (x : Checked). x .answer) e), ap (λ (x : Checked). x .listing) e)
 
 -- ---- the four table calls: answer and both buffers, for the call's definition
 -- one answer type after the other, by the law that number and values settle it

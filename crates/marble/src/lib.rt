@@ -34,6 +34,10 @@ pub use gc::maintain;
 pub use prune::PruneAnswer;
 pub use prune::prune;
 
+// Request P5, "Check what the PC tool made": everything wrong with a heap.
+pub use checker::CheckAnswer;
+pub use checker::check;
+
 // "Table": load, store, compare-and-store, store-if-greater.
 pub use table_calls::compare_and_store;
 pub use table_calls::load;

@@ -8,7 +8,7 @@ use Rattle.rules.specs.declared.Settings.{Settings}
 use Rattle.rules.specs.Layout.{table}
 use Rattle.location_table.specs.Tables.{leaving as tableLeaving}
 use Rattle.as_numbers.specs.Shown.{given}
-use Rattle.marble_c.specs.Unique.{Reopens, Writes, ReadsOut, ClaimsSlot, Releases, Prunes, Maintains, CountsOut, Loads, Stores, Compares, StoresGreater}
+use Rattle.marble_c.specs.Unique.{Reopens, Writes, ReadsOut, ClaimsSlot, Releases, Prunes, Maintains, CountsOut, ChecksOut, Loads, Stores, Compares, StoresGreater}
 use Rattle.marble_c.proofs.«marble_reopen».Reads as reopen
 use Rattle.marble_c.proofs.«marble_write».Reads as write
 use Rattle.marble_c.proofs.«marble_read».Reads as read
@@ -17,6 +17,7 @@ use Rattle.marble_c.proofs.«marble_release».Reads as release
 use Rattle.marble_c.proofs.«marble_prune».Reads as prune
 use Rattle.marble_c.proofs.«marble_maintain».Reads as maintain
 use Rattle.marble_c.proofs.«marble_counts».Reads as counts
+use Rattle.marble_c.proofs.«marble_check».Reads as check
 use Rattle.marble_c.proofs.«marble_load».Reads as load
 use Rattle.marble_c.proofs.«marble_store».Reads as store
 use Rattle.marble_c.proofs.«marble_compare_and_store».Reads as compare
@@ -76,6 +77,13 @@ module _ (settings : Settings) (state claims heap ids locations : Lent) (r : ℕ
       → counts.Learnt κs (settings, (state, (heap, (ids, (locations, (four, tt)))))) r (settings, (state, (heap, (ids, (locations, (four′, tt))))))
       ≡ CountsOut settings (now state) (now heap) (now ids) (now locations) r (now four′)
   counts-contract κs four four′ = refl
+
+-- ---- check
+module _ (settings : Settings) (heap ids locations listing : Lent) (faults : Place) (r : ℕ) (listing′ : Lent) (faults′ : Place) where
+  pub check-contract : (κs : Lfts 5)
+      → check.Learnt κs (settings, (heap, (ids, (locations, (listing, (faults, tt)))))) r (settings, (heap, (ids, (locations, (listing′, (faults′, tt))))))
+      ≡ ChecksOut settings (now heap) (now ids) (now locations) (now listing) r (now faults′ ∷ []) (now listing′)
+  check-contract κs = refl
 
 -- ---- the table's calls
 module _ (ids locations : Lent) (id location r : ℕ) (ids′ locations′ : Lent) where

@@ -13,6 +13,7 @@ use Rattle.rules.specs.Reopen.{reopenCall}
 use Rattle.rules.specs.TableCalls.{TableAfter, loadCall, storeCall, compareCall, greaterCall}
 use Rattle.rules.specs.World.{Given, After, world, leaving}
 use Rattle.rules.specs.Write.{writeCall}
+use Rattle.faults.specs.Faults.{checkCall}
 use Rattle.as_numbers.specs.ClaimWords.{claimsIn, claims-one}
 use Rattle.as_numbers.specs.Shown.{given, shown, stopAfter, shownTable}
 use Rattle.as_numbers.specs.StateLaws.{state-one}
@@ -117,6 +118,15 @@ module _ (s : Settings) (state heap ids locations : List ℕ) where
 
   pub counts-one : (r q : ℕ) (vs us : List ℕ) → CountsOut r vs → CountsOut q us → given r vs ≡ given q us
   counts-one r q vs us e f = e noClaims ∙ sym (f noClaims)
+
+-- ---- check, which is lent no state: number, out-parameter and the lent listing after
+module _ (s : Settings) (heap ids locations listing : List ℕ) where
+  abbrev pub ChecksOut : ℕ → List ℕ → List ℕ → Type 0
+  ChecksOut r values after =
+      (given r values ≡ shown 1 (checkCall s heap (table ids locations) listing .answer)) × (after ≡ checkCall s heap (table ids locations) listing .listing)
+
+  pub check-one : (r q : ℕ) (vs us after ends : List ℕ) → ChecksOut r vs after → ChecksOut q us ends → (given r vs ≡ given q us) × (after ≡ ends)
+  check-one r q vs us after ends e f = (e .0 ∙ sym (f .0), e .1 ∙ sym (f .1))
 
 -- ---- the table's calls: both buffers before
 module _ (ids locations : List ℕ) (id : ℕ) where

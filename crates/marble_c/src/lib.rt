@@ -1,5 +1,6 @@
 // The public calls for a host in C (include/marble.h). State and claim record are lent as words and changed in place; an answer is the
 // paper's number, its values go to out-parameters. The contracts are those of the calls, by the same definitions.
+use as_numbers::answers::One;
 use as_numbers::answers::compare_shown;
 use as_numbers::answers::counts_shown;
 use as_numbers::answers::load_shown;
@@ -7,10 +8,12 @@ use as_numbers::answers::maintain_shown;
 use as_numbers::answers::number;
 use as_numbers::answers::put_counts;
 use as_numbers::answers::read_shown;
+use as_numbers::answers::refusal_number;
 use as_numbers::claim_words::claims_in;
 use as_numbers::claim_words::put_claims;
 use as_numbers::state_words::put_state;
 use as_numbers::state_words::state_in;
+use marble::CheckAnswer;
 use rules::Settings;
 ghost use mathlib.Core.Path.{_≡_};
 ghost use mathlib.Core.List.{[], _∷_};
@@ -26,6 +29,8 @@ ghost use Rattle.rules.specs.World.{world, leaving};
 ghost use Rattle.rules.specs.Write.{writeCall};
 ghost use Rattle.rules.specs.Layout.{table};
 ghost use Rattle.location_table.specs.Tables.{leaving as tableLeaving};
+ghost use Rattle.faults.specs.Faults.{checkCall};
+ghost use Rattle.checker.specs.Answers.{checkGiven};
 ghost use Rattle.as_numbers.specs.ClaimWords.{claimsIn};
 ghost use Rattle.as_numbers.specs.Numbered.{numbered};
 ghost use Rattle.as_numbers.specs.Shown.{given, shown, stopAfter, shownTable};
@@ -37,7 +42,7 @@ ghost use Rattle.marble_c.specs.Version.{version};
 pub extern "C" fn marble_version() -> u64
     ensures { λ r. ⌜ r ≡ version ⌝ }
 {
-    1000
+    1001
 }
 
 // ---- the store
@@ -212,6 +217,39 @@ pub extern "C" fn marble_counts(
     let done = counts_shown(marble::counts(settings, was, heap, ids, locations));
     let sums = done.counts;
     put_counts(counts, sums);
+    done.number
+}
+
+// The number of faults, or 0.
+fn check_shown(a: CheckAnswer) -> One
+    ensures { λ r. ⌜ given (r .number) (r .value ∷ []) ≡ shown 1 (checkGiven a) ⌝ }
+{
+    match a {
+        CheckAnswer::Faults(n) => One {
+            number: 0,
+            value: n,
+        },
+        CheckAnswer::CheckRefused(r) => One {
+            number: refusal_number(r),
+            value: 0,
+        },
+    }
+}
+
+// "lists everything wrong": four words to a line, and the full number of faults.
+#[no_mangle]
+pub extern "C" fn marble_check(
+    settings: Settings,
+    heap: &[u8],
+    ids: &[u64],
+    locations: &[u64],
+    listing: &mut [u64],
+    faults: &mut u64,
+) -> u64
+    ensures { λ r. ⌜ (given r (now (faults .exit) ∷ []) ≡ shown 1 (checkCall settings (now (heap .entry)) (table (now (ids .entry)) (now (locations .entry))) (now (listing .entry)) .answer)) × (now (listing .exit) ≡ checkCall settings (now (heap .entry)) (table (now (ids .entry)) (now (locations .entry))) (now (listing .entry)) .listing) ⌝ }
+{
+    let done = check_shown(marble::check(settings, heap, ids, locations, listing));
+    *faults = done.value;
     done.number
 }
 

@@ -34,11 +34,13 @@ shapes =
     numbers 0 ∷
     numbers 0 ∷
     numbers 1 ∷
+    numbers 1 ∷
     numbers 2 ∷
     numbers 3 ∷
     numbers 2 ∷
     numbers 0 ∷
     numbers 0 ∷
+    numbers 2 ∷
     numbers 0 ∷
     []
 
@@ -66,12 +68,14 @@ tagged key.Prune = refl
 tagged key.Read = refl
 tagged key.Maintain = refl
 tagged key.Counts = refl
+tagged key.Check = refl
 tagged key.Load = refl
 tagged key.Store = refl
 tagged key.Cas = refl
 tagged key.Max = refl
 tagged key.List = refl
 tagged key.Dump = refl
+tagged key.Bytes = refl
 tagged key.Help = refl
 
 -- each of the tags has the shape s

@@ -63,6 +63,8 @@ callNames =
     called (109 ∷ 97 ∷ 105 ∷ 110 ∷ 116 ∷ 97 ∷ 105 ∷ 110 ∷ []) key.Maintain ∷
     -- counts
     called (99 ∷ 111 ∷ 117 ∷ 110 ∷ 116 ∷ 115 ∷ []) key.Counts ∷
+    -- check
+    called (99 ∷ 104 ∷ 101 ∷ 99 ∷ 107 ∷ []) key.Check ∷
     []
 
 -- the table calls, and what is for people
@@ -80,6 +82,8 @@ tableNames =
     called (108 ∷ 105 ∷ 115 ∷ 116 ∷ []) key.List ∷
     -- dump
     called (100 ∷ 117 ∷ 109 ∷ 112 ∷ []) key.Dump ∷
+    -- bytes
+    called (98 ∷ 121 ∷ 116 ∷ 101 ∷ 115 ∷ []) key.Bytes ∷
     -- help
     called (104 ∷ 101 ∷ 108 ∷ 112 ∷ []) key.Help ∷
     []

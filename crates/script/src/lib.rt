@@ -37,12 +37,14 @@ pub enum Keyword {
     Read,
     Maintain,
     Counts,
+    Check,
     Load,
     Store,
     Cas,
     Max,
     List,
     Dump,
+    Bytes,
     Help,
 }
 
@@ -74,11 +76,16 @@ pub fn shape_of(keyword: Keyword) -> Shape
             numbers: 6,
             bytes: false,
         },
-        Keyword::Heap | Keyword::Claim | Keyword::Release | Keyword::Read | Keyword::Load => Shape {
+        Keyword::Heap
+        | Keyword::Claim
+        | Keyword::Release
+        | Keyword::Read
+        | Keyword::Check
+        | Keyword::Load => Shape {
             numbers: 1,
             bytes: false,
         },
-        Keyword::Table | Keyword::Store | Keyword::Max => Shape {
+        Keyword::Table | Keyword::Store | Keyword::Max | Keyword::Bytes => Shape {
             numbers: 2,
             bytes: false,
         },

@@ -46,7 +46,8 @@ fn by_hand(word: &[u8], other: Keyword) -> Keyword
 fn call(word: &[u8], other: Keyword) -> Keyword
     ensures { λ r. ⌜ r ≡ namedIn callNames (now (word .entry)) other ⌝ }
 {
-    let counts = named(word, b"counts", Keyword::Counts, other);
+    let check = named(word, b"check", Keyword::Check, other);
+    let counts = named(word, b"counts", Keyword::Counts, check);
     let maintain = named(word, b"maintain", Keyword::Maintain, counts);
     let read = named(word, b"read", Keyword::Read, maintain);
     let prune = named(word, b"prune", Keyword::Prune, read);
@@ -60,7 +61,8 @@ fn table_call(word: &[u8], other: Keyword) -> Keyword
     ensures { λ r. ⌜ r ≡ namedIn tableNames (now (word .entry)) other ⌝ }
 {
     let help = named(word, b"help", Keyword::Help, other);
-    let dump = named(word, b"dump", Keyword::Dump, help);
+    let bytes = named(word, b"bytes", Keyword::Bytes, help);
+    let dump = named(word, b"dump", Keyword::Dump, bytes);
     let list = named(word, b"list", Keyword::List, dump);
     let max = named(word, b"max", Keyword::Max, list);
     let cas = named(word, b"cas", Keyword::Cas, max);

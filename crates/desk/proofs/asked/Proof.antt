@@ -33,8 +33,17 @@ enum-told-4 c = search needs
 counts-requires : tie.Need-counts-requires
 counts-requires c κs = search needs
 
+enum-told-5 : tie.Need-enum-told-5
+enum-told-5 c = search needs
+
 load-requires : tie.Need-load-requires
 load-requires c κs = search needs
+
+array-read-bytes : tie.Need-array-read-bytes
+array-read-bytes c = search needs
+
+bytes-requires : tie.Need-bytes-requires
+bytes-requires c κs = search needs
 
 returns : tie.Need-returns
 unfolding lentBy
@@ -54,11 +63,15 @@ returns-4 c = λ bytes. rw (c .before .enum-told4 .given .1) (c .counts .ensures
 
 returns-5 : tie.Need-returns-5
 unfolding lentBy
-returns-5 c =
+returns-5 c = λ bytes. rw (c .before .enum-told5 .given .1) (c .load .ensures _)
+
+returns-6 : tie.Need-returns-6
+unfolding lentBy
+returns-6 c =
     let m = c .before in
     let s = m .before .before .before .before in
-    let load = last (key.Claim ∷ key.Release ∷ key.Read ∷ key.Counts ∷ []) key.Load (s .args .keyword) (s .pre) (m .match .keys5) in
-    λ bytes. rw load (c .load .ensures (s .args .heap .now))
+    let shown = last (key.Claim ∷ key.Release ∷ key.Read ∷ key.Counts ∷ key.Load ∷ []) key.Bytes (s .args .keyword) (s .pre) (m .match .keys6) in
+    λ bytes. rw shown (c .bytes .ensures _ _)
 
 pub asked-spec : {M : Type 1} → statement M
 asked-spec =
@@ -73,9 +86,13 @@ asked-spec =
     read-requires
     enum-told-4
     counts-requires
+    enum-told-5
     load-requires
+    array-read-bytes
+    bytes-requires
     returns
     returns-2
     returns-3
     returns-4
-    returns-5)
+    returns-5
+    returns-6)

@@ -46,11 +46,17 @@ claims-requires c κs = search needs
 enum-told-7 : tie.Need-enum-told-7
 enum-told-7 c = search needs
 
-shown-requires-2 : tie.Need-shown-requires-2
-shown-requires-2 c κs = search needs
+check-requires : tie.Need-check-requires
+check-requires c κs = search needs
 
 enum-told-8 : tie.Need-enum-told-8
 enum-told-8 c = search needs
+
+shown-requires-2 : tie.Need-shown-requires-2
+shown-requires-2 c κs = search needs
+
+enum-told-9 : tie.Need-enum-told-9
+enum-told-9 c = search needs
 
 shown-requires-3 : tie.Need-shown-requires-3
 shown-requires-3 c κs = search needs
@@ -84,18 +90,22 @@ returns-6 c = λ bytes heap ids locations. rw (c .claims .ensures, c .before .en
 
 returns-7 : tie.Need-returns-7
 unfolding doneBy
-returns-7 c = λ bytes heap ids locations. rw (c .shown2 .ensures, c .before .enum-told7 .given .1) refl
+returns-7 c = λ bytes heap ids locations. rw (c .check .ensures, c .before .enum-told7 .given .1) refl
 
 returns-8 : tie.Need-returns-8
 unfolding doneBy
-returns-8 c = λ bytes heap ids locations. rw (c .shown3 .ensures, c .before .enum-told8 .given .1) refl
+returns-8 c = λ bytes heap ids locations. rw (c .shown2 .ensures, c .before .enum-told8 .given .1) refl
 
 returns-9 : tie.Need-returns-9
 unfolding doneBy
-returns-9 c =
+returns-9 c = λ bytes heap ids locations. rw (c .shown3 .ensures, c .before .enum-told9 .given .1) refl
+
+returns-10 : tie.Need-returns-10
+unfolding doneBy
+returns-10 c =
     let m = c .before in
     let s = m .before in
-    let help = last (key.Blank ∷ key.Bad ∷ key.Settings ∷ key.State ∷ key.Record ∷ key.Claims ∷ key.List ∷ key.Dump ∷ []) key.Help (s .args .keyword) (s .pre) (m .match .keys9) in
+    let help = last (key.Blank ∷ key.Bad ∷ key.Settings ∷ key.State ∷ key.Record ∷ key.Claims ∷ key.Check ∷ key.List ∷ key.Dump ∷ []) key.Help (s .args .keyword) (s .pre) (m .match .keys10) in
     λ bytes heap ids locations. rw (c .shown4 .ensures, help) refl
 
 pub at-bench-spec : {M : Type 1} → statement M
@@ -115,8 +125,10 @@ at-bench-spec =
     enum-told-6
     claims-requires
     enum-told-7
-    shown-requires-2
+    check-requires
     enum-told-8
+    shown-requires-2
+    enum-told-9
     shown-requires-3
     shown-requires-4
     returns
@@ -127,4 +139,5 @@ at-bench-spec =
     returns-6
     returns-7
     returns-8
-    returns-9)
+    returns-9
+    returns-10)

@@ -51,16 +51,23 @@ slice-aggregate-named-8 c = search needs
 named-requires-8 : tie.Need-named-requires-8
 named-requires-8 c κs = search needs
 
+slice-aggregate-named-9 : tie.Need-slice-aggregate-named-9
+slice-aggregate-named-9 c = search needs
+
+named-requires-9 : tie.Need-named-requires-9
+named-requires-9 c κs = search needs
+
 returns : tie.Need-returns
 returns c =
-    let n7 = c .before .before in
+    let n8 = c .before .before in
+    let n7 = n8 .before .before in
     let n6 = n7 .before .before in
     let n5 = n6 .before .before in
     let n4 = n5 .before .before in
     let n3 = n4 .before .before in
     let n2 = n3 .before .before in
     let n1 = n2 .before .before in
-    name-before _ _ _ _ _ _ (c .named8 .ensures) (name-before _ _ _ _ _ _ (n7 .named7 .ensures) (name-before _ _ _ _ _ _ (n6 .named6 .ensures) (name-before _ _ _ _ _ _ (n5 .named5 .ensures) (name-before _ _ _ _ _ _ (n4 .named4 .ensures) (name-before _ _ _ _ _ _ (n3 .named3 .ensures) (name-before _ _ _ _ _ _ (n2 .named2 .ensures) (name-before _ _ _ _ _ _ (n1 .named .ensures) (name-end _ _))))))))
+    name-before _ _ _ _ _ _ (c .named9 .ensures) (name-before _ _ _ _ _ _ (n8 .named8 .ensures) (name-before _ _ _ _ _ _ (n7 .named7 .ensures) (name-before _ _ _ _ _ _ (n6 .named6 .ensures) (name-before _ _ _ _ _ _ (n5 .named5 .ensures) (name-before _ _ _ _ _ _ (n4 .named4 .ensures) (name-before _ _ _ _ _ _ (n3 .named3 .ensures) (name-before _ _ _ _ _ _ (n2 .named2 .ensures) (name-before _ _ _ _ _ _ (n1 .named .ensures) (name-end _ _)))))))))
 
 pub call-spec : {M : Type 1} → statement M
 call-spec =
@@ -82,4 +89,6 @@ call-spec =
     named-requires-7
     slice-aggregate-named-8
     named-requires-8
+    slice-aggregate-named-9
+    named-requires-9
     returns)

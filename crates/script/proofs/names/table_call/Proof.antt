@@ -45,15 +45,22 @@ slice-aggregate-named-7 c = search needs
 named-requires-7 : tie.Need-named-requires-7
 named-requires-7 c κs = search needs
 
+slice-aggregate-named-8 : tie.Need-slice-aggregate-named-8
+slice-aggregate-named-8 c = search needs
+
+named-requires-8 : tie.Need-named-requires-8
+named-requires-8 c κs = search needs
+
 returns : tie.Need-returns
 returns c =
-    let n6 = c .before .before in
+    let n7 = c .before .before in
+    let n6 = n7 .before .before in
     let n5 = n6 .before .before in
     let n4 = n5 .before .before in
     let n3 = n4 .before .before in
     let n2 = n3 .before .before in
     let n1 = n2 .before .before in
-    name-before _ _ _ _ _ _ (c .named7 .ensures) (name-before _ _ _ _ _ _ (n6 .named6 .ensures) (name-before _ _ _ _ _ _ (n5 .named5 .ensures) (name-before _ _ _ _ _ _ (n4 .named4 .ensures) (name-before _ _ _ _ _ _ (n3 .named3 .ensures) (name-before _ _ _ _ _ _ (n2 .named2 .ensures) (name-before _ _ _ _ _ _ (n1 .named .ensures) (name-end _ _)))))))
+    name-before _ _ _ _ _ _ (c .named8 .ensures) (name-before _ _ _ _ _ _ (n7 .named7 .ensures) (name-before _ _ _ _ _ _ (n6 .named6 .ensures) (name-before _ _ _ _ _ _ (n5 .named5 .ensures) (name-before _ _ _ _ _ _ (n4 .named4 .ensures) (name-before _ _ _ _ _ _ (n3 .named3 .ensures) (name-before _ _ _ _ _ _ (n2 .named2 .ensures) (name-before _ _ _ _ _ _ (n1 .named .ensures) (name-end _ _))))))))
 
 pub table-call-spec : {M : Type 1} → statement M
 table-call-spec =
@@ -73,4 +80,6 @@ table-call-spec =
     named-requires-6
     slice-aggregate-named-7
     named-requires-7
+    slice-aggregate-named-8
+    named-requires-8
     returns)

@@ -1,0 +1,5 @@
+pub mod Types
+pub mod Distinct
+pub mod Window
+pub mod Places
+pub mod Sound

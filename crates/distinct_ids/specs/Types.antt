@@ -1,0 +1,5 @@
+-- The declared types that the definitions here name, in one place.
+pub use Rattle.rules.specs.declared.Label.{Label}
+pub use Rattle.rules.specs.declared.Entry.{Entry}
+pub use Rattle.distinct_ids.specs.declared.Floor.{Floor}
+pub use Rattle.distinct_ids.specs.declared.Floor.the-variants.{All, Above}

@@ -1,0 +1,4 @@
+pub mod Types
+pub mod Telling
+pub mod Search
+pub mod Walks
