@@ -1,0 +1,6 @@
+-- The declared types that the definitions here name, in one place.
+pub use Rattle.rules.specs.declared.Settings.{Settings}
+pub use Rattle.rules.specs.declared.Label.{Label}
+pub use Rattle.rules.specs.declared.Refusal.{Refusal}
+pub use Rattle.rules.specs.declared.Refusal.the-variants.{Limits, Overlap}
+pub use Rattle.salvage.specs.declared.Loss.{Loss}
