@@ -393,12 +393,12 @@ static int told_ids(const marble_loss *loss, uint8_t first) {
 
 /* a reopening was refused: with 6, for nothing else is left behind a salvage. How large a table must be, by the largest there is */
 static void told_too_small(uint64_t refusal) {
-    printf("reopening: %srefused with %llu%s, more distinct ids than the %llu entries of its table\n", RED, (word)refusal, PLAIN, (word)table_len);
+    printf("reopening: %srefused with %llu%s, more distinct ids than a table of %llu takes\n", RED, (word)refusal, PLAIN, (word)table_len);
     table_len = MARBLE_TABLE_MAX;
     ids = room_for(table_len, sizeof *ids), locations = room_for(table_len, sizeof *locations);
     if (ids == NULL || locations == NULL) return;
-    if (reopened() == MARBLE_OK) printf("table: %llu entries would do\n", (word)ids_found());
-    else printf("table: no table has room for them, %d entries are the most\n", MARBLE_TABLE_MAX);
+    if (reopened() == MARBLE_OK) printf("table: one of %llu would do\n", (word)ids_found());
+    else printf("table: none would do, %d entries are the most\n", MARBLE_TABLE_MAX);
 }
 
 /* 1: the heap is in a new file, on its medium; else a message, and no file */

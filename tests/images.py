@@ -161,9 +161,9 @@ class Rescued:
         if self.refused is None:
             return out + [f'reopening: accepted, {len(self.store.table())} ids in a table of {self.table}', f'{self.path}: {lost}, saved as {self.to}']
         wide = lent(self.saved, self.size, 65536)
-        none = 'table: no table has room for them, 65536 entries are the most'
-        room = none if refusal_of(wide.reopen) else f'table: {len(wide.table())} entries would do'
-        return out + [f'reopening: refused with 6, more distinct ids than the {self.table} entries of its table', room,
+        none = 'table: none would do, 65536 entries are the most'
+        room = none if refusal_of(wide.reopen) else f'table: one of {len(wide.table())} would do'
+        return out + [f'reopening: refused with 6, more distinct ids than a table of {self.table} takes', room,
                       f'{self.path}: {lost}, nothing saved: give a larger table, and write nothing before']
 
     def ids_of(self, loss):

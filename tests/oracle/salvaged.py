@@ -8,7 +8,7 @@
 The heaps are those of damaged.py, and more whose ranges meet: files of several stores in one heap, nobody's files crowded into few
 positions or chained end to end, equal masked lsns, the labels' two kinds of lsn, all of 256 slots in use or given up.
 
-Checked without a second implementation: the report's form; that no byte but the first of each reported slot changes, neither table nor
+Checked without a second implementation: the report's form and order; that no byte but the first of each reported slot changes, neither table nor
 state nor claims; that nothing is reported where a reopening accepts; that a reopening is then accepted or refused with 6, as the checker
 says; that a second salvage reports nothing; that with power gone after the first k stores a second one reports the rest and ends in the
 same heap; that a heap whose list is then empty keeps its reads, and an empty list, behind any calls. The same of the model, and that each
@@ -53,6 +53,7 @@ class Maker(damaged.Maker):
 
     def __init__(self, seed, number):
         super().__init__(f'{seed} salvaged', number)
+        self.spared = False  # from damage
 
     # ---- files whose ranges meet
 
@@ -104,10 +105,10 @@ class Maker(damaged.Maker):
         bad = label_bytes((5, 0, 128, 0, 0)) + b'\1'
         self.heap = [{'equal': good, 'bad': bad, 'both': r.choice([good, bad])}[kind].ljust(128, b'\0') for _ in range(256)]
         self.heap[r.randrange(256)] = bytes(128) if kind == 'both' else self.heap[0]
-        self.whole = self.chance(60)
+        self.spared = self.chance(60)
 
     def damage(self):
-        if not getattr(self, 'whole', False):
+        if not self.spared:
             super().damage()
 
     # ---- what the model says of it
@@ -290,6 +291,9 @@ def report_of(maker, line, answer):
     own = [slot for slot, number in report if number != 14]
     if any(number not in FIRST_KIND for _, number in report[:len(own)]) or own != sorted(set(own)) or any(n != 14 for _, n in report[len(own):]):
         raise wrong(maker, line, answer, 'not first the first kind, ascending by slot, and then 14')
+    second = [(masked((label_numbers(maker.heap[slot][:LABEL]) or [0])[0]), slot) for slot, _ in report[len(own):]]
+    if second != sorted(set(second)):
+        raise wrong(maker, line, answer, 'the second kind is not by ascending masked lsn, equal ones by ascending slot')
     return report
 
 
