@@ -218,7 +218,8 @@ def main():
     if missing:
         raise SystemExit(f'rescued: {options.count} heaps of seed {options.seed} met no case of: {"; ".join(missing)}')
     against = 'by its stored answers' if options.stored else f'seed {options.seed}'
-    print(f"{port.name} and the original: {options.count} heaps that the original wrote, damaged, rescued and opened by it again, {against}, {time.time() - began:.0f} s")
+    print(f'{port.name} and original: {options.count} heaps that the original wrote, damaged, rescued and opened by it again, {against}, '
+          f'{time.time() - began:.0f} s')
     print('  met: ' + '; '.join(f'{case} {tally[case]}' for case in MUST_MEET))
 
 

@@ -189,7 +189,10 @@ class Maker(damaged.Maker):
         after = self.model(self.after.heap)
         refused_after = self.reopening(after)
         struck = {f.slot for f in self.faults if f.number == 14}
-        last = {k: [j for j in kept if order.index(j) < order.index(k)][-1:] for k in order} if len(order) < 20 else {k: kept[:1] for k in order}
+        last, so_far = {}, None  # the last kept before each, if there is one
+        for k in order:
+            last[k] = so_far
+            so_far = k if k in kept else so_far
         lsns = {k: label_numbers(heap[k][:LABEL])[0] for k in spans}
         equal = [[k for k in spans if spans[k][0] == start] for start, n in Counter(s for s, _ in spans.values()).items() if n > 1]
         unsound = []
@@ -218,12 +221,12 @@ class Maker(damaged.Maker):
             'kept, though it meets one that was given up before it': any(
                 meets(spans[k], spans[j]) for k in kept for j in second if order.index(j) < order.index(k)),
             'kept, though it meets a slot of the first kind': any(meets(spans[k], u) for k in kept for u in unsound),
-            'given up in a lower slot than the kept one': any(last[k] and k < last[k][0] for k in second),
+            'given up in a lower slot than the kept one': any(k < last[k] for k in second),
             'the checker strikes another slot': struck != set(second),
             'given up in another order than by slot': second != sorted(second),
-            'given up at the end of the last kept': any(last[k] and spans[last[k][0]][1] == spans[k][0] for k in second),
-            'kept one above the end of the last kept': any(last[k] and spans[last[k][0]][1] + 1 == spans[k][0] for k in kept),
-            'given up by T alone': any(last[k] and spans[last[k][0]][0] < spans[k][0] for k in second),
+            'given up at the end of the last kept': any(spans[last[k]][1] == spans[k][0] for k in second),
+            'kept one above the end of the last kept': any(last[k] is not None and spans[last[k]][1] + 1 == spans[k][0] for k in kept),
+            'given up by T alone': any(spans[last[k]][0] < spans[k][0] for k in second),
             'T 0 of a kept file': any(spans[k][0] == spans[k][1] for k in kept),
             'masked order is not the order by lsn': [*sorted(spans, key=lambda k: (lsns[k], k))] != order,
             'every slot in use given up': used and len(used) == len(self.report),
@@ -265,14 +268,16 @@ class Maker(damaged.Maker):
             reads = [f'read {i}' for i in self.ids[:12]]
             self.lines += reads
             for _ in range(r.choice([1, 2, 3])):
-                self.lines += [r.choice(['maintain', 'maintain', 'maintain', 'prune', 'reopen', 'salvage', f'claim {r.randrange(self.slots)}']), *reads, 'check 8']
+                call = r.choice(['maintain', 'maintain', 'maintain', 'prune', 'reopen', 'salvage', f'claim {r.randrange(self.slots)}'])
+                self.lines += [call, *reads, 'check 8']
             self.wrote = r.choice(self.ids)
             self.lines += [f'write {operation(self.wrote, NEW).hex()}', f'read {self.wrote}', 'check 8']
         if self.report:
             lost, own = len(self.report), sum(loss.number != 14 for loss in self.report)
             for stores in sorted({r.randrange(lost + 1), r.choice([0, own, lost - 1])}):
-                self.lines += [f'heap {self.slots * size}']
-                self.lines += [f'poke {k * size} {self.cut(stores)[k * size:(k + 1) * size].hex()}' for k, data in enumerate(self.heap) if any(data)]
+                heap = self.cut(stores)
+                self.lines += [f'heap {len(heap)}']
+                self.lines += [f'poke {k * size} {heap[k * size:(k + 1) * size].hex()}' for k in range(self.slots) if any(self.heap[k])]
                 self.lines += [f'# power gone after {stores} stores', 'salvage', 'dump']
                 self.met |= {name for name, holds in {
                     'power gone before the first store': stores == 0, 'power gone in the first kind': 0 < stores < own,
@@ -421,7 +426,7 @@ def main():
     missing = [case for case in MUST_MEET if tally[case] == 0]
     if missing:
         raise SystemExit(f'rescued heaps: {heaps} of seed {options.seed} met no case of: {"; ".join(missing)}')
-    print(f'{port.name} on heaps to rescue: {heaps} heaps, {tally["accepted before"]} of them accepted before, {sum(given_up.values())} slots given up ('
+    print(f'{port.name} on heaps to rescue: {heaps} heaps, {tally["accepted before"]} of them accepted, {sum(given_up.values())} slots given up ('
           + ', '.join(f'{n}: {given_up[n]}' for n in sorted(given_up)) + f'), seed {options.seed}, {time.time() - began:.0f} s')
     print('  met: ' + '; '.join(f'{case} {tally[case]}' for case in MUST_MEET))
 
