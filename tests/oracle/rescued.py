@@ -27,7 +27,7 @@ class Heap:
     """one heap of the original's files in slots"""
 
     def __init__(self, seed, number, rust):
-        self.r, self.rust, self.met = random.Random(f'{seed} rescued {number}'), rust, set()
+        self.r, self.rust, self.met, self.number = random.Random(f'{seed} rescued {number}'), rust, set(), number
         self.settings = [self.r.choice([75, 100]), self.r.choice([1, 2]), self.r.choice([100, 2048]), self.r.choice([0, 64]), 1024]
         self.ids = sorted(self.r.sample(range(1, 40), self.r.randint(2, 9)))
 
@@ -84,6 +84,8 @@ class Heap:
         self.whole = list(self.slots)
         for _ in range(r.choice([0, 1, 1, 2, 3])):
             self.scratch()
+        if self.number % 13 == 12:  # every label
+            self.slots = [slot[:LABEL - 1] + b'\1' + slot[LABEL:] for slot in self.slots]
         return self
 
     def scratch(self):
@@ -198,7 +200,7 @@ def main():
     parser.add_argument('--stored', help='replay the answers of this file instead of running the original')
     parser.add_argument('--store', help="write the original's answers into this file")
     parser.add_argument('--seed', default='1')
-    parser.add_argument('--count', type=int, default=150)
+    parser.add_argument('--count', type=int, default=400)
     options = parser.parse_args()
     port = Model() if options.model else Port(options.console)
     rust = Stored(options.stored) if options.stored else Rust(options.rust, keep=options.store is not None)

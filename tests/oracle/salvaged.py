@@ -53,18 +53,19 @@ class Maker(damaged.Maker):
 
     def __init__(self, seed, number):
         super().__init__(f'{seed} salvaged', number)
-        self.spared = False  # from damage
+        self.number, self.spared = number, False  # spared from damage
 
     # ---- files whose ranges meet
 
     def fill(self):
-        if self.many or self.slots == 256:
-            return super().fill()
-        kind = self.r.choice(['damaged', 'damaged', 'stores', 'stores', 'crowd', 'chain', 'pair'] + (['all'] if self.chance(6) else []))
-        if kind == 'damaged':
-            return super().fill()
-        self.foreign = kind != 'stores'
-        getattr(self, kind)()
+        kind = self.r.choice(['damaged', 'damaged', 'stores', 'stores', 'crowd', 'chain', 'pair'])
+        if self.number % 200 == 0:
+            self.all(self.number // 200 % 3)
+        elif kind == 'damaged' or self.many or self.slots == 256:
+            super().fill()
+        else:
+            self.foreign = kind != 'stores'
+            getattr(self, kind)()
 
     def stores(self):
         """slots of two to four stores"""
@@ -96,16 +97,14 @@ class Maker(damaged.Maker):
             bit = self.r.choice([0, BATCH_BIT])
             self.put(slot, Parts(lsn + self.r.choice([0, 0, 1]) | bit, 0, data, [(self.ids[slot % len(self.ids)], 0)]))
 
-    def all(self):
-        """256 slots: all at one position, all with a bad label, or some of each"""
+    def all(self, kind):
+        """256 slots: all with a bad label, all at one position, or some of each and damaged"""
         r = self.r
-        self.slot_bytes, self.slots, kind = 128, 256, r.choice(['equal', 'bad', 'both'])
+        self.slot_bytes, self.slots, self.foreign, self.spared = 128, 256, True, kind < 2
         self.settings = Settings((128, *self.settings[1:]))
         good = Parts(r.choice([1, BATCH_BIT + 1]), 0, object_bytes(self.ids[0], b''), [(self.ids[0], 0)]).bytes()
-        bad = label_bytes((5, 0, 128, 0, 0)) + b'\1'
-        self.heap = [{'equal': good, 'bad': bad, 'both': r.choice([good, bad])}[kind].ljust(128, b'\0') for _ in range(256)]
-        self.heap[r.randrange(256)] = bytes(128) if kind == 'both' else self.heap[0]
-        self.spared = self.chance(60)
+        bad = label_bytes((5, 0, 128, 0, 0))
+        self.heap = [[bad, good, r.choice([good, bad, b''])][kind].ljust(128, b'\0') for _ in range(256)]
 
     def damage(self):
         if not self.spared:
