@@ -391,14 +391,28 @@ static int told_ids(const marble_loss *loss, uint8_t first) {
     return 1;
 }
 
-/* a reopening was refused: with 6, for nothing else is left behind a salvage. How large a table must be, by the largest there is */
-static void told_too_small(uint64_t refusal) {
+/* 1: the slots given up are told, and what became of their ids where a reopening was accepted; else a message */
+static int told_losses(const uint8_t *first, int accepted) {
+    for (uint64_t k = 0; k < losses; k++) {
+        const char *why = report[k].number == MARBLE_E_OVERLAP ? "overlaps the range of a kept file" : meaning(report[k].number, 0);
+        printf("slot %llu: %sgiven up%s, %s (%llu)\n", (word)report[k].slot, RED, PLAIN, why, (word)report[k].number);
+        if (accepted && !told_ids(&report[k], first[report[k].slot])) return 0;
+    }
+    if (losses > 0)
+        printf("%swarning: with a slot given up any id may read as an older version than it had, and a delete may be undone%s\n", YELLOW, PLAIN);
+    return 1;
+}
+
+/* A reopening was refused, with 6, since a salvage leaves nothing else. 1: a larger table would do; how large, by the largest there is */
+static int told_too_small(uint64_t refusal) {
     printf("reopening: %srefused with %llu%s, more distinct ids than a table of %llu takes\n", RED, (word)refusal, PLAIN, (word)table_len);
     table_len = MARBLE_TABLE_MAX;
     ids = room_for(table_len, sizeof *ids), locations = room_for(table_len, sizeof *locations);
-    if (ids == NULL || locations == NULL) return;
-    if (reopened() == MARBLE_OK) printf("table: one of %llu would do\n", (word)ids_found());
+    if (ids == NULL || locations == NULL) return 0;
+    int larger = reopened() == MARBLE_OK;
+    if (larger) printf("table: one of %llu would do\n", (word)ids_found());
     else printf("table: none would do, %d entries are the most\n", MARBLE_TABLE_MAX);
+    return larger;
 }
 
 /* 1: the heap is in a new file, on its medium; else a message, and no file */
@@ -428,26 +442,20 @@ static int rescue(const char *path, const char *to) {
         return USAGE;
     }
     refusal = reopened();
-    for (uint64_t k = 0; k < losses; k++) {
-        const char *why = report[k].number == MARBLE_E_OVERLAP ? "overlaps the range of a kept file" : meaning(report[k].number, 0);
-        printf("slot %llu: %sgiven up%s, %s (%llu)\n", (word)report[k].slot, RED, PLAIN, why, (word)report[k].number);
-        if (refusal == MARBLE_OK && !told_ids(&report[k], first[report[k].slot])) return USAGE;
-    }
-    if (losses > 0)
-        printf("%swarning: with a slot given up any id may read as an older version than it had, and a delete may be undone%s\n", YELLOW, PLAIN);
-    if (refusal == MARBLE_OK) told_accepted();
-    else told_too_small(refusal);
-    if (!told() || (refusal == MARBLE_OK && !saved(to))) return USAGE;
-    printf("%s: ", path);
-    if (losses == 0) printf("nothing given up, ");
-    else printf("%s%llu slot%s given up%s, ", RED, (word)losses, losses == 1 ? "" : "s", PLAIN);
-    if (refusal == MARBLE_OK) printf("saved as %s\n", to);
-    else printf("nothing saved: give a larger table, and write nothing before\n");
+    int accepted = refusal == MARBLE_OK, larger = 0;
+    if (!told_losses(first, accepted)) return USAGE;
+    if (accepted) told_accepted();
+    else larger = told_too_small(refusal);
+    if (!told() || (accepted && !saved(to))) return USAGE;
+    if (losses == 0) printf("%s: nothing given up, ", path);
+    else printf("%s: %s%llu slot%s given up%s, ", path, RED, (word)losses, losses == 1 ? "" : "s", PLAIN);
+    if (accepted) printf("saved as %s\n", to);
+    else printf("nothing saved%s\n", larger ? ": give a larger table, and write nothing before" : "");
     if (!told()) {
-        if (refusal == MARBLE_OK && remove(to) != 0) failed(to);
+        if (accepted && remove(to) != 0) failed(to);
         return USAGE;
     }
-    return refusal != MARBLE_OK ? UNSAVED : losses == 0 ? CLEAN : FAULTS;
+    return !accepted ? UNSAVED : losses == 0 ? CLEAN : FAULTS;
 }
 
 /* ---- the words it is called with */

@@ -161,10 +161,10 @@ class Rescued:
         if self.refused is None:
             return out + [f'reopening: accepted, {len(self.store.table())} ids in a table of {self.table}', f'{self.path}: {lost}, saved as {self.to}']
         wide = lent(self.saved, self.size, 65536)
-        none = 'table: none would do, 65536 entries are the most'
-        room = none if refusal_of(wide.reopen) else f'table: one of {len(wide.table())} would do'
-        return out + [f'reopening: refused with 6, more distinct ids than a table of {self.table} takes', room,
-                      f'{self.path}: {lost}, nothing saved: give a larger table, and write nothing before']
+        room, saved = 'none would do, 65536 entries are the most', 'nothing saved'
+        if refusal_of(wide.reopen) is None:
+            room, saved = f'one of {len(wide.table())} would do', 'nothing saved: give a larger table, and write nothing before'
+        return out + [f'reopening: refused with 6, more distinct ids than a table of {self.table} takes', f'table: {room}', f'{self.path}: {lost}, {saved}']
 
     def ids_of(self, loss):
         """what a slot that was given up lists, and what its ids read now"""
@@ -350,10 +350,10 @@ def full_tables(command, folder, show):
         rescued(command, folder, name, b''.join(slots[:used]), [1 << 20, table], 1 << 20, table, show)
 
 
-def coloured(command, path):
-    """on a terminal"""
+def coloured(command, least, *words):
+    """on a terminal: red, and so many colours"""
     ours, theirs = pty.openpty()
-    done = subprocess.Popen(command + ['map', path, '256', '6'], stdout=theirs, stdin=subprocess.DEVNULL)
+    done = subprocess.Popen(command + [*words, '256', '6'], stdout=theirs, stdin=subprocess.DEVNULL)
     os.close(theirs)
     said = b''
     while True:
@@ -366,7 +366,7 @@ def coloured(command, path):
         said += part
     os.close(ours)
     done.wait()
-    if b'\033[31m' not in said or said.count(b'\033[0m') < 6:
+    if b'\033[31m' not in said or said.count(b'\033[0m') < least:
         raise SystemExit(f'images: no colours on a terminal: {said!r}')
 
 
@@ -403,7 +403,9 @@ def main():
         script = os.path.join(ROOT, 'examples', 'scratched.out')
         with open(script) as said, open(os.path.join(folder, 'scratched'), 'wb') as out:
             out.write(bytes.fromhex(said.read().split()[-1]))
-        coloured(command, os.path.join(folder, 'scratched'))
+        path = os.path.join(folder, 'scratched')
+        coloured(command, 6, 'map', path)
+        coloured(command, 4, 'rescue', path, path + ' rescued')
     missing = {(n, p) for n, p in [(n, False) for n in (6, *range(8, 16))] + [(n, True) for n in (10, 16, 17)]} - numbers.keys()
     if missing or not cells >= set('#-?.'):
         raise SystemExit(f'images: no image had {missing or "each kind of bytes"}')
