@@ -205,10 +205,10 @@ def image_file(folder, name, heap):
     return path
 
 
-def stayed(path, heap):
+def stayed(path, heap, why='the image changed'):
     with open(path, 'rb') as left:
         if hashlib.sha256(left.read()).digest() != hashlib.sha256(heap).digest():
-            fail('the image changed', None)
+            fail(why, None)
 
 
 def rescued(command, folder, number, heap, words, slot_bytes, table, show):
@@ -224,7 +224,7 @@ def rescued(command, folder, number, heap, words, slot_bytes, table, show):
     if os.path.exists(to) != (image.refused is None):
         fail('a file where nothing is saved, or none', said)
     if image.refused is None:
-        stayed(to, image.saved)
+        stayed(to, image.saved, "the new file is not the model's heap")
         os.remove(to)
     if show:
         print(said.stdout)
