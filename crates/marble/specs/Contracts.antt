@@ -35,6 +35,7 @@ use Rattle.checker.specs.declared.CheckAnswer.{CheckAnswer}
 use Rattle.checker.proofs.check.Reads as check
 use Rattle.salvage.specs.declared.SalvageAnswer.{SalvageAnswer}
 use Rattle.salvage.specs.Salvage.{salvageCall}
+use Rattle.salvage.specs.Answers.{Salvages}
 use Rattle.salvage.proofs.salvage.Reads as salvage
 use Rattle.location_table.specs.Tables.{leaving as tableLeaving}
 use Rattle.table_calls.proofs.load.Reads as load
@@ -42,7 +43,6 @@ use Rattle.table_calls.proofs.store.Reads as store
 use Rattle.table_calls.proofs.«compare_and_store».Reads as compare
 use Rattle.table_calls.proofs.«store_if_greater».Reads as greater
 use Rattle.marble.specs.Results.{wrote, maintained, pruned, claimed, released, reopened, answered, read, counted, checked, Admitted}
-use Rattle.marble.specs.Unique.{Salvages}
 
 -- a lent buffer of numbers: where it is, and what it holds
 abbrev pub Lent : Type 0

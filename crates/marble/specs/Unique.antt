@@ -19,16 +19,13 @@ use Rattle.faults.specs.Faults.{Checked}
 use Rattle.checker.specs.declared.CheckAnswer.{CheckAnswer}
 use Rattle.checker.specs.declared.CheckAnswer.the-variants.{Faults, CheckRefused}
 use Rattle.checker.specs.Answers.{checkGiven, checked}
-use Rattle.salvage.specs.declared.SalvageAnswer.{SalvageAnswer}
-use Rattle.salvage.specs.declared.SalvageAnswer.the-variants.{GivenUp, SalvageRefused}
-use Rattle.salvage.specs.Salvage.{Salvaged}
-use Rattle.salvage.specs.Answers.{salvageGiven, salvaged}
--- reopen, write, read, maintain and prune have theirs beside their code
+-- reopen, write, read, maintain, prune and salvage have theirs beside their code
 pub use Rattle.recovery.specs.Unique.{reopen-one}
 pub use Rattle.writepath.specs.Unique.{write-one}
 pub use Rattle.readpath.specs.ReadLaws.{read-one, part-one}
 pub use Rattle.gc.specs.Unique.{maintain-one}
 pub use Rattle.prune.specs.CallLaws.{prune-one}
+pub use Rattle.salvage.specs.Answers.{salvage-one}
 
 -- ---- claim and release: what their contracts say of a result, for the call's definition
 abbrev pub Claims-leaves : Settings → State → List ℕ → List ℕ → List ℕ → After → ClaimAnswer → Type 0
@@ -63,27 +60,6 @@ pub check-one : (c : Checked) (a b : CheckAnswer) (xs ys : List ℕ) → Checks 
 check-one c a b xs ys p q =
     let e = p ∙ sym q in
     (check-answer-one a b (ap (λ (x : Checked). x .answer) e), ap (λ (x : Checked). x .listing) e)
-
--- ---- salvage: the answer, every word of the lent report, and the heap
--- one number and number of slots given up, one answer
-salvage-answer-one : (a b : SalvageAnswer) → salvageGiven a ≡ salvageGiven b → a ≡ b
-salvage-answer-one = inverse-one salvageGiven (λ (g : Given). byNumber g SalvageRefused (GivenUp (valueAt g 0))) go
-  where
-    go : (a : SalvageAnswer) → byNumber (salvageGiven a) SalvageRefused (GivenUp (valueAt (salvageGiven a) 0)) ≡ a
-    go (GivenUp n) = refl
-    go (SalvageRefused r) = rw (known r .some, known r .back)
-
--- what its contract says of a result, for the call's definition
-abbrev pub Salvages : Salvaged → SalvageAnswer → List ℕ → List ℕ → Type 0
-Salvages c r report heap = salvaged r report heap ≡ c
-
-pub salvage-one : (c : Salvaged) (a b : SalvageAnswer) (xs ys hs ks : List ℕ) → Salvages c a xs hs → Salvages c b ys ks → (a ≡ b) × (xs ≡ ys) × (hs ≡ ks)
-salvage-one c a b xs ys hs ks p q =
-    let e = p ∙ sym q in (
-      salvage-answer-one a b (ap (λ (x : Salvaged). x .answer) e),
-      ap (λ (x : Salvaged). x .report) e,
-      ap (λ (x : Salvaged). x .heap) e,
-    )
 
 -- ---- the four table calls: answer and both buffers, for the call's definition
 -- one answer type after the other, by the law that number and values settle it
