@@ -1,15 +1,22 @@
 -- There are never more lines than slots, and each names a slot of the heap.
 use mathlib.Core.Path.{_≡_, refl, ap, _∙_}
+use lib.Seq.{take-all}
 use mathlib.Core.Bool.{Bool, true, false}
 use Prim.Native.Nat.{_≤_, _<_, zero-le}
 use native.Mathlib.Omega.{arith}
-use lib.ListN.{length-append}
-use Rattle.rules.specs.Base.{List, [], _∷_, _++_, map, ℕ, suc, _+_, length, leb, ltb, pick}
+use lib.ListN.{length-append, length-map}
+use Rattle.rules.specs.Base.{List, [], _∷_, _++_, map, ℕ, suc, _+_, length, take, leb, ltb, pick}
 use Rattle.rules.specs.BaseLaws.{All, all-map, all-append}
+use Rattle.rules.specs.Settings.{slotsIn}
+use Rattle.rules.specs.SettingsLaws.{InRanges, HeapInRange, slot-within}
 use Rattle.rules.specs.SlotFile.{File, View, empty, damaged, holds}
-use Rattle.salvage.specs.Types.{Overlap, Loss}
-use Rattle.salvage.specs.Salvage.{loss, firstKind, Sound, theRest, startOf, endOf, placed, inOrder, givenUpBehind, secondKind, lossesIn}
-use Rattle.salvage.specs.Starts.{rest-all, all-in-order}
+use Rattle.rules.specs.Stores.{Store, made}
+use Rattle.rules.specs.PruneLaws.{emptying}
+use Rattle.faults.specs.Faults.{judgedIn}
+use Rattle.salvage.specs.Types.{Settings, Overlap, Loss}
+use Rattle.salvage.specs.Salvage.{loss, firstKind, Sound, theRest, startOf, endOf, placed, inOrder, givenUpBehind, secondKind, lossesIn, reportOf, emptyingOf}
+use Rattle.salvage.specs.Lines.{LabelsIn}
+use Rattle.salvage.specs.Starts.{rest-all, all-in-order, judged-length}
 
 -- ---- how many
 -- of each slot at most one of the two
@@ -95,3 +102,35 @@ losses-low vs =
     all-append _ (firstKind 0 vs) (secondKind (inOrder (theRest 0 vs)))
     (all-map _ _ (firstKind 0 vs) (λ x h. omega arith) (first-low 0 vs))
     (second-low (length vs) (inOrder (theRest 0 vs)) (all-in-order _ (theRest 0 vs) (rest-all _ 0 vs (λ i f h e. omega arith))))
+
+-- ---- the report of a heap
+-- a store for each line
+pub emptying-of : (s : Settings) (xs : List Loss) → emptying (s .«slot_bytes») (map (λ (x : Loss). x .slot) xs) ≡ emptyingOf s xs
+unfolding emptyingOf
+emptying-of s xs = refl
+
+stores-many : (s : Settings) (xs : List Loss) → length (emptyingOf s xs) ≡ length xs
+unfolding emptyingOf
+stores-many s xs = length-map (map (λ (x : Loss). x .slot) xs) _ ∙ length-map xs _
+
+labels-of : (s : Settings) (heapLen : ℕ) → InRanges s → HeapInRange s heapLen → (xs : List Loss) → All (λ (x : Loss). x .slot < slotsIn s heapLen) xs
+    → LabelsIn (s .«slot_bytes») (map (λ (x : Loss). x .slot) xs) heapLen
+labels-of s heapLen r w [] a = tt
+labels-of s heapLen r w (x ∷ xs) a = (omega (arith, slot-within s heapLen (x .slot) w (a .0), r .slot-low), labels-of s heapLen r w xs (a .1))
+
+module _ (s : Settings) (heap : List ℕ) (w : HeapInRange s (length heap)) where
+  many : length (judgedIn s heap) ≡ slotsIn s (length heap)
+  many = judged-length (slotsIn s (length heap)) (s .«slot_bytes») heap
+
+  -- "the report always has room for 256 lines"
+  pub report-few : length (reportOf s heap) ≤ 256
+  report-few = omega (arith, losses-few (judgedIn s heap), many, w .most)
+
+  -- each line's slot has its label in the heap
+  pub report-labels : InRanges s → LabelsIn (s .«slot_bytes») (map (λ (x : Loss). x .slot) (reportOf s heap)) (length heap)
+  report-labels r = labels-of s (length heap) r w (reportOf s heap)
+      (all-map (λ (x : Loss). x .slot < length (judgedIn s heap)) (λ (x : Loss). x .slot < slotsIn s (length heap)) (reportOf s heap) (λ x h. omega (arith, many)) (losses-low (judgedIn s heap)))
+
+  -- 256 stores are all
+  pub all-emptied : made (take 256 (emptyingOf s (reportOf s heap))) heap ≡ made (emptyingOf s (reportOf s heap)) heap
+  all-emptied = ap (λ (run : List Store). made run heap) (take-all 256 (emptyingOf s (reportOf s heap)) (omega (arith, stores-many s (reportOf s heap), report-few)))

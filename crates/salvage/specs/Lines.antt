@@ -2,7 +2,7 @@
 use mathlib.Core.Path.{_≡_, refl, sym, ap, ap₂, _∙_, subst}
 use Prim.Native.Nat.{_≤_, _<_}
 use native.Mathlib.Omega.{arith}
-use native.Mathlib.Nat.{add-zero}
+use native.Mathlib.Nat.{add-zero, zero-add}
 use lib.ListN.{length-append, length-set}
 use Rattle.numbers.specs.Parts.{front, putAt, put-front, put-none, put-step, put-put}
 use Rattle.rules.specs.Base.{List, [], _∷_, _++_, map, ℕ, zero, suc, _+_, _*_, length, getD, drop, set, each}
@@ -126,9 +126,9 @@ module _ {k : ℕ} {all : List Loss} {before : List ℕ} where
     going-end g = record { count = sym (add-zero n) ∙ g .count; words = sym (put-none now (2 * n)) ∙ g .words }
 
 -- ---- the slots told
-pub told-next : (i : ℕ) (words : List ℕ) (n : ℕ) → slotsTold (suc n) words ≡ getD words 0 0 ∷ slotsTold n (drop 2 words)
+pub told-next : (words : List ℕ) (n : ℕ) → slotsTold (suc n) words ≡ getD words 0 0 ∷ slotsTold n (drop 2 words)
 unfolding slotsTold
-told-next i words n = refl
+told-next words n = refl
 
 told-behind : (xs : List Loss) (rest : List ℕ) → slotsTold (length xs) (each lossWords xs ++ rest) ≡ map (λ (x : Loss). x .slot) xs
 unfolding slotsTold each
@@ -139,3 +139,6 @@ told-behind (x ∷ xs) rest = ap (λ (ks : List ℕ). x .slot ∷ ks) (told-behi
 pub told-slots : (xs : List Loss) (words : List ℕ) → slotsTold (length xs) (front (each lossWords xs) words) ≡ map (λ (x : Loss). x .slot) xs
 unfolding front
 told-slots xs words = told-behind xs _
+
+pub tells-slots : {xs : List Loss} {words after : List ℕ} {n : ℕ} → Tells 0 xs words after n → slotsTold n after ≡ map (λ (x : Loss). x .slot) xs
+tells-slots {xs} {words} t = ap₂ slotsTold (t .count ∙ zero-add (length xs)) (tells-front t) ∙ told-slots xs words
