@@ -5,11 +5,11 @@ use mathlib.Core.Bool.{Bool, true, false}
 use Prim.Native.Nat.{_≤_, _<_, zero-le}
 use native.Mathlib.Omega.{arith}
 use lib.ListN.{length-append, length-map}
-use Rattle.rules.specs.Base.{List, [], _∷_, _++_, map, ℕ, suc, _+_, length, take, leb, ltb, pick}
+use Rattle.rules.specs.Base.{List, [], _∷_, map, ℕ, suc, _+_, length, take, leb, ltb, pick}
 use Rattle.rules.specs.BaseLaws.{All, all-map, all-append}
 use Rattle.rules.specs.Settings.{slotsIn}
 use Rattle.rules.specs.SettingsLaws.{InRanges, HeapInRange, slot-within}
-use Rattle.rules.specs.SlotFile.{File, View, empty, damaged, holds}
+use Rattle.rules.specs.SlotFile.{View, empty, damaged, holds}
 use Rattle.rules.specs.Stores.{Store, made}
 use Rattle.rules.specs.PruneLaws.{emptying}
 use Rattle.faults.specs.Faults.{judgedIn}

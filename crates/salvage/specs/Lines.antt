@@ -1,6 +1,6 @@
 -- Lines told one behind the other, each into its two words of the lent report, and the slots that they name.
 use mathlib.Core.Path.{_≡_, refl, sym, ap, ap₂, _∙_, subst}
-use Prim.Native.Nat.{_≤_, _<_}
+use Prim.Native.Nat.{_≤_}
 use native.Mathlib.Omega.{arith}
 use native.Mathlib.Nat.{add-zero, zero-add}
 use lib.ListN.{length-append, length-set}
@@ -34,9 +34,9 @@ unfoldable pub slotsTold : ℕ → List ℕ → List ℕ
 slotsTold zero words = []
 slotsTold (suc n) words = getD words 0 0 ∷ slotsTold n (drop 2 words)
 
--- each of these slots has its first label byte within the heap
+-- each of these slots has its label within the heap
 abbrev pub LabelsIn : ℕ → List ℕ → ℕ → Type 0
-LabelsIn size slots heapLen = All (λ (slot : ℕ). slot * size + 1 ≤ heapLen) slots
+LabelsIn size slots heapLen = All (λ (slot : ℕ). slot * size + 64 ≤ heapLen) slots
 
 -- ---- one slot
 pub own-shown : (slot : ℕ) (v : View) → lossShown slot (shownBy v) ≡ ownLoss slot v

@@ -37,8 +37,8 @@ pub enum SalvageAnswer {
     SalvageRefused(Refusal),
 }
 
-// The report of slots judged with the help of three lists: each slot's masked lsn and end, and the sound slots in order.
-fn told(
+// The report, with three lists to work on: each slot's masked lsn and end, and the sound slots in order.
+fn both_kinds(
     report: &mut [u64],
     heap: &[u8],
     size: usize,
@@ -48,7 +48,8 @@ fn told(
 ) -> u64
     requires { ⌜ (length (now starts) * size ≤ length (now heap)) × (2 * length (now starts) ≤ length (now report)) ⌝ }
     requires { ⌜ (length (now ends) ≡ length (now starts)) × (length (now starts) ≤ length (now order)) ⌝ }
-    ensures { λ r. ⌜ Tells 0 (lossesIn (slotsJudged (length (now (starts .entry))) size (now (heap .entry)))) (now (report .entry)) (now (report .exit)) r ⌝ }
+    ensures { λ r. ⌜ Tells 0 (lossesIn (slotsJudged (length (now (starts .entry))) size (now (heap .entry))))
+        (now (report .entry)) (now (report .exit)) r ⌝ }
 {
     let count = first_kind(report, heap, size, starts, ends);
     let first = in_order(order, starts);
@@ -56,14 +57,21 @@ fn told(
 }
 
 // The report, and its number of lines.
-fn list(report: &mut [u64], heap: &[u8], size: usize, n: usize) -> u64
+fn list_losses(report: &mut [u64], heap: &[u8], size: usize, n: usize) -> u64
     requires { ⌜ (n * size ≤ length (now heap)) × (n ≤ 256) × (512 ≤ length (now report)) ⌝ }
     ensures { λ r. ⌜ Tells 0 (lossesIn (slotsJudged n size (now (heap .entry)))) (now (report .entry)) (now (report .exit)) r ⌝ }
 {
     let mut starts = [0u64; 256];
     let mut ends = [0u64; 256];
     let mut order = [0u64; 256];
-    told(report, heap, size, &mut starts[..n], &mut ends[..n], &mut order)
+    both_kinds(
+        report,
+        heap,
+        size,
+        &mut starts[..n],
+        &mut ends[..n],
+        &mut order,
+    )
 }
 
 // For a call that has decided refusal 1: the report, and the first `left` of its stores.
@@ -71,11 +79,12 @@ pub fn give_up(settings: Settings, heap: &mut [u8], report: &mut [u64], left: u6
     requires { ⌜ InRanges settings × HeapInRange settings (length (now heap)) × (512 ≤ length (now report)) ⌝ }
     ensures { λ r. ⌜ r ≡ length (reportOf settings (now (heap .entry))) ⌝ }
     ensures { λ _. ⌜ now (report .exit) ≡ front (each lossWords (reportOf settings (now (heap .entry)))) (now (report .entry)) ⌝ }
-    ensures { λ _. ⌜ now (heap .exit) ≡ made (take left (emptyingOf settings (reportOf settings (now (heap .entry))))) (now (heap .entry)) ⌝ }
+    ensures { λ _. ⌜ now (heap .exit)
+        ≡ made (take left (emptyingOf settings (reportOf settings (now (heap .entry))))) (now (heap .entry)) ⌝ }
 {
     let size = settings.slot_bytes as usize;
     let n = heap.len() / size;
-    let lines = list(report, heap, size, n);
+    let lines = list_losses(report, heap, size, n);
     empty_slots(heap, settings.slot_bytes, report, lines, left);
     lines
 }
@@ -88,10 +97,8 @@ pub fn salvage(
     locations: &[u64],
     report: &mut [u64; 512],
 ) -> SalvageAnswer
-    ensures {
-        λ r. ⌜ salvaged r (now (report .exit)) (now (heap .exit))
-        ≡ salvageCall settings (now (heap .entry)) (table (now (ids .entry)) (now (locations .entry))) (now (report .entry)) ⌝
-    }
+    ensures { λ r. ⌜ salvaged r (now (report .exit)) (now (heap .exit))
+        ≡ salvageCall settings (now (heap .entry)) (table (now (ids .entry)) (now (locations .entry))) (now (report .entry)) ⌝ }
 {
     if out_of_range(settings, heap.len() as u64, ids, locations) {
         return SalvageAnswer::SalvageRefused(Refusal::Limits);

@@ -21,7 +21,8 @@ pub fn note(report: &mut [u64], count: u64, slot: u64, refusal: Refusal) -> u64
     count + 1
 }
 
-// "Only the first label byte of reported slots changes": one store for each line, in report order, as far as `left` reaches; what of it is left.
+// "Only the first label byte of reported slots changes": one store for each line, in report order, as far as `left` reaches; how many are
+// left of them.
 pub fn empty_slots(heap: &mut [u8], slot_bytes: u64, report: &[u64], lines: u64, left: u64) -> u64
     requires { ⌜ 2 * lines ≤ length (now report) ⌝ }
     requires { ⌜ LabelsIn «slot_bytes» (slotsTold lines (now report)) (length (now heap)) ⌝ }

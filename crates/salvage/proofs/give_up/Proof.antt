@@ -17,8 +17,8 @@ use Rattle.salvage.proofs.give_up.Tie as tie
 div-n : tie.Need-div-n
 div-n c = omega (arith, c .before .before .pre .0 .slot-low)
 
-list-requires : tie.Need-list-requires
-list-requires c κs =
+list-losses-requires : tie.Need-list-losses-requires
+list-losses-requires c κs =
     let start = c .before .before .before .before in
     let a = start .args in
     let w = start .pre .1 in
@@ -30,8 +30,8 @@ empty-slots-requires c κs =
     let start = listed .before .before .before .before .before in
     let a = start .args in
     let w = start .pre .1 in
-    let told = listed .list .ensures in (
-      omega (arith, told .count, report-few (a .settings) (a .heap .now) w, listed .list .kept .0, start .pre .2),
+    let told = listed .list-losses .ensures in (
+      omega (arith, told .count, report-few (a .settings) (a .heap .now) w, listed .list-losses .kept .0, start .pre .2),
       subst (λ (ks : List ℕ). LabelsIn (a .settings .«slot_bytes») ks (length (a .heap .now))) (sym (tells-slots told)) (report-labels (a .settings) (a .heap .now) w (start .pre .0)),
     )
 
@@ -46,11 +46,11 @@ returns c =
     let emptied = c .before .before in
     let listed = emptied .before .before .before .before .before in
     let a = listed .before .before .before .before .before .args in
-    let told = listed .list .ensures in
+    let told = listed .list-losses .ensures in
     let run = ap (emptying (a .settings .«slot_bytes»)) (tells-slots told) ∙ emptying-of (a .settings) (reportOf (a .settings) (a .heap .now)) in (
       told .count ∙ zero-add _,
       (tells-front told, emptied .empty-slots .ensures .heap ∙ ap (λ (ss : List Store). made (take (a .left) ss) (a .heap .now)) run),
     )
 
 pub give-up-spec : {M : Type 1} → statement M
-give-up-spec = tie.close (tie.spec div-n list-requires empty-slots-requires same-length same-length-2 returns)
+give-up-spec = tie.close (tie.spec div-n list-losses-requires empty-slots-requires same-length same-length-2 returns)

@@ -1,54 +1,38 @@
-use mathlib.Core.Path.{sym, ap, _∙_, subst}
-use Prim.Native.Nat.{_^_}
+use mathlib.Core.Path.{ap, subst}
+use Prim.Native.Nat.{_^_, _<_, _-_}
 use Rattle.salvage.specs.Types.{SlotAnswer}
 use Rattle.salvage.specs.Starts.{endShown}
-use Prim.Native.Nat.{ℕ, _+_, _*_, _≤_, _<_, _-_}
-use mathlib.Core.Path.{_≡_}
 use native.Mathlib.Omega.{arith}
-use borrow.Author.Needs.{needs}
-use lib.ListN.{length, getD, set, take, drop, length-set}
-use mathlib.Core.List.{List, [], _∷_, _++_, map}
 use borrow.Author.Needs.{needs}
 use Rattle.salvage.proofs.first.end.Statement.{statement}
 use Rattle.salvage.proofs.first.end.Tie as tie
-use Rattle.salvage.proofs.first.end.Reads as reads
-use Rattle.salvage.proofs.first.end.Lts as lts
-use Rattle.disk_location.proofs.masked.Reads as masked-reads
 
--- src/first.rt:43:27
 enum-known-shown : tie.Need-enum-known-shown
 enum-known-shown c = search needs
 
--- src/first.rt:43:33
 masked-requires : tie.Need-masked-requires
 masked-requires c κs = search needs
 
--- src/first.rt:43:33
 add-result : tie.Need-add-result
 add-result c =
     let known = c .before .before .before in
     let fits = subst (λ (s : SlotAnswer). endShown s < 2 ^ 64) (known .shown .given .1) (known .before .before .pre) in
     omega (arith, fits, c .before .masked .ensures)
 
--- src/first.rt:44:30
 enum-told : tie.Need-enum-told
 enum-told c = search needs
 
--- src/first.rt:45:35
 enum-told-2 : tie.Need-enum-told-2
 enum-told-2 c = search needs
 
--- src/first.rt:38:1
 returns : tie.Need-returns
 returns c =
     let known = c .before .before .before in
     omega (arith, c .before .masked .ensures, ap endShown (known .shown .given .1))
 
--- src/first.rt:38:1
 returns-2 : tie.Need-returns-2
 returns-2 c = search needs
 
--- src/first.rt:38:1
 returns-3 : tie.Need-returns-3
 returns-3 c = search needs
 

@@ -1,32 +1,21 @@
-use mathlib.Core.Path.{refl, sym, ap, _∙_, subst}
-use Prim.Native.Nat.{zero-le, _^_}
-use Rattle.rules.specs.SlotFile.{View, empty, viewIn}
+use mathlib.Core.Path.{refl, sym, ap, _∙_, subst, _≡_}
+use Prim.Native.Nat.{zero-le, _^_, ℕ, _≤_, _<_, _-_}
+use Rattle.rules.specs.SlotFile.{empty, viewIn}
 use Rattle.rules.specs.SlotLaws.{slots-apart}
 use Rattle.slot_file.specs.Slots.{shownBy}
 use Rattle.faults.specs.Faults.{judged}
 use Rattle.salvage.specs.Types.{SlotAnswer}
-use Rattle.salvage.specs.Lines.{lossShown, own-shown, tells-as, going-start, going-as, going-on, going-end}
-use Rattle.salvage.specs.Starts.{startShown, endShown, end-fits, judged-length, judged-view}
+use Rattle.salvage.specs.Lines.{lossShown, own-shown, tells-as, going-start, going-as, going-on, going-end, Going}
+use Rattle.salvage.specs.Starts.{startShown, endShown, end-fits, judged-length, judged-view, slotsJudged, startIn, endIn}
 use Rattle.salvage.proofs.Turns.{first-next, first-none, shown-few, fill-start, fill-next, fill-end}
-use Rattle.salvage.specs.Starts.{slotsJudged, startIn, endIn}
 use Rattle.salvage.specs.Salvage.{firstKind}
-use Rattle.salvage.specs.Lines.{Going}
 use Rattle.numbers.specs.Parts.{putAt}
-use Prim.Native.Nat.{ℕ, _+_, _*_, _≤_, _<_, _-_}
-use mathlib.Core.Path.{_≡_}
 use native.Mathlib.Omega.{arith}
 use borrow.Author.Needs.{needs}
-use lib.ListN.{length, getD, set, take, drop, length-set}
-use mathlib.Core.List.{List, [], _∷_, _++_, map}
+use lib.ListN.{length, getD, drop, length-set}
+use mathlib.Core.List.{List, map}
 use Rattle.salvage.proofs.first.first_kind.Statement.{statement}
 use Rattle.salvage.proofs.first.first_kind.Tie as tie
-use Rattle.salvage.proofs.first.first_kind.Reads as reads
-use Rattle.salvage.proofs.first.first_kind.Lts as lts
-use Rattle.faults.proofs.own.Reads as own-reads
-use Rattle.salvage.proofs.first.end.Reads as end-reads
-use Rattle.salvage.proofs.first.own_line.Reads as own-line-reads
-use Rattle.salvage.proofs.first.start.Reads as start-reads
-use Rattle.slot_file.proofs.slot.slot_at.Reads as slot-at-reads
 
 abbrev Inv-loop : tie.InvT-loop
 Inv-loop report₀ heap size starts₀ ends₀ n count₀ k₀ report starts ends count k =
@@ -43,7 +32,6 @@ Inv-loop report₀ heap size starts₀ ends₀ n count₀ k₀ report starts end
 abbrev μ-loop : tie.MeasureT-loop
 μ-loop report₀ heap size starts₀ ends₀ n count₀ k₀ report starts ends count k = n - k
 
--- src/first.rt:66:5
 loop-holds : tie.Need-loop-holds Inv-loop μ-loop
 loop-holds c =
     let start = c .before .before .before .before in
@@ -52,7 +40,6 @@ loop-holds c =
     let many = judged-length (length (a .starts .now)) (a .size) (a .heap .now) in
     (zero-le, refl, refl, refl, start .pre .1, zero-le, going-start, fill-start startIn vs (a .starts .now) (sym many), fill-start endIn vs (a .ends .now) (start .pre .1 ∙ sym many))
 
--- src/first.rt:67:25
 slot-at-requires : tie.Need-slot-at-requires Inv-loop μ-loop
 slot-at-requires c κs =
     let l = c .before in
@@ -61,7 +48,6 @@ slot-at-requires c κs =
     let low : l .loop .k < length (a .starts .now) = omega (arith, l .loop .inv .1, c .loop-test .taken) in
     omega (arith, start .pre .0 .0, slots-apart (a .size) (l .loop .k) (length (a .starts .now)) low)
 
--- src/first.rt:67:13
 own-requires : tie.Need-own-requires Inv-loop μ-loop
 own-requires c κs = search needs
 
@@ -80,39 +66,30 @@ shown-is c =
 start-requires : tie.Need-start-requires Inv-loop μ-loop
 start-requires c κs = search needs
 
--- src/first.rt:68:9
 mul-starts : tie.Need-mul-starts Inv-loop μ-loop
 mul-starts c = search needs
 
--- src/first.rt:68:9
 slice-write-starts : tie.Need-slice-write-starts Inv-loop μ-loop
 slice-write-starts c = search needs
 
--- src/first.rt:69:19
 end-requires : tie.Need-end-requires Inv-loop μ-loop
 end-requires c κs = subst (λ (s : SlotAnswer). endShown s < 2 ^ 64) (sym (c .before .own .ensures)) (end-fits (c .before .before .slot-at .result .now))
 
--- src/first.rt:69:9
 mul-ends : tie.Need-mul-ends Inv-loop μ-loop
 mul-ends c = search needs
 
--- src/first.rt:69:9
 slice-write-ends : tie.Need-slice-write-ends Inv-loop μ-loop
 slice-write-ends c = search needs
 
--- src/first.rt:70:9
 own-line-requires : tie.Need-own-line-requires Inv-loop μ-loop
 own-line-requires c κs = search needs
 
--- src/first.rt:71:9
 add-k : tie.Need-add-k Inv-loop μ-loop
 add-k c = search needs
 
--- src/first.rt:66:5
 loop-less : tie.Need-loop-less Inv-loop μ-loop
 loop-less c = search needs
 
--- src/first.rt:66:5
 loop-again : tie.Need-loop-again Inv-loop μ-loop
 loop-again c =
     let told = c .before .before in
@@ -142,19 +119,15 @@ loop-again c =
       fill-next endIn vs (l .loop .ends) (omega (arith, inv .1, inv .4, many)) k _ low (ended .end .ensures ∙ ap endShown is) ∙ inv .8,
     )
 
--- src/first.rt:50:1
 same-length : tie.Need-same-length Inv-loop μ-loop
 same-length c = search needs
 
--- src/first.rt:50:1
 same-length-2 : tie.Need-same-length-2 Inv-loop μ-loop
 same-length-2 c = search needs
 
--- src/first.rt:50:1
 same-length-3 : tie.Need-same-length-3 Inv-loop μ-loop
 same-length-3 c = search needs
 
--- src/first.rt:50:1
 returns : tie.Need-returns Inv-loop μ-loop
 returns c =
     let l = c .before in
@@ -166,8 +139,10 @@ returns c =
     let many = judged-length n (a .size) (a .heap .now) in
     let past : length vs ≤ k = omega (arith, many, inv .1, c .loop-test .left) in (
       going-end (going-as (first-none vs k past) (inv .6)),
-      (sym (fill-end startIn vs (l .loop .starts) (omega (arith, inv .1, inv .3, many)) k past) ∙ inv .7,
-      sym (fill-end endIn vs (l .loop .ends) (omega (arith, inv .1, inv .4, many)) k past) ∙ inv .8),
+      (
+        sym (fill-end startIn vs (l .loop .starts) (omega (arith, inv .1, inv .3, many)) k past) ∙ inv .7,
+        sym (fill-end endIn vs (l .loop .ends) (omega (arith, inv .1, inv .4, many)) k past) ∙ inv .8,
+      ),
     )
 
 pub first-kind-spec : {M : Type 1} → statement M

@@ -1,39 +1,25 @@
 use mathlib.Core.Path.{sym, ap}
 use Rattle.salvage.specs.Lines.{lossShown, tells-none, tells-as}
-use Prim.Native.Nat.{ℕ, _+_, _*_, _≤_, _<_, _-_}
-use mathlib.Core.Path.{_≡_}
-use native.Mathlib.Omega.{arith}
-use borrow.Author.Needs.{needs}
-use lib.ListN.{length, getD, set, take, drop, length-set}
-use mathlib.Core.List.{List, [], _∷_, _++_, map}
+use Prim.Native.Nat.{_-_}
 use borrow.Author.Needs.{needs}
 use Rattle.salvage.proofs.first.own_line.Statement.{statement}
 use Rattle.salvage.proofs.first.own_line.Tie as tie
-use Rattle.salvage.proofs.first.own_line.Reads as reads
-use Rattle.salvage.proofs.first.own_line.Lts as lts
-use Rattle.salvage.proofs.lines.note.Reads as note-reads
 
--- src/first.rt:20:29
 enum-known-shown : tie.Need-enum-known-shown
 enum-known-shown c = search needs
 
--- src/first.rt:20:35
 note-requires : tie.Need-note-requires
 note-requires c κs = search needs
 
--- src/first.rt:21:30
 enum-told : tie.Need-enum-told
 enum-told c = search needs
 
--- src/first.rt:22:33
 enum-told-2 : tie.Need-enum-told-2
 enum-told-2 c = search needs
 
--- src/first.rt:15:1
 same-length : tie.Need-same-length
 same-length c = search needs
 
--- src/first.rt:15:1
 returns : tie.Need-returns
 returns c =
     let called = c .before .before in
@@ -41,13 +27,11 @@ returns c =
     let a = known .before .before .before .args in
     tells-as (ap (lossShown (a .slot)) (sym (known .shown .given .1))) (called .note .ensures)
 
--- src/first.rt:15:1
 returns-2 : tie.Need-returns-2
 returns-2 c =
     let a = c .before .before .before .args in
     tells-as (ap (lossShown (a .slot)) (sym (c .enum-told .given .1))) (tells-none (a .count) (a .report .now))
 
--- src/first.rt:15:1
 returns-3 : tie.Need-returns-3
 returns-3 c =
     let a = c .before .before .before .args in

@@ -1,22 +1,16 @@
-use mathlib.Core.Path.{refl, sym, ap, _∙_, subst}
-use Prim.Native.Nat.{zero-le}
+use mathlib.Core.Path.{refl, sym, _∙_, subst, _≡_}
+use Prim.Native.Nat.{zero-le, ℕ, _+_, _*_, _≤_, _-_}
 use native.Mathlib.Nat.{sub-zero}
-use Rattle.stores.specs.Runs.{made-then, made-none, made-length}
+use Rattle.stores.specs.Runs.{made-then, made-none, made-length, Made}
 use Rattle.salvage.proofs.Turns.{told-step, told-end, made-one}
-use Rattle.stores.specs.Runs.{Made}
 use Rattle.salvage.specs.Lines.{slotsTold, LabelsIn}
 use Rattle.rules.specs.PruneLaws.{emptying}
-use Prim.Native.Nat.{ℕ, _+_, _*_, _≤_, _<_, _-_}
-use mathlib.Core.Path.{_≡_}
 use native.Mathlib.Omega.{arith}
 use borrow.Author.Needs.{needs}
-use lib.ListN.{length, getD, set, take, drop, length-set}
-use mathlib.Core.List.{List, [], _∷_, _++_, map}
+use lib.ListN.{length, getD, drop}
+use mathlib.Core.List.{List}
 use Rattle.salvage.proofs.lines.empty_slots.Statement.{statement}
 use Rattle.salvage.proofs.lines.empty_slots.Tie as tie
-use Rattle.salvage.proofs.lines.empty_slots.Reads as reads
-use Rattle.salvage.proofs.lines.empty_slots.Lts as lts
-use Rattle.stores.proofs.put_number.Reads as put-number-reads
 
 abbrev Inv-loop : tie.InvT-loop
 Inv-loop heap₀ slot-bytes report lines left rest₀ i₀ heap rest i =
@@ -28,28 +22,24 @@ Inv-loop heap₀ slot-bytes report lines left rest₀ i₀ heap rest i =
 abbrev μ-loop : tie.MeasureT-loop
 μ-loop heap₀ slot-bytes report lines left rest₀ i₀ heap rest i = lines - i
 
--- src/lines.rt:32:5
 loop-holds : tie.Need-loop-holds Inv-loop μ-loop
 loop-holds c =
     let start = c .before .before in
     let a = start .args in
     rw (sub-zero (a .lines)) (zero-le, refl, start .pre .1, λ after m d. d)
 
--- src/lines.rt:33:27
 mul-slot : tie.Need-mul-slot Inv-loop μ-loop
 mul-slot c = search needs
 
--- src/lines.rt:33:20
 mul-slot-2 : tie.Need-mul-slot-2 Inv-loop μ-loop
 mul-slot-2 c = search needs
 
--- src/lines.rt:33:20
 shared-slice-read-slot : tie.Need-shared-slice-read-slot Inv-loop μ-loop
 shared-slice-read-slot c = search needs
 
 -- the next slot's label, and those behind it
 labels : (c : tie.In-loop Inv-loop μ-loop) → let l = c .before in let a = l .before .before .before .args in
-    (getD (a .report .now) (2 * l .loop .i) 0 * a .slot-bytes + 1 ≤ length (a .heap .now))
+    (getD (a .report .now) (2 * l .loop .i) 0 * a .slot-bytes + 64 ≤ length (a .heap .now))
     × LabelsIn (a .slot-bytes) (slotsTold (a .lines - (l .loop .i + 1)) (drop (2 * (l .loop .i + 1)) (a .report .now))) (length (a .heap .now))
 labels c =
     let l = c .before in
@@ -63,7 +53,6 @@ mul-put-number c =
     let same = inside .before .loop .inv .1 in
     search needs
 
--- src/lines.rt:34:9
 put-number-requires : tie.Need-put-number-requires Inv-loop μ-loop
 put-number-requires c κs =
     let inside = c .before .before in
@@ -71,15 +60,12 @@ put-number-requires c κs =
     let same = inside .before .loop .inv .1 in
     omega arith
 
--- src/lines.rt:35:9
 add-i : tie.Need-add-i Inv-loop μ-loop
 add-i c = search needs
 
--- src/lines.rt:32:5
 loop-less : tie.Need-loop-less Inv-loop μ-loop
 loop-less c = search needs
 
--- src/lines.rt:32:5
 loop-again : tie.Need-loop-again Inv-loop μ-loop
 loop-again c =
     let called = c .before .before in
@@ -95,11 +81,9 @@ loop-again c =
       λ after m d. l .loop .inv .3 after m (subst (λ (ks : List ℕ). Made (l .loop .rest) (emptying (a .slot-bytes) ks) (l .loop .heap) after m) (sym (told-step (a .lines) i words (inside .loop-test .taken))) (made-then one d)),
     )
 
--- src/lines.rt:25:1
 same-length : tie.Need-same-length Inv-loop μ-loop
 same-length c = search needs
 
--- src/lines.rt:25:1
 returns : tie.Need-returns Inv-loop μ-loop
 returns c =
     let l = c .before in

@@ -1,13 +1,11 @@
-use mathlib.Core.Path.{sym, _∙_}
 use native.Mathlib.Omega.{arith}
 use borrow.Author.Needs.{needs}
 use lib.ListN.{length}
-use Rattle.salvage.specs.Salvage.{theRest, inOrder, secondKind}
 use Rattle.salvage.specs.Lines.{tells-as, tells-then}
 use Rattle.salvage.specs.Starts.{slotsJudged}
-use Rattle.salvage.proofs.Turns.{Ready, ready, both-kinds}
-use Rattle.salvage.proofs.told.Statement.{statement}
-use Rattle.salvage.proofs.told.Tie as tie
+use Rattle.salvage.proofs.Turns.{ready, kinds-are}
+use Rattle.salvage.proofs.both_kinds.Statement.{statement}
+use Rattle.salvage.proofs.both_kinds.Tie as tie
 
 -- ---- the call
 abbrev begun : tie.After-first-kind → tie.Start
@@ -52,10 +50,10 @@ returns c =
     let a = begun f .args in
     let told = f .first-kind .ensures in
     let w = ready (length (a .starts .now)) (a .size) (a .heap .now) _ _ _ (f .first-kind .result) (told .1 .0) (told .1 .1) (o .in-order .ensures .1) (told .0 .count) in
-    tells-as (both-kinds (slotsJudged (length (a .starts .now)) (a .size) (a .heap .now))) (tells-then (omega arith) (told .0) (tells-as (w .walk) (last .second-kind .ensures)))
+    tells-as (kinds-are (slotsJudged (length (a .starts .now)) (a .size) (a .heap .now))) (tells-then (omega arith) (told .0) (tells-as (w .walk) (last .second-kind .ensures)))
 
-pub told-spec : {M : Type 1} → statement M
-told-spec =
+pub both-kinds-spec : {M : Type 1} → statement M
+both-kinds-spec =
     tie.close
     (tie.spec
     first-kind-requires
