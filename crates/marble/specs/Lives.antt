@@ -3,21 +3,21 @@ use mathlib.Core.Path.{_≡_, refl, sym, ap, _∙_, subst}
 use Rattle.rules.specs.Base.{List, [], _∷_, map, ℕ}
 use Rattle.rules.specs.declared.Answer.the-variants.{Done}
 use Rattle.rules.specs.declared.ReadAnswer.{ReadAnswer}
-use Rattle.rules.specs.Ops.{Op, put, delete}
+use Rattle.rules.specs.Ops.{put, delete}
 use Rattle.rules.specs.Batch.{batchIn, opsOf}
 use Rattle.rules.specs.SettledLaws.{Last, silent, last, lastOn}
 use Rattle.rules.specs.Read.{readOf, partOf}
 use Rattle.rules.specs.World.{World, After, answerGiven}
-use Rattle.theory.specs.SoundWorld.{SoundWorld}
-use Rattle.theory.specs.Writing.{engine, heard}
+use Rattle.theory.specs.Writing.{heard}
 use Rattle.theory.specs.Reading.{Reads}
 use Rattle.theory.specs.Reopened.{Opened, reopened-means}
 use Rattle.theory.specs.Quiet.{claim, release}
-use Rattle.theory.specs.History.{Call, write, maintain, prune, reopen, quiet, called, hears, Life, lived, born, Kept}
+use Rattle.theory.specs.History.{Call, write, maintain, prune, reopen, quiet, called, hears, Life, lived, Starts, Kept}
+use Rattle.theory.specs.Clean.{heardAt, resumed, clean-starts}
 use Rattle.theory.specs.Writes.{got, leftBy, write-means}
 use Rattle.power_cuts.specs.Cuts.{CutAt, Survived, hearsCut, done, happened, livedOn}
 use Rattle.power_cuts.specs.Cuts as cuts
-use Rattle.power_cuts.specs.PowerCut.{sound-history-cut, any-history-cut, power-cut-again}
+use Rattle.power_cuts.specs.PowerCut.{sound-lived-on, lived-on-kept, lived-on-cut}
 use Rattle.recovery.specs.declared.Reopened.{Reopened}
 use Rattle.writepath.specs.declared.Written.{Written}
 use Rattle.marble.specs.Results.{Result, wrote, maintained, pruned, claimed, released, reopened, answered, read, counted, checked, left, Admitted, hearing, Event, gave, cut, Happens, next, lives, AllHappen, begun, Lived, reached}
@@ -129,29 +129,28 @@ uncut l (checked before r after ∷ rs) = uncut l rs
 
 -- ---- the demands, of every store by its life
 module _ (l : Lived) where
-  born-as : begun (l .start) (l .opening) (l .ids) (l .locations) ≡ born (l .start)
-  born-as = λ i. record { world = l .first i .world; history = [] }
+  resumed-as : begun (l .start) (l .opening) (l .ids) (l .locations) ≡ resumed (l .start)
+  resumed-as = λ i. record { world = l .first i .world; history = heardAt (l .first i .world) }
 
-  as-called : AllAlike (born (l .start)) (l .events) (calls (l .events))
-  as-called = subst (λ (b : Life). AllAlike b (l .events) (calls (l .events))) born-as (alike (begun (l .start) (l .opening) (l .ids) (l .locations)) (l .events) (l .happen))
+  as-called : AllAlike (resumed (l .start)) (l .events) (calls (l .events))
+  as-called = subst (λ (b : Life). AllAlike b (l .events) (calls (l .events))) resumed-as (alike (begun (l .start) (l .opening) (l .ids) (l .locations)) (l .events) (l .happen))
 
-  reached-as : livedOn (born (l .start)) (calls (l .events)) ≡ reached l
-  reached-as = sym (as-called .same) ∙ sym (ap (λ (b : Life). lives b (l .events)) born-as)
+  reached-as : livedOn (resumed (l .start)) (calls (l .events)) ≡ reached l
+  reached-as = sym (as-called .same) ∙ sym (ap (λ (b : Life). lives b (l .events)) resumed-as)
 
   -- of results without a cut: every theorem about a life of calls is one about these
-  pub results-called : (rs : List Result) → l .events ≡ map gave rs → lived (born (l .start)) (callsOf rs) ≡ reached l
-  results-called rs e = sym (uncut (born (l .start)) rs) ∙ ap (λ (es : List Event). livedOn (born (l .start)) (calls es)) (sym e) ∙ reached-as
+  pub results-called : (rs : List Result) → l .events ≡ map gave rs → lived (resumed (l .start)) (callsOf rs) ≡ reached l
+  results-called rs e = sym (uncut (resumed (l .start)) rs) ∙ ap (λ (es : List Event). livedOn (resumed (l .start)) (calls es)) (sym e) ∙ reached-as
 
   -- the invariant holds
-  pub life-sound : SoundWorld (reached l .world) (engine (reached l .history))
-  life-sound =
-      subst (λ (b : Life). SoundWorld (b .world) (engine (b .history))) reached-as
-      (sound-history-cut (l .start) (l .range) (l .blank) (calls (l .events)) (as-called .happen))
+  pub life-sound : Starts (reached l)
+  life-sound = subst Starts reached-as (sound-lived-on (resumed (l .start)) (clean-starts (l .start) (l .clean)) (calls (l .events)) (as-called .happen))
 
   -- DEMAND 3: reads give the last put of the writes that said `Done` (and of those cut whose run was complete), and a reopening finds the store
   pub life-kept : Kept (reached l .world) (reached l .history)
   life-kept =
-      subst (λ (b : Life). Kept (b .world) (b .history)) reached-as (any-history-cut (l .start) (l .range) (l .blank) (calls (l .events)) (as-called .happen))
+      subst (λ (b : Life). Kept (b .world) (b .history)) reached-as
+      (lived-on-kept (resumed (l .start)) (clean-starts (l .start) (l .clean)) (calls (l .events)) (as-called .happen))
 
   -- what `read_answer` and `read` give on it
   pub life-answers : (id : ℕ) (a : ReadAnswer) → Admitted (reached l .world) (answered id a) → Reads (reached l .world) a (lastOn (reached l .history) id)
@@ -169,7 +168,7 @@ module _ (l : Lived) where
   pub life-survives : (c : Call) (k : ℕ) (v : World) → CutAt k (reached l .world) c v → Survived k (reached l .world) c v
   life-survives =
       subst (λ (b : Life). (c : Call) (k : ℕ) (v : World) → CutAt k (b .world) c v → Survived k (b .world) c v) reached-as
-      (power-cut-again (l .start) (l .range) (l .blank) (calls (l .events)) (as-called .happen))
+      (lived-on-cut (resumed (l .start)) (clean-starts (l .start) (l .clean)) (calls (l .events)) (as-called .happen))
 
   -- DEMAND 2, write: where the result says `Done`, ids of the batch read as its last operation on them says, and every other as before
   pub life-wrote : (batch : List ℕ) (r : Written) (heap ids locations : List ℕ) → Admitted (reached l .world) (wrote batch r heap ids locations) → r .answer ≡ Done
