@@ -133,3 +133,7 @@ pub record Lived : Type 0 where
 -- the store that is left, and what the engine has heard
 abbrev pub reached : Lived → Life
 reached l = lives (begun (l .start) (l .opening) (l .ids) (l .locations)) (l .events)
+
+-- what of it was heard since the first reopening
+abbrev pub since : Lived → List Op
+since l = lives (record { world = begun (l .start) (l .opening) (l .ids) (l .locations) .world; history = [] }) (l .events) .history
