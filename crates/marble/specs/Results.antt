@@ -112,13 +112,13 @@ unfoldable pub AllHappen : Life → List Event → Type 0
 AllHappen l [] = Unit {0}
 AllHappen l (e ∷ es) = Happens (l .world) e × AllHappen (next l e) es
 
--- what the first reopening gave; heard is what its reads give: "for each mapped id a put of what a read gives, or a delete"
+-- "Demand 3 then starts afresh from what that reopening found": heard is, for each mapped id, a put of what its read then gives, or a delete
 abbrev pub begun : World → Reopened → List ℕ → List ℕ → Life
 begun w r ids locations = record { world = left w (reopened r ids locations); history = heardAt (left w (reopened r ids locations)) }
 
 -- a store of demand 3, by its life
 pub record Lived : Type 0 where
-  -- what the host begins with: a heap that is clean for its settings and table, whoever wrote it; any state, any claims
+  -- what the host begins with, "only where P5's checker lists nothing" (`Starts`): a heap that is clean for its settings and table; any state, any claims
   pub start : World
   pub clean : Clean start
   -- the first reopening

@@ -13,7 +13,8 @@ use Rattle.theory.specs.Places.{not-empty}
 use Rattle.theory.specs.SoundWorld.{SmallWorld}
 use Rattle.theory.specs.Reopened.{passed}
 use Rattle.theory.specs.Fresh.{Blank, views-blank, fresh-opens}
-use Rattle.theory.specs.Clean.{Clean, heardAt}
+use Rattle.theory.specs.Writing.{engine}
+use Rattle.theory.specs.Clean.{Clean, heardAt, sound-clean}
 use Rattle.recovery.specs.declared.Reopened.{Reopened}
 use Rattle.faults.specs.Faults.{Checked, checkCall}
 use Rattle.checker.specs.declared.CheckAnswer.{CheckAnswer}
@@ -21,10 +22,11 @@ use Rattle.checker.specs.declared.CheckAnswer.the-variants.{Faults}
 use Rattle.check_theory.specs.CleanLists.{clean-list, list-clean}
 use Rattle.check_theory.specs.Calls.{check-limits, empty-checked, checked-empty}
 use Rattle.marble.specs.Unique.{check-one}
-use Rattle.marble.specs.Results.{reopened, checked, left, Admitted, begun}
+use Rattle.marble.specs.Results.{reopened, checked, left, Admitted, begun, Lived, reached}
+use Rattle.marble.specs.Lives.{life-sound}
 
--- ---- clean is: `check` says that there are no faults
--- where its result says so
+-- ---- clean is: "P5's checker lists nothing"
+-- where the result of `check` says so
 pub checked-clean : (w : World) (before after : List ℕ) → Admitted w (checked before (Faults 0) after) → Bytes (w .heap) → Clean w
 checked-clean w before after a bytes =
     list-clean w (range (outOfRange (w .settings) (length (w .heap)) (w .table)) refl) bytes (checked-empty w before (sym (ap (λ (c : Checked). c .answer) a)))
@@ -39,6 +41,10 @@ pub clean-checked : (w : World) → Clean w → (before : List ℕ) (r : CheckAn
 clean-checked w c before r after a =
     check-one (checkCall (w .settings) (w .heap) (w .table) before) r (Faults 0) after before a
     (sym (empty-checked w (limits-in (w .settings) (length (w .heap)) (w .table) (passed w (c .reopens) .limits)) (clean-list w c) before))
+
+-- ---- what a life leaves: another may start from it
+pub life-clean : (l : Lived) → Bytes (reached l .world .heap) → Clean (reached l .world)
+life-clean l = sound-clean (reached l .world) (engine (reached l .history)) (life-sound l)
 
 -- ---- a heap whose slots all begin with byte 0 is clean (`blank-clean`)
 module _ (w : World) (range : outOfRange (w .settings) (length (w .heap)) (w .table) ≡ false) (blank : Blank w) where
