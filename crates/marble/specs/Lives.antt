@@ -14,13 +14,13 @@ use Rattle.theory.specs.Writing.{heard}
 use Rattle.theory.specs.Reading.{Reads}
 use Rattle.theory.specs.Reopened.{Opened, reopened-means}
 use Rattle.theory.specs.Quiet.{claim, release}
-use Rattle.theory.specs.History.{Call, write, maintain, prune, reopen, quiet, called, hears, Life, lived, Starts, Kept}
+use Rattle.theory.specs.History.{Call, write, maintain, prune, reopen, quiet, called, hears, Life, lived, Starts, Kept, sound-kept}
 use Rattle.theory.specs.Clean.{heardAt, resumed, clean-starts}
 use Rattle.theory.specs.Writes.{nothing, got, leftBy, got-last, write-means}
 use Rattle.power_cuts.specs.Runs.{runOf}
 use Rattle.power_cuts.specs.Cuts.{CutAt, Survived, hearsCut, done, happened, livedOn}
 use Rattle.power_cuts.specs.Cuts as cuts
-use Rattle.power_cuts.specs.PowerCut.{sound-lived-on, lived-on-kept, lived-on-cut}
+use Rattle.power_cuts.specs.PowerCut.{cut-survived, sound-lived-on}
 use Rattle.recovery.specs.declared.Reopened.{Reopened}
 use Rattle.writepath.specs.declared.Written.{Written}
 use Rattle.marble.specs.Results.{Result, wrote, maintained, pruned, claimed, released, reopened, answered, read, counted, checked, left, Admitted, hearing, Event, gave, cut, Happens, next, lives, AllHappen, begun, Lived, reached, since}
@@ -196,11 +196,10 @@ module _ (l : Lived) where
   pub life-sound : Starts (reached l)
   life-sound = subst Starts reached-as (sound-lived-on (resumed (l .start)) (clean-starts (l .start) (l .clean)) (calls (l .events)) (as-called .happen))
 
-  -- DEMAND 3: reads give the last put of the writes that said `Done` (and of those cut whose run was complete), and a reopening finds the store
+  -- DEMAND 3: reads give the last put of the writes that said `Done` (and of those cut whose run was complete), or what the first reopening's reads gave, and a
+  -- reopening finds the store
   pub life-kept : Kept (reached l .world) (reached l .history)
-  life-kept =
-      subst (λ (b : Life). Kept (b .world) (b .history)) reached-as
-      (lived-on-kept (resumed (l .start)) (clean-starts (l .start) (l .clean)) (calls (l .events)) (as-called .happen))
+  life-kept = sound-kept (reached l .world) (reached l .history) life-sound
 
   -- what `read_answer` and `read` give on it
   pub life-answers : (id : ℕ) (a : ReadAnswer) → Admitted (reached l .world) (answered id a) → Reads (reached l .world) a (lastOn (reached l .history) id)
@@ -232,9 +231,7 @@ module _ (l : Lived) where
 
   -- P8: a call that is cut leaves every read as before it, or every read as after it
   pub life-survives : (c : Call) (k : ℕ) (v : World) → CutAt k (reached l .world) c v → Survived k (reached l .world) c v
-  life-survives =
-      subst (λ (b : Life). (c : Call) (k : ℕ) (v : World) → CutAt k (b .world) c v → Survived k (b .world) c v) reached-as
-      (lived-on-cut (resumed (l .start)) (clean-starts (l .start) (l .clean)) (calls (l .events)) (as-called .happen))
+  life-survives c k v = cut-survived (reached l .world) (reached l .history) life-sound k v c
 
   -- DEMAND 2, write: where the result says `Done`, ids of the batch read as its last operation on them says, and every other as before
   pub life-wrote : (batch : List ℕ) (r : Written) (heap ids locations : List ℕ) → Admitted (reached l .world) (wrote batch r heap ids locations) → r .answer ≡ Done
