@@ -1,0 +1,4 @@
+pub mod Types
+pub mod InOrder
+pub mod Kinds
+pub mod Next
