@@ -2,3 +2,8 @@ pub mod Types
 pub mod InOrder
 pub mod Kinds
 pub mod Next
+pub mod Nothing
+pub mod Lost
+pub mod Emptied
+pub mod Cut
+pub mod Reopens
