@@ -7,3 +7,6 @@ pub mod Lost
 pub mod Emptied
 pub mod Cut
 pub mod Reopens
+pub mod Reported
+pub mod Kept
+pub mod FirstBytes
