@@ -10,3 +10,5 @@ pub mod Reopens
 pub mod Reported
 pub mod Kept
 pub mod FirstBytes
+pub mod Rescued
+pub mod Witness
