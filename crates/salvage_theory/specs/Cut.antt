@@ -17,8 +17,10 @@ use Rattle.rules.specs.SlotLaws.{views-length}
 use Rattle.rules.specs.Stores.{Store, made}
 use Rattle.rules.specs.StoreLaws.{made-length}
 use Rattle.rules.specs.Layout.{Buffers}
-use Rattle.rules.specs.World.{accepted, refused}
-use Rattle.theory.specs.Types.{Settings, Limits}
+use Rattle.rules.specs.World.{Given, accepted, refused}
+use Rattle.theory.specs.Types.{Settings, Refusal, Limits}
+use Rattle.theory.specs.Reopened.{refused-not}
+use Rattle.rules.specs.Answers.{refusalAt, known}
 use Rattle.faults.specs.Faults.{judged, judgedIn}
 use Rattle.salvage.specs.Salvage.{lossesIn, reportOf, emptyingOf, lossWords, Salvaged, salvageCall}
 use Rattle.salvage_theory.specs.Types.{Loss}
@@ -78,6 +80,16 @@ pub salvage-reports : (s : Settings) (heap : List ℕ) (table : Buffers) (words 
     → salvageCall s heap table words ≡ salvaged (reportOf s heap) words (made (emptyingOf s (reportOf s heap)) heap)
 unfolding salvageCall decide
 salvage-reports s heap table words range = rw range refl
+
+-- P9: "Refusals: 1 only"
+pub salvage-refuses : (s : Settings) (heap : List ℕ) (table : Buffers) (words : List ℕ) (r : Refusal) → salvageCall s heap table words .answer ≡ refused r → r ≡ Limits
+salvage-refuses s heap table words r e = go (outOfRange s (length heap) table) refl
+  where
+    go : (b : Bool) → outOfRange s (length heap) table ≡ b → r ≡ Limits
+    go true h =
+        let n : numberOf r ≡ 1 = sym (ap (λ (g : Given). g .number) e) ∙ ap (λ (c : Salvaged). c .answer .number) (salvage-limits s heap table words h) in
+        sym (known r .back) ∙ ap refusalAt n
+    go false h = absurd (refused-not r (sym (ap (λ (g : Given). g .number) e) ∙ ap (λ (c : Salvaged). c .answer .number) (salvage-reports s heap table words h)))
 
 module _ (s : Settings) (heap : List ℕ) (table : Buffers) (range : outOfRange s (length heap) table ≡ false) where
   -- LAW: the first k stores keep the heap's length

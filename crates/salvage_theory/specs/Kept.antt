@@ -7,7 +7,7 @@ use native.Mathlib.Nat.{zero-add}
 use borrow.Author.Tests.{le-leb, ltb-false}
 use lib.Seq.{getD-set-other}
 use Rattle.rules.specs.Base.{Bool, true, false, List, [], _∷_, _++_, map, ℕ, suc, _+_, length, set, leb, ltb, pick}
-use Rattle.rules.specs.BaseLaws.{All, all-map, and-holds}
+use Rattle.rules.specs.BaseLaws.{All, all-map, and-holds, same?}
 use Rattle.disk_location.specs.Locations.{maskedOf}
 use Rattle.rules.specs.SlotFile.{File, View, empty, damaged, holds}
 use Rattle.rules.specs.Reopen.{meets}
@@ -17,12 +17,16 @@ use Rattle.faults.specs.Faults.{judgedIn}
 use Rattle.check_theory.specs.Lists.{In, all-in, in-self}
 use Rattle.salvage.specs.Salvage.{loss, firstKind, Sound, startOf, endOf, theRest, inOrder, givenUpBehind, secondKind, lossesIn, reportOf}
 use Rattle.salvage_theory.specs.Types.{Loss}
-use Rattle.salvage_theory.specs.InOrder.{Ordered, OneEach, before-start, in-order-rest, order-ascends, order-once}
+use Rattle.salvage_theory.specs.InOrder.{Before, Ordered, OneEach, before-start, in-order-rest, order-ascends, order-once}
 use Rattle.salvage_theory.specs.Kinds.{holds-not, HoldsSound, rest-holds, rest-by-slot, OverlapOf, behind-lines}
 use Rattle.salvage_theory.specs.Next.{next-loss}
 use Rattle.salvage_theory.specs.Nothing.{Peaceful, nothing-peaceful}
-use Rattle.salvage_theory.specs.Lost.{first-lost}
+use Rattle.salvage_theory.specs.Lost.{Lost, all-lost, first-lost}
 use Rattle.salvage_theory.specs.Reported.{own-not-overlap}
+
+-- slot j with file f is taken before slot k with file g: "by ascending masked lsn, equal ones by ascending slot"
+abbrev pub Taken : ℕ → File → ℕ → File → Type 0
+Taken j f k g = Before (record { slot = j; label = f .label }) (record { slot = k; label = g .label })
 
 -- a kept file: a sound one whose slot is not reported
 pub record Kept (views : List View) (k : ℕ) (f : File) : Type 0 where
@@ -60,7 +64,7 @@ record Met (kept : Sound) (ys : List Sound) (lines : List Loss) (x : Loss) : Typ
   other : Sound
   there : In (kept ∷ ys) other
   stays : All (λ (l : Loss). l .slot ≡ other .slot → ⊥) lines
-  low : startOf other ≤ startOf given
+  earlier : Before other given
   high : startOf given ≤ endOf other
 
 met-behind : (kept : Sound) (ys : List Sound) → Ordered (kept ∷ ys) → OneEach (kept ∷ ys) → (x : Loss) → In (givenUpBehind (endOf kept) ys) x → Met kept ys (givenUpBehind (endOf kept) ys) x
@@ -83,7 +87,7 @@ met-behind kept (y ∷ ys) o d x i =
         → Met kept (y ∷ ys) (pick b (givenUpBehind (endOf y) ys) (loss (y .slot) Overlap ∷ givenUpBehind (endOf kept) ys)) x
     go true c q later same =
         let m = later q in
-        record { given = m .given; among = inr (m .among); slot = m .slot; other = m .other; there = inr (m .there); stays = m .stays; low = m .low; high = m .high }
+        record { given = m .given; among = inr (m .among); slot = m .slot; other = m .other; there = inr (m .there); stays = m .stays; earlier = m .earlier; high = m .high }
     go false c (inl q) later same =
         let lines = behind-lines (λ (k : ℕ). k ≡ kept .slot → ⊥) (endOf kept) ys
         (all-map (λ (z : Sound). kept .slot ≡ z .slot → ⊥) (λ (z : Sound). z .slot ≡ kept .slot → ⊥) ys (λ z n e. n (sym e)) (d .0 .1)) in
@@ -94,21 +98,21 @@ met-behind kept (y ∷ ys) o d x i =
           other = kept;
           there = inl refl;
           stays = (λ e. d .0 .0 (sym e), all-map (OverlapOf (λ (k : ℕ). k ≡ kept .slot → ⊥)) (λ (l : Loss). l .slot ≡ kept .slot → ⊥) (givenUpBehind (endOf kept) ys) (λ l w. w .1) lines);
-          low = before-start kept y (o .0 .0);
+          earlier = o .0 .0;
           high = ltb-false (endOf kept) (startOf y) c;
         }
     go false c (inr q) later same =
         let m = same q in
-        record { given = m .given; among = inr (m .among); slot = m .slot; other = m .other; there = one-more (m .other) (m .there); stays = (differs (m .other) (m .there), m .stays); low = m .low; high = m .high }
+        record { given = m .given; among = inr (m .among); slot = m .slot; other = m .other; there = one-more (m .other) (m .there); stays = (differs (m .other) (m .there), m .stays); earlier = m .earlier; high = m .high }
 
--- the slot of x holds a file that meets a kept one, which starts no later
+-- the slot of x holds a file that meets a kept one, taken before it: "by ascending masked lsn, equal ones by ascending slot"
 pub record MeetsKept (views : List View) (x : Loss) : Type 0 where
   pub file : File
   pub shows : viewAt views (x .slot) ≡ holds file
   pub other : ℕ
   pub kept-file : File
   pub kept : Kept views other kept-file
-  pub low : maskedOf (kept-file .label .lsn) ≤ maskedOf (file .label .lsn)
+  pub earlier : Taken other kept-file (x .slot) file
   pub met : meets (kept-file .label) (file .label) ≡ true
 
 -- ranges of which one starts within the other
@@ -139,7 +143,7 @@ module _ (views : List View) (x : Loss) where
       let a : maskedOf (u .file .label .lsn) ≡ startOf (m .given) = ap (λ (l : Label). maskedOf (l .lsn)) (u .label) in
       let b : maskedOf (v .file .label .lsn) ≡ startOf (m .other) = ap (λ (l : Label). maskedOf (l .lsn)) (v .label) in
       let c : v .file .label .«trailer_offset» ≡ m .other .label .«trailer_offset» = ap (λ (l : Label). l .«trailer_offset») (v .label) in
-      let low = m .low in
+      let low = before-start (m .other) (m .given) (m .earlier) in
       let high = m .high in
       record {
         file = u .file;
@@ -147,10 +151,16 @@ module _ (views : List View) (x : Loss) where
         other = v .off;
         kept-file = v .file;
         kept = record { shows = v .shows; stays = λ l i q. stays l (v .off) (v .file) (v .shows) (sym (v .is ∙ zero-add (v .off))) (in-either (firstKind 0 views) (secondKind (inOrder (theRest 0 views))) l i) q };
-        low = omega arith;
+        earlier = taken u v (m .earlier);
         met = meeting (v .file .label) (u .file .label) (omega arith) (omega arith);
       }
     where
+      taken : (u : HoldsSound 0 views (m .given)) (v : HoldsSound 0 views (m .other)) → Before (m .other) (m .given) → Taken (v .off) (v .file) (x .slot) (u .file)
+      taken u v b =
+          let at : m .other .slot ≡ v .off = v .is ∙ zero-add (v .off) in
+          subst (λ (y : Sound). Before y (record { slot = x .slot; label = u .file .label })) (λ i. record { slot = at i; label = sym (v .label) i })
+          (subst (Before (m .other)) (λ i. record { slot = m .slot i; label = sym (u .label) i }) b)
+
       stays : (l : Loss) (k : ℕ) (f : File) → viewAt views k ≡ holds f → k ≡ m .other .slot → In (firstKind 0 views) l ⊎ In (secondKind (inOrder (theRest 0 views))) l → l .slot ≡ k → ⊥
       stays l k f s at (inl i) q =
           holds-not (sym s ∙ ap (viewAt views) (sym q) ∙ all-in (λ (y : Loss). viewAt views (y .slot) ≡ damaged (y .refusal)) (firstKind 0 views) (first-lost views) l i)
@@ -165,6 +175,21 @@ module _ (views : List View) (x : Loss) where
       go : (zs : List Sound) → inOrder (theRest 0 views) ≡ zs → Ordered zs → OneEach zs → In (secondKind zs) x → MeetsKept views x
       go [] e o d h = absurd h
       go (kept ∷ ys) e o d h = from-met kept ys e (met-behind kept ys o d x h)
+
+-- a slot is reported, or is not
+reported? : (report : List Loss) (k : ℕ) → ((r : Refusal) × In report (loss k r)) ⊎ ((x : Loss) → In report x → x .slot ≡ k → ⊥)
+reported? [] k = inr (λ x i. absurd i)
+reported? (y ∷ report) k = go (same? (y .slot) k) (reported? report k)
+  where
+    go : (y .slot ≡ k) ⊎ (y .slot ≡ k → ⊥) → ((r : Refusal) × In report (loss k r)) ⊎ ((x : Loss) → In report x → x .slot ≡ k → ⊥)
+        → ((r : Refusal) × In (y ∷ report) (loss k r)) ⊎ ((x : Loss) → In (y ∷ report) x → x .slot ≡ k → ⊥)
+    go (inl e) w = inl (y .refusal, inl (λ i. loss (e i) (y .refusal)))
+    go (inr n) (inl (r, i)) = inl (r, inr i)
+    go (inr n) (inr none) = inr other
+      where
+        other : (x : Loss) → In (y ∷ report) x → x .slot ≡ k → ⊥
+        other x (inl e) q = n (ap (λ (l : Loss). l .slot) e ∙ q)
+        other x (inr i) q = none x i q
 
 module _ (s : Settings) (heap : List ℕ) where
   -- P9: "one whose masked lsn isn't above the end .. of the last kept file": each slot reported with 14 meets a sound one that is not reported
@@ -181,3 +206,16 @@ module _ (s : Settings) (heap : List ℕ) where
   -- P9: and no two kept files' ranges meet
   pub kept-disjoint : (j k : ℕ) (f g : File) → Kept (judgedIn s heap) j f → Kept (judgedIn s heap) k g → (j ≡ k → ⊥) → Apart f g
   kept-disjoint = kept-apart (judgedIn s heap)
+
+  -- P9: so every sound slot that meets a kept one is reported, with 14
+  pub meets-kept-reported : (j k : ℕ) (f g : File) → Kept (judgedIn s heap) j f → viewAt (judgedIn s heap) k ≡ holds g → (j ≡ k → ⊥) → (Apart f g → ⊥)
+      → In (reportOf s heap) (loss k Overlap)
+  meets-kept-reported j k f g p e n m = go (reported? (reportOf s heap) k)
+    where
+      go : ((r : Refusal) × In (reportOf s heap) (loss k r)) ⊎ ((x : Loss) → In (reportOf s heap) x → x .slot ≡ k → ⊥) → In (reportOf s heap) (loss k Overlap)
+      go (inr none) = absurd (m (kept-disjoint j k f g p (record { shows = e; stays = none }) n))
+      go (inl (r, i)) = by (all-in (Lost (judgedIn s heap)) (reportOf s heap) (all-lost (judgedIn s heap)) (loss k r) i)
+        where
+          by : Lost (judgedIn s heap) (loss k r) → In (reportOf s heap) (loss k Overlap)
+          by (inl q) = absurd (holds-not (sym e ∙ q))
+          by (inr (q, w)) = subst (λ (t : Refusal). In (reportOf s heap) (loss k t)) q i

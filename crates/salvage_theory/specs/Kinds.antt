@@ -3,15 +3,15 @@ use mathlib.Core.Path.{_≡_, refl, sym, ap, _∙_, subst}
 use mathlib.Core.Logic.{_⊎_, inl, inr}
 use Prim.Native.Nat.{_<_, _≤_}
 use native.Mathlib.Omega.{arith}
-use Rattle.rules.specs.Base.{Bool, true, false, List, [], _∷_, _++_, ℕ, zero, suc, _+_, length, set, ltb, pick}
+use Rattle.rules.specs.Base.{Bool, true, false, List, [], _∷_, _++_, map, ℕ, zero, suc, _+_, ltb, pick}
 use Rattle.rules.specs.BaseLaws.{All, all-map}
 use Rattle.rules.specs.SlotFile.{File, View, empty, damaged, holds}
 use Rattle.theory.specs.Types.{Refusal, Overlap}
 use Rattle.theory.specs.Places.{viewAt, holds-inj, not-empty, not-damaged}
-use Rattle.salvage.specs.Salvage.{loss, ownLoss, firstKind, Sound, startOf, endOf, theRest, givenUpBehind, secondKind}
-use Rattle.check_theory.specs.Lists.{In}
+use Rattle.salvage.specs.Salvage.{loss, ownLoss, firstKind, Sound, startOf, endOf, theRest, inOrder, givenUpBehind, secondKind}
+use Rattle.check_theory.specs.Lists.{In, all-in}
 use Rattle.salvage_theory.specs.Types.{Loss}
-use Rattle.salvage_theory.specs.InOrder.{BySlot, OneEach}
+use Rattle.salvage_theory.specs.InOrder.{Before, Ordered, BySlot, order-ascends}
 
 -- ---- constructors
 pub damaged-inj : {q r : Refusal} → damaged q ≡ damaged r → q ≡ r
@@ -146,3 +146,37 @@ pub second-lines : (P : ℕ → Type 0) (ys : List Sound) → All (λ (y : Sound
 unfolding secondKind
 second-lines P [] a = tt
 second-lines P (y ∷ ys) a = behind-lines P (endOf y) ys (a .1)
+
+-- ---- the order of the second kind
+-- files of these, in their order, each with a line of 14
+pub record GivenUp (ys : List Sound) (lines : List Loss) : Type 0 where
+  pub files : List Sound
+  pub among : All (In ys) files
+  pub ordered : Ordered files
+  pub are : lines ≡ map (λ (x : Sound). loss (x .slot) Overlap) files
+
+behind-given : (end : ℕ) (ys : List Sound) → Ordered ys → GivenUp ys (givenUpBehind end ys)
+unfolding givenUpBehind
+behind-given end [] o = record { files = []; among = tt; ordered = tt; are = refl }
+behind-given end (y ∷ ys) o = go (ltb end (startOf y)) (behind-given (endOf y) ys (o .1)) (behind-given end ys (o .1))
+  where
+    go : (b : Bool) → GivenUp ys (givenUpBehind (endOf y) ys) → GivenUp ys (givenUpBehind end ys)
+        → GivenUp (y ∷ ys) (pick b (givenUpBehind (endOf y) ys) (loss (y .slot) Overlap ∷ givenUpBehind end ys))
+    go true later same = record { files = later .files; among = all-map (In ys) (In (y ∷ ys)) (later .files) (λ z i. inr i) (later .among); ordered = later .ordered; are = later .are }
+    go false later same = record {
+      files = y ∷ same .files;
+      among = (inl refl, all-map (In ys) (In (y ∷ ys)) (same .files) (λ z i. inr i) (same .among));
+      ordered = (all-map (In ys) (Before y) (same .files) (λ z i. all-in (Before y) ys (o .0) z i) (same .among), same .ordered);
+      are = ap (λ (xs : List Loss). loss (y .slot) Overlap ∷ xs) (same .are);
+    }
+
+-- P9: "in the order emptied": the second kind goes by ascending masked lsn, equal ones by ascending slot
+pub second-ascends : (views : List View) → GivenUp (inOrder (theRest 0 views)) (secondKind (inOrder (theRest 0 views)))
+unfolding secondKind
+second-ascends views = go (inOrder (theRest 0 views)) (order-ascends (theRest 0 views) (rest-by-slot 0 views))
+  where
+    go : (ys : List Sound) → Ordered ys → GivenUp ys (secondKind ys)
+    go [] o = record { files = []; among = tt; ordered = tt; are = refl }
+    go (y ∷ ys) o =
+        let g = behind-given (endOf y) ys (o .1) in
+        record { files = g .files; among = all-map (In ys) (In (y ∷ ys)) (g .files) (λ z i. inr i) (g .among); ordered = g .ordered; are = g .are }

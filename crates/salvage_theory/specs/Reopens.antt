@@ -160,6 +160,12 @@ module _ (w : World) (words : List ℕ) (range : outOfRange (w .settings) (lengt
   pub reopens-or-table-room : AcceptedOr6 (rescued w words)
   reopens-or-table-room = nothing-opens (rescued w words) rescued-range (nothing-left (w .settings) (w .heap) (w .table) range words)
 
+  -- P9: with a table of any size, at the same settings
+  pub reopens-with-any-table : (v : World) → v .settings ≡ w .settings → v .heap ≡ rescued w words .heap
+      → outOfRange (v .settings) (length (v .heap)) (v .table) ≡ false → AcceptedOr6 v
+  reopens-with-any-table v e h again =
+      nothing-opens v again ((λ i. reportOf (e i) (h i)) ∙ nothing-left (w .settings) (w .heap) (w .table) range words)
+
   -- nothing is reported: nothing is written
   nothing-written : reportOf (w .settings) (w .heap) ≡ []
       → salvageCall (w .settings) (w .heap) (w .table) words ≡ record { answer = accepted (0 ∷ []); report = words; heap = w .heap }

@@ -51,6 +51,18 @@ pub faulty-report : reportOf (faulty .settings) (faulty .heap) ≡ loss 0 LabelB
 unfolding any zeros keep each padded labelBytes fiveIn labelIn outOfBounds objectBytes storedAt objectsFrom objectsIn badChecksum decide filesIn overlapping notRising latest latestFrom tableOf slotTests viewIn viewsIn listed trailerBytes trailerTests entriesFrom entriesIn misplaced leBytes leValue groupsOf readGroups numberIn shiftBit shifts crcFrom crc32 objectSum maskedOf digitsIn firstKind theRest placed inOrder givenUpBehind secondKind lossesIn
 faulty-report = refl
 
+-- LAW: the call, with ten words lent: four lines, and two words as they were
+pub faulty-salvaged : salvageCall (faulty .settings) (faulty .heap) (faulty .table) (replicate 10 99)
+    ≡ record {
+      answer = accepted (4 ∷ []);
+      report = 0 ∷ 8 ∷ 4 ∷ 15 ∷ 3 ∷ 14 ∷ 1 ∷ 14 ∷ 99 ∷ 99 ∷ [];
+      heap = made (emptyingOf (faulty .settings) (loss 0 LabelBytes ∷ loss 4 NotRising ∷ loss 3 Overlap ∷ loss 1 Overlap ∷ [])) (faulty .heap);
+    }
+unfolding each padded outOfRange labelBytes lengthsInRange objectBytes decide inRanges heapInRange listed trailerBytes leBytes groupsOf front
+faulty-salvaged =
+    salvage-reports (faulty .settings) (faulty .heap) (faulty .table) (replicate 10 99) refl
+    ∙ ap (λ (xs : List Loss). salvaged xs (replicate 10 99) (made (emptyingOf (faulty .settings) xs) (faulty .heap))) faulty-report
+
 -- LAW: a reopening refused it with 8; after the salvage it accepts, and the checker still lists that 9 is stored and entered as a delete
 pub faulty-rescued : (reopenCall (rescued faulty []) .answer ≡ accepted []) × (listOf (rescued faulty []) ≡ line 2 OtherId (Object 0) ∷ [])
 unfolding any zeros keep each padded labelBytes fiveIn labelIn outOfBounds objectBytes storedAt objectsFrom objectsIn badChecksum decide filesIn overlapping notRising latest latestFrom tableOf slotTests viewIn viewsIn listed trailerBytes trailerTests entriesFrom entriesIn misplaced leBytes leValue groupsOf readGroups numberIn shiftBit shifts crcFrom crc32 objectSum maskedOf digitsIn outOfRange lengthsInRange inRanges heapInRange reopenTests opened reopenCall givenUp made firstKind theRest placed inOrder givenUpBehind secondKind lossesIn emptyingOf salvageCall front walked objectFaults entryFaults fileFaults slotFaults faultsFrom closing faultsOf
