@@ -12,3 +12,4 @@ pub mod Kept
 pub mod FirstBytes
 pub mod Rescued
 pub mod Witness
+pub mod Hazard
