@@ -1,18 +1,18 @@
 -- Request P9: a salvage cut behind any of its stores, and a second one.
 use mathlib.Core.Path.{_≡_, refl, sym, ap, _∙_, subst}
-use Prim.Native.Nat.{_<_, _≤_}
+use Prim.Native.Nat.{_≤_}
 use native.Mathlib.Omega.{arith}
 use lib.ListN.{length-set, length-map, drop-of-length-le}
 use lib.Seq.{take-all}
 use Rattle.numbers.specs.Parts.{front}
 use Rattle.rules.specs.Base.{Bool, true, false, List, [], _∷_, map, ℕ, zero, suc, _*_, length, set, take, drop, each}
 use Rattle.rules.specs.BaseLaws.{All}
-use Rattle.rules.specs.Refusal.{numberOf, decide, after}
+use Rattle.rules.specs.Refusal.{numberOf, decide}
 use Rattle.rules.specs.Settings.{slotsIn}
 use Rattle.rules.specs.SettingsLaws.{InRanges, HeapInRange}
 use Rattle.rules.specs.Condition1.{outOfRange}
-use Rattle.rules.specs.Condition1Laws.{InLimits, in-limits}
-use Rattle.rules.specs.SlotFile.{View, viewsIn}
+use Rattle.rules.specs.Condition1Laws.{in-limits}
+use Rattle.rules.specs.SlotFile.{viewsIn}
 use Rattle.rules.specs.SlotLaws.{views-length}
 use Rattle.rules.specs.Stores.{Store, made}
 use Rattle.rules.specs.StoreLaws.{made-length}

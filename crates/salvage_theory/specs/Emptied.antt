@@ -1,7 +1,7 @@
 -- Request P9, "Only the first label byte of reported slots changes": the heap after stores of 0 there, byte by byte and slot by slot.
 use mathlib.Core.Path.{_≡_, refl, sym, ap, _∙_, subst}
 use mathlib.Core.Logic.{_⊎_, inl, inr}
-use Prim.Native.Nat.{_<_, _≤_}
+use Prim.Native.Nat.{_<_}
 use native.Mathlib.Omega.{arith}
 use lib.ListN.{length-set}
 use lib.Seq.{getD-set-same, getD-set-other}

@@ -1,7 +1,7 @@
 -- Request P9, "Only the first label byte of reported slots changes.": every byte of the heap that a salvage leaves.
 use mathlib.Core.Path.{_≡_, refl, sym, ap, _∙_, subst}
-use mathlib.Core.Logic.{_⊎_, inl, inr}
-use Prim.Native.Nat.{_<_, _≤_}
+use mathlib.Core.Logic.{inl, inr}
+use Prim.Native.Nat.{_<_}
 use native.Mathlib.Omega.{arith}
 use Rattle.numbers.specs.LittleEndian.{Bytes}
 use Rattle.rules.specs.Base.{Bool, true, false, List, [], _∷_, map, ℕ, _*_, length, getD}

@@ -4,7 +4,7 @@ use Rattle.checksum.specs.Checksum.{shiftBit, shifts, crcFrom, crc32, objectSum
 use Rattle.disk_location.specs.Locations.{maskedOf, digitsIn}
 use Rattle.numbers.specs.Groups.{groupsOf, readGroups, numberIn}
 use Rattle.numbers.specs.LittleEndian.{leBytes, leValue}
-use Rattle.rules.specs.Base.{any, zeros, keep, each, sum, greatest, padded, List, [], _∷_, ℕ, _+_, set}
+use Rattle.rules.specs.Base.{any, zeros, keep, each, sum, greatest, padded, [], _∷_, _+_, set}
 use Rattle.rules.specs.Batch.{putOperation, operationAt, batchFrom, batchIn, anyTooLarge}
 use Rattle.rules.specs.Condition1.{outOfRange, notTheStates, badRecord, badFrom, conditionOne}
 use Rattle.rules.specs.FileMap.{isEmpty, noFiles, slotsWhere, emptySlots, lowestEmpty, leads, leadFrom, fileFor}

@@ -1,12 +1,12 @@
 -- Request P9: nothing that could stay was given up: each slot of the second kind meets a file that was kept, and no two kept files meet.
 use mathlib.Core.Path.{_≡_, refl, sym, ap, _∙_, subst}
 use mathlib.Core.Logic.{_⊎_, inl, inr}
-use Prim.Native.Nat.{_<_, _≤_}
+use Prim.Native.Nat.{_≤_}
 use native.Mathlib.Omega.{arith}
 use native.Mathlib.Nat.{zero-add}
 use borrow.Author.Tests.{le-leb, ltb-false}
 use lib.Seq.{getD-set-other}
-use Rattle.rules.specs.Base.{Bool, true, false, List, [], _∷_, _++_, map, ℕ, suc, _+_, length, set, leb, ltb, pick}
+use Rattle.rules.specs.Base.{Bool, true, false, List, [], _∷_, _++_, ℕ, _+_, set, leb, ltb, pick}
 use Rattle.rules.specs.BaseLaws.{All, all-map, and-holds, same?}
 use Rattle.disk_location.specs.Locations.{maskedOf}
 use Rattle.rules.specs.SlotFile.{File, View, empty, damaged, holds}
@@ -14,13 +14,13 @@ use Rattle.rules.specs.Reopen.{meets}
 use Rattle.theory.specs.Types.{Settings, Label, Refusal, Overlap}
 use Rattle.theory.specs.Places.{viewAt, Apart}
 use Rattle.faults.specs.Faults.{judgedIn}
-use Rattle.check_theory.specs.Lists.{In, all-in, in-self}
+use Rattle.check_theory.specs.Lists.{In, all-in}
 use Rattle.salvage.specs.Salvage.{loss, firstKind, Sound, startOf, endOf, theRest, inOrder, givenUpBehind, secondKind, lossesIn, reportOf}
 use Rattle.salvage_theory.specs.Types.{Loss}
 use Rattle.salvage_theory.specs.InOrder.{Before, Ordered, OneEach, before-start, in-order-rest, order-ascends, order-once}
 use Rattle.salvage_theory.specs.Kinds.{holds-not, HoldsSound, rest-holds, rest-by-slot, OverlapOf, behind-lines}
 use Rattle.salvage_theory.specs.Next.{next-loss}
-use Rattle.salvage_theory.specs.Nothing.{Peaceful, nothing-peaceful}
+use Rattle.salvage_theory.specs.Nothing.{nothing-peaceful}
 use Rattle.salvage_theory.specs.Lost.{Lost, all-lost, first-lost}
 use Rattle.salvage_theory.specs.Reported.{own-not-overlap}
 

@@ -1,10 +1,10 @@
 -- Request P9: what stands in the slot of a line of the report.
-use mathlib.Core.Path.{_≡_, refl, sym, ap, _∙_}
+use mathlib.Core.Path.{_≡_, sym, ap, _∙_}
 use mathlib.Core.Logic.{_⊎_, inl, inr}
 use Prim.Native.Nat.{_<_}
 use native.Mathlib.Omega.{arith}
 use native.Mathlib.Nat.{zero-add}
-use Rattle.rules.specs.Base.{List, [], _∷_, ℕ, zero, suc, _+_, length}
+use Rattle.rules.specs.Base.{List, [], _∷_, ℕ, zero, suc, length}
 use Rattle.rules.specs.BaseLaws.{All, all-map, all-append}
 use Rattle.rules.specs.SlotFile.{File, View, empty, damaged, holds}
 use Rattle.theory.specs.Types.{Refusal, Overlap}

@@ -1,15 +1,13 @@
 -- Request P9: the first reported slot emptied, the report is the rest of it.
 use mathlib.Core.Path.{_≡_, refl, sym, ap, _∙_, subst}
-use mathlib.Core.Logic.{_⊎_, inl, inr}
-use Prim.Native.Nat.{_<_, _≤_}
+use Prim.Native.Nat.{_≤_}
 use native.Mathlib.Omega.{arith}
 use native.Mathlib.Nat.{zero-add}
-use Rattle.rules.specs.Base.{Bool, true, false, List, [], _∷_, _++_, ℕ, zero, suc, _+_, length, set, ltb, pick}
+use Rattle.rules.specs.Base.{Bool, true, false, List, [], _∷_, _++_, ℕ, zero, suc, _+_, set, ltb, pick}
 use Rattle.rules.specs.BaseLaws.{All, all-map}
-use Rattle.rules.specs.SlotFile.{File, View, empty, damaged, holds}
-use Rattle.theory.specs.Types.{Refusal, Overlap}
-use Rattle.theory.specs.Places.{viewAt}
-use Rattle.salvage.specs.Salvage.{loss, ownLoss, firstKind, Sound, soundOf, startOf, endOf, theRest, inOrder, givenUpBehind, secondKind, lossesIn}
+use Rattle.rules.specs.SlotFile.{View, empty, damaged, holds}
+use Rattle.theory.specs.Types.{Overlap}
+use Rattle.salvage.specs.Salvage.{loss, firstKind, Sound, soundOf, startOf, endOf, theRest, inOrder, givenUpBehind, secondKind, lossesIn}
 use Rattle.salvage_theory.specs.Types.{Loss}
 use Rattle.salvage_theory.specs.InOrder.{OneEach, order-once, without, without-here, without-other, without-none, order-without}
 use Rattle.salvage_theory.specs.Kinds.{OverlapOf, behind-lines, rest-from, rest-by-slot}

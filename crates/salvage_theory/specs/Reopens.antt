@@ -1,29 +1,28 @@
 -- Request P9, "Reopening afterwards is accepted, or is refused with 6. A heap that reopening accepts gets an empty report.": the report is
 -- empty exactly of the heaps that reopening accepts or refuses with 6.
 use mathlib.Core.Path.{_≡_, refl, sym, ap, _∙_, subst}
-use mathlib.Core.Bool.{true≢false}
 use mathlib.Core.Logic.{_⊎_, inl, inr}
-use Prim.Native.Nat.{_<_, _≤_}
+use Prim.Native.Nat.{_≤_}
 use native.Mathlib.Omega.{arith}
 use Rattle.rules.specs.Base.{Bool, true, false, List, [], _∷_, _++_, map, ℕ, suc, length, ltb, pick, any, each}
 use Rattle.rules.specs.BaseLaws.{or-false, or-clear}
-use Rattle.rules.specs.Refusal.{Test, _gives_, numberOf, decide, after, NoneHolds, decide-append, decide-next}
+use Rattle.rules.specs.Refusal.{Test, _gives_, numberOf, decide, after, NoneHolds, decide-append}
 use Rattle.rules.specs.Answers.{answer-one}
 use Rattle.rules.specs.Condition1.{outOfRange}
-use Rattle.rules.specs.Layout.{Buffers, capacityOf}
+use Rattle.rules.specs.Layout.{capacityOf}
 use Rattle.rules.specs.Stores.{made}
 use Rattle.rules.specs.SlotFile.{File, View, empty, damaged, holds}
 use Rattle.rules.specs.Reopen.{viewTests, filesIn, overlapping, notRising, tableOf, reopenTests, givenUp, opened, reopenCall}
 use Rattle.rules.specs.World.{World, Given, slotsOf, accepted, refused, answerGiven, unchanged}
-use Rattle.theory.specs.Types.{Settings, Refusal, Limits, TableRoom, Overlap, NotRising, Answer, Done, Refused}
-use Rattle.theory.specs.Places.{viewAt, Apart}
+use Rattle.theory.specs.Types.{Refusal, Limits, TableRoom, Overlap, NotRising, Answer, Done, Refused}
+use Rattle.theory.specs.Places.{viewAt}
 use Rattle.theory.specs.Files.{undamaged, no-damage-tests, overlap-apart, no-overlap}
 use Rattle.theory.specs.Picture.{viewsOf}
 use Rattle.theory.specs.Reopened.{passed}
 use Rattle.power_cuts.specs.Hidden.{withHeap}
 use Rattle.faults.specs.Faults.{judged, judgedIn}
 use Rattle.check_theory.specs.Own.{views-early}
-use Rattle.salvage.specs.Salvage.{lossesIn, reportOf, emptyingOf, salvageCall}
+use Rattle.salvage.specs.Salvage.{reportOf, emptyingOf, salvageCall}
 use Rattle.salvage_theory.specs.Types.{Loss}
 use Rattle.salvage_theory.specs.Nothing.{Peaceful, nothing-peaceful, peaceful-nothing}
 use Rattle.salvage_theory.specs.Cut.{salvaged, salvage-reports, no-words, salvage-length, nothing-left}
@@ -87,10 +86,15 @@ AcceptedOr6 w = (reopenCall w .answer ≡ accepted []) ⊎ (reopenCall w .answer
 none-opens : (w : World) → outOfRange (w .settings) (length (w .heap)) (w .table) ≡ false → NoneOfThem w → AcceptedOr6 w
 unfolding reopenCall decide reopenTests givenUp opened
 none-opens w range n =
-    rw (range, decide-append (each viewTests (viewsOf w)) (overlapping (filesIn (viewsOf w)) gives Overlap
-    ∷ someFalls (viewsOf w) gives NotRising
-    ∷ ltb (capacityOf (w .table)) (length (tableOf (filesIn (viewsOf w)))) gives TableRoom
-    ∷ []) (no-damage-tests (viewsOf w) (n .whole)), n .clear, n .rising) (go (ltb (capacityOf (w .table)) (length (tableOf (filesIn (viewsOf w))))))
+    rw (
+      range,
+      decide-append (each viewTests (viewsOf w)) (overlapping (filesIn (viewsOf w)) gives Overlap
+          ∷ someFalls (viewsOf w) gives NotRising
+          ∷ ltb (capacityOf (w .table)) (length (tableOf (filesIn (viewsOf w)))) gives TableRoom
+          ∷ []) (no-damage-tests (viewsOf w) (n .whole)),
+      n .clear,
+      n .rising,
+    ) (go (ltb (capacityOf (w .table)) (length (tableOf (filesIn (viewsOf w))))))
   where
     go : (b : Bool) → (after (pick b (Refused TableRoom) Done) (givenUp w) (opened w (viewsOf w)) .answer ≡ accepted [])
         ⊎ (after (pick b (Refused TableRoom) Done) (givenUp w) (opened w (viewsOf w)) .answer ≡ refused TableRoom)

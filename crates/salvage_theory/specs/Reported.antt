@@ -1,14 +1,14 @@
 -- Request P9: the slots that are reported, one by one: "the first in that order or 14 for the second kind"; "always has room for 256 lines".
 use mathlib.Core.Path.{_≡_, refl, sym, ap, _∙_, subst}
-use mathlib.Core.Logic.{_⊎_, inl, inr}
-use Prim.Native.Nat.{_<_, _≤_, zero-le}
+use mathlib.Core.Logic.{inl, inr}
+use Prim.Native.Nat.{_<_, _≤_}
 use native.Mathlib.Omega.{arith}
 use native.Mathlib.Nat.{zero-add}
 use lib.ListN.{length-append}
 use lib.Seq.{getD-set-same}
 use Rattle.numbers.specs.Parts.{front-length}
-use Rattle.rules.specs.Base.{Bool, true, false, List, [], _∷_, _++_, map, ℕ, zero, suc, _+_, _*_, length, set, ltb, pick, each}
-use Rattle.rules.specs.BaseLaws.{All, all-map}
+use Rattle.rules.specs.Base.{Bool, true, false, List, [], _∷_, _++_, map, ℕ, suc, _+_, _*_, length, set, ltb, pick, each}
+use Rattle.rules.specs.BaseLaws.{All}
 use Rattle.rules.specs.Refusal.{numberOf}
 use Rattle.rules.specs.Settings.{slotsIn}
 use Rattle.rules.specs.Condition1.{outOfRange}

@@ -1,6 +1,6 @@
 -- Salvages worked out: the report and its order, the slots after it, and what it does not promise.
 use mathlib.Core.Path.{_≡_, refl, ap, _∙_}
-use Rattle.rules.specs.Base.{List, [], _∷_, _++_, ℕ, _+_, length, replicate, any, zeros, keep, each, padded}
+use Rattle.rules.specs.Base.{List, [], _∷_, ℕ, _+_, replicate, any, zeros, keep, each, padded}
 use Rattle.numbers.specs.LittleEndian.{leBytes, leValue}
 use Rattle.numbers.specs.Groups.{groupsOf, readGroups, numberIn}
 use Rattle.numbers.specs.Parts.{front}
@@ -16,13 +16,13 @@ use Rattle.rules.specs.Layout.{lengthsInRange}
 use Rattle.rules.specs.Settings.{inRanges, heapInRange}
 use Rattle.rules.specs.Condition1.{outOfRange}
 use Rattle.rules.specs.Reopen.{filesIn, overlapping, notRising, latest, latestFrom, tableOf, reopenTests, givenUp, opened, reopenCall}
-use Rattle.rules.specs.World.{World, accepted, refused}
-use Rattle.theory.specs.Types.{Label, LabelBytes, Overlap, NotRising, OtherId}
+use Rattle.rules.specs.World.{accepted}
+use Rattle.theory.specs.Types.{LabelBytes, Overlap, NotRising, OtherId}
 use Rattle.faults.specs.Faults.{line, walked, objectFaults, entryFaults, fileFaults, slotFaults, faultsFrom, closing, faultsOf}
-use Rattle.check_theory.specs.Types.{Nowhere, Object}
+use Rattle.check_theory.specs.Types.{Object}
 use Rattle.check_theory.specs.Accepting.{listOf}
 use Rattle.check_theory.specs.Witness.{faulty}
-use Rattle.salvage.specs.Salvage.{loss, firstKind, Sound, theRest, placed, inOrder, givenUpBehind, secondKind, lossesIn, reportOf, emptyingOf, lossWords, salvageCall}
+use Rattle.salvage.specs.Salvage.{loss, firstKind, Sound, theRest, placed, inOrder, givenUpBehind, secondKind, lossesIn, reportOf, emptyingOf, salvageCall}
 use Rattle.salvage_theory.specs.Types.{Loss}
 use Rattle.salvage_theory.specs.Cut.{salvaged, salvage-reports}
 use Rattle.salvage_theory.specs.Reopens.{rescued}
