@@ -10,20 +10,9 @@ use Rattle.theory.specs.Types.{Refusal, Overlap}
 use Rattle.theory.specs.Places.{viewAt, holds-inj, not-empty, not-damaged}
 use Rattle.salvage.specs.Salvage.{loss, ownLoss, firstKind, Sound, startOf, endOf, theRest, inOrder, givenUpBehind, secondKind}
 use Rattle.check_theory.specs.Lists.{In, all-in}
+use Rattle.check_theory.specs.Own.{damaged-inj, empty-not, holds-not}
 use Rattle.salvage_theory.specs.Types.{Loss}
 use Rattle.salvage_theory.specs.InOrder.{Before, Ordered, BySlot, order-ascends}
-
--- ---- constructors
-pub damaged-inj : {q r : Refusal} → damaged q ≡ damaged r → q ≡ r
-damaged-inj h = cc
-
--- an empty slot shows no damage
-pub empty-not : {r : Refusal} → empty ≡ damaged r → ⊥
-empty-not h = let z : _≡_ {A = ℕ} 0 1 = cc in omega arith
-
--- nor does one with a file
-pub holds-not : {f : File} {r : Refusal} → holds f ≡ damaged r → ⊥
-holds-not h = let z : _≡_ {A = ℕ} 0 1 = cc in omega arith
 
 -- ---- the first kind
 -- a line of a slot from n on, by the slot's own fault

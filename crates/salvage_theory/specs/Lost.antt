@@ -9,10 +9,11 @@ use Rattle.rules.specs.BaseLaws.{All, all-map, all-append}
 use Rattle.rules.specs.SlotFile.{File, View, empty, damaged, holds}
 use Rattle.theory.specs.Types.{Refusal, Overlap}
 use Rattle.theory.specs.Places.{viewAt, holds-lt, not-empty}
+use Rattle.check_theory.specs.Own.{empty-not}
 use Rattle.salvage.specs.Salvage.{firstKind, Sound, theRest, inOrder, secondKind, lossesIn}
 use Rattle.salvage_theory.specs.Types.{Loss}
 use Rattle.salvage_theory.specs.InOrder.{order-all}
-use Rattle.salvage_theory.specs.Kinds.{empty-not, OwnLine, first-own, HoldsSound, rest-holds, OverlapOf, second-lines}
+use Rattle.salvage_theory.specs.Kinds.{OwnLine, first-own, HoldsSound, rest-holds, OverlapOf, second-lines}
 
 -- "the first in that order or 14 for the second kind": the slot's own fault, or 14 of a slot with a sound file
 abbrev pub Lost : List View → Loss → Type 0
