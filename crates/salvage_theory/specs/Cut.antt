@@ -72,12 +72,12 @@ unfolding salvageCall decide
 salvage-limits s heap table words h = rw h refl
 
 -- what a salvage in range answers and leaves, where this is the report and this the heap after its stores
-abbrev pub salvaged : List Loss → List ℕ → List ℕ → Salvaged
-salvaged report words heap = record { answer = accepted (length report ∷ []); report = front (each lossWords report) words; heap = heap }
+abbrev pub gaveUp : List Loss → List ℕ → List ℕ → Salvaged
+gaveUp report words heap = record { answer = accepted (length report ∷ []); report = front (each lossWords report) words; heap = heap }
 
 -- P9: the number of lines; "slot and refusal number .. in the order emptied"; the heap after the stores
 pub salvage-reports : (s : Settings) (heap : List ℕ) (table : Buffers) (words : List ℕ) → outOfRange s (length heap) table ≡ false
-    → salvageCall s heap table words ≡ salvaged (reportOf s heap) words (made (emptyingOf s (reportOf s heap)) heap)
+    → salvageCall s heap table words ≡ gaveUp (reportOf s heap) words (made (emptyingOf s (reportOf s heap)) heap)
 unfolding salvageCall decide
 salvage-reports s heap table words range = rw range refl
 
@@ -106,12 +106,12 @@ module _ (s : Settings) (heap : List ℕ) (table : Buffers) (range : outOfRange 
 
   -- P9: power cut behind the first k stores: a second salvage reports the rest, in the same order, and ends in the same heap
   pub cut-salvage : (k : ℕ) (words : List ℕ) → salvageCall s (made (take k (emptyingOf s (reportOf s heap))) heap) table words
-      ≡ salvaged (drop k (reportOf s heap)) words (salvageCall s heap table words .heap)
+      ≡ gaveUp (drop k (reportOf s heap)) words (salvageCall s heap table words .heap)
   cut-salvage k words =
       let cut = made (take k (emptyingOf s (reportOf s heap))) heap in
       salvage-reports s cut table words (cut-range k)
-      ∙ ap (λ (xs : List Loss). salvaged xs words (made (emptyingOf s xs) cut)) (cut-report k)
-      ∙ ap (salvaged (drop k (reportOf s heap)) words) (rest-made s (reportOf s heap) heap k ∙ sym (ap (λ (c : Salvaged). c .heap) (salvage-reports s heap table words range)))
+      ∙ ap (λ (xs : List Loss). gaveUp xs words (made (emptyingOf s xs) cut)) (cut-report k)
+      ∙ ap (gaveUp (drop k (reportOf s heap)) words) (rest-made s (reportOf s heap) heap k ∙ sym (ap (λ (c : Salvaged). c .heap) (salvage-reports s heap table words range)))
 
   -- all stores made: the heap that the salvage leaves
   whole-cut : (words : List ℕ) → made (take (length (reportOf s heap)) (emptyingOf s (reportOf s heap))) heap ≡ salvageCall s heap table words .heap
@@ -136,5 +136,5 @@ module _ (s : Settings) (heap : List ℕ) (table : Buffers) (range : outOfRange 
   unfolding emptyingOf made
   second-salvage words again =
       salvage-reports s (salvageCall s heap table words .heap) table again (ap (λ (n : ℕ). outOfRange s n table) (salvage-length words) ∙ range)
-      ∙ ap (λ (xs : List Loss). salvaged xs again (made (emptyingOf s xs) (salvageCall s heap table words .heap))) (nothing-left words)
+      ∙ ap (λ (xs : List Loss). gaveUp xs again (made (emptyingOf s xs) (salvageCall s heap table words .heap))) (nothing-left words)
       ∙ ap (λ (r : List ℕ). record { answer = accepted (0 ∷ []); report = r; heap = salvageCall s heap table words .heap }) (no-words again)

@@ -12,7 +12,7 @@ pub mod Cut
 pub mod Reopens
 -- P9: which slots are reported, which files are kept; which bytes change
 pub mod Reported
-pub mod Kept
+pub mod KeptFiles
 pub mod FirstBytes
 -- P9 and demand 3: a life from the heap that a salvage left
 pub mod Rescued

@@ -25,7 +25,7 @@ use Rattle.check_theory.specs.Own.{views-early}
 use Rattle.salvage.specs.Salvage.{reportOf, emptyingOf, salvageCall}
 use Rattle.salvage_theory.specs.Types.{Loss}
 use Rattle.salvage_theory.specs.Nothing.{Peaceful, nothing-peaceful, peaceful-nothing}
-use Rattle.salvage_theory.specs.Cut.{salvaged, salvage-reports, no-words, salvage-length, nothing-left}
+use Rattle.salvage_theory.specs.Cut.{gaveUp, salvage-reports, no-words, salvage-length, nothing-left}
 
 -- ---- slots judged by themselves, and 8 to 15 over all
 -- some file that 15 refuses
@@ -176,7 +176,7 @@ module _ (w : World) (words : List ℕ) (range : outOfRange (w .settings) (lengt
   unfolding emptyingOf made
   nothing-written e =
       salvage-reports (w .settings) (w .heap) (w .table) words range
-      ∙ ap (λ (xs : List Loss). salvaged xs words (made (emptyingOf (w .settings) xs) (w .heap))) e
+      ∙ ap (λ (xs : List Loss). gaveUp xs words (made (emptyingOf (w .settings) xs) (w .heap))) e
       ∙ ap (λ (r : List ℕ). record { answer = accepted (0 ∷ []); report = r; heap = w .heap }) (no-words words)
 
   -- P9: "A heap that reopening accepts gets an empty report.", and stays as it is

@@ -24,7 +24,7 @@ use Rattle.check_theory.specs.Accepting.{listOf}
 use Rattle.check_theory.specs.Witness.{faulty}
 use Rattle.salvage.specs.Salvage.{loss, firstKind, Sound, theRest, placed, inOrder, givenUpBehind, secondKind, lossesIn, reportOf, emptyingOf, salvageCall}
 use Rattle.salvage_theory.specs.Types.{Loss}
-use Rattle.salvage_theory.specs.Cut.{salvaged, salvage-reports}
+use Rattle.salvage_theory.specs.Cut.{gaveUp, salvage-reports}
 use Rattle.salvage_theory.specs.Reopens.{rescued}
 
 -- a sound file of this slot, masked lsn and T
@@ -61,7 +61,7 @@ pub faulty-salvaged : salvageCall (faulty .settings) (faulty .heap) (faulty .tab
 unfolding each padded outOfRange labelBytes lengthsInRange objectBytes decide inRanges heapInRange listed trailerBytes leBytes groupsOf front
 faulty-salvaged =
     salvage-reports (faulty .settings) (faulty .heap) (faulty .table) (replicate 10 99) refl
-    ∙ ap (λ (xs : List Loss). salvaged xs (replicate 10 99) (made (emptyingOf (faulty .settings) xs) (faulty .heap))) faulty-report
+    ∙ ap (λ (xs : List Loss). gaveUp xs (replicate 10 99) (made (emptyingOf (faulty .settings) xs) (faulty .heap))) faulty-report
 
 -- LAW: a reopening refused it with 8; after the salvage it accepts, and the checker still lists that 9 is stored and entered as a delete
 pub faulty-rescued : (reopenCall (rescued faulty []) .answer ≡ accepted []) × (listOf (rescued faulty []) ≡ line 2 OtherId (Object 0) ∷ [])
