@@ -30,7 +30,7 @@ abbrev pub Taken : ℕ → File → ℕ → File → Type 0
 Taken j f k g = Before (record { slot = j; label = f .label }) (record { slot = k; label = g .label })
 
 -- a kept file: a sound one whose slot is not reported
-pub record Kept (views : List View) (k : ℕ) (f : File) : Type 0 where
+pub record KeptFile (views : List View) (k : ℕ) (f : File) : Type 0 where
   pub shows : viewAt views k ≡ holds f
   pub stays : (x : Loss) → In (lossesIn views) x → x .slot ≡ k → ⊥
 
@@ -50,7 +50,7 @@ left-other (x ∷ report) views k n =
     left-other report (set views (x .slot) empty) k (λ y i. n y (inr i)) ∙ getD-set-other views (x .slot) k empty empty (λ e. n x (inl refl) (sym e))
 
 -- LAW: the masked ranges of two kept files have nothing in common
-pub kept-apart : (views : List View) (j k : ℕ) (f g : File) → Kept views j f → Kept views k g → (j ≡ k → ⊥) → Apart f g
+pub kept-apart : (views : List View) (j k : ℕ) (f g : File) → KeptFile views j f → KeptFile views k g → (j ≡ k → ⊥) → Apart f g
 kept-apart views j k f g p q n =
     let report = lossesIn views in
     nothing-peaceful (leftBy report views) (left-nothing report views refl) .apart j k f g
@@ -112,7 +112,7 @@ pub record MeetsKept (views : List View) (x : Loss) : Type 0 where
   pub shows : viewAt views (x .slot) ≡ holds file
   pub other : ℕ
   pub kept-file : File
-  pub kept : Kept views other kept-file
+  pub kept : KeptFile views other kept-file
   pub earlier : Taken other kept-file (x .slot) file
   pub met : meets (kept-file .label) (file .label) ≡ true
 
@@ -205,11 +205,11 @@ module _ (s : Settings) (heap : List ℕ) where
       go (inr h) = second-meets (judgedIn s heap) x h
 
   -- P9: and no two kept files' ranges meet
-  pub kept-disjoint : (j k : ℕ) (f g : File) → Kept (judgedIn s heap) j f → Kept (judgedIn s heap) k g → (j ≡ k → ⊥) → Apart f g
+  pub kept-disjoint : (j k : ℕ) (f g : File) → KeptFile (judgedIn s heap) j f → KeptFile (judgedIn s heap) k g → (j ≡ k → ⊥) → Apart f g
   kept-disjoint = kept-apart (judgedIn s heap)
 
   -- P9: so every sound slot that meets a kept one is reported, with 14
-  pub meets-kept-reported : (j k : ℕ) (f g : File) → Kept (judgedIn s heap) j f → viewAt (judgedIn s heap) k ≡ holds g → (j ≡ k → ⊥) → (Apart f g → ⊥)
+  pub meets-kept-reported : (j k : ℕ) (f g : File) → KeptFile (judgedIn s heap) j f → viewAt (judgedIn s heap) k ≡ holds g → (j ≡ k → ⊥) → (Apart f g → ⊥)
       → In (reportOf s heap) (loss k Overlap)
   meets-kept-reported j k f g p e n m = go (reported? (reportOf s heap) k)
     where

@@ -19,7 +19,7 @@ use Rattle.salvage_theory.specs.Kinds.{HoldsSound, own-first, rest-holds
 use Rattle.salvage_theory.specs.Next.{none-not}
 
 -- what makes reopening refuse with 8 to 15 is not there
-pub record Peaceful (views : List View) : Type 0 where
+pub record NothingToGiveUp (views : List View) : Type 0 where
   -- no slot fails "by itself"
   pub whole : (k : ℕ) (r : Refusal) → viewAt views k ≡ damaged r → ⊥
   -- no two sound files' ranges, both ends counted, meet
@@ -92,7 +92,7 @@ none-both [] ys e = (refl, e)
 none-both (x ∷ xs) ys e = absurd (none-not (sym e))
 
 -- LAW: nothing is reported: no slot fails by itself, and no two ranges meet
-pub nothing-peaceful : (views : List View) → lossesIn views ≡ [] → Peaceful views
+pub nothing-peaceful : (views : List View) → lossesIn views ≡ [] → NothingToGiveUp views
 unfolding lossesIn
 nothing-peaceful views e =
     let w = none-both (firstKind 0 views) (secondKind (inOrder (theRest 0 views))) e in
@@ -113,7 +113,7 @@ no-own n (damaged r ∷ vs) h = absurd (h 0 r refl)
 no-own n (holds f ∷ vs) h = no-own (suc n) vs (λ k. h (suc k))
 
 -- LAW: and only then
-pub peaceful-nothing : (views : List View) → Peaceful views → lossesIn views ≡ []
+pub peaceful-nothing : (views : List View) → NothingToGiveUp views → lossesIn views ≡ []
 unfolding lossesIn
 peaceful-nothing views p =
     let rest = theRest 0 views in

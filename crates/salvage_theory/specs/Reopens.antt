@@ -24,7 +24,7 @@ use Rattle.faults.specs.Faults.{judged, judgedIn}
 use Rattle.check_theory.specs.Own.{views-early}
 use Rattle.salvage.specs.Salvage.{reportOf, emptyingOf, salvageCall}
 use Rattle.salvage_theory.specs.Types.{Loss}
-use Rattle.salvage_theory.specs.Nothing.{Peaceful, nothing-peaceful, peaceful-nothing}
+use Rattle.salvage_theory.specs.Nothing.{NothingToGiveUp, nothing-peaceful, peaceful-nothing}
 use Rattle.salvage_theory.specs.Cut.{gaveUp, salvage-reports, no-words, salvage-length, nothing-left}
 
 -- ---- slots judged by themselves, and 8 to 15 over all
@@ -59,31 +59,31 @@ clear-own (holds f ∷ vs) h n =
     ap (λ (t : Bool). pick t (damaged NotRising) (holds f) ∷ map judged vs) (w .0) ∙ ap (λ (us : List View). holds f ∷ us) (clear-own vs (λ k. h (suc k)) (w .1))
 
 -- none of 8 to 15 holds of a heap
-pub record NoneOfThem (w : World) : Type 0 where
+pub record NoneOf8To15 (w : World) : Type 0 where
   pub whole : (k : ℕ) (r : Refusal) → viewAt (viewsOf w) k ≡ damaged r → ⊥
   pub clear : overlapping (filesIn (viewsOf w)) ≡ false
   pub rising : someFalls (viewsOf w) ≡ false
 
 -- LAW: nothing is reported: none of 8 to 15 holds
-pub nothing-none : (w : World) → reportOf (w .settings) (w .heap) ≡ [] → NoneOfThem w
+pub nothing-none : (w : World) → reportOf (w .settings) (w .heap) ≡ [] → NoneOf8To15 w
 nothing-none w e =
     let p = nothing-peaceful (judgedIn (w .settings) (w .heap)) e in
     let c = own-clear (viewsOf w) (p .whole) in
-    let q = subst Peaceful (c .0) p in
+    let q = subst NothingToGiveUp (c .0) p in
     record { whole = q .whole; clear = no-overlap (viewsOf w) (q .apart); rising = c .1 }
 
 -- LAW: and only then
-pub none-nothing : (w : World) → NoneOfThem w → reportOf (w .settings) (w .heap) ≡ []
+pub none-nothing : (w : World) → NoneOf8To15 w → reportOf (w .settings) (w .heap) ≡ []
 none-nothing w n =
     peaceful-nothing (judgedIn (w .settings) (w .heap))
-    (subst Peaceful (sym (clear-own (viewsOf w) (n .whole) (n .rising))) (record { whole = n .whole; apart = overlap-apart (viewsOf w) (n .clear) }))
+    (subst NothingToGiveUp (sym (clear-own (viewsOf w) (n .whole) (n .rising))) (record { whole = n .whole; apart = overlap-apart (viewsOf w) (n .clear) }))
 
 -- ---- reopening
 -- it is accepted, or is refused with 6
 abbrev pub AcceptedOr6 : World → Type 0
 AcceptedOr6 w = (reopenCall w .answer ≡ accepted []) ⊎ (reopenCall w .answer ≡ refused TableRoom)
 
-none-opens : (w : World) → outOfRange (w .settings) (length (w .heap)) (w .table) ≡ false → NoneOfThem w → AcceptedOr6 w
+none-opens : (w : World) → outOfRange (w .settings) (length (w .heap)) (w .table) ≡ false → NoneOf8To15 w → AcceptedOr6 w
 unfolding reopenCall decide reopenTests givenUp opened
 none-opens w range n =
     rw (
@@ -134,7 +134,7 @@ six-decided w h = go (outOfRange (w .settings) (length (w .heap)) (w .table)) h
         by Done q = absurd (let n : _≡_ {A = ℕ} 0 6 = ap (λ (g : Given). g .number) q in omega arith)
         by (Refused r) q = answer-one (Refused r) (Refused TableRoom) q
 
-opens-none : (w : World) → AcceptedOr6 w → NoneOfThem w
+opens-none : (w : World) → AcceptedOr6 w → NoneOf8To15 w
 unfolding reopenTests
 opens-none w (inl h) = let p = passed w h in record { whole = p .whole; clear = p .clear; rising = p .once }
 opens-none w (inr h) =

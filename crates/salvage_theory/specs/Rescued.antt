@@ -15,13 +15,13 @@ use Rattle.check_theory.specs.Lives.{list-stays}
 use Rattle.salvage_theory.specs.FirstBytes.{salvage-bytes}
 
 -- v has the heap that a salvage left, at the settings and table size of the reopening that follows, and the checker lists nothing
-pub record Relieved (w : World) (words : List ℕ) (v : World) : Type 0 where
+pub record Afresh (w : World) (words : List ℕ) (v : World) : Type 0 where
   pub bytes : Bytes (w .heap)
   pub heap : v .heap ≡ salvageCall (w .settings) (w .heap) (w .table) words .heap
   pub range : outOfRange (v .settings) (length (v .heap)) (v .table) ≡ false
   pub listed : listOf v ≡ []
 
-module _ (w : World) (words : List ℕ) (v : World) (r : Relieved w words v) where
+module _ (w : World) (words : List ℕ) (v : World) (r : Afresh w words v) where
   still-bytes : Bytes (v .heap)
   still-bytes = subst Bytes (sym (r .heap)) (salvage-bytes (w .settings) (w .heap) (w .table) words (r .bytes))
 
