@@ -1,4 +1,4 @@
--- Request P9, what a salvage cannot know: "as soon as one slot is given up" an id may read as an older version, and a delete may be undone.
+-- Request P9, what a salvage cannot know: as soon as one slot is given up an id may read as an older version, and a delete may be undone.
 use mathlib.Core.Path.{_≡_, refl}
 use Rattle.checksum.specs.Checksum.{shiftBit, shifts, crcFrom, crc32, objectSum}
 use Rattle.disk_location.specs.Locations.{maskedOf, digitsIn}
