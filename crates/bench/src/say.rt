@@ -125,9 +125,7 @@ pub fn help() {
     text(
         b"# A check answers fault SLOT NUMBER, or fault SLOT NUMBER POSITION, for each fault that fits, then ok FAULTS.\n",
     );
-    text(
-        b"# A salvage answers gave SLOT NUMBER for each slot given up, then ok SLOTS.\n",
-    );
+    text(b"# A salvage answers gave SLOT NUMBER for each slot given up, then ok SLOTS.\n");
     text(
         b"# A slot given up: any id may read as an older version, a delete may be undone. Reopen; refused with 6: larger table, no write.\n",
     );

@@ -59,7 +59,7 @@ returns c =
     lent-parts (a .b) (a .heap .now) (a .ids .now) (a .locations .now) (heap .least .result) (ids .least2 .result) (locations .least3 .result)
     (heap .least .ensures .2) (ids .least2 .ensures .2) (locations .least3 .ensures .2) in (
       lending-heap salvageBy (a .b) (a .heap .now) (a .ids .now) (a .locations .now) (heap .least .result) (ids .least2 .result) (locations .least3 .result)
-      (w .salvage .result) _ (heap .least .ensures .2) (ids .least2 .ensures .2) (locations .least3 .ensures .2) (w .salvage .ensures .0),
+          (w .salvage .result) _ (heap .least .ensures .2) (ids .least2 .ensures .2) (locations .least3 .ensures .2) (w .salvage .ensures .0),
       w .salvage .ensures .1 ∙ ap (λ (x : Desk). salvageOn x (a .report .now) .report) parts,
     )
 
