@@ -114,7 +114,7 @@ pub emptying-of : (s : Settings) (xs : List Loss) → emptying (s .«slot_bytes�
 unfolding emptyingOf
 emptying-of s xs = refl
 
-stores-many : (s : Settings) (xs : List Loss) → length (emptyingOf s xs) ≡ length xs
+pub stores-many : (s : Settings) (xs : List Loss) → length (emptyingOf s xs) ≡ length xs
 unfolding emptyingOf
 stores-many s xs = length-map (map (λ (x : Loss). x .slot) xs) _ ∙ length-map xs _
 

@@ -20,7 +20,7 @@ lossShown slot (Damaged r) = loss slot r ∷ []
 lossShown slot (Holds l) = []
 
 -- behind k lines these were told; so many there are now
-pub record Tells (k : ℕ) (xs : List Loss) (before after : List ℕ) (n : ℕ) : Type 0 where
+pub record Reports (k : ℕ) (xs : List Loss) (before after : List ℕ) (n : ℕ) : Type 0 where
   pub count : n ≡ k + length xs
   pub words : after ≡ putAt before (2 * k) (each lossWords xs)
 
@@ -61,18 +61,18 @@ put-lines k m xs ys words e h =
     ∙ ap (putAt words (2 * k)) (sym (each-append lossWords xs ys))
 
 -- nothing is told
-pub tells-none : (k : ℕ) (words : List ℕ) → Tells k [] words words k
+pub reports-none : (k : ℕ) (words : List ℕ) → Reports k [] words words k
 unfolding each
-tells-none k words = record { count = sym (add-zero k); words = sym (put-none words (2 * k)) }
+reports-none k words = record { count = sym (add-zero k); words = sym (put-none words (2 * k)) }
 
 -- the same lines
-pub tells-as : {k : ℕ} {xs ys : List Loss} {words next : List ℕ} {n : ℕ} → xs ≡ ys → Tells k xs words next n → Tells k ys words next n
-tells-as {k} {xs} {ys} {words} {next} {n} e t = subst (λ (zs : List Loss). Tells k zs words next n) e t
+pub reports-as : {k : ℕ} {xs ys : List Loss} {words next : List ℕ} {n : ℕ} → xs ≡ ys → Reports k xs words next n → Reports k ys words next n
+reports-as {k} {xs} {ys} {words} {next} {n} e t = subst (λ (zs : List Loss). Reports k zs words next n) e t
 
 -- some lines, and then others
-pub tells-then : {k : ℕ} {xs ys : List Loss} {words next last : List ℕ} {m n : ℕ} → 2 * k ≤ length words
-    → Tells k xs words next m → Tells m ys next last n → Tells k (xs ++ ys) words last n
-tells-then {k} {xs} {ys} {words} {m = m} h a b = record {
+pub reports-then : {k : ℕ} {xs ys : List Loss} {words next last : List ℕ} {m n : ℕ} → 2 * k ≤ length words
+    → Reports k xs words next m → Reports m ys next last n → Reports k (xs ++ ys) words last n
+reports-then {k} {xs} {ys} {words} {m = m} h a b = record {
   count = omega (arith, a .count, b .count, length-append xs ys);
   words = b .words ∙ ap (λ (w : List ℕ). putAt w (2 * m) (each lossWords ys)) (a .words) ∙ put-lines k m xs ys words (a .count) h;
 }
@@ -86,17 +86,17 @@ put-two ws i a b h =
     ∙ put-step ws i a (b ∷ []) (omega arith)
 
 -- one line
-pub tells-one : (k : ℕ) (x : Loss) (words : List ℕ) (i a b : ℕ) → i ≡ 2 * k → 2 * k + 2 ≤ length words → a ∷ b ∷ [] ≡ lossWords x
-    → Tells k (x ∷ []) words (set (set words i a) (i + 1) b) (k + 1)
+pub reports-one : (k : ℕ) (x : Loss) (words : List ℕ) (i a b : ℕ) → i ≡ 2 * k → 2 * k + 2 ≤ length words → a ∷ b ∷ [] ≡ lossWords x
+    → Reports k (x ∷ []) words (set (set words i a) (i + 1) b) (k + 1)
 unfolding each
-tells-one k x words i a b at h e = record {
+reports-one k x words i a b at h e = record {
   count = omega arith;
   words = put-two words i a b (omega arith) ∙ ap₂ (putAt words) at e;
 }
 
 -- told from the first line on, they are the report's front
-pub tells-front : {xs : List Loss} {words after : List ℕ} {n : ℕ} → Tells 0 xs words after n → after ≡ front (each lossWords xs) words
-tells-front {xs} {words} t = t .words ∙ put-front words (each lossWords xs)
+pub reports-front : {xs : List Loss} {words after : List ℕ} {n : ℕ} → Reports 0 xs words after n → after ≡ front (each lossWords xs) words
+reports-front {xs} {words} t = t .words ∙ put-front words (each lossWords xs)
 
 -- ---- what is left to tell
 module _ {k : ℕ} {all : List Loss} {before : List ℕ} where
@@ -111,7 +111,7 @@ module _ {k : ℕ} {all : List Loss} {before : List ℕ} where
 
     -- some of them are told
     pub going-on : {xs rest : List Loss} {m : ℕ} {next : List ℕ} → 2 * n ≤ length now → Going k all before n (xs ++ rest) now
-        → Tells n xs now next m → Going k all before m rest next
+        → Reports n xs now next m → Going k all before m rest next
     going-on {xs} {rest} {m} h g t = record {
       count = omega (arith, g .count, t .count, length-append xs rest);
       words =
@@ -121,7 +121,7 @@ module _ {k : ℕ} {all : List Loss} {before : List ℕ} where
     }
 
     -- all of them are
-    pub going-end : Going k all before n [] now → Tells k all before now n
+    pub going-end : Going k all before n [] now → Reports k all before now n
     unfolding each
     going-end g = record { count = sym (add-zero n) ∙ g .count; words = sym (put-none now (2 * n)) ∙ g .words }
 
@@ -140,5 +140,5 @@ pub told-slots : (xs : List Loss) (words : List ℕ) → slotsTold (length xs) (
 unfolding front
 told-slots xs words = told-behind xs _
 
-pub tells-slots : {xs : List Loss} {words after : List ℕ} {n : ℕ} → Tells 0 xs words after n → slotsTold n after ≡ map (λ (x : Loss). x .slot) xs
-tells-slots {xs} {words} t = ap₂ slotsTold (t .count ∙ zero-add (length xs)) (tells-front t) ∙ told-slots xs words
+pub reports-slots : {xs : List Loss} {words after : List ℕ} {n : ℕ} → Reports 0 xs words after n → slotsTold n after ≡ map (λ (x : Loss). x .slot) xs
+reports-slots {xs} {words} t = ap₂ slotsTold (t .count ∙ zero-add (length xs)) (reports-front t) ∙ told-slots xs words

@@ -8,13 +8,13 @@ ghost use mathlib.Core.List.{map};
 ghost use Prim.Native.Nat.{_+_, _*_, _^_, _≤_, _<_};
 ghost use lib.ListN.{length};
 ghost use Rattle.salvage.specs.Salvage.{firstKind};
-ghost use Rattle.salvage.specs.Lines.{Tells, lossShown};
+ghost use Rattle.salvage.specs.Lines.{Reports, lossShown};
 ghost use Rattle.salvage.specs.Starts.{startShown, endShown, startIn, endIn, slotsJudged};
 
 // The line of a slot with a fault of its own.
 fn own_line(report: &mut [u64], count: u64, slot: u64, shown: SlotAnswer) -> u64
     requires { ⌜ 2 * count + 2 ≤ length (now report) ⌝ }
-    ensures { λ r. ⌜ Tells count (lossShown slot shown) (now (report .entry)) (now (report .exit)) r ⌝ }
+    ensures { λ r. ⌜ Reports count (lossShown slot shown) (now (report .entry)) (now (report .exit)) r ⌝ }
 {
     match shown {
         SlotAnswer::Damaged(r) => note(report, count, slot, r),
@@ -56,7 +56,7 @@ pub fn first_kind(
 ) -> u64
     requires { ⌜ (length (now starts) * size ≤ length (now heap)) × (2 * length (now starts) ≤ length (now report)) ⌝ }
     requires { ⌜ length (now ends) ≡ length (now starts) ⌝ }
-    ensures { λ r. ⌜ Tells 0 (firstKind 0 (slotsJudged (length (now (starts .entry))) size (now (heap .entry))))
+    ensures { λ r. ⌜ Reports 0 (firstKind 0 (slotsJudged (length (now (starts .entry))) size (now (heap .entry))))
         (now (report .entry)) (now (report .exit)) r ⌝ }
     ensures { λ _. ⌜ now (starts .exit) ≡ map startIn (slotsJudged (length (now (starts .entry))) size (now (heap .entry))) ⌝ }
     ensures { λ _. ⌜ now (ends .exit) ≡ map endIn (slotsJudged (length (now (starts .entry))) size (now (heap .entry))) ⌝ }

@@ -22,7 +22,7 @@ ghost use Rattle.rules.specs.SettingsLaws.{InRanges, HeapInRange};
 ghost use Rattle.rules.specs.Stores.{made};
 ghost use Rattle.salvage.specs.Salvage.{lossesIn, reportOf, emptyingOf, lossWords, salvageCall};
 ghost use Rattle.salvage.specs.Answers.{salvaged};
-ghost use Rattle.salvage.specs.Lines.{Tells};
+ghost use Rattle.salvage.specs.Lines.{Reports};
 ghost use Rattle.salvage.specs.Starts.{slotsJudged};
 
 // A line of the report: "slot and refusal number".
@@ -48,7 +48,7 @@ fn both_kinds(
 ) -> u64
     requires { ⌜ (length (now starts) * size ≤ length (now heap)) × (2 * length (now starts) ≤ length (now report)) ⌝ }
     requires { ⌜ (length (now ends) ≡ length (now starts)) × (length (now starts) ≤ length (now order)) ⌝ }
-    ensures { λ r. ⌜ Tells 0 (lossesIn (slotsJudged (length (now (starts .entry))) size (now (heap .entry))))
+    ensures { λ r. ⌜ Reports 0 (lossesIn (slotsJudged (length (now (starts .entry))) size (now (heap .entry))))
         (now (report .entry)) (now (report .exit)) r ⌝ }
 {
     let count = first_kind(report, heap, size, starts, ends);
@@ -59,7 +59,7 @@ fn both_kinds(
 // The report, and its number of lines.
 fn list_losses(report: &mut [u64], heap: &[u8], size: usize, n: usize) -> u64
     requires { ⌜ (n * size ≤ length (now heap)) × (n ≤ 256) × (512 ≤ length (now report)) ⌝ }
-    ensures { λ r. ⌜ Tells 0 (lossesIn (slotsJudged n size (now (heap .entry)))) (now (report .entry)) (now (report .exit)) r ⌝ }
+    ensures { λ r. ⌜ Reports 0 (lossesIn (slotsJudged n size (now (heap .entry)))) (now (report .entry)) (now (report .exit)) r ⌝ }
 {
     let mut starts = [0u64; 256];
     let mut ends = [0u64; 256];

@@ -6,12 +6,12 @@ ghost use lib.ListN.{length};
 ghost use Rattle.rules.specs.PruneLaws.{emptying};
 ghost use Rattle.stores.specs.Runs.{Made};
 ghost use Rattle.salvage.specs.Salvage.{loss};
-ghost use Rattle.salvage.specs.Lines.{Tells, slotsTold, LabelsIn};
+ghost use Rattle.salvage.specs.Lines.{Reports, slotsTold, LabelsIn};
 
 // One more line, behind `count`.
 pub fn note(report: &mut [u64], count: u64, slot: u64, refusal: Refusal) -> u64
     requires { ⌜ 2 * count + 2 ≤ length (now report) ⌝ }
-    ensures { λ r. ⌜ Tells count (loss slot refusal ∷ []) (now (report .entry)) (now (report .exit)) r ⌝ }
+    ensures { λ r. ⌜ Reports count (loss slot refusal ∷ []) (now (report .entry)) (now (report .exit)) r ⌝ }
 {
     let number = refusal_number(refusal);
     let at = 2 * count as usize;

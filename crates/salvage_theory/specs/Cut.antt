@@ -23,6 +23,7 @@ use Rattle.theory.specs.Reopened.{refused-not}
 use Rattle.rules.specs.Answers.{refusalAt, known}
 use Rattle.faults.specs.Faults.{judged, judgedIn}
 use Rattle.salvage.specs.Salvage.{lossesIn, reportOf, emptyingOf, lossWords, Salvaged, salvageCall}
+use Rattle.salvage.specs.Few.{stores-many}
 use Rattle.salvage_theory.specs.Types.{Loss}
 use Rattle.salvage_theory.specs.Next.{next-loss}
 use Rattle.salvage_theory.specs.Lost.{Lost, all-lost, lost-lt}
@@ -54,11 +55,6 @@ rest-made s [] heap zero = refl
 rest-made s [] heap (suc k) = refl
 rest-made s (x ∷ report) heap zero = refl
 rest-made s (x ∷ report) heap (suc k) = rest-made s report (set heap (x .slot * s .«slot_bytes») 0) k
-
--- a store for each line
-stores-count : (s : Settings) (report : List Loss) → length (emptyingOf s report) ≡ length report
-unfolding emptyingOf
-stores-count s report = length-map (map (λ (x : Loss). x .slot) report) _ ∙ length-map report (λ (x : Loss). x .slot)
 
 -- no line is written
 pub no-words : (words : List ℕ) → front (each lossWords []) words ≡ words
@@ -116,7 +112,7 @@ module _ (s : Settings) (heap : List ℕ) (table : Buffers) (range : outOfRange 
   -- all stores made: the heap that the salvage leaves
   whole-cut : (words : List ℕ) → made (take (length (reportOf s heap)) (emptyingOf s (reportOf s heap))) heap ≡ salvageCall s heap table words .heap
   whole-cut words =
-      ap (λ (ss : List Store). made ss heap) (take-all (length (reportOf s heap)) (emptyingOf s (reportOf s heap)) (omega (arith, stores-count s (reportOf s heap))))
+      ap (λ (ss : List Store). made ss heap) (take-all (length (reportOf s heap)) (emptyingOf s (reportOf s heap)) (omega (arith, stores-many s (reportOf s heap))))
       ∙ sym (ap (λ (c : Salvaged). c .heap) (salvage-reports s heap table words range))
 
   no-rest : drop (length (reportOf s heap)) (reportOf s heap) ≡ []

@@ -7,6 +7,9 @@ use borrow.Author.Tests.{le-leb, leb-true, leb-false, eq-eqb, ne-eqb}
 use Rattle.rules.specs.Base.{Bool, true, false, List, [], _∷_, ℕ, suc, length, leb, eqb, pick}
 use Rattle.rules.specs.BaseLaws.{All, all-map, order, same?}
 use Rattle.salvage.specs.Salvage.{Sound, startOf, placed, inOrder}
+use Rattle.salvage.specs.Starts.{all-placed, all-in-order}
+-- LAW: as many
+pub use Rattle.salvage.specs.Few.{order-length}
 use Rattle.check_theory.specs.Lists.{In, in-self, all-in}
 
 -- "by ascending masked lsn, equal ones by ascending slot": x stands before y
@@ -43,22 +46,6 @@ lower-before x y l h = go (order (startOf x) (startOf y))
     go (inr (inr a)) = absurd (omega arith)
 
 -- ---- the same files
--- of it and the others, so of all
-placed-all : (P : Sound → Type 0) (x : Sound) (ys : List Sound) → P x → All P ys → All P (placed x ys)
-unfolding placed
-placed-all P x [] p a = (p, tt)
-placed-all P x (y ∷ ys) p a = go (leb (startOf x) (startOf y)) (placed-all P x ys p (a .1))
-  where
-    go : (b : Bool) → All P (placed x ys) → All P (pick b (x ∷ y ∷ ys) (y ∷ placed x ys))
-    go true ih = (p, a)
-    go false ih = (a .0, ih)
-
--- LAW: what all have, all in order have
-pub order-all : (P : Sound → Type 0) (xs : List Sound) → All P xs → All P (inOrder xs)
-unfolding inOrder
-order-all P [] a = tt
-order-all P (x ∷ xs) a = placed-all P x (inOrder xs) (a .0) (order-all P xs (a .1))
-
 -- it is there, and so are the others
 placed-there : (x : Sound) (ys : List Sound) (z : Sound) → (x ≡ z) ⊎ In ys z → In (placed x ys) z
 unfolding placed
@@ -80,22 +67,7 @@ rest-in-order (x ∷ xs) z (inr h) = placed-there x (inOrder xs) z (inr (rest-in
 
 -- LAW: no other is
 pub in-order-rest : (xs : List Sound) (z : Sound) → In (inOrder xs) z → In xs z
-in-order-rest xs z h = all-in (In xs) (inOrder xs) (order-all (In xs) xs (in-self xs)) z h
-
-placed-length : (x : Sound) (ys : List Sound) → length (placed x ys) ≡ suc (length ys)
-unfolding placed
-placed-length x [] = refl
-placed-length x (y ∷ ys) = go (leb (startOf x) (startOf y)) (placed-length x ys)
-  where
-    go : (b : Bool) → length (placed x ys) ≡ suc (length ys) → length (pick b (x ∷ y ∷ ys) (y ∷ placed x ys)) ≡ suc (suc (length ys))
-    go true ih = refl
-    go false ih = ap suc ih
-
--- LAW: as many
-pub order-length : (xs : List Sound) → length (inOrder xs) ≡ length xs
-unfolding inOrder
-order-length [] = refl
-order-length (x ∷ xs) = placed-length x (inOrder xs) ∙ ap suc (order-length xs)
+in-order-rest xs z h = all-in (In xs) (inOrder xs) (all-in-order (In xs) xs (in-self xs)) z h
 
 -- ---- ascending
 placed-ordered : (x : Sound) (ys : List Sound) → All (λ (y : Sound). x .slot < y .slot) ys → Ordered ys → Ordered (placed x ys)
@@ -114,13 +86,13 @@ placed-ordered x (y ∷ ys) l o = go (leb (startOf x) (startOf y)) refl (placed-
             let h = leb-true (startOf x) (startOf y) e in
             let k = before-start y z (q .0) in
             (lower-before x z (p .0) (omega arith), later zs (p .1) (q .1))
-    go false e ih = let h = leb-false (startOf x) (startOf y) e in (placed-all (Before y) x ys (inl h) (o .0), ih)
+    go false e ih = let h = leb-false (startOf x) (startOf y) e in (all-placed (Before y) x ys (inl h) (o .0), ih)
 
 -- LAW: "by ascending masked lsn, equal ones by ascending slot"
 pub order-ascends : (xs : List Sound) → BySlot xs → Ordered (inOrder xs)
 unfolding inOrder
 order-ascends [] s = tt
-order-ascends (x ∷ xs) s = placed-ordered x (inOrder xs) (order-all (λ (y : Sound). x .slot < y .slot) xs (s .0)) (order-ascends xs (s .1))
+order-ascends (x ∷ xs) s = placed-ordered x (inOrder xs) (all-in-order (λ (y : Sound). x .slot < y .slot) xs (s .0)) (order-ascends xs (s .1))
 
 placed-once : (x : Sound) (ys : List Sound) → All (λ (y : Sound). x .slot ≡ y .slot → ⊥) ys → OneEach ys → OneEach (placed x ys)
 unfolding placed
@@ -129,7 +101,7 @@ placed-once x (y ∷ ys) l o = go (leb (startOf x) (startOf y)) (placed-once x y
   where
     go : (b : Bool) → OneEach (placed x ys) → OneEach (pick b (x ∷ y ∷ ys) (y ∷ placed x ys))
     go true ih = (l, o)
-    go false ih = (placed-all (λ (z : Sound). y .slot ≡ z .slot → ⊥) x ys (λ e. l .0 (sym e)) (o .0), ih)
+    go false ih = (all-placed (λ (z : Sound). y .slot ≡ z .slot → ⊥) x ys (λ e. l .0 (sym e)) (o .0), ih)
 
 -- LAW: each slot once
 pub order-once : (xs : List Sound) → BySlot xs → OneEach (inOrder xs)
@@ -137,7 +109,7 @@ unfolding inOrder
 order-once [] s = tt
 order-once (x ∷ xs) s =
     placed-once x (inOrder xs)
-    (order-all (λ (y : Sound). x .slot ≡ y .slot → ⊥) xs (all-map (λ (y : Sound). x .slot < y .slot) (λ (y : Sound). x .slot ≡ y .slot → ⊥) xs (λ y h e. omega arith) (s .0)))
+    (all-in-order (λ (y : Sound). x .slot ≡ y .slot → ⊥) xs (all-map (λ (y : Sound). x .slot < y .slot) (λ (y : Sound). x .slot ≡ y .slot → ⊥) xs (λ y h e. omega arith) (s .0)))
     (order-once xs (s .1))
 
 -- ---- one slot left out

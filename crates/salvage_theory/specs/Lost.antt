@@ -10,9 +10,10 @@ use Rattle.rules.specs.SlotFile.{File, View, empty, damaged, holds}
 use Rattle.theory.specs.Types.{Refusal, Overlap}
 use Rattle.theory.specs.Places.{viewAt, holds-lt, not-empty}
 use Rattle.check_theory.specs.Own.{empty-not}
+use Rattle.check_theory.specs.Listed.{damaged-lt}
 use Rattle.salvage.specs.Salvage.{firstKind, Sound, theRest, inOrder, secondKind, lossesIn}
 use Rattle.salvage_theory.specs.Types.{Loss}
-use Rattle.salvage_theory.specs.InOrder.{order-all}
+use Rattle.salvage.specs.Starts.{all-in-order}
 use Rattle.salvage_theory.specs.Kinds.{OwnLine, first-own, HoldsSound, rest-holds, OverlapOf, second-lines}
 
 -- "the first in that order or 14 for the second kind": the slot's own fault, or 14 of a slot with a sound file
@@ -29,7 +30,7 @@ first-lost views =
 pub second-lost : (views : List View) → All (OverlapOf (λ (k : ℕ). (f : File) × (viewAt views k ≡ holds f))) (secondKind (inOrder (theRest 0 views)))
 second-lost views =
     second-lines (λ (k : ℕ). (f : File) × (viewAt views k ≡ holds f)) (inOrder (theRest 0 views))
-    (order-all (λ (x : Sound). (f : File) × (viewAt views (x .slot) ≡ holds f)) (theRest 0 views)
+    (all-in-order (λ (x : Sound). (f : File) × (viewAt views (x .slot) ≡ holds f)) (theRest 0 views)
     (all-map (HoldsSound 0 views) (λ (x : Sound). (f : File) × (viewAt views (x .slot) ≡ holds f)) (theRest 0 views)
     (λ x w. (w .file, ap (viewAt views) (w .is ∙ zero-add (w .off)) ∙ w .shows)) (rest-holds 0 views)))
 
@@ -41,13 +42,7 @@ all-lost views =
     (all-map (λ (x : Loss). viewAt views (x .slot) ≡ damaged (x .refusal)) (Lost views) (firstKind 0 views) (λ x e. inl e) (first-lost views))
     (all-map (OverlapOf (λ (k : ℕ). (f : File) × (viewAt views k ≡ holds f))) (Lost views) (secondKind (inOrder (theRest 0 views))) (λ x w. inr w) (second-lost views))
 
--- a damaged slot is one of the slots
-pub damaged-lt : (views : List View) (k : ℕ) (r : Refusal) → viewAt views k ≡ damaged r → k < length views
-damaged-lt [] k r e = absurd (empty-not e)
-damaged-lt (v ∷ vs) zero r e = omega arith
-damaged-lt (v ∷ vs) (suc k) r e = let w = damaged-lt vs k r e in omega arith
-
--- so is that of a line
+-- its slot is one of the slots
 pub lost-lt : (views : List View) (x : Loss) → Lost views x → x .slot < length views
 lost-lt views x (inl e) = damaged-lt views (x .slot) (x .refusal) e
 lost-lt views x (inr (q, (f, e))) = holds-lt views (x .slot) f e

@@ -24,7 +24,8 @@ use Rattle.check_theory.specs.Lists.{In, all-in, in-first, Different}
 use Rattle.check_theory.specs.Own.{damaged-inj, empty-not, holds-not, views-early}
 use Rattle.salvage.specs.Salvage.{loss, ownLoss, firstKind, Sound, startOf, endOf, soundOf, theRest, inOrder, givenUpBehind, secondKind, lossesIn, reportOf, lossWords, Salvaged, salvageCall}
 use Rattle.salvage_theory.specs.Types.{Loss}
-use Rattle.salvage_theory.specs.InOrder.{order-length}
+use Rattle.salvage.specs.Lines.{words-length}
+use Rattle.salvage.specs.Few.{losses-few}
 use Rattle.salvage_theory.specs.Kinds.{own-first}
 use Rattle.salvage_theory.specs.Next.{next-loss}
 use Rattle.salvage_theory.specs.Lost.{Lost, all-lost, lost-lt, lost-some}
@@ -90,48 +91,6 @@ slots-differ views (x ∷ report) e =
       others ys low (a .1),
     )
 
--- ---- how many
-kinds-count : (n : ℕ) (views : List View) → length (firstKind n views) + length (theRest n views) ≤ length views
-unfolding firstKind theRest
-kinds-count n [] = omega arith
-kinds-count n (v ∷ vs) = go v (kinds-count (suc n) vs)
-  where
-    go : (v : View) → length (firstKind (suc n) vs) + length (theRest (suc n) vs) ≤ length vs
-        → length (ownLoss n v ++ firstKind (suc n) vs) + length (soundOf n v ++ theRest (suc n) vs) ≤ suc (length vs)
-    go empty ih = omega arith
-    go (damaged r) ih = omega arith
-    go (holds f) ih = omega arith
-
-behind-count : (end : ℕ) (ys : List Sound) → length (givenUpBehind end ys) ≤ length ys
-unfolding givenUpBehind
-behind-count end [] = omega arith
-behind-count end (y ∷ ys) = go (ltb end (startOf y)) (behind-count (endOf y) ys) (behind-count end ys)
-  where
-    go : (b : Bool) → length (givenUpBehind (endOf y) ys) ≤ length ys → length (givenUpBehind end ys) ≤ length ys
-        → length (pick b (givenUpBehind (endOf y) ys) (loss (y .slot) Overlap ∷ givenUpBehind end ys)) ≤ suc (length ys)
-    go true p q = omega arith
-    go false p q = omega arith
-
-second-count : (ys : List Sound) → length (secondKind ys) ≤ length ys
-unfolding secondKind
-second-count [] = omega arith
-second-count (y ∷ ys) = let w = behind-count (endOf y) ys in omega arith
-
-losses-count : (views : List View) → length (lossesIn views) ≤ length views
-unfolding lossesIn
-losses-count views =
-    let rest = theRest 0 views in
-    let a = kinds-count 0 views in
-    let b = second-count (inOrder rest) in
-    let c = order-length rest in
-    omega (arith, length-append (firstKind 0 views) (secondKind (inOrder rest)))
-
--- two words to a line
-words-count : (report : List Loss) → length (each lossWords report) ≡ 2 * length report
-unfolding each
-words-count [] = refl
-words-count (x ∷ report) = let w = words-count report in omega arith
-
 module _ (s : Settings) (heap : List ℕ) where
   -- LAW: each slot is reported at most once
   pub reported-once : Different (map (λ (x : Loss). x .slot) (reportOf s heap))
@@ -145,7 +104,7 @@ module _ (s : Settings) (heap : List ℕ) where
 
   -- LAW: at most N lines
   pub report-slots : length (reportOf s heap) ≤ slotsIn s (length heap)
-  report-slots = omega (arith, losses-count (judgedIn s heap), judged-length s heap)
+  report-slots = omega (arith, losses-few (judgedIn s heap), judged-length s heap)
 
   module _ (table : Buffers) (range : outOfRange s (length heap) table ≡ false) where
     -- P9: "the report always has room for 256 lines": there are no more
@@ -157,4 +116,4 @@ module _ (s : Settings) (heap : List ℕ) where
     report-fits words h =
         let n = report-room in
         ap (λ (c : Salvaged). length (c .report)) (salvage-reports s heap table words range)
-        ∙ front-length words (each lossWords (reportOf s heap)) (omega (arith, words-count (reportOf s heap)))
+        ∙ front-length words (each lossWords (reportOf s heap)) (omega (arith, words-length (reportOf s heap)))

@@ -9,7 +9,7 @@ use Rattle.rules.specs.SettingsLaws.{heap-whole}
 use Rattle.rules.specs.Stores.{Store, made}
 use Rattle.rules.specs.PruneLaws.{emptying}
 use Rattle.salvage.specs.Salvage.{reportOf}
-use Rattle.salvage.specs.Lines.{LabelsIn, tells-front, tells-slots}
+use Rattle.salvage.specs.Lines.{LabelsIn, reports-front, reports-slots}
 use Rattle.salvage.specs.Few.{emptying-of, report-few, report-labels}
 use Rattle.salvage.proofs.give_up.Statement.{statement}
 use Rattle.salvage.proofs.give_up.Tie as tie
@@ -32,7 +32,7 @@ empty-slots-requires c κs =
     let w = start .pre .1 in
     let told = listed .list-losses .ensures in (
       omega (arith, told .count, report-few (a .settings) (a .heap .now) w, listed .list-losses .kept .0, start .pre .2),
-      subst (λ (ks : List ℕ). LabelsIn (a .settings .«slot_bytes») ks (length (a .heap .now))) (sym (tells-slots told)) (report-labels (a .settings) (a .heap .now) w (start .pre .0)),
+      subst (λ (ks : List ℕ). LabelsIn (a .settings .«slot_bytes») ks (length (a .heap .now))) (sym (reports-slots told)) (report-labels (a .settings) (a .heap .now) w (start .pre .0)),
     )
 
 same-length : tie.Need-same-length
@@ -47,9 +47,9 @@ returns c =
     let listed = emptied .before .before .before .before .before in
     let a = listed .before .before .before .before .before .args in
     let told = listed .list-losses .ensures in
-    let run = ap (emptying (a .settings .«slot_bytes»)) (tells-slots told) ∙ emptying-of (a .settings) (reportOf (a .settings) (a .heap .now)) in (
+    let run = ap (emptying (a .settings .«slot_bytes»)) (reports-slots told) ∙ emptying-of (a .settings) (reportOf (a .settings) (a .heap .now)) in (
       told .count ∙ zero-add _,
-      (tells-front told, emptied .empty-slots .ensures .heap ∙ ap (λ (ss : List Store). made (take (a .left) ss) (a .heap .now)) run),
+      (reports-front told, emptied .empty-slots .ensures .heap ∙ ap (λ (ss : List Store). made (take (a .left) ss) (a .heap .now)) run),
     )
 
 pub give-up-spec : {M : Type 1} → statement M

@@ -3,7 +3,7 @@ use Prim.Native.Nat.{ℕ}
 use borrow.Author.Needs.{needs}
 use lib.ListN.{length}
 use Rattle.salvage.specs.Salvage.{lossesIn}
-use Rattle.salvage.specs.Lines.{tells-as}
+use Rattle.salvage.specs.Lines.{reports-as}
 use Rattle.salvage.specs.Starts.{slotsJudged}
 use Rattle.salvage.proofs.Turns.{part-long, lists-ready}
 use Rattle.salvage.proofs.list_losses.Statement.{statement}
@@ -42,7 +42,7 @@ returns c =
     let called = c .before .before .before .before .before in
     let start = called .before .before .before .before .before .before .before in
     let a = start .args in
-    tells-as (ap (λ (m : ℕ). lossesIn (slotsJudged m (a .size) (a .heap .now))) (part-long (a .n) (start .pre .1))) (called .both-kinds .ensures)
+    reports-as (ap (λ (m : ℕ). lossesIn (slotsJudged m (a .size) (a .heap .now))) (part-long (a .n) (start .pre .1))) (called .both-kinds .ensures)
 
 pub list-losses-spec : {M : Type 1} → statement M
 list-losses-spec =

@@ -5,7 +5,7 @@ use Rattle.rules.specs.SlotLaws.{slots-apart}
 use Rattle.slot_file.specs.Slots.{shownBy}
 use Rattle.faults.specs.Faults.{judged}
 use Rattle.salvage.specs.Types.{SlotAnswer}
-use Rattle.salvage.specs.Lines.{lossShown, own-shown, tells-as, going-start, going-as, going-on, going-end, Going}
+use Rattle.salvage.specs.Lines.{lossShown, own-shown, reports-as, going-start, going-as, going-on, going-end, Going}
 use Rattle.salvage.specs.Starts.{startShown, endShown, end-fits, judged-length, judged-view, slotsJudged, startIn, endIn}
 use Rattle.salvage.proofs.Turns.{first-next, first-none, shown-few, fill-start, fill-next, fill-end}
 use Rattle.salvage.specs.Salvage.{firstKind}
@@ -114,7 +114,7 @@ loop-again c =
       length-set (l .loop .starts) k _ ∙ inv .3,
       length-set (l .loop .ends) k _ ∙ inv .4,
       omega (arith, line .count, shown-few k (asked .own .result)),
-      going-on (omega (arith, start .pre .0 .1, inv .1, inv .2, inv .5, low)) (going-as (first-next vs k low) (inv .6)) (tells-as (ap (lossShown k) is ∙ own-shown k (getD vs k empty)) line),
+      going-on (omega (arith, start .pre .0 .1, inv .1, inv .2, inv .5, low)) (going-as (first-next vs k low) (inv .6)) (reports-as (ap (lossShown k) is ∙ own-shown k (getD vs k empty)) line),
       fill-next startIn vs (l .loop .starts) (omega (arith, inv .1, inv .3, many)) k _ low (begun .start .ensures ∙ ap startShown is) ∙ inv .7,
       fill-next endIn vs (l .loop .ends) (omega (arith, inv .1, inv .4, many)) k _ low (ended .end .ensures ∙ ap endShown is) ∙ inv .8,
     )

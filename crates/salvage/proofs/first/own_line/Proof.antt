@@ -1,5 +1,5 @@
 use mathlib.Core.Path.{sym, ap}
-use Rattle.salvage.specs.Lines.{lossShown, tells-none, tells-as}
+use Rattle.salvage.specs.Lines.{lossShown, reports-none, reports-as}
 use Prim.Native.Nat.{_-_}
 use borrow.Author.Needs.{needs}
 use Rattle.salvage.proofs.first.own_line.Statement.{statement}
@@ -25,17 +25,17 @@ returns c =
     let called = c .before .before in
     let known = called .before .before .before in
     let a = known .before .before .before .args in
-    tells-as (ap (lossShown (a .slot)) (sym (known .shown .given .1))) (called .note .ensures)
+    reports-as (ap (lossShown (a .slot)) (sym (known .shown .given .1))) (called .note .ensures)
 
 returns-2 : tie.Need-returns-2
 returns-2 c =
     let a = c .before .before .before .args in
-    tells-as (ap (lossShown (a .slot)) (sym (c .enum-told .given .1))) (tells-none (a .count) (a .report .now))
+    reports-as (ap (lossShown (a .slot)) (sym (c .enum-told .given .1))) (reports-none (a .count) (a .report .now))
 
 returns-3 : tie.Need-returns-3
 returns-3 c =
     let a = c .before .before .before .args in
-    tells-as (ap (lossShown (a .slot)) (sym (c .enum-told2 .given .1))) (tells-none (a .count) (a .report .now))
+    reports-as (ap (lossShown (a .slot)) (sym (c .enum-told2 .given .1))) (reports-none (a .count) (a .report .now))
 
 pub own-line-spec : {M : Type 1} → statement M
 own-line-spec =

@@ -1,6 +1,6 @@
 use mathlib.Core.Path.{refl, ap}
 use Rattle.salvage.specs.Salvage.{loss}
-use Rattle.salvage.specs.Lines.{tells-one}
+use Rattle.salvage.specs.Lines.{reports-one}
 use Prim.Native.Nat.{ℕ, _-_}
 use native.Mathlib.Omega.{arith}
 use borrow.Author.Needs.{needs}
@@ -40,7 +40,7 @@ returns : tie.Need-returns
 returns c =
     let start = c .before .before in
     let a = start .args in
-    tells-one (a .count) (loss (a .slot) (a .refusal)) (a .report .now) _ _ _ refl (start .pre) (ap (λ (n : ℕ). a .slot ∷ n ∷ []) (c .refusal-number .ensures))
+    reports-one (a .count) (loss (a .slot) (a .refusal)) (a .report .now) _ _ _ refl (start .pre) (ap (λ (n : ℕ). a .slot ∷ n ∷ []) (c .refusal-number .ensures))
 
 pub note-spec : {M : Type 1} → statement M
 note-spec =
