@@ -1,8 +1,8 @@
 #!/usr/bin/env python3
 """A large store reopened through the console: it must find every id again, and take no longer than what else it does with the same ids.
-reopening.py [--table LENGTH] [--check] [--puts] [IDS ..]: 40,000 ids in a table of 65,536 where nothing else is said. Files have up to 4,000
+reopening.py [--table LENGTH] [--check] [--salvage] [--puts] [IDS ..]: 40,000 ids in a table of 65,536 where nothing else is said. Files have up to 4,000
 deletes each, ids ascending, in slots of 65,536 bytes; with --puts objects of no bytes instead, up to 1,800 to a file, 28,000 in all. --check
-measures a check of the same heap too, and what that is to a reopening; it fails by no time.
+and --salvage measure a check or a salvage of the same heap too, and what that is to a reopening; they fail by no time.
 
 What is measured, all of it processor time of the console (not the clock), each as the difference of two runs:
 - a reopening: two more of them, halved;
@@ -56,12 +56,12 @@ def run(script):
     return after.ru_utime - before.ru_utime + after.ru_stime - before.ru_stime, answers
 
 
-def held(ids, table, puts, reopenings, checks=0):
-    """processor seconds of a script that writes the ids, reopens, checks and counts them; every answer must be the right one"""
+def held(ids, table, puts, reopenings, more=()):
+    """processor seconds of a script that writes the ids, reopens and counts them, with more calls on the heap; every answer must be the right one"""
     batches = list(writes(ids, puts))
     files = len(batches)
-    seconds, answers = run(fresh(table) + batches + ['reopen'] * reopenings + ['check 1'] * checks + ['counts'])
-    wanted = ['ok'] * (4 + files + reopenings) + ['ok 0'] * checks + [f'ok {files} {(36 if puts else 16) * ids + 12 * files} {ids} {ids}']
+    seconds, answers = run(fresh(table) + batches + ['reopen'] * reopenings + [*more] + ['counts'])
+    wanted = ['ok'] * (4 + files + reopenings) + ['ok 0'] * len(more) + [f'ok {files} {(36 if puts else 16) * ids + 12 * files} {ids} {ids}']
     if answers != wanted:
         sys.exit(f'reopening: {ids} ids: {answers[-3:]} instead of {wanted[-3:]}')
     return seconds
@@ -74,16 +74,17 @@ def measured(ids, table, puts):
     return (held(ids, table, puts, 2) - written) / 2, written - nothing, loads / LOADS * ids
 
 
-def checked(ids, table, puts):
-    """seconds of a check"""
-    return (held(ids, table, puts, 0, 2) - held(ids, table, puts, 0)) / 2
+def spent_on(call, ids, table, puts):
+    """seconds of a call on the heap that finds nothing wrong"""
+    return (held(ids, table, puts, 0, [call] * 2) - held(ids, table, puts, 0)) / 2
 
 
 def main():
     words = argparse.ArgumentParser(description=__doc__, formatter_class=argparse.RawDescriptionHelpFormatter)
     words.add_argument('ids', nargs='*', type=int, default=[40000])
     words.add_argument('--table', type=int, default=65536)
-    words.add_argument('--check', action='store_true')
+    words.add_argument('--check', action='append_const', dest='calls', const='check 1', default=[])
+    words.add_argument('--salvage', action='append_const', dest='calls', const='salvage')
     words.add_argument('--puts', action='store_true')
     given = words.parse_args()
     subprocess.run([os.path.join(HERE, 'unproved'), 'console', CONSOLE], check=True)
@@ -96,9 +97,10 @@ def main():
                 break
         else:
             sys.exit('reopening: too slow')
-        if given.check:
-            check = checked(ids, given.table, given.puts)
-            print(f'reopening: {ids} ids, a table of {given.table}: a check of the same heap {check:.2f} s, {check / reopening:.2f} times the reopening')
+        for call in given.calls:
+            spent = spent_on(call, ids, given.table, given.puts)
+            print(f'reopening: {ids} ids, a table of {given.table}: a {call.split()[0]} of the same heap {spent:.2f} s, '
+                  f'{spent / reopening:.2f} times the reopening')
 
 
 main()

@@ -1,6 +1,6 @@
 #!/usr/bin/env python3
 """Document 01 as plain Python, read from the paper alone: a second opinion beside the port. Of document 02: request P5's
-checker.
+checker, request P9's salvage.
 
 Reads the console's script on standard input and prints its answers. Nothing here is taken from crates/;
 where the paper leaves a choice, the reading D1..D15 of docs/DECISIONS.md is named at the line. 12 is as document 02's request P2 mends it."""
@@ -19,6 +19,7 @@ MAX_RECORDS = 256
 EMPTY = (0, 0, 0, 0, 0, 0)  # lsn, trailer_offset, file_size, present_objects, generation, live
 # a line of the checker's list; position is None where it has none; of: what the fault is of, which the call does not give
 Fault = namedtuple('Fault', 'slot number position of')
+Loss = namedtuple('Loss', 'slot number')  # a line of the salvage's report
 
 
 class Refused(Exception):
@@ -444,6 +445,15 @@ class Store:
             last[ident] = relative // 2
         return False
 
+    def judged(self, slot):
+        """a slot by itself: nothing where it is empty, else the five numbers and entries; the first of 8 to 13 and 15"""
+        at = slot * self.given.slot_bytes
+        if self.heap[at] == 0:
+            return None
+        numbers, entries = self.labelled(slot, label_numbers(bytes(self.heap[at:at + LABEL])))
+        refuse_if(self.not_rising(entries), 15)
+        return numbers, entries
+
     # -- check (document 02, P5)
 
     def check(self):
@@ -451,16 +461,14 @@ class Store:
         refuse_if(not self.lengths_in_range(), 1)
         faults, ranges, distinct = [], [], set()
         for slot in range(self.slots()):
-            at = slot * self.given.slot_bytes
-            if self.heap[at] == 0:
-                continue
             try:
-                numbers, entries = self.labelled(slot, label_numbers(bytes(self.heap[at:at + LABEL])))
-                refuse_if(self.not_rising(entries), 15)
+                held = self.judged(slot)
             except Refused as first:
                 faults.append(Fault(slot, first.number, None, 'a slot'))
                 continue
-            # a sound slot
+            if held is None:
+                continue
+            numbers, entries = held  # a sound slot
             faults += self.object_faults(slot, numbers[1], entries)
             start, end = masked(numbers[0]), masked(numbers[0]) + numbers[1]
             if any(start <= e and s <= end for s, e in ranges):
@@ -488,6 +496,31 @@ class Store:
             at += HEADER + length
         return faults + [Fault(slot, 17, relative // 2, 'an entry') for ident, relative in entries
                          if relative % 2 == 0 and (ident, relative // 2) not in walked]
+
+    # -- salvage (document 02, P9)
+
+    def salvage(self):
+        """empties the slots that make reopening refuse, by their first label byte; gives them in the order emptied"""
+        refuse_if(not self.lengths_in_range(), 1)
+        report, rest = [], []
+        for slot in range(self.slots()):
+            try:
+                held = self.judged(slot)
+            except Refused as first:
+                report.append(Loss(slot, first.number))
+                continue
+            if held is not None:
+                lsn, trailer_offset, *_ = held[0]
+                rest.append((masked(lsn), slot, masked(lsn) + trailer_offset))
+        end_of_last_kept = 0  # 8 has ruled out a masked lsn of 0
+        for start, slot, end in sorted(rest):
+            if start > end_of_last_kept:
+                end_of_last_kept = end
+            else:
+                report.append(Loss(slot, 14))
+        for loss in report:
+            self.heap[loss.slot * self.given.slot_bytes] = 0
+        return report
 
     # -- table calls (D3: the two buffers alone)
 
@@ -665,6 +698,10 @@ class Console:
         faults = self.store.check()
         lines = [f'fault {f.slot} {f.number}' + ('' if f.position is None else f' {f.position}') for f in faults[:room]]
         return lines + [f'ok {len(faults)}']
+
+    def do_salvage(self):
+        report = self.store.salvage()
+        return [f'gave {loss.slot} {loss.number}' for loss in report] + [f'ok {len(report)}']
 
     # looking
 

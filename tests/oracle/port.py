@@ -7,7 +7,7 @@ import zlib
 
 from model import Console
 
-BLOCK_END = {'dump': 'end', 'list': 'ids ', 'check': 'ok '}
+BLOCK_END = {'dump': 'end', 'list': 'ids ', 'check': 'ok ', 'salvage': 'ok '}
 
 
 class Model:

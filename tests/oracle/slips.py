@@ -67,11 +67,49 @@ IN_THE_CHECKER = {
     '14 only by slots that 14 does not strike': ('            ranges.append((start, end))\n', '            else:\n                ranges.append((start, end))\n'),
     'ranges that share one position are apart': ('start <= e and s <= end', 'start < e and s < end'),
     'ranges by unmasked lsn': ('start, end = masked(numbers[0]), masked(numbers[0]) + numbers[1]', 'start, end = numbers[0], numbers[0] + numbers[1]'),
-    'ids of unsound slots counted': ('                refuse_if(self.not_rising(entries), 15)\n',
-                                     '                distinct.update(ident for ident, _ in entries)\n                refuse_if(self.not_rising(entries), 15)\n'),
+    'ids of unsound slots counted': ("faults.append(Fault(slot, first.number, None, 'a slot'))\n", """faults.append(Fault(slot, first.number, None, 'a slot'))
+                if first.number == 15:
+                    at = slot * self.given.slot_bytes
+                    distinct.update(i for i, _ in self.labelled(slot, label_numbers(bytes(self.heap[at:at + LABEL])))[1])
+"""),
     'a full table is too small': ('if len(distinct) > len(self.ids):', 'if len(distinct) >= len(self.ids):'),
     'the closing 6 with the last slot': ('Fault(self.slots(), 6, None', 'Fault(self.slots() - 1, 6, None'),
     'only what fits is counted': ("lines + [f'ok {len(faults)}']", "lines + [f'ok {len(lines)}']"),
+}
+# these are the salvage's: noticed beside the right model on heaps to rescue
+IN_THE_SALVAGE = {
+    'ends that forget T': ('rest.append((masked(lsn), slot, masked(lsn) + trailer_offset))', 'rest.append((masked(lsn), slot, masked(lsn)))'),
+    'the end of the last taken, kept or not': ("""            else:
+                report.append(Loss(slot, 14))
+""", """            else:
+                report.append(Loss(slot, 14))
+                end_of_last_kept = end
+"""),
+    'one at the end of the last kept is kept': ('if start > end_of_last_kept:', 'if start >= end_of_last_kept:'),
+    'equal ones by descending slot': ('in sorted(rest):', 'in sorted(rest, key=lambda taken: (taken[0], -taken[1])):'),
+    'taken by slot': ('in sorted(rest):', 'in rest:'),
+    'taken by lsn with the batch bit': ('rest.append((masked(lsn), slot, masked(lsn) + trailer_offset))', 'rest.append((lsn, slot, lsn + trailer_offset))'),
+    'equal ones by their ends': ('in sorted(rest):', 'in sorted(rest, key=lambda taken: (taken[0], taken[2])):'),
+    '14 ascending by slot': ('        for loss in report:\n', '        report.sort(key=lambda loss: (loss.number == 14, loss.slot))\n        for loss in report:\n'),
+    'all ascending by slot': ('        for loss in report:\n', '        report.sort()\n        for loss in report:\n'),
+    'the second kind first': ('                report.append(Loss(slot, 14))\n', '                report.insert(0, Loss(slot, 14))\n'),
+    'a slot of the first kind still in the way': ("""                report.append(Loss(slot, first.number))
+                continue
+""", """                report.append(Loss(slot, first.number))
+                if first.number != 15:
+                    continue
+                at = slot * self.given.slot_bytes
+                lsn, trailer_offset, *_ = label_numbers(bytes(self.heap[at:at + LABEL]))
+                rest.append((masked(lsn), slot, masked(lsn) + trailer_offset))
+                continue
+"""),
+    'the whole label emptied': ('self.heap[loss.slot * self.given.slot_bytes] = 0\n        return report',
+                                'at = loss.slot * self.given.slot_bytes\n            self.heap[at:at + LABEL] = bytes(LABEL)\n        return report'),
+    'only what a list of eight takes is emptied': ('        for loss in report:\n', '        for loss in report[:8]:\n'),
+    'claims released': ('        return report\n\n    # -- table calls', '        self.claims = 0\n        return report\n\n    # -- table calls'),
+    'the last slot left out': ("""        report, rest = [], []
+        for slot in range(self.slots()):""", """        report, rest = [], []
+        for slot in range(min(self.slots(), 255)):"""),
 }
 # masked ranges are disjoint in the oracle's domain and every location is in a file, so both lookups find the same file there: this one is
 # noticed beside the right model on arbitrary states
@@ -95,7 +133,7 @@ def main():
     slips = [(*slip, ['--seed', '56', '--small', '--count', '300']) for slip in SLIPS.items()]
     if not options.stored:  # no scenario at the limits is stored
         slips += [(name, slip[:2], ['--seed', '56', '--limit', slip[2], '--count', '0']) for name, slip in AT_A_LIMIT.items()]
-    slips += [(*slip, None) for slip in IN_THE_CHECKER.items()]
+    slips += [(*slip, None) for slip in [*IN_THE_CHECKER.items(), *IN_THE_SALVAGE.items()]]
     began, missed = time.time(), []
     with open(os.path.join(HERE, 'model.py')) as file:
         model = file.read()
@@ -109,6 +147,8 @@ def main():
                 out.write(model.replace(right, slip))
             if name in IN_THE_CHECKER:
                 found = noticed(HERE, 'damaged.py', ['--console', os.path.join(copy, 'model.py')])
+            elif name in IN_THE_SALVAGE:
+                found = noticed(HERE, 'salvaged.py', ['--console', os.path.join(copy, 'model.py')])
             elif name in ON_ARBITRARY_STATES:
                 found = noticed(HERE, 'hostile.py', ['--console', os.path.join(copy, 'model.py')] + ON_ARBITRARY_STATES[name])
             else:

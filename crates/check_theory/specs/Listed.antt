@@ -126,7 +126,7 @@ never true n = absurd (n refl)
 never false n = refl
 
 -- a damaged slot is one of the slots
-damaged-lt : (views : List View) (k : ℕ) (r : Refusal) → viewAt views k ≡ damaged r → k < length views
+pub damaged-lt : (views : List View) (k : ℕ) (r : Refusal) → viewAt views k ≡ damaged r → k < length views
 damaged-lt [] k r h = absurd (let z : _≡_ {A = ℕ} 0 1 = cc in omega arith)
 damaged-lt (v ∷ vs) zero r h = omega arith
 damaged-lt (v ∷ vs) (suc k) r h = let w = damaged-lt vs k r h in omega arith

@@ -42,14 +42,16 @@ given-such P [] r a e = absurd (let z : _≡_ {A = ℕ} 0 1 = cc in omega arith)
 given-such P (true gives q ∷ ts) r a e = let same : q ≡ r = cc in subst P same (a .0)
 given-such P (false gives q ∷ ts) r a e = given-such P ts r (a .1) e
 
--- constructors
-damaged-inj : {q r : Refusal} → damaged q ≡ damaged r → q ≡ r
+-- a view's damage is one number
+pub damaged-inj : {q r : Refusal} → damaged q ≡ damaged r → q ≡ r
 damaged-inj h = cc
 
-empty-not : {r : Refusal} → empty ≡ damaged r → ⊥
+-- an empty slot shows no damage
+pub empty-not : {r : Refusal} → empty ≡ damaged r → ⊥
 empty-not h = let z : _≡_ {A = ℕ} 0 1 = cc in omega arith
 
-holds-not : {f : File} {r : Refusal} → holds f ≡ damaged r → ⊥
+-- nor does one with a file
+pub holds-not : {f : File} {r : Refusal} → holds f ≡ damaged r → ⊥
 holds-not h = let z : _≡_ {A = ℕ} 0 1 = cc in omega arith
 
 view-early : (slot : List ℕ) (r : Refusal) → viewIn slot ≡ damaged r → EightToThirteen r

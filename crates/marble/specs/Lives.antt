@@ -1,26 +1,29 @@
 -- The demands of lives of results: whatever the calls gave, as long as their contracts admit it.
 use mathlib.Core.Path.{_≡_, refl, sym, ap, _∙_, subst}
-use Rattle.rules.specs.Base.{List, [], _∷_, map, ℕ}
+use mathlib.Core.List.{append-assoc, append-nil}
+use Rattle.rules.specs.Base.{Bool, true, false, List, [], _∷_, _++_, map, ℕ, length, leb, eqb, pick}
 use Rattle.rules.specs.declared.Answer.the-variants.{Done}
 use Rattle.rules.specs.declared.ReadAnswer.{ReadAnswer}
 use Rattle.rules.specs.Ops.{Op, put, delete}
 use Rattle.rules.specs.Batch.{batchIn, opsOf}
-use Rattle.rules.specs.SettledLaws.{Last, silent, last, lastOn}
+use Rattle.rules.specs.SettledLaws.{Last, silent, last, orEarlier, lastOn, last-append}
 use Rattle.rules.specs.Read.{readOf, partOf}
+use Rattle.rules.specs.Write.{writeCall}
 use Rattle.rules.specs.World.{World, After, answerGiven}
-use Rattle.theory.specs.SoundWorld.{SoundWorld}
-use Rattle.theory.specs.Writing.{engine, heard}
+use Rattle.theory.specs.Writing.{heard}
 use Rattle.theory.specs.Reading.{Reads}
 use Rattle.theory.specs.Reopened.{Opened, reopened-means}
 use Rattle.theory.specs.Quiet.{claim, release}
-use Rattle.theory.specs.History.{Call, write, maintain, prune, reopen, quiet, called, hears, Life, lived, born, Kept}
-use Rattle.theory.specs.Writes.{got, leftBy, write-means}
+use Rattle.theory.specs.History.{Call, write, maintain, prune, reopen, quiet, called, hears, Life, lived, Starts, Kept, sound-kept}
+use Rattle.theory.specs.Clean.{heardAt, resumed, clean-starts}
+use Rattle.theory.specs.Writes.{nothing, got, leftBy, got-last, write-means}
+use Rattle.power_cuts.specs.Runs.{runOf}
 use Rattle.power_cuts.specs.Cuts.{CutAt, Survived, hearsCut, done, happened, livedOn}
 use Rattle.power_cuts.specs.Cuts as cuts
-use Rattle.power_cuts.specs.PowerCut.{sound-history-cut, any-history-cut, power-cut-again}
+use Rattle.power_cuts.specs.PowerCut.{cut-survived, sound-lived-on}
 use Rattle.recovery.specs.declared.Reopened.{Reopened}
 use Rattle.writepath.specs.declared.Written.{Written}
-use Rattle.marble.specs.Results.{Result, wrote, maintained, pruned, claimed, released, reopened, answered, read, counted, checked, left, Admitted, hearing, Event, gave, cut, Happens, next, lives, AllHappen, begun, Lived, reached}
+use Rattle.marble.specs.Results.{Result, wrote, maintained, pruned, claimed, released, reopened, answered, read, counted, checked, left, Admitted, hearing, Event, gave, cut, Happens, next, lives, AllHappen, begun, Lived, reached, since}
 
 -- the bytes that the last operation on an id leaves
 abbrev pub bodyLast : Last → List ℕ
@@ -127,31 +130,76 @@ uncut l (read id part ∷ rs) = uncut l rs
 uncut l (counted r ∷ rs) = uncut l rs
 uncut l (checked before r after ∷ rs) = uncut l rs
 
+-- ---- what is heard is heard behind what was heard before
+batch-behind : (h ops : List Op) (b : Bool) → pick b (h ++ ops) h ≡ h ++ pick b ops []
+batch-behind h ops true = refl
+batch-behind h ops false = sym (append-nil h)
+
+hearing-behind : (h : List Op) (r : Result) → hearing h r ≡ h ++ hearing [] r
+hearing-behind h (wrote batch r heap ids locations) = batch-behind h (opsOf (batchIn batch)) (eqb (answerGiven (r .answer) .number) 0)
+hearing-behind h (maintained r heap ids locations) = sym (append-nil h)
+hearing-behind h (pruned r heap) = sym (append-nil h)
+hearing-behind h (claimed slot r) = sym (append-nil h)
+hearing-behind h (released slot r) = sym (append-nil h)
+hearing-behind h (reopened r ids locations) = sym (append-nil h)
+hearing-behind h (answered id r) = sym (append-nil h)
+hearing-behind h (read id part) = sym (append-nil h)
+hearing-behind h (counted r) = sym (append-nil h)
+hearing-behind h (checked before r after) = sym (append-nil h)
+
+hears-behind : (w : World) (h : List Op) (c : Call) → hears w h c ≡ h ++ hears w [] c
+hears-behind w h (write batch) = batch-behind h (opsOf (batchIn batch)) (eqb (writeCall w batch .answer .number) 0)
+hears-behind w h maintain = sym (append-nil h)
+hears-behind w h prune = sym (append-nil h)
+hears-behind w h reopen = sym (append-nil h)
+hears-behind w h (quiet q) = sym (append-nil h)
+
+cut-behind : (b : Bool) (w : World) (h : List Op) (c : Call) → pick b (hears w h c) h ≡ h ++ pick b (hears w [] c) []
+cut-behind true w h c = hears-behind w h c
+cut-behind false w h c = sym (append-nil h)
+
+-- of the events that follow, where it is so from any history
+abbrev HeardBehind : List Event → Type 0
+HeardBehind es = (w : World) (h : List Op) → lives (record { world = w; history = h }) es .history ≡ h ++ lives (record { world = w; history = [] }) es .history
+
+further : (es : List Event) → HeardBehind es → (w : World) (h all own : List Op) → all ≡ h ++ own
+    → lives (record { world = w; history = all }) es .history ≡ h ++ lives (record { world = w; history = own }) es .history
+further es behind w h all own e =
+    behind w all
+    ∙ ap (λ (l : List Op). l ++ lives (record { world = w; history = [] }) es .history) e
+    ∙ append-assoc h own (lives (record { world = w; history = [] }) es .history)
+    ∙ ap (λ (l : List Op). h ++ l) (sym (behind w own))
+
+lives-behind : (es : List Event) → HeardBehind es
+unfolding lives
+lives-behind [] w h = sym (append-nil h)
+lives-behind (gave r ∷ es) w h = further es (lives-behind es) (left w r) h (hearing h r) (hearing [] r) (hearing-behind h r)
+lives-behind (cut k c v r ids locations ∷ es) w h =
+    further es (lives-behind es) (left v (reopened r ids locations)) h (hearsCut k w h c) (hearsCut k w [] c) (cut-behind (leb (length (runOf w c)) k) w h c)
+
 -- ---- the demands, of every store by its life
 module _ (l : Lived) where
-  born-as : begun (l .start) (l .opening) (l .ids) (l .locations) ≡ born (l .start)
-  born-as = λ i. record { world = l .first i .world; history = [] }
+  resumed-as : begun (l .start) (l .opening) (l .ids) (l .locations) ≡ resumed (l .start)
+  resumed-as = λ i. record { world = l .first i .world; history = heardAt (l .first i .world) }
 
-  as-called : AllAlike (born (l .start)) (l .events) (calls (l .events))
-  as-called = subst (λ (b : Life). AllAlike b (l .events) (calls (l .events))) born-as (alike (begun (l .start) (l .opening) (l .ids) (l .locations)) (l .events) (l .happen))
+  as-called : AllAlike (resumed (l .start)) (l .events) (calls (l .events))
+  as-called = subst (λ (b : Life). AllAlike b (l .events) (calls (l .events))) resumed-as (alike (begun (l .start) (l .opening) (l .ids) (l .locations)) (l .events) (l .happen))
 
-  reached-as : livedOn (born (l .start)) (calls (l .events)) ≡ reached l
-  reached-as = sym (as-called .same) ∙ sym (ap (λ (b : Life). lives b (l .events)) born-as)
+  reached-as : livedOn (resumed (l .start)) (calls (l .events)) ≡ reached l
+  reached-as = sym (as-called .same) ∙ sym (ap (λ (b : Life). lives b (l .events)) resumed-as)
 
   -- of results without a cut: every theorem about a life of calls is one about these
-  pub results-called : (rs : List Result) → l .events ≡ map gave rs → lived (born (l .start)) (callsOf rs) ≡ reached l
-  results-called rs e = sym (uncut (born (l .start)) rs) ∙ ap (λ (es : List Event). livedOn (born (l .start)) (calls es)) (sym e) ∙ reached-as
+  pub results-called : (rs : List Result) → l .events ≡ map gave rs → lived (resumed (l .start)) (callsOf rs) ≡ reached l
+  results-called rs e = sym (uncut (resumed (l .start)) rs) ∙ ap (λ (es : List Event). livedOn (resumed (l .start)) (calls es)) (sym e) ∙ reached-as
 
   -- the invariant holds
-  pub life-sound : SoundWorld (reached l .world) (engine (reached l .history))
-  life-sound =
-      subst (λ (b : Life). SoundWorld (b .world) (engine (b .history))) reached-as
-      (sound-history-cut (l .start) (l .range) (l .blank) (calls (l .events)) (as-called .happen))
+  pub life-sound : Starts (reached l)
+  life-sound = subst Starts reached-as (sound-lived-on (resumed (l .start)) (clean-starts (l .start) (l .clean)) (calls (l .events)) (as-called .happen))
 
-  -- DEMAND 3: reads give the last put of the writes that said `Done` (and of those cut whose run was complete), and a reopening finds the store
+  -- DEMAND 3: reads give the last put of the writes that said `Done` (and of those cut whose run was complete), or what the first reopening's reads gave, and a
+  -- reopening finds the store
   pub life-kept : Kept (reached l .world) (reached l .history)
-  life-kept =
-      subst (λ (b : Life). Kept (b .world) (b .history)) reached-as (any-history-cut (l .start) (l .range) (l .blank) (calls (l .events)) (as-called .happen))
+  life-kept = sound-kept (reached l .world) (reached l .history) life-sound
 
   -- what `read_answer` and `read` give on it
   pub life-answers : (id : ℕ) (a : ReadAnswer) → Admitted (reached l .world) (answered id a) → Reads (reached l .world) a (lastOn (reached l .history) id)
@@ -165,11 +213,25 @@ module _ (l : Lived) where
       go a (last delete) e = ap (λ (b : ReadAnswer). partOf b (reached l .world .heap)) e
       go a (last (put body)) e = e .2
 
+  -- DEMAND 3, in a host's words: an id reads as its last operation heard since the first reopening says; where there was none, as that reopening left it
+  pub life-resumes : (id : ℕ) → got (reached l .world) id ≡ leftBy (lastOn (since l) id) (got (left (l .start) (reopened (l .opening) (l .ids) (l .locations))) id)
+  life-resumes id =
+      got-last (reached l .world) (reached l .history) life-sound id
+      ∙ ap (λ (h : List Op). leftBy (lastOn h id) nothing) (lives-behind (l .events) first (heardAt first))
+      ∙ ap (λ (t : Last). leftBy t nothing) (last-append (heardAt first) (since l) id)
+      ∙ go (lastOn (since l) id)
+    where
+      first : World
+      first = left (l .start) (reopened (l .opening) (l .ids) (l .locations))
+
+      go : (t : Last) → leftBy (orEarlier t (lastOn (heardAt first) id)) nothing ≡ leftBy t (got first id)
+      go silent = sym (got-last first (heardAt first) (subst Starts (sym resumed-as) (clean-starts (l .start) (l .clean))) id)
+      go (last delete) = refl
+      go (last (put body)) = refl
+
   -- P8: a call that is cut leaves every read as before it, or every read as after it
   pub life-survives : (c : Call) (k : ℕ) (v : World) → CutAt k (reached l .world) c v → Survived k (reached l .world) c v
-  life-survives =
-      subst (λ (b : Life). (c : Call) (k : ℕ) (v : World) → CutAt k (b .world) c v → Survived k (b .world) c v) reached-as
-      (power-cut-again (l .start) (l .range) (l .blank) (calls (l .events)) (as-called .happen))
+  life-survives c k v = cut-survived (reached l .world) (reached l .history) life-sound k v c
 
   -- DEMAND 2, write: where the result says `Done`, ids of the batch read as its last operation on them says, and every other as before
   pub life-wrote : (batch : List ℕ) (r : Written) (heap ids locations : List ℕ) → Admitted (reached l .world) (wrote batch r heap ids locations) → r .answer ≡ Done

@@ -1,19 +1,18 @@
 -- A store's life by what its calls gave: each result one that the contract of its call admits (`Contracts`), and power cuts among them.
 use mathlib.Core.Path.{_≡_}
-use Rattle.rules.specs.Base.{false, List, [], _∷_, ℕ, length}
+use Rattle.rules.specs.Base.{List, [], _∷_, ℕ}
 use Rattle.rules.specs.declared.ReadAnswer.{ReadAnswer}
 use Rattle.rules.specs.declared.CountsAnswer.{CountsAnswer}
 use Rattle.rules.specs.Ops.{Op}
-use Rattle.rules.specs.Condition1.{outOfRange}
 use Rattle.rules.specs.Claims.{withClaims, claimCall, releaseCall}
 use Rattle.rules.specs.Counts.{countsCall}
 use Rattle.rules.specs.Read.{readOf, partOf}
 use Rattle.rules.specs.Layout.{table}
 use Rattle.rules.specs.Reopen.{reopenCall}
 use Rattle.rules.specs.World.{World, world, leaving, answerGiven, countsGiven}
-use Rattle.theory.specs.Fresh.{Blank}
 use Rattle.theory.specs.Writing.{heard}
 use Rattle.theory.specs.History.{Call, Life}
+use Rattle.theory.specs.Clean.{Clean, heardAt}
 use Rattle.power_cuts.specs.Cuts.{CutAt, hearsCut}
 use Rattle.recovery.specs.declared.Reopened.{Reopened}
 use Rattle.recovery.specs.Reopening.{leaves}
@@ -113,16 +112,15 @@ unfoldable pub AllHappen : Life → List Event → Type 0
 AllHappen l [] = Unit {0}
 AllHappen l (e ∷ es) = Happens (l .world) e × AllHappen (next l e) es
 
--- what the first reopening gave; nothing was heard yet
+-- "Demand 3 then starts afresh from what that reopening found": heard is, for each mapped id, a put of what its read then gives, or a delete
 abbrev pub begun : World → Reopened → List ℕ → List ℕ → Life
-begun w r ids locations = record { world = left w (reopened r ids locations); history = [] }
+begun w r ids locations = record { world = left w (reopened r ids locations); history = heardAt (left w (reopened r ids locations)) }
 
 -- a store of demand 3, by its life
 pub record Lived : Type 0 where
-  -- what the host begins with: settings and lengths in range, a heap whose slots all begin with byte 0; any state, any claims
+  -- what the host begins with, "only where P5's checker lists nothing" (`Starts`): a heap that is clean for its settings and table; any state, any claims
   pub start : World
-  pub range : outOfRange (start .settings) (length (start .heap)) (start .table) ≡ false
-  pub blank : Blank start
+  pub clean : Clean start
   -- the first reopening
   pub opening : Reopened
   pub ids : List ℕ
@@ -135,3 +133,7 @@ pub record Lived : Type 0 where
 -- the store that is left, and what the engine has heard
 abbrev pub reached : Lived → Life
 reached l = lives (begun (l .start) (l .opening) (l .ids) (l .locations)) (l .events)
+
+-- what of it was heard since the first reopening
+abbrev pub since : Lived → List Op
+since l = lives (record { world = begun (l .start) (l .opening) (l .ids) (l .locations) .world; history = [] }) (l .events) .history
