@@ -444,7 +444,7 @@ class Store:
             last[ident] = relative // 2
         return False
 
-    # -- check (document 02, P5)
+    # -- check (document 02, request P5)
 
     def check(self):
         """everything wrong with the heap, by labels and trailers alone; of the table only the length matters"""

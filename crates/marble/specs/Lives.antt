@@ -165,7 +165,7 @@ module _ (l : Lived) where
       go a (last delete) e = ap (λ (b : ReadAnswer). partOf b (reached l .world .heap)) e
       go a (last (put body)) e = e .2
 
-  -- P8: a call that is cut leaves every read as before it, or every read as after it
+  -- request P8: a call that is cut leaves every read as before it, or every read as after it
   pub life-survives : (c : Call) (k : ℕ) (v : World) → CutAt k (reached l .world) c v → Survived k (reached l .world) c v
   life-survives =
       subst (λ (b : Life). (c : Call) (k : ℕ) (v : World) → CutAt k (b .world) c v → Survived k (b .world) c v) reached-as
