@@ -1,8 +1,8 @@
 // Write (`src/writepath.rs`): the whole batch is decided first; nothing is stored before.
 
-pub mod plan;
+pub mod decision;
 
-use plan::Plan;
+use decision::Decision;
 use rules::Answer;
 use rules::Label;
 use rules::Settings;
@@ -92,16 +92,16 @@ pub fn write(
 ) -> Written
     ensures { λ r. ⌜ ((c : Claims) → leaving (answerGiven (r .answer)) (world settings (r .state) c (now (heap .exit)) (table (now (ids .exit)) (now (locations .exit)))) ≡ writeCall (world settings state c (now (heap .entry)) (table (now (ids .entry)) (now (locations .entry)))) (now (batch .entry))) ⌝ }
 {
-    match plan::decided(settings, state, heap, ids, locations, batch) {
-        Plan::Refused(r) => Written {
+    match decision::decided(settings, state, heap, ids, locations, batch) {
+        Decision::Refused(r) => Written {
             answer: Answer::Refused(r),
             state: state,
         },
-        Plan::Nothing => Written {
+        Decision::Nothing => Written {
             answer: Answer::Done,
             state: state,
         },
-        Plan::File(slot, count, total) => {
+        Decision::File(slot, count, total) => {
             let after = add_file(
                 settings,
                 state,
