@@ -17,7 +17,7 @@
        if (marble_version() != MARBLE_VERSION)
            return 1;                          // the archive is another than this header's
        if (marble_reopen(s, &state, &claims, heap, sizeof heap, ids, 256, locations, 256) != MARBLE_OK)
-           return 2;                          // do not write now: rescue the heap first
+           return 2;                          // do not write now: four steps below
        if (!marble_batch_put(batch, sizeof batch, &len, 7, "hello", 5) || !marble_batch_delete(batch, sizeof batch, &len, 9))
            return 3;                          // the batch is full
        if (marble_write(s, &state, heap, sizeof heap, ids, 256, locations, 256, batch, len) != MARBLE_OK)
@@ -41,7 +41,9 @@
    - Give every call the settings and lengths of the accepted reopening. Others are refused with 1.
    - After power comes back, heap alone is enough: zero the rest and reopen.
    - A reopening refused with any number but 1 leaves an empty store that a write would use, from slot 0 on, over files that are
-     still in the heap. Do not write before an accepted reopening: copy the heap away first. marble_check lists what is wrong with it.
+     still in the heap. Do not write before an accepted reopening. Four steps: copy the heap away; see by marble_check what is wrong
+     with it; marble_salvage, on the copy, gives up the slots that make it refuse, and names them; reopen the copy. After that a
+     reopening is accepted, or refused with 6: then lend a larger table, and still do not write.
 
    When power fails. Promised, and proved of the rules (request P8 of document 02: docs/requests/P8.md): power gone after any number of the
    single-byte stores of any call, a reopening with the same settings and table length is accepted and gives every read as before the
@@ -65,7 +67,7 @@ extern "C" {
 
 /* ---- version: the header's. marble_version() is the archive's; a host stops where they differ. A new major number: a host must change. */
 #define MARBLE_VERSION_MAJOR 1
-#define MARBLE_VERSION_MINOR 1
+#define MARBLE_VERSION_MINOR 2
 #define MARBLE_VERSION (MARBLE_VERSION_MAJOR * 1000 + MARBLE_VERSION_MINOR)
 
 /* ---- limits: the column "Range" */
@@ -116,6 +118,7 @@ extern "C" {
 #define MARBLE_STACK_MAINTAIN 589824
 #define MARBLE_STACK_COUNTS 25600
 #define MARBLE_STACK_CHECK 32768
+#define MARBLE_STACK_SALVAGE 8192
 #define MARBLE_STACK_TABLE 128 /* each of the four table calls */
 
 /* ---- answers: success, and the refusal numbers */
@@ -201,6 +204,12 @@ typedef struct marble_fault {
     uint64_t position;
 } marble_fault;
 
+/* A line of a salvage's report: a slot that it gave up, and the number of the refusal that it gave it up for. */
+typedef struct marble_loss {
+    uint64_t slot;
+    uint64_t number;
+} marble_loss;
+
 /* ---- the archive's sizes, held against the host's compiler */
 #if defined(__cplusplus)
 #define MARBLE_HOLDS(name, what) static_assert(what, #name)
@@ -218,6 +227,7 @@ MARBLE_HOLDS(next_position_last, offsetof(marble_state, next_position) == 12352)
 MARBLE_HOLDS(claims_of_four_words, sizeof(marble_claims) == 32);
 MARBLE_HOLDS(totals_of_four_words, sizeof(marble_totals) == 32);
 MARBLE_HOLDS(fault_of_four_words, sizeof(marble_fault) == 32);
+MARBLE_HOLDS(loss_of_two_words, sizeof(marble_loss) == 16);
 #undef MARBLE_HOLDS
 
 /* MARBLE_VERSION of the archive. */
@@ -287,6 +297,20 @@ MARBLE_MUST_USE static inline uint64_t marble_check_lines(marble_settings settin
                                                           size_t locations_len, marble_fault *lines, size_t room, uint64_t *faults) {
     return marble_check(settings, heap, heap_len, ids, ids_len, locations, locations_len, (uint64_t *)lines, 4 * room, faults);
 }
+
+/* ---- the rescue of a damaged heap. It is lent what the checker is, the heap to be changed; no state, no claims. */
+/* "Salvage": the slots that make a reopening refuse are emptied. First every slot that fails 8, 9, 10, 11, 12, 13 or 15 by itself, ascending
+   by slot, with the first of these numbers; then, with 14, of the files left, taken by ascending position without the batch bit and equal
+   ones by ascending slot, each that does not begin above the end (that position + trailer_offset) of the last one kept. A slot is emptied
+   by setting the first byte of its label to 0; no other byte of the heap changes. report has room for every slot: a line for each emptied
+   one, in the order emptied; what no line needs stays as it was. lost is how many lines there are, 0 where a reopening accepts the
+   heap. After it a reopening is accepted, or refused with 6: then lend a larger table, and do not write.
+   State, claims and table that the host has still name the emptied slots: nothing but a reopening makes sense now.
+   Hazard: as soon as one slot is given up, any id may read as an older version than it had, and a delete may be undone.
+   1 only, as of a reopening; refused: heap and report stay, lost 0. */
+MARBLE_MUST_USE uint64_t marble_salvage(marble_settings settings, uint8_t *heap, size_t heap_len, const uint64_t *ids, size_t ids_len,
+                                        const uint64_t *locations, size_t locations_len, marble_loss report[MARBLE_SLOTS_MAX],
+                                        uint64_t *lost);
 
 /* ---- the table alone: raw locations by id. A held location is never 0. Order: 1, 20 (a given raw 0), 18, 19, 6. */
 /* "Load": the location, or 0 for an unmapped id. 1; refused: location 0 too, so look at the number. */

@@ -47,6 +47,7 @@ uint64_t maintain(void);
 uint64_t counts(void);
 /* a listing of so many words */
 uint64_t check(size_t words);
+uint64_t salvage(void);
 uint64_t load(uint64_t id);
 uint64_t store_at(uint64_t id, uint64_t location);
 uint64_t compare_and_store(uint64_t id, uint64_t old, uint64_t location);
@@ -56,6 +57,8 @@ extern uint64_t out[2];
 extern marble_totals totals;
 /* the lines of the last check */
 extern const marble_fault *listed;
+/* the lines of the last salvage */
+extern const marble_loss *given_up;
 
 /* put of len bytes, all of them b; delete */
 uint64_t put(uint64_t id, size_t len, uint8_t b);
@@ -100,3 +103,4 @@ void life(void);
 void maintenance(void);
 void refusals(void);
 void faults(void);
+void rescue(void);

@@ -26,6 +26,7 @@ GUARDED(claims_area, sizeof(marble_claims));
 GUARDED(out_area, 3 * GUARD);
 GUARDED(totals_area, sizeof(marble_totals));
 GUARDED(listing_area, 8 * LISTING_MOST);
+GUARDED(report_area, MARBLE_SLOTS_MAX * sizeof(marble_loss));
 /* what stood there before a call */
 static uint8_t heap_was[HEAP_MOST], ids_was[8 * TABLE_MOST], locations_was[8 * TABLE_MOST], state_was[sizeof(marble_state)], claims_was[sizeof(marble_claims)];
 
@@ -35,11 +36,13 @@ static size_t heap_room, table_room;
 uint64_t out[2];
 marble_totals totals;
 const marble_fault *listed = (const marble_fault *)(listing_area + GUARD);
+const marble_loss *given_up = (const marble_loss *)(report_area + GUARD);
 #define BATCH (batch_area + GUARD)
 /* the two out-parameters, with guards between them too */
 #define OUT(k) ((uint64_t *)(out_area + GUARD + (k) * (8 + GUARD)))
 #define TOTALS ((marble_totals *)(totals_area + GUARD))
 #define LISTING ((uint64_t *)(listing_area + GUARD))
+#define REPORT ((marble_loss *)(report_area + GUARD))
 
 static void paint(uint8_t *area, size_t len, size_t whole) {
     memset(area, PAINT, GUARD);
@@ -91,12 +94,12 @@ marble_settings small(uint64_t slot_bytes) {
 
 /* ---- stack: painted before each call, looked at behind it */
 #define DEPTH (4096 * 1024)
-enum { REOPEN, WRITE, READ, CLAIM, RELEASE, PRUNE, MAINTAIN, COUNTS, CHECK, LOAD, STORE, COMPARE, GREATER, CALLS };
-static const char *const names[CALLS] = {"reopen", "write", "read", "claim", "release", "prune", "maintain", "counts", "check", "load", "store", "compare_and_store", "store_if_greater"};
+enum { REOPEN, WRITE, READ, CLAIM, RELEASE, PRUNE, MAINTAIN, COUNTS, CHECK, SALVAGE, LOAD, STORE, COMPARE, GREATER, CALLS };
+static const char *const names[CALLS] = {"reopen", "write", "read", "claim", "release", "prune", "maintain", "counts", "check", "salvage", "load", "store", "compare_and_store", "store_if_greater"};
 /* a call that needs more than the header says fails here */
 static const size_t allowed[CALLS] = {
     MARBLE_STACK_REOPEN, MARBLE_STACK_WRITE,  MARBLE_STACK_READ,  MARBLE_STACK_CLAIM, MARBLE_STACK_RELEASE, MARBLE_STACK_PRUNE, MARBLE_STACK_MAINTAIN,
-    MARBLE_STACK_COUNTS, MARBLE_STACK_CHECK,  MARBLE_STACK_TABLE, MARBLE_STACK_TABLE, MARBLE_STACK_TABLE,   MARBLE_STACK_TABLE,
+    MARBLE_STACK_COUNTS, MARBLE_STACK_CHECK,  MARBLE_STACK_SALVAGE, MARBLE_STACK_TABLE, MARBLE_STACK_TABLE, MARBLE_STACK_TABLE, MARBLE_STACK_TABLE,
 };
 static size_t used[CALLS];
 
@@ -104,7 +107,7 @@ static size_t used[CALLS];
    and out is a loop over words that is no copy of this kind. docs/ARCHITECTURE.md, "Stack and copies", says what each is for; maintenance.c has maintenance's by groups and files. */
 /* 256 labels, five numbers each: a file map is longer */
 #define LABELS_BYTES (256 * 5 * sizeof(uint64_t))
-static const size_t copies_allowed[CALLS] = {6, 5, 0, 0, 0, 1, 25, 1, 259, 0, 0, 0, 0};
+static const size_t copies_allowed[CALLS] = {6, 5, 0, 0, 0, 1, 25, 1, 259, 0, 0, 0, 0, 0};
 static size_t copies, copied[CALLS], last_copied;
 
 void *memcpy(void *to, const void *from, size_t len) {
@@ -285,6 +288,21 @@ uint64_t check(size_t words) {
     behind(CHECK, ALL);
     if (n != MARBLE_OK) expect("refused check: no faults", out[0], 0);
     guard("check", "the lines", listing_area, 32 * (out[0] < lines ? out[0] : lines), sizeof listing_area);
+    return n;
+}
+
+/* of the heap only the first label byte of the slots told changes, to 0 */
+uint64_t salvage(void) {
+    memset(report_area, PAINT, sizeof report_area);
+    before();
+    stack_below(SALVAGE, 1);
+    uint64_t n = marble_salvage(w.s, w.heap, w.heap_len, w.ids, w.ids_len, w.locations, w.locations_len, REPORT, OUT(0));
+    stack_below(SALVAGE, 0);
+    behind(SALVAGE, TABLE | STATE | CLAIMS);
+    if (n != MARBLE_OK) expect("refused salvage: nothing given up", out[0], 0);
+    guard("salvage", "the lines", report_area, sizeof(marble_loss) * (size_t)out[0], sizeof report_area);
+    for (uint64_t k = 0; k < out[0]; k++) heap_was[given_up[k].slot * w.s.slot_bytes] = 0;
+    same("salvage", "another byte of the heap", heap_area + GUARD, heap_was, heap_room);
     return n;
 }
 

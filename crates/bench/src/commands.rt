@@ -124,8 +124,16 @@ fn shown(look: Look, b: Bench, line: &[u8], heap: &[u8], ids: &[u64], locations:
     }
 }
 
-// `id`: the first number of the order, the id that was read.
-fn written(turn: Turn, id: u64, line: &[u8], heap: &[u8], ids: &[u64], locations: &[u64]) {
+// `id`: the first number of the order, the id that was read. `report`: a salvage's lines.
+fn written(
+    turn: Turn,
+    id: u64,
+    line: &[u8],
+    heap: &[u8],
+    ids: &[u64],
+    locations: &[u64],
+    report: &[u64],
+) {
     let b = turn.bench;
     let reply = turn.reply;
     match reply {
@@ -137,8 +145,16 @@ fn written(turn: Turn, id: u64, line: &[u8], heap: &[u8], ids: &[u64], locations
         Reply::Loaded(answer) => loaded(answer),
         Reply::Compared(answer) => compared(answer),
         Reply::Raised(answer) => raised(answer),
+        Reply::Salvaged(answer) => show::salvaged(answer, report),
         Reply::Shown(look) => shown(look, b, line, heap, ids, locations),
     }
+}
+
+// 256 lines.
+fn report_words() -> [u64; 512]
+    ensures { λ r. ⌜ 512 ≡ length r ⌝ }
+{
+    [0u64; 512]
 }
 
 // A line's command is done, and its reply written.
@@ -157,6 +173,7 @@ pub fn after_line(
     let count = order.length;
     let keyword = order.keyword;
     let numbers = order.numbers;
+    let mut report = report_words();
     let turn = desk::after_order(
         b,
         keyword,
@@ -165,7 +182,8 @@ pub fn after_line(
         heap,
         ids,
         locations,
+        &mut report,
     );
-    written(turn, numbers[0], line, heap, ids, locations);
+    written(turn, numbers[0], line, heap, ids, locations, &report);
     turn.bench
 }

@@ -1,7 +1,8 @@
-// Looking: the listing, everything, what is wrong with the heap, its bytes.
+// Looking: the listing, everything, what is wrong with the heap, what a salvage gave up, bytes.
 use crate::say;
 use desk::Bench;
 use marble::CheckAnswer;
+use marble::SalvageAnswer;
 use rules::Claims;
 use rules::FileMap;
 use rules::RECORDS;
@@ -185,6 +186,38 @@ fn listing_words() -> [u64; 16384]
 pub fn check(b: Bench, heap: &[u8], ids: &[u64], locations: &[u64], room: u64) {
     let mut words = listing_words();
     check_into(b, heap, ids, locations, room, &mut words);
+}
+
+// "gave SLOT NUMBER"
+fn loss_line(slot: u64, refusal: u64) {
+    say::text(b"gave");
+    say::number(slot);
+    say::number(refusal);
+    say::end();
+}
+
+// Two words to a line.
+fn loss_lines(report: &[u64]) {
+    let mut at: usize = 0;
+    while 2 <= report.len() - at {
+        loss_line(report[at], report[at + 1]);
+        at += 2;
+    }
+}
+
+// Each line, then how many there are.
+fn losses(count: u64, report: &[u64]) {
+    let lines = desk::least(count as usize, report.len() / 2);
+    let end = lines * 2;
+    loss_lines(&report[0..end]);
+    say::named(b"ok", count);
+}
+
+pub fn salvaged(answer: SalvageAnswer, report: &[u64]) {
+    match answer {
+        SalvageAnswer::GivenUp(count) => losses(count, report),
+        SalvageAnswer::SalvageRefused(r) => say::refused(r),
+    }
 }
 
 // The command has seen that they are there.

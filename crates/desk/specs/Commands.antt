@@ -1,7 +1,7 @@
 -- What each command of the console does.
-use Rattle.rules.specs.Base.{_||_, List, ℕ, _+_, length, getD, set, replicate, leb, ltb, pick}
+use Rattle.rules.specs.Base.{_||_, List, [], ℕ, _+_, length, getD, set, replicate, leb, ltb, eqb, pick}
 use Rattle.rules.specs.FileMap.{recorded}
-use Rattle.rules.specs.Layout.{Buffers}
+use Rattle.rules.specs.Layout.{Buffers, table}
 use Rattle.rules.specs.Settings.{defaults}
 use Rattle.rules.specs.Claims.{noClaims, claimCall, releaseCall}
 use Rattle.rules.specs.Counts.{countsCall}
@@ -10,13 +10,15 @@ use Rattle.rules.specs.Prune.{pruneCall}
 use Rattle.rules.specs.Read.{readCall}
 use Rattle.rules.specs.Reopen.{reopenCall}
 use Rattle.rules.specs.TableCalls.{loadCall, storeCall, compareCall, greaterCall}
-use Rattle.rules.specs.World.{World, noState}
+use Rattle.rules.specs.World.{World, Given, noState}
 use Rattle.rules.specs.Write.{writeCall}
 use Rattle.file_map.specs.Records.{labelled}
 use Rattle.numbers.specs.Parts.{putAt}
+use Rattle.salvage.specs.Salvage.{Salvaged, salvageCall}
 use Rattle.script.specs.declared.Keyword.the-variants as key
 use Rattle.desk.specs.Types.{Settings, Record, State, Claims, Keyword, Bench, Comment, Help, Listing, Dump, Check, Bytes, BadLine, Shown, Turn}
-use Rattle.desk.specs.Desk.{Desk, desk, plain, found, moved, counted, located, compared, raised, Outcome, left, replied, done, badLine, looked, changed, called, onTable, onLent}
+use Rattle.desk.specs.Kinds.{number}
+use Rattle.desk.specs.Desk.{Desk, desk, plain, found, moved, counted, located, compared, raised, emptied, gave, Outcome, left, replied, done, badLine, looked, changed, called, onTable, lentOf, onLent}
 
 -- number k of a line
 abbrev pub nth : List ℕ → ℕ → ℕ
@@ -105,8 +107,25 @@ checkBy room b = pick (ltb 4096 room) (replied BadLine b) (replied (Shown (Check
 abbrev pub bytesBy : ℕ → ℕ → Desk → Outcome
 bytesBy at count d = pick (ltb 65536 count || ltb (length (d .heap)) (at + count)) (badLine d) (looked (Bytes at count) d)
 
+-- ---- salvage
+-- the call on a desk, with a report lent to it
+abbrev pub salvageOn : Desk → List ℕ → Salvaged
+salvageOn d report = salvageCall (d .bench .settings) (d .heap) (table (d .ids) (d .locations)) report
+
+-- the heap changes, and nothing else on the desk
+abbrev pub rescued : Desk → Given → List ℕ → Outcome
+rescued d answer heap = record { reply = gave emptied answer; desk = desk (d .bench) heap (d .ids) (d .locations) }
+
+-- `salvage`: neither answer nor heap goes by what stood in the report
+abbrev pub salvageBy : Desk → Outcome
+salvageBy d = rescued d (salvageOn d [] .answer) (salvageOn d [] .heap)
+
+-- the report after a command: a salvage of the lent parts writes its lines, any other command leaves it
+abbrev pub reportBy : Keyword → Desk → List ℕ → List ℕ
+reportBy k d report = pick (eqb (number k) (number key.Salvage)) (salvageOn (lentOf d) report .report) report
+
 -- ---- the commands: a keyword, its numbers and bytes
--- those on the lent parts
+-- those on the lent parts that write no report
 unfoldable pub lentBy : Keyword → List ℕ → List ℕ → Desk → Outcome
 lentBy key.Poke n bytes d = pokeBy (nth n 0) bytes d
 lentBy key.Entry n bytes d = entryBy (nth n 0) (nth n 1) (nth n 2) d
@@ -132,6 +151,7 @@ lentBy key.State n bytes d = badLine d
 lentBy key.Record n bytes d = badLine d
 lentBy key.Claims n bytes d = badLine d
 lentBy key.Check n bytes d = badLine d
+lentBy key.Salvage n bytes d = badLine d
 lentBy key.List n bytes d = badLine d
 lentBy key.Dump n bytes d = badLine d
 lentBy key.Help n bytes d = badLine d
@@ -147,6 +167,7 @@ doneBy key.Claims n bytes d = left (done (withClaims (d .bench) (claimsFrom n)))
 doneBy key.Heap n bytes d = heapBy (nth n 0) d
 doneBy key.Table n bytes d = tableBy (nth n 0) (nth n 1) d
 doneBy key.Check n bytes d = left (checkBy (nth n 0) (d .bench)) (d .heap) (d .ids) (d .locations)
+doneBy key.Salvage n bytes d = onLent salvageBy d
 doneBy key.List n bytes d = looked Listing d
 doneBy key.Dump n bytes d = looked Dump d
 doneBy key.Help n bytes d = looked Help d

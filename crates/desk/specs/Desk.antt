@@ -3,7 +3,8 @@ use Rattle.rules.specs.Base.{List, [], _++_, ℕ, take, drop}
 use Rattle.rules.specs.Layout.{Buffers, table}
 use Rattle.rules.specs.TableCalls.{TableAfter}
 use Rattle.rules.specs.World.{World, world, Given, accepted, answerGiven, readGiven, maintainGiven, countsGiven, loadGiven, compareGiven, After}
-use Rattle.desk.specs.Types.{Done, Bench, Look, Reply, BadLine, Answered, Read, Maintained, Counted, Loaded, Compared, Raised, Shown, Turn}
+use Rattle.salvage.specs.Answers.{salvageGiven}
+use Rattle.desk.specs.Types.{Done, Bench, Look, Reply, BadLine, Answered, Read, Maintained, Counted, Loaded, Compared, Raised, Salvaged, Shown, Turn}
 
 -- settings, state, claims and how much of each buffer is lent; the three buffers, whole
 pub record Desk : Type 0 where
@@ -17,7 +18,8 @@ abbrev pub desk : Bench → List ℕ → List ℕ → List ℕ → Desk
 desk bench heap ids locations = record { bench = bench; heap = heap; ids = ids; locations = locations }
 
 -- ---- replies
--- in which words an answer is written: `ok`; a body; a count of ids; four counts; a location; the one that differs; the one held before
+-- in which words an answer is written: `ok`; a body; a count of ids; four counts; a location; the one that differs; the one held before; a
+-- count of slots given up
 pub data Words : Type 0 where
   plain : Words
   found : Words
@@ -26,6 +28,7 @@ pub data Words : Type 0 where
   located : Words
   compared : Words
   raised : Words
+  emptied : Words
 
 -- `bad line`; the paper's number and values; lines to look at
 pub data Said : Type 0 where
@@ -43,6 +46,7 @@ said (Counted a) = gave counted (countsGiven a)
 said (Loaded a) = gave located (loadGiven a)
 said (Compared a) = gave compared (compareGiven a)
 said (Raised a) = gave raised (loadGiven a)
+said (Salvaged a) = gave emptied (salvageGiven a)
 said (Shown look) = shows look
 
 -- a command's reply, and the desk after it

@@ -24,10 +24,11 @@ use Rattle.theory.specs.Quiet.{claim, release}
 use Rattle.theory.specs.History.{called as calling}
 use Rattle.theory.specs.Writes.{refused-unchanged}
 use Rattle.theory.specs.Writes.{Plain as PlainCall}
+use Rattle.salvage.specs.Salvage.{Salvaged, salvageCall}
 use Rattle.script.specs.declared.Keyword.the-variants as key
 use Rattle.desk.specs.Types.{Refusal, Limits, Answer, Done, Refused, Keyword, Bench, Check, Bytes, BadLine, Shown}
-use Rattle.desk.specs.Desk.{Desk, desk, Words, plain, found, moved, counted, located, compared, raised, Said, bad-line, gave, shows, Outcome, left, replied, done, badLine, looked, changed, worldOf, deskOf, answered, called, onTable, lentOf, putBack, onLent}
-use Rattle.desk.specs.Commands.{nth, recordFrom, withState, withRecord, lendingHeap, lendingTable, heapBy, tableBy, pokeBy, entryBy, checkBy, bytesBy, lentBy, doneBy}
+use Rattle.desk.specs.Desk.{Desk, desk, Words, plain, found, moved, counted, located, compared, raised, emptied, Said, bad-line, gave, shows, Outcome, left, replied, done, badLine, looked, changed, worldOf, deskOf, answered, called, onTable, lentOf, putBack, onLent}
+use Rattle.desk.specs.Commands.{nth, recordFrom, withState, withRecord, lendingHeap, lendingTable, heapBy, tableBy, pokeBy, entryBy, checkBy, bytesBy, salvageBy, lentBy, doneBy}
 
 -- `bad line`, or a refusal's number
 abbrev pub failing : Said → Bool
@@ -56,6 +57,7 @@ Kept key.Read = Unit {0}
 Kept key.Maintain = ⊥
 Kept key.Counts = Unit {0}
 Kept key.Check = Unit {0}
+Kept key.Salvage = Unit {0}
 Kept key.Load = Unit {0}
 Kept key.Store = Unit {0}
 Kept key.Cas = Unit {0}
@@ -110,6 +112,20 @@ bytes-unchanged at count d = go (ltb 65536 count || ltb (length (d .heap)) (at +
     go : (t : Bool) → pick t (badLine d) (looked (Bytes at count) d) .desk ≡ d
     go true = refl
     go false = refl
+
+-- ---- salvage
+-- a refused one leaves the heap
+salvage-kept : (d : Desk) → failing (salvageBy d .reply) ≡ true → salvageBy d .desk ≡ d
+unfolding salvageCall
+salvage-kept d h = go (decide (outOfRange (d .bench .settings) (length (d .heap)) (worldOf d .table) gives Limits ∷ [])) _ refl h
+  where
+    gone : Refusal → Salvaged
+    gone r = record { answer = refused r; report = []; heap = d .heap }
+
+    go : (a : Answer) (x : Salvaged) → x .answer .number ≡ 0 → not (eqb (after a gone x .answer .number) 0) ≡ true
+        → desk (d .bench) (after a gone x .heap) (d .ids) (d .locations) ≡ d
+    go Done x z h = absurd (false≢true (sym (ap (λ (k : ℕ). not (eqb k 0)) z) ∙ h))
+    go (Refused r) x z h = refl
 
 -- ---- the lent parts
 -- parts that come back as they were lent are the buffers as they were
@@ -213,6 +229,7 @@ failed-unchanged key.Max p n bytes d h =
     back-same d (lentBy key.Max n bytes (lentOf d))
     (on-table raised (λ (t : Buffers). greaterCall t (nth n 0) (nth n 1)) (lentOf d) (greater-kept (worldOf (lentOf d) .table) (nth n 0) (nth n 1) h))
 failed-unchanged key.Check p n bytes d h = check-unchanged (nth n 0) d
+failed-unchanged key.Salvage p n bytes d h = back-same d (salvageBy (lentOf d)) (salvage-kept (lentOf d) h)
 failed-unchanged key.List p n bytes d h = refl
 failed-unchanged key.Dump p n bytes d h = refl
 failed-unchanged key.Help p n bytes d h = refl

@@ -17,6 +17,7 @@ ghost use Rattle.rules.specs.TableCalls.{loadCall, storeCall, compareCall, grea
 ghost use Rattle.rules.specs.World.{World};
 ghost use Rattle.rules.specs.Layout.{Buffers};
 ghost use Rattle.rules.specs.Write.{writeCall};
+ghost use Rattle.desk.specs.Commands.{salvageOn, salvageBy};
 ghost use Rattle.desk.specs.Desk.{desk, left, plain, found, moved, counted, located, compared, raised, called, onTable};
 
 pub fn reopen(b: Bench, heap: &[u8], ids: &mut [u64], locations: &mut [u64]) -> Turn
@@ -92,6 +93,30 @@ pub fn counts(b: Bench, heap: &[u8], ids: &[u64], locations: &[u64]) -> Turn
     let answer = marble::counts(b.settings, b.state, heap, ids, locations);
     Turn {
         reply: Reply::Counted(answer),
+        bench: b,
+    }
+}
+
+// Two words to a line of the report: slot, number.
+pub fn salvage(
+    b: Bench,
+    heap: &mut [u8],
+    ids: &[u64],
+    locations: &[u64],
+    report: &mut [u64; 512],
+) -> Turn
+    ensures leaves { λ r. ⌜
+        left r (now (heap .exit)) (now (ids .entry)) (now (locations .entry))
+        ≡ salvageBy (desk b (now (heap .entry)) (now (ids .entry)) (now (locations .entry)))
+        ⌝ }
+    ensures reports { λ _. ⌜
+        now (report .exit)
+        ≡ salvageOn (desk b (now (heap .entry)) (now (ids .entry)) (now (locations .entry))) (now (report .entry)) .report
+        ⌝ }
+{
+    let answer = marble::salvage(b.settings, heap, ids, locations, report);
+    Turn {
+        reply: Reply::Salvaged(answer),
         bench: b,
     }
 }

@@ -14,6 +14,7 @@ use rules::MaintainAnswer;
 use rules::ReadAnswer;
 use rules::Settings;
 use rules::State;
+use salvage::SalvageAnswer;
 use script::Keyword;
 use turns::bad_line;
 use turns::shown;
@@ -22,9 +23,9 @@ ghost use Prim.Native.Nat.{_≤_};
 ghost use lib.Dec.{ltb};
 ghost use Rattle.rules.specs.Base.{List, ℕ, pick};
 ghost use Rattle.rules.specs.World.{noState};
-ghost use Rattle.desk.specs.Desk.{desk, left, onLent};
+ghost use Rattle.desk.specs.Desk.{desk, left, lentOf, onLent};
 ghost use Rattle.desk.specs.Kinds.{Among, atBench, asking, tabling};
-ghost use Rattle.desk.specs.Commands.{freshBench, lentBy, doneBy};
+ghost use Rattle.desk.specs.Commands.{freshBench, salvageOn, salvageBy, reportBy, lentBy, doneBy};
 
 // What lies beside the buffers, and how much of each buffer is lent.
 pub struct Bench {
@@ -56,6 +57,7 @@ pub enum Reply {
     Loaded(LoadAnswer),
     Compared(CompareAnswer),
     Raised(LoadAnswer),
+    Salvaged(SalvageAnswer),
     Shown(Look),
 }
 
@@ -225,7 +227,30 @@ fn lent(
     )
 }
 
-// A command: its reply, and the desk after it.
+// A salvage on the lent parts of the buffers.
+fn salvaged(
+    b: Bench,
+    heap: &mut [u8],
+    ids: &[u64],
+    locations: &[u64],
+    report: &mut [u64; 512],
+) -> Turn
+    ensures leaves { λ r. ⌜
+        left r (now (heap .exit)) (now (ids .entry)) (now (locations .entry))
+        ≡ onLent salvageBy (desk b (now (heap .entry)) (now (ids .entry)) (now (locations .entry)))
+        ⌝ }
+    ensures reports { λ _. ⌜
+        now (report .exit)
+        ≡ salvageOn (lentOf (desk b (now (heap .entry)) (now (ids .entry)) (now (locations .entry)))) (now (report .entry)) .report
+        ⌝ }
+{
+    let h = least(b.heap_len, heap.len());
+    let i = least(b.ids_len, ids.len());
+    let l = least(b.locations_len, locations.len());
+    calls::salvage(b, &mut heap[0..h], &ids[0..i], &locations[0..l], report)
+}
+
+// A command: its reply, and the desk after it. A salvage's lines come to stand in the report.
 pub fn after_order(
     b: Bench,
     keyword: Keyword,
@@ -234,8 +259,16 @@ pub fn after_order(
     heap: &mut [u8],
     ids: &mut [u64],
     locations: &mut [u64],
+    report: &mut [u64; 512],
 ) -> Turn
-    ensures { λ r. ⌜ left r (now (heap .exit)) (now (ids .exit)) (now (locations .exit)) ≡ doneBy keyword n (now (bytes .entry)) (desk b (now (heap .entry)) (now (ids .entry)) (now (locations .entry))) ⌝ }
+    ensures leaves { λ r. ⌜
+        left r (now (heap .exit)) (now (ids .exit)) (now (locations .exit))
+        ≡ doneBy keyword n (now (bytes .entry)) (desk b (now (heap .entry)) (now (ids .entry)) (now (locations .entry)))
+        ⌝ }
+    ensures reports { λ _. ⌜
+        now (report .exit)
+        ≡ reportBy keyword (desk b (now (heap .entry)) (now (ids .entry)) (now (locations .entry))) (now (report .entry))
+        ⌝ }
 {
     match keyword {
         Keyword::Heap => by_hand::heap(b, n[0], heap),
@@ -250,6 +283,7 @@ pub fn after_order(
         | Keyword::List
         | Keyword::Dump
         | Keyword::Help => at_bench(b, keyword, n),
+        Keyword::Salvage => salvaged(b, heap, ids, locations, report),
         _ => lent(b, keyword, n, bytes, heap, ids, locations),
     }
 }

@@ -33,6 +33,10 @@ use Rattle.prune.specs.declared.PruneAnswer.{PruneAnswer}
 use Rattle.prune.proofs.prune.Reads as prune
 use Rattle.checker.specs.declared.CheckAnswer.{CheckAnswer}
 use Rattle.checker.proofs.check.Reads as check
+use Rattle.salvage.specs.declared.SalvageAnswer.{SalvageAnswer}
+use Rattle.salvage.specs.Salvage.{salvageCall}
+use Rattle.salvage.specs.Answers.{Salvages}
+use Rattle.salvage.proofs.salvage.Reads as salvage
 use Rattle.location_table.specs.Tables.{leaving as tableLeaving}
 use Rattle.table_calls.proofs.load.Reads as load
 use Rattle.table_calls.proofs.store.Reads as store
@@ -99,6 +103,13 @@ module _ (settings : Settings) (heap ids locations listing : Lent) where
       → check.Learnt κs (settings, (heap, (ids, (locations, (listing, tt))))) r (settings, (heap, (ids, (locations, (listing′, tt)))))
       ≡ Admitted (world settings state claims (now heap) (table (now ids) (now locations))) (checked (now listing) r (now listing′))
   check-contract κs r listing′ state claims = refl
+
+-- ---- salvage: settings, heap and table, and the report; heap and report after
+module _ (settings : Settings) (heap ids locations report : Lent) where
+  pub salvage-contract : (κs : Lfts 4) (r : SalvageAnswer) (heap′ report′ : Lent)
+      → salvage.Learnt κs (settings, (heap, (ids, (locations, (report, tt))))) r (settings, (heap′, (ids, (locations, (report′, tt)))))
+      ≡ Salvages (salvageCall settings (now heap) (table (now ids) (now locations)) (now report)) r (now report′) (now heap′)
+  salvage-contract κs r heap′ report′ = refl
 
 -- ---- the table's calls: both buffers before and after
 module _ (κs : Lfts 2) (ids locations : Lent) (id : ℕ) where

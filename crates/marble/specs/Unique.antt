@@ -19,12 +19,13 @@ use Rattle.faults.specs.Faults.{Checked}
 use Rattle.checker.specs.declared.CheckAnswer.{CheckAnswer}
 use Rattle.checker.specs.declared.CheckAnswer.the-variants.{Faults, CheckRefused}
 use Rattle.checker.specs.Answers.{checkGiven, checked}
--- reopen, write, read, maintain and prune have theirs beside their code
+-- reopen, write, read, maintain, prune and salvage have theirs beside their code
 pub use Rattle.recovery.specs.Unique.{reopen-one}
 pub use Rattle.writepath.specs.Unique.{write-one}
 pub use Rattle.readpath.specs.ReadLaws.{read-one, part-one}
 pub use Rattle.gc.specs.Unique.{maintain-one}
 pub use Rattle.prune.specs.CallLaws.{prune-one}
+pub use Rattle.salvage.specs.Answers.{salvage-one}
 
 -- ---- claim and release: what their contracts say of a result, for the call's definition
 abbrev pub Claims-leaves : Settings → State → List ℕ → List ℕ → List ℕ → After → ClaimAnswer → Type 0

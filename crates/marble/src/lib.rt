@@ -38,6 +38,10 @@ pub use prune::prune;
 pub use checker::CheckAnswer;
 pub use checker::check;
 
+// Request P9, "Rescue a damaged heap": the slots that make a reopening refuse are emptied, and named.
+pub use salvage::SalvageAnswer;
+pub use salvage::salvage;
+
 // "Table": load, store, compare-and-store, store-if-greater.
 pub use table_calls::compare_and_store;
 pub use table_calls::load;

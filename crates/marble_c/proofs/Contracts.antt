@@ -8,7 +8,8 @@ use Rattle.rules.specs.declared.Settings.{Settings}
 use Rattle.rules.specs.Layout.{table}
 use Rattle.location_table.specs.Tables.{leaving as tableLeaving}
 use Rattle.as_numbers.specs.Shown.{given}
-use Rattle.marble_c.specs.Unique.{Reopens, Writes, ReadsOut, ClaimsSlot, Releases, Prunes, Maintains, CountsOut, ChecksOut, Loads, Stores, Compares, StoresGreater}
+use Rattle.marble_c.specs.Salvages.{rescue}
+use Rattle.marble_c.specs.Unique.{Reopens, Writes, ReadsOut, ClaimsSlot, Releases, Prunes, Maintains, CountsOut, ChecksOut, SalvagesOut, Loads, Stores, Compares, StoresGreater}
 use Rattle.marble_c.proofs.«marble_reopen».Reads as reopen
 use Rattle.marble_c.proofs.«marble_write».Reads as write
 use Rattle.marble_c.proofs.«marble_read».Reads as read
@@ -18,6 +19,7 @@ use Rattle.marble_c.proofs.«marble_prune».Reads as prune
 use Rattle.marble_c.proofs.«marble_maintain».Reads as maintain
 use Rattle.marble_c.proofs.«marble_counts».Reads as counts
 use Rattle.marble_c.proofs.«marble_check».Reads as check
+use Rattle.marble_c.proofs.«marble_salvage».Reads as salvage
 use Rattle.marble_c.proofs.«marble_load».Reads as load
 use Rattle.marble_c.proofs.«marble_store».Reads as store
 use Rattle.marble_c.proofs.«marble_compare_and_store».Reads as compare
@@ -84,6 +86,13 @@ module _ (settings : Settings) (heap ids locations listing : Lent) (faults : Pla
       → check.Learnt κs (settings, (heap, (ids, (locations, (listing, (faults, tt)))))) r (settings, (heap, (ids, (locations, (listing′, (faults′, tt))))))
       ≡ ChecksOut settings (now heap) (now ids) (now locations) (now listing) r (now faults′ ∷ []) (now listing′)
   check-contract κs = refl
+
+-- ---- salvage
+module _ (settings : Settings) (heap ids locations report : Lent) (count : Place) (r : ℕ) (heap′ report′ : Lent) (count′ : Place) where
+  pub salvage-contract : (κs : Lfts 5)
+      → salvage.Learnt κs (settings, (heap, (ids, (locations, (report, (count, tt)))))) r (settings, (heap′, (ids, (locations, (report′, (count′, tt))))))
+      ≡ SalvagesOut settings (now heap) (now ids) (now locations) (now report) (rescue (given r (now count′ ∷ [])) (now report′) (now heap′))
+  salvage-contract κs = refl
 
 -- ---- the table's calls
 module _ (ids locations : Lent) (id location r : ℕ) (ids′ locations′ : Lent) where

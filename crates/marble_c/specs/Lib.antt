@@ -1,3 +1,4 @@
 pub mod Told
+pub mod Salvages
 pub mod Unique
 pub mod Version

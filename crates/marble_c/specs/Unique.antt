@@ -14,10 +14,12 @@ use Rattle.rules.specs.TableCalls.{TableAfter, loadCall, storeCall, compareCall
 use Rattle.rules.specs.World.{Given, After, world, leaving}
 use Rattle.rules.specs.Write.{writeCall}
 use Rattle.faults.specs.Faults.{checkCall}
+use Rattle.salvage.specs.Salvage.{Salvaged, salvageCall}
 use Rattle.as_numbers.specs.ClaimWords.{claimsIn, claims-one}
 use Rattle.as_numbers.specs.Shown.{given, shown, stopAfter, shownTable}
 use Rattle.as_numbers.specs.StateLaws.{state-one}
 use Rattle.as_numbers.specs.StateWords.{stateIn}
+use Rattle.marble_c.specs.Salvages.{shownRescue}
 
 -- what a call gave and left: its number, its out-parameters, the words and the buffers
 pub record Left : Type 0 where
@@ -127,6 +129,14 @@ module _ (s : Settings) (heap ids locations listing : List ℕ) where
 
   pub check-one : (r q : ℕ) (vs us after ends : List ℕ) → ChecksOut r vs after → ChecksOut q us ends → (given r vs ≡ given q us) × (after ≡ ends)
   check-one r q vs us after ends e f = (e .0 ∙ sym (f .0), e .1 ∙ sym (f .1))
+
+-- ---- salvage, which is lent no state: number, out-parameter, the lent report and the heap after
+module _ (s : Settings) (heap ids locations report : List ℕ) where
+  abbrev pub SalvagesOut : Salvaged → Type 0
+  SalvagesOut l = l ≡ shownRescue (salvageCall s heap (table ids locations) report)
+
+  pub salvage-one : (l m : Salvaged) → SalvagesOut l → SalvagesOut m → l ≡ m
+  salvage-one l m e f = e ∙ sym f
 
 -- ---- the table's calls: both buffers before
 module _ (ids locations : List ℕ) (id : ℕ) where

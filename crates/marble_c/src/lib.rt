@@ -14,6 +14,7 @@ use as_numbers::claim_words::put_claims;
 use as_numbers::state_words::put_state;
 use as_numbers::state_words::state_in;
 use marble::CheckAnswer;
+use marble::SalvageAnswer;
 use rules::Settings;
 ghost use mathlib.Core.Path.{_≡_};
 ghost use mathlib.Core.List.{[], _∷_};
@@ -31,10 +32,13 @@ ghost use Rattle.rules.specs.Layout.{table};
 ghost use Rattle.location_table.specs.Tables.{leaving as tableLeaving};
 ghost use Rattle.faults.specs.Faults.{checkCall};
 ghost use Rattle.checker.specs.Answers.{checkGiven};
+ghost use Rattle.salvage.specs.Salvage.{salvageCall};
+ghost use Rattle.salvage.specs.Answers.{salvageGiven};
 ghost use Rattle.as_numbers.specs.ClaimWords.{claimsIn};
 ghost use Rattle.as_numbers.specs.Numbered.{numbered};
 ghost use Rattle.as_numbers.specs.Shown.{given, shown, stopAfter, shownTable};
 ghost use Rattle.as_numbers.specs.StateWords.{stateIn};
+ghost use Rattle.marble_c.specs.Salvages.{rescue, shownRescue};
 ghost use Rattle.marble_c.specs.Version.{version};
 
 // The version of this interface, which a host holds against its header's.
@@ -42,7 +46,7 @@ ghost use Rattle.marble_c.specs.Version.{version};
 pub extern "C" fn marble_version() -> u64
     ensures { λ r. ⌜ r ≡ version ⌝ }
 {
-    1001
+    1002
 }
 
 // ---- the store
@@ -250,6 +254,43 @@ pub extern "C" fn marble_check(
 {
     let done = check_shown(marble::check(settings, heap, ids, locations, listing));
     *faults = done.value;
+    done.number
+}
+
+// The number of slots given up, or 0.
+fn salvage_shown(a: SalvageAnswer) -> One
+    ensures { λ r. ⌜ given (r .number) (r .value ∷ []) ≡ shown 1 (salvageGiven a) ⌝ }
+{
+    match a {
+        SalvageAnswer::GivenUp(n) => One {
+            number: 0,
+            value: n,
+        },
+        SalvageAnswer::SalvageRefused(r) => One {
+            number: refusal_number(r),
+            value: 0,
+        },
+    }
+}
+
+// "empties the slots that make reopening refuse, and says which": two words to a line of the report, and the number of lines.
+#[no_mangle]
+pub extern "C" fn marble_salvage(
+    settings: Settings,
+    heap: &mut [u8],
+    ids: &[u64],
+    locations: &[u64],
+    report: &mut [u64; 512],
+    lost: &mut u64,
+) -> u64
+    ensures { λ r. ⌜
+        rescue (given r (now (lost .exit) ∷ [])) (now (report .exit)) (now (heap .exit))
+        ≡ shownRescue
+        (salvageCall settings (now (heap .entry)) (table (now (ids .entry)) (now (locations .entry))) (now (report .entry)))
+        ⌝ }
+{
+    let done = salvage_shown(marble::salvage(settings, heap, ids, locations, report));
+    *lost = done.value;
     done.number
 }
 

@@ -34,6 +34,7 @@ shapes =
     numbers 0 ∷
     numbers 0 ∷
     numbers 1 ∷
+    numbers 0 ∷
     numbers 1 ∷
     numbers 2 ∷
     numbers 3 ∷
@@ -69,6 +70,7 @@ tagged key.Read = refl
 tagged key.Maintain = refl
 tagged key.Counts = refl
 tagged key.Check = refl
+tagged key.Salvage = refl
 tagged key.Load = refl
 tagged key.Store = refl
 tagged key.Cas = refl

@@ -65,6 +65,8 @@ callNames =
     called (99 ∷ 111 ∷ 117 ∷ 110 ∷ 116 ∷ 115 ∷ []) key.Counts ∷
     -- check
     called (99 ∷ 104 ∷ 101 ∷ 99 ∷ 107 ∷ []) key.Check ∷
+    -- salvage
+    called (115 ∷ 97 ∷ 108 ∷ 118 ∷ 97 ∷ 103 ∷ 101 ∷ []) key.Salvage ∷
     []
 
 -- the table calls, and what is for people

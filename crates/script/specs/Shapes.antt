@@ -34,6 +34,7 @@ shapeOf key.Read = numbers 1
 shapeOf key.Maintain = numbers 0
 shapeOf key.Counts = numbers 0
 shapeOf key.Check = numbers 1
+shapeOf key.Salvage = numbers 0
 shapeOf key.Load = numbers 1
 shapeOf key.Store = numbers 2
 shapeOf key.Cas = numbers 3

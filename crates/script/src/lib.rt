@@ -38,6 +38,7 @@ pub enum Keyword {
     Maintain,
     Counts,
     Check,
+    Salvage,
     Load,
     Store,
     Cas,

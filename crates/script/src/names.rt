@@ -46,7 +46,8 @@ fn by_hand(word: &[u8], other: Keyword) -> Keyword
 fn call(word: &[u8], other: Keyword) -> Keyword
     ensures { λ r. ⌜ r ≡ namedIn callNames (now (word .entry)) other ⌝ }
 {
-    let check = named(word, b"check", Keyword::Check, other);
+    let salvage = named(word, b"salvage", Keyword::Salvage, other);
+    let check = named(word, b"check", Keyword::Check, salvage);
     let counts = named(word, b"counts", Keyword::Counts, check);
     let maintain = named(word, b"maintain", Keyword::Maintain, counts);
     let read = named(word, b"read", Keyword::Read, maintain);

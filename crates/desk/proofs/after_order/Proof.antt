@@ -1,7 +1,7 @@
-use mathlib.Core.Path.{_∙_}
+use mathlib.Core.Path.{refl, _∙_}
 use Rattle.desk.specs.Desk.{desk}
 use Rattle.desk.specs.Commands.{doneBy}
-use Rattle.desk.proofs.Orders.{done-rest}
+use Rattle.desk.proofs.Orders.{done-rest, bench-report, parts-report}
 use borrow.Author.Needs.{needs}
 use Rattle.desk.proofs.after_order.Statement.{statement}
 use Rattle.desk.proofs.after_order.Tie as tie
@@ -30,6 +30,12 @@ table-requires c κs = search needs
 at-bench-requires : tie.Need-at-bench-requires
 at-bench-requires c κs = search needs
 
+enum-told-3 : tie.Need-enum-told-3
+enum-told-3 c = search needs
+
+salvaged-requires : tie.Need-salvaged-requires
+salvaged-requires c κs = search needs
+
 lent-requires : tie.Need-lent-requires
 lent-requires c κs = search needs
 
@@ -38,7 +44,10 @@ same-length c = search needs
 
 returns : tie.Need-returns
 unfolding doneBy
-returns c = let p = c .before .before in rw (p .before .before .enum-told .given .1) (p .heap .ensures _ _)
+returns c =
+    let p = c .before .before in
+    let told = p .before .before .enum-told .given .1 in
+    (rw told (p .heap .ensures _ _), rw told refl)
 
 same-length-2 : tie.Need-same-length-2
 same-length-2 c = search needs
@@ -48,10 +57,16 @@ same-length-3 c = search needs
 
 returns-2 : tie.Need-returns-2
 unfolding doneBy
-returns-2 c = let p = c .before .before .before .before in rw (p .before .before .before .enum-told2 .given .1) (p .table .ensures _)
+returns-2 c =
+    let p = c .before .before .before .before in
+    let told = p .before .before .before .enum-told2 .given .1 in
+    (rw told (p .table .ensures _), rw told refl)
 
 returns-3 : tie.Need-returns-3
-returns-3 c = c .at-bench .ensures _ _ _ _
+returns-3 c =
+    let m = c .before in
+    let a = m .before .before .before .before .before .args in
+    (c .at-bench .ensures _ _ _ _, bench-report (desk (a .b) (a .heap .now) (a .ids .now) (a .locations .now)) (a .report .now) (a .keyword) (m .match .keys3))
 
 same-length-4 : tie.Need-same-length-4
 same-length-4 c = search needs
@@ -63,11 +78,28 @@ same-length-6 : tie.Need-same-length-6
 same-length-6 c = search needs
 
 returns-4 : tie.Need-returns-4
+unfolding doneBy
 returns-4 c =
+    let p = c .before .before in
+    let told = p .before .before .before .before .before .enum-told3 .given .1 in
+    (rw told (p .salvaged .ensures .0), rw told (p .salvaged .ensures .1))
+
+same-length-7 : tie.Need-same-length-7
+same-length-7 c = search needs
+
+same-length-8 : tie.Need-same-length-8
+same-length-8 c = search needs
+
+same-length-9 : tie.Need-same-length-9
+same-length-9 c = search needs
+
+returns-5 : tie.Need-returns-5
+returns-5 c =
     let p = c .before .before .before .before .before .before in
     let m = p .before .before .before .before in
     let a = m .before .before .before .before .before .args in
-    p .lent .ensures ∙ done-rest (a .t3) (a .bytes .now) (desk (a .b) (a .heap .now) (a .ids .now) (a .locations .now)) (a .keyword) (m .match .keys4)
+    let d = desk (a .b) (a .heap .now) (a .ids .now) (a .locations .now) in
+    (p .lent .ensures ∙ done-rest (a .t3) (a .bytes .now) d (a .keyword) (m .match .keys5), parts-report d (a .report .now) (a .keyword) (m .match .keys5))
 
 pub after-order-spec : {M : Type 1} → statement M
 after-order-spec =
@@ -81,6 +113,8 @@ after-order-spec =
     array-read-table-2
     table-requires
     at-bench-requires
+    enum-told-3
+    salvaged-requires
     lent-requires
     same-length
     returns
@@ -91,4 +125,8 @@ after-order-spec =
     same-length-4
     same-length-5
     same-length-6
-    returns-4)
+    returns-4
+    same-length-7
+    same-length-8
+    same-length-9
+    returns-5)

@@ -30,13 +30,13 @@ unfolding shapeOf
 returns c = (sym (ap shapeOf (c .enum-told .given .1)), omega arith)
 
 returns-2 : tie.Need-returns-2
-returns-2 c = (shape-told 3 (12 ∷ 13 ∷ 15 ∷ 18 ∷ 19 ∷ []) (numbers 1) (c .before .args .keyword) (refl, (refl, (refl, (refl, (refl, (refl, tt)))))) (c .match .keys2), omega arith)
+returns-2 c = (shape-told 3 (12 ∷ 13 ∷ 15 ∷ 18 ∷ 20 ∷ []) (numbers 1) (c .before .args .keyword) (refl, (refl, (refl, (refl, (refl, (refl, tt)))))) (c .match .keys2), omega arith)
 
 returns-3 : tie.Need-returns-3
-returns-3 c = (shape-told 4 (20 ∷ 22 ∷ 25 ∷ []) (numbers 2) (c .before .args .keyword) (refl, (refl, (refl, (refl, tt)))) (c .match .keys3), omega arith)
+returns-3 c = (shape-told 4 (21 ∷ 23 ∷ 26 ∷ []) (numbers 2) (c .before .args .keyword) (refl, (refl, (refl, (refl, tt)))) (c .match .keys3), omega arith)
 
 returns-4 : tie.Need-returns-4
-returns-4 c = (shape-told 6 (21 ∷ []) (numbers 3) (c .before .args .keyword) (refl, (refl, tt)) (c .match .keys4), omega arith)
+returns-4 c = (shape-told 6 (22 ∷ []) (numbers 3) (c .before .args .keyword) (refl, (refl, tt)) (c .match .keys4), omega arith)
 
 returns-5 : tie.Need-returns-5
 unfolding shapeOf
@@ -59,7 +59,7 @@ unfolding shapeOf
 returns-9 c = (sym (ap shapeOf (c .enum-told6 .given .1)), omega arith)
 
 returns-10 : tie.Need-returns-10
-returns-10 c = (shape-told 0 (1 ∷ 10 ∷ 14 ∷ 16 ∷ 17 ∷ 23 ∷ 24 ∷ 26 ∷ []) (numbers 0) (c .before .args .keyword) (refl, (refl, (refl, (refl, (refl, (refl, (refl, (refl, (refl, tt))))))))) (c .match .keys10), omega arith)
+returns-10 c = (shape-told 0 (1 ∷ 10 ∷ 14 ∷ 16 ∷ 17 ∷ 19 ∷ 24 ∷ 25 ∷ 27 ∷ []) (numbers 0) (c .before .args .keyword) (refl, (refl, (refl, (refl, (refl, (refl, (refl, (refl, (refl, (refl, tt)))))))))) (c .match .keys10), omega arith)
 
 pub shape-of-spec : {M : Type 1} → statement M
 shape-of-spec =

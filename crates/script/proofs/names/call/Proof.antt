@@ -57,9 +57,16 @@ slice-aggregate-named-9 c = search needs
 named-requires-9 : tie.Need-named-requires-9
 named-requires-9 c κs = search needs
 
+slice-aggregate-named-10 : tie.Need-slice-aggregate-named-10
+slice-aggregate-named-10 c = search needs
+
+named-requires-10 : tie.Need-named-requires-10
+named-requires-10 c κs = search needs
+
 returns : tie.Need-returns
 returns c =
-    let n8 = c .before .before in
+    let n9 = c .before .before in
+    let n8 = n9 .before .before in
     let n7 = n8 .before .before in
     let n6 = n7 .before .before in
     let n5 = n6 .before .before in
@@ -67,7 +74,7 @@ returns c =
     let n3 = n4 .before .before in
     let n2 = n3 .before .before in
     let n1 = n2 .before .before in
-    name-before _ _ _ _ _ _ (c .named9 .ensures) (name-before _ _ _ _ _ _ (n8 .named8 .ensures) (name-before _ _ _ _ _ _ (n7 .named7 .ensures) (name-before _ _ _ _ _ _ (n6 .named6 .ensures) (name-before _ _ _ _ _ _ (n5 .named5 .ensures) (name-before _ _ _ _ _ _ (n4 .named4 .ensures) (name-before _ _ _ _ _ _ (n3 .named3 .ensures) (name-before _ _ _ _ _ _ (n2 .named2 .ensures) (name-before _ _ _ _ _ _ (n1 .named .ensures) (name-end _ _)))))))))
+    name-before _ _ _ _ _ _ (c .named10 .ensures) (name-before _ _ _ _ _ _ (n9 .named9 .ensures) (name-before _ _ _ _ _ _ (n8 .named8 .ensures) (name-before _ _ _ _ _ _ (n7 .named7 .ensures) (name-before _ _ _ _ _ _ (n6 .named6 .ensures) (name-before _ _ _ _ _ _ (n5 .named5 .ensures) (name-before _ _ _ _ _ _ (n4 .named4 .ensures) (name-before _ _ _ _ _ _ (n3 .named3 .ensures) (name-before _ _ _ _ _ _ (n2 .named2 .ensures) (name-before _ _ _ _ _ _ (n1 .named .ensures) (name-end _ _))))))))))
 
 pub call-spec : {M : Type 1} → statement M
 call-spec =
@@ -91,4 +98,6 @@ call-spec =
     named-requires-8
     slice-aggregate-named-9
     named-requires-9
+    slice-aggregate-named-10
+    named-requires-10
     returns)
