@@ -3,7 +3,7 @@ use borrow.Author.Needs.{needs}
 use lib.ListN.{length}
 use Rattle.salvage.specs.Lines.{tells-as, tells-then}
 use Rattle.salvage.specs.Starts.{slotsJudged}
-use Rattle.salvage.proofs.Turns.{ready, kinds-are}
+use Rattle.salvage.proofs.LossTurns.{ready, kinds-are}
 use Rattle.salvage.proofs.both_kinds.Statement.{statement}
 use Rattle.salvage.proofs.both_kinds.Tie as tie
 
