@@ -4,6 +4,7 @@ use crate::tell::note;
 use crate::tell::note_if;
 use disk_location::RelativeDiskLocation;
 use rules::Entry;
+use rules::OBJECT_HEADER;
 use rules::Refusal;
 use slot_file::Header;
 use slot_file::Step;
@@ -124,13 +125,13 @@ pub fn object_lines(
                 return note(listing, told, at_object(slot, Refusal::CutShort, position));
             }
             Step::Here(h) => {
-                if h.room - 20 < h.size {
+                if h.room - (OBJECT_HEADER as u64) < h.size {
                     return note(listing, told, at_object(slot, Refusal::CutShort, position));
                 }
                 let sought = seek(trailer, cursor, h.id, position);
                 told = object_line(listing, told, slot, objects, position, h, sought.missing);
                 cursor = sought.next;
-                position += 20 + h.size;
+                position += OBJECT_HEADER as u64 + h.size;
             }
         }
     }

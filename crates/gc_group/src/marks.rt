@@ -1,3 +1,4 @@
+use crate::Group;
 use crate::check::check_file;
 use disk_location::DiskLocation;
 use disk_location::RelativeDiskLocation;
@@ -10,7 +11,6 @@ use rules::FileMap;
 use rules::Label;
 use rules::OBJECT_HEADER;
 use rules::RECORDS;
-use rules::Settings;
 use slot_file::Step;
 use slot_file::object;
 use slot_file::slot::object_part;
@@ -171,25 +171,25 @@ fn unmark(marks: &mut [u32])
 // group are looked at by no one. "one found twice only once, as last found": a later slot's mark takes the place of an earlier one's.
 // One walk over the records, which also gives their lsns.
 pub fn mark_group(
-    s: Settings,
+    group: Group,
     heap: &[u8],
     m: FileMap,
     plan: &[u64],
-    generation: u64,
     ids: &[u64],
     locations: &[u64],
     marks: &mut [u32],
     lsns: &mut [u64],
 ) -> Answer
-    requires { ⌜ Ready (s .«slot_bytes») (length (now heap)) (m .records) (now plan) generation ⌝ }
+    requires { ⌜ Ready (group .settings .«slot_bytes») (length (now heap)) (m .records) (now plan) (group .generation) ⌝ }
     requires { ⌜ Formed (table (now ids) (now locations)) ⌝ }
     requires { ⌜ (length (tableIds (now ids)) ≤ length (now marks)) × (length (now lsns) ≡ 256) ⌝ }
-    ensures { λ r. ⌜ r ≡ decide (groupChecks (s .«max_object_size»)
-        (source (s .«slot_bytes») (now (heap .entry)) (m .records) (used (now (ids .entry)) (now (locations .entry))))
-        (planned (now (plan .entry)) generation)) ⌝ }
+    ensures { λ r. ⌜ r ≡ decide (groupChecks (group .settings .«max_object_size»)
+        (source (group .settings .«slot_bytes») (now (heap .entry)) (m .records) (used (now (ids .entry)) (now (locations .entry))))
+        (planned (now (plan .entry)) (group .generation))) ⌝ }
     ensures { λ r. ⌜ (r ≡ Done → now (marks .exit) ≡ marksOf
-        (source (s .«slot_bytes») (now (heap .entry)) (m .records) (used (now (ids .entry)) (now (locations .entry))))
-        (length (now (marks .entry))) (planned (now (plan .entry)) generation)) ⌝ }
+        (source (group .settings .«slot_bytes») (now (heap .entry)) (m .records) (used (now (ids .entry)) (now (locations .entry))))
+        (length (now (marks .entry)))
+        (planned (now (plan .entry)) (group .generation))) ⌝ }
     ensures { λ r. ⌜ (r ≡ Done → now (lsns .exit) ≡ lsnsOf (m .records)) ⌝ }
 {
     unmark(marks);
@@ -198,9 +198,9 @@ pub fn mark_group(
         let r = m.records[i];
         let l = r.label;
         lsns[i] = l.lsn;
-        if plan[i] == generation {
-            let slot = slot_at(heap, s.slot_bytes as usize, i);
-            match check_file(slot, l, ids, locations, s.max_object_size) {
+        if plan[i] == group.generation {
+            let slot = slot_at(heap, group.settings.slot_bytes as usize, i);
+            match check_file(slot, l, ids, locations, group.settings.max_object_size) {
                 Answer::Refused(refusal) => return Answer::Refused(refusal),
                 Answer::Done => {}
             }

@@ -3,6 +3,7 @@
 pub mod files;
 
 use files::split_files;
+use gc_group::Group;
 use gc_places::place_group;
 use rules::Answer;
 use rules::Settings;
@@ -52,12 +53,15 @@ pub fn rewrite_group(
     let files = state.files;
     let mut places = [0u32; 65536];
     let mut pieces = [0u32; 65536];
+    let group = Group {
+        settings: settings,
+        generation: generation,
+    };
     match place_group(
-        settings,
+        group,
         heap,
         files,
         plan,
-        generation,
         ids,
         locations,
         &mut pieces,
@@ -73,14 +77,13 @@ pub fn rewrite_group(
         Answer::Done => {}
     }
     split_files(
-        settings,
+        group,
         state,
         heap,
         ids,
         locations,
         &places,
         &mut pieces,
-        generation,
         moved,
     )
 }

@@ -216,35 +216,40 @@ fn put_trailer(
     put_entries(heap, at + TRAILER_HEAD, ids, places, pieces, piece, rest)
 }
 
-// A piece's file and its label into the slot that begins at `start`, in the order of the file's run.
+// The file of a piece: the piece's number, where its slot begins and how long that is, its count of entries and T.
+pub struct PieceFile {
+    pub piece: u32,
+    pub start: usize,
+    pub slot_bytes: u64,
+    pub count: u64,
+    pub total: u64,
+}
+
+// Such a file and its label into its slot, in the order of the file's run.
 pub fn write_piece(
     heap: &mut [u8],
-    start: usize,
-    slot_bytes: u64,
     ids: &[u64],
     places: &[u32],
     pieces: &[u32],
-    piece: u32,
+    file: PieceFile,
     new: Label,
-    count: u64,
-    total: u64,
     k: u64,
 ) -> u64
-    requires { ⌜ Writing start «slot_bytes» (now heap) (tableIds (now ids)) (now places) (now pieces) piece count total ⌝ }
-    ensures { λ r. ⌜ Made k (fileStores start (labelBytes new) (fileBytes (filedOps piece (now (heap .entry)) (tableIds (now (ids .entry))) (now (places .entry)) (now (pieces .entry))))) (now (heap .entry)) (now (heap .exit)) r ⌝ }
+    requires { ⌜ Writing (file .start) (file .«slot_bytes») (now heap) (tableIds (now ids)) (now places) (now pieces) (file .piece) (file .count) (file .total) ⌝ }
+    ensures { λ r. ⌜ Made k (fileStores (file .start) (labelBytes new) (fileBytes (filedOps (file .piece) (now (heap .entry)) (tableIds (now (ids .entry))) (now (places .entry)) (now (pieces .entry))))) (now (heap .entry)) (now (heap .exit)) r ⌝ }
 {
-    let objects = start + LABEL_BYTES;
-    let behind_objects = put_objects(heap, objects, ids, places, pieces, piece, k);
-    let trailer = objects + total as usize;
+    let objects = file.start + LABEL_BYTES;
+    let behind_objects = put_objects(heap, objects, ids, places, pieces, file.piece, k);
+    let trailer = objects + file.total as usize;
     let behind_trailer = put_trailer(
         heap,
         trailer,
         ids,
         places,
         pieces,
-        piece,
-        count,
+        file.piece,
+        file.count,
         behind_objects,
     );
-    slot_writer::label::put(heap, start, new, behind_trailer)
+    slot_writer::label::put(heap, file.start, new, behind_trailer)
 }

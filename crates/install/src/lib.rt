@@ -140,24 +140,29 @@ fn by_trailer(
     store_all(ids, locations, trailer, lsn);
 }
 
-// The entries of a file that stands in the heap, by its trailer.
+// A file that stands in the heap: where its slot begins, its count of entries, T and its lsn.
+pub struct StoredFile {
+    pub start: usize,
+    pub count: u64,
+    pub total: u64,
+    pub lsn: u64,
+}
+
+// The entries of such a file, by its trailer.
 pub fn install(
     lsns: &[u64],
     lives: &mut [u64],
     ids: &mut [u64],
     locations: &mut [u64],
     heap: &[u8],
-    start: usize,
-    count: u64,
-    total: u64,
-    lsn: u64,
+    file: StoredFile,
 )
-    requires { ⌜ Installable (now lsns) (now lives) (table (now ids) (now locations)) (now heap) start count total lsn ⌝ }
-    ensures { λ _. ⌜ (now (lives .exit) ≡ losingLives (now (lsns .entry)) (usedEntries (table (now (ids .entry)) (now (locations .entry)))) (entriesIn (trailerAt (now (heap .entry)) start count total)) (now (lives .entry))) × (table (now (ids .exit)) (now (locations .exit)) ≡ laidOut (length (tableIds (now (ids .entry)))) (insertAll (usedEntries (table (now (ids .entry)) (now (locations .entry)))) (taken lsn (entriesIn (trailerAt (now (heap .entry)) start count total))))) ⌝ }
+    requires { ⌜ Installable (now lsns) (now lives) (table (now ids) (now locations)) (now heap) (file .start) (file .count) (file .total) (file .lsn) ⌝ }
+    ensures { λ _. ⌜ (now (lives .exit) ≡ losingLives (now (lsns .entry)) (usedEntries (table (now (ids .entry)) (now (locations .entry)))) (entriesIn (trailerAt (now (heap .entry)) (file .start) (file .count) (file .total))) (now (lives .entry))) × (table (now (ids .exit)) (now (locations .exit)) ≡ laidOut (length (tableIds (now (ids .entry)))) (insertAll (usedEntries (table (now (ids .entry)) (now (locations .entry)))) (taken (file .lsn) (entriesIn (trailerAt (now (heap .entry)) (file .start) (file .count) (file .total)))))) ⌝ }
 {
-    let from = start + LABEL_BYTES + total as usize;
-    let end = from + (TRAILER_HEAD + TRAILER_ENTRY * count as usize);
-    by_trailer(lsns, lives, ids, locations, &heap[from..end], lsn);
+    let from = file.start + LABEL_BYTES + file.total as usize;
+    let end = from + (TRAILER_HEAD + TRAILER_ENTRY * file.count as usize);
+    by_trailer(lsns, lives, ids, locations, &heap[from..end], file.lsn);
 }
 
 // The state with the live counts that are left and the new file's record in its slot.

@@ -3,6 +3,7 @@
 pub mod decision;
 
 use decision::Decision;
+use install::StoredFile;
 use rules::Answer;
 use rules::Label;
 use rules::Settings;
@@ -47,6 +48,13 @@ fn put_file(heap: &mut [u8], start: usize, batch: &[u8], new: Label, count: u64,
     batch_file::write_file(heap, start, batch, new, count, total, k);
 }
 
+// A batch's file to be: its slot, its count of entries and T.
+struct NewFile {
+    slot: usize,
+    count: u64,
+    total: u64,
+}
+
 // The file of the batch in its slot, then table, live counts, record and next position by the trailer that stands there.
 fn add_file(
     settings: Settings,
@@ -55,31 +63,25 @@ fn add_file(
     ids: &mut [u64],
     locations: &mut [u64],
     batch: &[u8],
-    slot: usize,
-    count: u64,
-    total: u64,
+    file: NewFile,
 ) -> State
-    requires { ⌜ Filed settings state (now heap) (table (now ids) (now locations)) (now batch) slot count total ⌝ }
+    requires { ⌜ Filed settings state (now heap) (table (now ids) (now locations)) (now batch) (file .slot) (file .count) (file .total) ⌝ }
     ensures { λ r. ⌜ ((c : Claims) → world settings r c (now (heap .exit)) (table (now (ids .exit)) (now (locations .exit))) ≡ installed (2 ^ 62) 0 (world settings state c (now (heap .entry)) (table (now (ids .entry)) (now (locations .entry)))) (settled (opsIn (now (batch .entry))))) ⌝ }
 {
-    let new = new_label(state.next_position, count, total);
-    let start = slot * settings.slot_bytes as usize;
-    put_file(heap, start, batch, new, count, total);
+    let new = new_label(state.next_position, file.count, file.total);
+    let start = file.slot * settings.slot_bytes as usize;
+    put_file(heap, start, batch, new, file.count, file.total);
     let files = state.files;
     let lsns = file_map::lsns(files);
     let mut lives = file_map::lives(files);
-    install::install(
-        &lsns,
-        &mut lives,
-        ids,
-        locations,
-        heap,
-        start,
-        count,
-        total,
-        new.lsn,
-    );
-    install::with_file(state, &lives, slot, new)
+    let stored = StoredFile {
+        start: start,
+        count: file.count,
+        total: file.total,
+        lsn: new.lsn,
+    };
+    install::install(&lsns, &mut lives, ids, locations, heap, stored);
+    install::with_file(state, &lives, file.slot, new)
 }
 
 pub fn write(
@@ -102,17 +104,12 @@ pub fn write(
             state: state,
         },
         Decision::File(slot, count, total) => {
-            let after = add_file(
-                settings,
-                state,
-                heap,
-                ids,
-                locations,
-                batch,
-                slot,
-                count,
-                total,
-            );
+            let file = NewFile {
+                slot: slot,
+                count: count,
+                total: total,
+            };
+            let after = add_file(settings, state, heap, ids, locations, batch, file);
             Written {
                 answer: Answer::Done,
                 state: after,
