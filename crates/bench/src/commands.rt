@@ -132,7 +132,7 @@ fn written(
     heap: &[u8],
     ids: &[u64],
     locations: &[u64],
-    report: &[u64],
+    report: &[u64; 512],
 ) {
     let b = turn.bench;
     let reply = turn.reply;

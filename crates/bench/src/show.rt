@@ -213,7 +213,7 @@ fn losses(count: u64, report: &[u64]) {
     say::named(b"ok", count);
 }
 
-pub fn salvaged(answer: SalvageAnswer, report: &[u64]) {
+pub fn salvaged(answer: SalvageAnswer, report: &[u64; 512]) {
     match answer {
         SalvageAnswer::GivenUp(count) => losses(count, report),
         SalvageAnswer::SalvageRefused(r) => say::refused(r),

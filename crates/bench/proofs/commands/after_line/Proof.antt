@@ -9,6 +9,9 @@ use Rattle.bench.proofs.commands.after_line.Tie as tie
 order-of-requires : tie.Need-order-of-requires
 order-of-requires c κs = search needs
 
+report-words-requires : tie.Need-report-words-requires
+report-words-requires c κs = search needs
+
 sub-after-order : tie.Need-sub-after-order
 sub-after-order c = search needs
 
@@ -41,17 +44,18 @@ same-length-4 c = search needs
 
 returns : tie.Need-returns
 returns c =
-    let w = c .before .before .before .before .before .before .before .before .before .before .before in
-    let o = w .before .before .before .before .before .before .before .before .before in
+    let w = c .before .before .before .before .before .before .before .before .before .before .before .before in
+    let o = w .before .before .before .before .before .before .before .before .before .before .before in
     let a = o .before .before .before .before .before .before .before .args in
     let asked = o .order-of .ensures in
-    (ap (λ (x : Outcome). x .desk) (w .after-order .ensures) ∙ ran-order (length (a .decoded .now)) (a .line .now) (a .decoded .now) _ _ _ (asked .0) (asked .1), asked .1)
+    (ap (λ (x : Outcome). x .desk) (w .after-order .ensures .0) ∙ ran-order (length (a .decoded .now)) (a .line .now) (a .decoded .now) _ _ _ (asked .0) (asked .1), asked .1)
 
 pub after-line-spec : {M : Type 1} → statement M
 after-line-spec =
     tie.close
     (tie.spec
     order-of-requires
+    report-words-requires
     sub-after-order
     part-after-order-start
     part-after-order-end
