@@ -2,7 +2,8 @@
 
 ghost use mathlib.Core.Path.{_≡_};
 ghost use Prim.Native.Nat.{_+_, _^_, _<_};
-ghost use Rattle.disk_location.specs.Locations.{positionOf, deleteOf, rawOf, locatedAt, relativeAt, told, relativeTold, maskedOf, batchOf, hasBatch, shardOf};
+ghost use Rattle.disk_location.specs.Locations.{positionOf, deleteOf, rawOf, locatedAt, relativeAt, told, relativeTold};
+ghost use Rattle.disk_location.specs.Locations.{maskedOf, batchOf, hasBatch, shardOf};
 
 // "the batch bit, 2^62": positions of files end below it, so 7 and 8 hold a sum against it too.
 pub const BATCH_BIT: u64 = 1 << 62;

@@ -107,7 +107,8 @@ pub fn entry_lines(
 ) -> u64
     requires { ⌜ 12 + 16 * countIn (now trailer) ≤ length (now trailer) ⌝ }
     requires { ⌜ count + length (each (entryFaults slot (walkedFrom (now objects) 0)) (entriesIn (now trailer))) + 2 < 2 ^ 64 ⌝ }
-    ensures { λ r. ⌜ Tells count (each (entryFaults slot (walkedFrom (now (objects .entry)) 0)) (entriesIn (now (trailer .entry)))) (now (listing .entry)) (now (listing .exit)) r ⌝ }
+    ensures { λ r. ⌜ Tells count (each (entryFaults slot (walkedFrom (now (objects .entry)) 0)) (entriesIn (now (trailer .entry))))
+        (now (listing .entry)) (now (listing .exit)) r ⌝ }
 {
     let n = trailer::count(trailer);
     let mut told = count;

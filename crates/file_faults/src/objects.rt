@@ -54,7 +54,8 @@ fn find(trailer: &[u8], from: u64, to: u64, id: u64, position: u64) -> u64
 // Whether there is none in the whole trailer: from a cursor to the end, then from the front to the cursor.
 fn seek(trailer: &[u8], cursor: u64, id: u64, position: u64) -> Sought
     requires { ⌜ (cursor ≤ countIn (now trailer)) × (12 + 16 * countIn (now trailer) ≤ length (now trailer)) ⌝ }
-    ensures { λ s. ⌜ (s .missing ≡ not (any (enteredAs id position) (entriesIn (now (trailer .entry))))) × (s .next ≤ countIn (now (trailer .entry))) ⌝ }
+    ensures { λ s. ⌜ (s .missing ≡ not (any (enteredAs id position) (entriesIn (now (trailer .entry)))))
+        × (s .next ≤ countIn (now (trailer .entry))) ⌝ }
 {
     let n = trailer::count(trailer);
     let k = find(trailer, cursor, n, id, position);
@@ -90,7 +91,9 @@ fn object_line(
     requires { ⌜ Walked (now objects) position h ⌝ }
     requires { ⌜ 20 + h .size ≤ h .room ⌝ }
     requires { ⌜ count + 2 < 2 ^ 64 ⌝ }
-    ensures { λ r. ⌜ Tells count (objectLines slot position (badChecksum (storedAt position (drop position (now (objects .entry))))) missing) (now (listing .entry)) (now (listing .exit)) r ⌝ }
+    ensures { λ r. ⌜ Tells count
+        (objectLines slot position (badChecksum (storedAt position (drop position (now (objects .entry))))) missing)
+        (now (listing .entry)) (now (listing .exit)) r ⌝ }
 {
     let bad = object::bad_checksum(objects, position, h);
     let sum = at_object(slot, Refusal::Checksum, position);
@@ -109,7 +112,8 @@ pub fn object_lines(
 ) -> u64
     requires { ⌜ 12 + 16 * countIn (now trailer) ≤ length (now trailer) ⌝ }
     requires { ⌜ count + length (each (objectFaults slot (entriesIn (now trailer))) (objectsIn (now objects))) + 2 < 2 ^ 64 ⌝ }
-    ensures { λ r. ⌜ Tells count (each (objectFaults slot (entriesIn (now (trailer .entry)))) (objectsIn (now (objects .entry)))) (now (listing .entry)) (now (listing .exit)) r ⌝ }
+    ensures { λ r. ⌜ Tells count (each (objectFaults slot (entriesIn (now (trailer .entry)))) (objectsIn (now (objects .entry))))
+        (now (listing .entry)) (now (listing .exit)) r ⌝ }
 {
     let mut told = count;
     let mut position: u64 = 0;

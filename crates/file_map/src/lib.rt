@@ -219,7 +219,8 @@ pub fn with_lives(m: FileMap, lives: &[u64]) -> FileMap
     n
 }
 
-// "the file with the greatest own location not above the one sought, the lowest slot of equals": a file's own raw location is twice its lsn, the batch bit in it.
+// "the file with the greatest own location not above the one sought, the lowest slot of equals":
+// a file's own raw location is twice its lsn, the batch bit in it.
 pub fn lsn_at(lsns: &[u64], location: u64) -> Slot
     ensures { λ r. ⌜ r ≡ lsnAt (now (lsns .entry)) location ⌝ }
 {

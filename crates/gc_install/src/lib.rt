@@ -32,8 +32,11 @@ fn put_piece(
     file: PieceFile,
     new: Label,
 )
-    requires { ⌜ Writing (file .start) (file .«slot_bytes») (now heap) (tableIds (now ids)) (now places) (now pieces) (file .piece) (file .count) (file .total) ⌝ }
-    ensures { λ _. ⌜ now (heap .exit) ≡ made (fileStores (file .start) (labelBytes new) (fileBytes (filedOps (file .piece) (now (heap .entry)) (tableIds (now (ids .entry))) (now (places .entry)) (now (pieces .entry))))) (now (heap .entry)) ⌝ }
+    requires { ⌜ Writing (file .start) (file .«slot_bytes»)
+        (now heap) (tableIds (now ids)) (now places) (now pieces) (file .piece) (file .count) (file .total) ⌝ }
+    ensures { λ _. ⌜ now (heap .exit) ≡ made (fileStores (file .start) (labelBytes new)
+        (fileBytes (filedOps (file .piece) (now (heap .entry)) (tableIds (now (ids .entry))) (now (places .entry)) (now (pieces .entry)))))
+        (now (heap .entry)) ⌝ }
 {
     let k = heap.len() as u64;
     gc_writer::write_piece(heap, ids, places, pieces, file, new, k);
@@ -66,9 +69,13 @@ fn add_at(
     pieces: &[u32],
     file: SizedFile,
 ) -> State
-    requires { ⌜ Addable 0 (filedOps (file .piece) (now heap) (tableIds (now ids)) (now places) (now pieces)) settings state (now heap) (table (now ids) (now locations)) (file .slot) (file .count) (file .total) ⌝ }
-    requires { ⌜ Writing (file .slot * settings .«slot_bytes») (settings .«slot_bytes») (now heap) (tableIds (now ids)) (now places) (now pieces) (file .piece) (file .count) (file .total) ⌝ }
-    ensures { λ r. ⌜ ((c : Claims) → world settings r c (now (heap .exit)) (table (now (ids .exit)) (now (locations .exit))) ≡ installed 0 (file .generation) (world settings state c (now (heap .entry)) (table (now (ids .entry)) (now (locations .entry)))) (filedOps (file .piece) (now (heap .entry)) (tableIds (now (ids .entry))) (now (places .entry)) (now (pieces .entry)))) ⌝ }
+    requires { ⌜ Addable 0 (filedOps (file .piece) (now heap) (tableIds (now ids)) (now places) (now pieces))
+        settings state (now heap) (table (now ids) (now locations)) (file .slot) (file .count) (file .total) ⌝ }
+    requires { ⌜ Writing (file .slot * settings .«slot_bytes») (settings .«slot_bytes»)
+        (now heap) (tableIds (now ids)) (now places) (now pieces) (file .piece) (file .count) (file .total) ⌝ }
+    ensures { λ r. ⌜ ((c : Claims) → world settings r c (now (heap .exit)) (table (now (ids .exit)) (now (locations .exit)))
+        ≡ installed 0 (file .generation) (world settings state c (now (heap .entry)) (table (now (ids .entry)) (now (locations .entry))))
+        (filedOps (file .piece) (now (heap .entry)) (tableIds (now (ids .entry))) (now (places .entry)) (now (pieces .entry)))) ⌝ }
 {
     // "lsn = base without the batch bit", the new generation
     let base = state.next_position;
@@ -96,8 +103,9 @@ fn add_at(
     install::with_file(state, &lives, file.slot, new)
 }
 
-// One file of a group, whose operations stand at their places: written into the lowest empty slot and added. The other files' operations stay as they are,
-// and so do the other empty slots: the caller has listed them, so that no file goes through the records for its slot.
+// One file of a group, whose operations stand at their places: written into the lowest empty slot and added. The other
+// files' operations stay as they are, and so do the other empty slots: the caller has listed them, so that no file goes
+// through the records for its slot.
 pub fn add_piece(
     settings: Settings,
     state: State,
@@ -110,15 +118,27 @@ pub fn add_piece(
 ) -> State
     requires { ⌜ Placing settings state (now heap) (now ids) (now locations) (now places) (now pieces) ⌝ }
     requires { ⌜ file .generation ≤ 255 ⌝ }
-    requires { ⌜ 64 + length (fileBytes (filedOps (file .piece) (now heap) (tableIds (now ids)) (now places) (now pieces))) ≤ settings .«slot_bytes» ⌝ }
-    requires { ⌜ (0 < length (emptySlots (slotsIn settings (length (now heap))) (state .files .records))) × (file .slot ≡ lowestEmpty (slotsIn settings (length (now heap))) (state .files .records)) ⌝ }
-    requires { ⌜ state .«next_position» + (length (objectsOf (filedOps (file .piece) (now heap) (tableIds (now ids)) (now places) (now pieces))) + 1) ≤ 2 ^ 62 ⌝ }
-    ensures { λ r. ⌜ ((c : Claims) → world settings r c (now (heap .exit)) (table (now (ids .exit)) (now (locations .exit))) ≡ installed 0 (file .generation) (world settings state c (now (heap .entry)) (table (now (ids .entry)) (now (locations .entry)))) (filedOps (file .piece) (now (heap .entry)) (tableIds (now (ids .entry))) (now (places .entry)) (now (pieces .entry)))) ⌝ }
-    ensures { λ r. ⌜ Placing settings r (now (heap .exit)) (now (ids .exit)) (now (locations .exit)) (now (places .entry)) (now (pieces .entry)) ⌝ }
+    requires { ⌜ 64 + length (fileBytes (filedOps (file .piece) (now heap) (tableIds (now ids)) (now places) (now pieces)))
+        ≤ settings .«slot_bytes» ⌝ }
+    requires { ⌜ (0 < length (emptySlots (slotsIn settings (length (now heap))) (state .files .records)))
+        × (file .slot ≡ lowestEmpty (slotsIn settings (length (now heap))) (state .files .records)) ⌝ }
+    requires { ⌜ state .«next_position»
+        + (length (objectsOf (filedOps (file .piece) (now heap) (tableIds (now ids)) (now places) (now pieces))) + 1)
+        ≤ 2 ^ 62 ⌝ }
+    ensures { λ r. ⌜ ((c : Claims) → world settings r c (now (heap .exit)) (table (now (ids .exit)) (now (locations .exit)))
+        ≡ installed 0 (file .generation) (world settings state c (now (heap .entry)) (table (now (ids .entry)) (now (locations .entry))))
+        (filedOps (file .piece) (now (heap .entry)) (tableIds (now (ids .entry))) (now (places .entry)) (now (pieces .entry)))) ⌝ }
+    ensures { λ r. ⌜ Placing settings r (now (heap .exit)) (now (ids .exit)) (now (locations .exit))
+        (now (places .entry)) (now (pieces .entry)) ⌝ }
     ensures { λ _. ⌜ now (ids .exit) ≡ now (ids .entry) ⌝ }
-    ensures { λ _. ⌜ ((q : ℕ) → filedOps q (now (heap .exit)) (tableIds (now (ids .exit))) (now (places .entry)) (now (pieces .entry)) ≡ filedOps q (now (heap .entry)) (tableIds (now (ids .entry))) (now (places .entry)) (now (pieces .entry))) ⌝ }
-    ensures { λ r. ⌜ emptySlots (slotsIn settings (length (now (heap .entry)))) (state .files .records) ≡ file .slot ∷ emptySlots (slotsIn settings (length (now (heap .exit)))) (r .files .records) ⌝ }
-    ensures { λ r. ⌜ r .«next_position» ≡ state .«next_position» + (length (objectsOf (filedOps (file .piece) (now (heap .entry)) (tableIds (now (ids .entry))) (now (places .entry)) (now (pieces .entry)))) + 1) ⌝ }
+    ensures { λ _. ⌜ ((q : ℕ) → filedOps q (now (heap .exit)) (tableIds (now (ids .exit))) (now (places .entry)) (now (pieces .entry))
+        ≡ filedOps q (now (heap .entry)) (tableIds (now (ids .entry))) (now (places .entry)) (now (pieces .entry))) ⌝ }
+    ensures { λ r. ⌜ emptySlots (slotsIn settings (length (now (heap .entry)))) (state .files .records)
+        ≡ file .slot ∷ emptySlots (slotsIn settings (length (now (heap .exit)))) (r .files .records) ⌝ }
+    ensures { λ r. ⌜ r .«next_position» ≡ state .«next_position»
+        + (length (objectsOf
+        (filedOps (file .piece) (now (heap .entry)) (tableIds (now (ids .entry))) (now (places .entry)) (now (pieces .entry))))
+        + 1) ⌝ }
 {
     let sizes = gc_writer::sized(heap, ids, places, pieces, file.piece);
     let sized = SizedFile {

@@ -24,8 +24,9 @@ ghost use Rattle.gc_group.specs.Marks.{foundAt};
 ghost use Rattle.gc_files.specs.Places.{placedOps, Standing};
 ghost use Rattle.gc_places.specs.Group.{OfUsed, InGroup};
 
-// The group's checks; where none refuses it, "Objects and deletes at their id's current location .. one found twice only once, as last found":
-// a place for each, 0 for every other entry. `marks` is room for a mark of each entry, whatever stood there.
+// The group's checks; where none refuses it, "Objects and deletes at their id's current location .. one found twice only
+// once, as last found": a place for each, 0 for every other entry. `marks` is room for a mark of each entry, whatever
+// stood there.
 pub fn place_group(
     group: Group,
     heap: &[u8],
@@ -39,9 +40,19 @@ pub fn place_group(
     requires { ⌜ InRanges (group .settings) ⌝ }
     requires { ⌜ Ready (group .settings .«slot_bytes») (length (now heap)) (m .records) (now plan) (group .generation) ⌝ }
     requires { ⌜ Formed (table (now ids) (now locations)) ⌝ }
-    requires { ⌜ (length (tableIds (now ids)) ≤ length (now marks)) × (length (tableIds (now ids)) ≤ length (now places)) × (now places ≡ replicate (length (now places)) 0) ⌝ }
-    ensures { λ r. ⌜ r ≡ decide (groupChecks (group .settings .«max_object_size») (source (group .settings .«slot_bytes») (now (heap .entry)) (m .records) (used (now (ids .entry)) (now (locations .entry)))) (planned (now (plan .entry)) (group .generation))) ⌝ }
-    ensures { λ r. ⌜ (r ≡ Done → (placedOps (now (heap .entry)) (tableIds (now (ids .entry))) (now (places .exit)) ≡ settled (each (foundAt (source (group .settings .«slot_bytes») (now (heap .entry)) (m .records) (used (now (ids .entry)) (now (locations .entry))))) (planned (now (plan .entry)) (group .generation)))) × (OfUsed (now (ids .entry)) (now (locations .entry)) (now (places .exit)) × (Standing (now (heap .entry)) (now (places .exit)) × InGroup (group .settings .«slot_bytes») (now (heap .entry)) (now (plan .entry)) (group .generation) (now (places .exit))))) ⌝ }
+    requires { ⌜ (length (tableIds (now ids)) ≤ length (now marks))
+        × (length (tableIds (now ids)) ≤ length (now places))
+        × (now places ≡ replicate (length (now places)) 0) ⌝ }
+    ensures { λ r. ⌜ r ≡ decide (groupChecks (group .settings .«max_object_size»)
+        (source (group .settings .«slot_bytes») (now (heap .entry)) (m .records) (used (now (ids .entry)) (now (locations .entry))))
+        (planned (now (plan .entry)) (group .generation))) ⌝ }
+    ensures { λ r. ⌜ (r ≡ Done → (placedOps (now (heap .entry)) (tableIds (now (ids .entry))) (now (places .exit))
+        ≡ settled (each (foundAt
+        (source (group .settings .«slot_bytes») (now (heap .entry)) (m .records) (used (now (ids .entry)) (now (locations .entry)))))
+        (planned (now (plan .entry)) (group .generation))))
+        × (OfUsed (now (ids .entry)) (now (locations .entry)) (now (places .exit))
+        × (Standing (now (heap .entry)) (now (places .exit))
+        × InGroup (group .settings .«slot_bytes») (now (heap .entry)) (now (plan .entry)) (group .generation) (now (places .exit))))) ⌝ }
 {
     let mut lsns = [0u64; RECORDS];
     match mark_group(group, heap, m, plan, ids, locations, marks, &mut lsns) {

@@ -45,7 +45,10 @@ pub fn rewrite_group(
     requires { ⌜ Ready (settings .«slot_bytes») (length (now heap)) (state .files .records) (now plan) generation ⌝ }
     requires { ⌜ Filled state (now plan) generation ⌝ }
     requires { ⌜ (0 < generation) × (generation ≤ 3) × (moved ≤ 2 ^ 40) ⌝ }
-    ensures { λ r. ⌜ ((c : Claims) → courseGiven generation (r .answer) (r .moved) (world settings (r .state) c (now (heap .exit)) (table (now (ids .exit)) (now (locations .exit)))) ≡ rewriteGroup generation (planned (now (plan .entry)) generation) moved (world settings state c (now (heap .entry)) (table (now (ids .entry)) (now (locations .entry))))) ⌝ }
+    ensures { λ r. ⌜ ((c : Claims) → courseGiven generation (r .answer) (r .moved)
+        (world settings (r .state) c (now (heap .exit)) (table (now (ids .exit)) (now (locations .exit))))
+        ≡ rewriteGroup generation (planned (now (plan .entry)) generation) moved
+        (world settings state c (now (heap .entry)) (table (now (ids .entry)) (now (locations .entry))))) ⌝ }
     ensures { λ r. ⌜ Passed settings (length (now (heap .exit))) (table (now (ids .exit)) (now (locations .exit))) (r .state) ⌝ }
     ensures { λ r. ⌜ (r .moved ≤ moved + 65536) × (length (now (heap .exit)) ≡ length (now (heap .entry))) ⌝ }
     ensures { λ r. ⌜ Kept state (r .state) ⌝ }

@@ -16,7 +16,8 @@ ghost use Rattle.numbers.specs.Choice.{pick};
 ghost use Rattle.numbers.specs.Parts.{front, putAt};
 ghost use Rattle.rules.specs.Refusal.{decide};
 ghost use Rattle.gc_split.specs.TotalLaws.{totalsTests};
-ghost use Rattle.gc_split.specs.Tally.{sizesIn, countsIn, roundsIn, tally, pieceNo, closing, cutting, taking, closingRests, restOf, restsFrom, Within, Closable, Numbered};
+ghost use Rattle.gc_split.specs.Tally.{sizesIn, countsIn, roundsIn, tally, pieceNo, closing, cutting, taking};
+ghost use Rattle.gc_split.specs.Tally.{closingRests, restOf, restsFrom, Within, Closable, Numbered};
 
 // A split's list for the 65 shards: their sizes, then their entries, then how often each was cut off.
 pub const SHARD_LIST: usize = 195;
@@ -82,7 +83,8 @@ fn cut_off(
     settings: Settings,
 ) -> Totals
     requires { ⌜ (shard < 65) × Within (tally (now shards) (now cuts) totals) ⌝ }
-    ensures { λ r. ⌜ tally (now (shards .exit)) (now (cuts .exit)) r ≡ cutting (settings .«target_file_size») (settings .«slot_bytes») shard (tally (now (shards .entry)) (now (cuts .entry)) totals) ⌝ }
+    ensures { λ r. ⌜ tally (now (shards .exit)) (now (cuts .exit)) r
+        ≡ cutting (settings .«target_file_size») (settings .«slot_bytes») shard (tally (now (shards .entry)) (now (cuts .entry)) totals) ⌝ }
 {
     let size = shards[shard];
     if size <= settings.target_file_size {
@@ -101,8 +103,10 @@ fn cut_off(
 fn enter(shards: &mut [u64], shard: usize, size: u64)
     requires { ⌜ (shard < 65) × (length (roundsIn (now shards)) ≡ 65) ⌝ }
     requires { ⌜ (getD (sizesIn (now shards)) shard 0 + size < 2 ^ 64) × (getD (countsIn (now shards)) shard 0 + 1 < 2 ^ 64) ⌝ }
-    ensures { λ _. ⌜ sizesIn (now (shards .exit)) ≡ set (sizesIn (now (shards .entry))) shard (getD (sizesIn (now (shards .entry))) shard 0 + size) ⌝ }
-    ensures { λ _. ⌜ countsIn (now (shards .exit)) ≡ set (countsIn (now (shards .entry))) shard (getD (countsIn (now (shards .entry))) shard 0 + 1) ⌝ }
+    ensures { λ _. ⌜ sizesIn (now (shards .exit))
+        ≡ set (sizesIn (now (shards .entry))) shard (getD (sizesIn (now (shards .entry))) shard 0 + size) ⌝ }
+    ensures { λ _. ⌜ countsIn (now (shards .exit))
+        ≡ set (countsIn (now (shards .entry))) shard (getD (countsIn (now (shards .entry))) shard 0 + 1) ⌝ }
     ensures { λ _. ⌜ roundsIn (now (shards .exit)) ≡ roundsIn (now (shards .entry)) ⌝ }
 {
     let sum = shards[shard] + size;
@@ -121,7 +125,9 @@ pub fn join(
     settings: Settings,
 ) -> Totals
     requires { ⌜ (shard < 65) × (size ≤ 2 ^ 21) × (totals .entries < 65536) × Within (tally (now shards) (now cuts) totals) ⌝ }
-    ensures { λ r. ⌜ tally (now (shards .exit)) (now (cuts .exit)) r ≡ taking (settings .«target_file_size») (settings .«slot_bytes») shard size (tally (now (shards .entry)) (now (cuts .entry)) totals) ⌝ }
+    ensures { λ r. ⌜ tally (now (shards .exit)) (now (cuts .exit)) r
+        ≡ taking (settings .«target_file_size») (settings .«slot_bytes») shard size
+        (tally (now (shards .entry)) (now (cuts .entry)) totals) ⌝ }
 {
     let t = cut_off(shards, cuts, totals, shard, settings);
     enter(shards, shard, size);
@@ -197,7 +203,8 @@ pub fn decided(t: Totals, empty: u64, base: u64) -> Answer
 // What is left of a shard takes the next place, if there is anything.
 fn put_rest(rests: &mut [u64], left: usize, entries: u64, piece: u64) -> usize
     requires { ⌜ left < length (now rests) ⌝ }
-    ensures { λ r. ⌜ (r ≡ left + length (restOf entries piece)) × (now (rests .exit) ≡ putAt (now (rests .entry)) left (restOf entries piece)) ⌝ }
+    ensures { λ r. ⌜ (r ≡ left + length (restOf entries piece))
+        × (now (rests .exit) ≡ putAt (now (rests .entry)) left (restOf entries piece)) ⌝ }
 {
     if entries == 0 {
         return left;
@@ -209,7 +216,8 @@ fn put_rest(rests: &mut [u64], left: usize, entries: u64, piece: u64) -> usize
 // The numbers of what is left of the shards, by their entries and rounds, ascending, and how many that are.
 fn rests(counts: &[u64], rounds: &[u64], rests: &mut [u64]) -> usize
     requires { ⌜ Numbered (now counts) (now rounds) (now rests) ⌝ }
-    ensures { λ r. ⌜ (r ≡ length (restsFrom 0 (now (counts .entry)) (now (rounds .entry)))) × (now (rests .exit) ≡ front (restsFrom 0 (now (counts .entry)) (now (rounds .entry))) (now (rests .entry))) ⌝ }
+    ensures { λ r. ⌜ (r ≡ length (restsFrom 0 (now (counts .entry)) (now (rounds .entry))))
+        × (now (rests .exit) ≡ front (restsFrom 0 (now (counts .entry)) (now (rounds .entry))) (now (rests .entry))) ⌝ }
 {
     let mut left: usize = 0;
     let mut n: usize = 0;
@@ -224,7 +232,8 @@ fn rests(counts: &[u64], rounds: &[u64], rests: &mut [u64]) -> usize
 pub fn shard_rests(shards: &[u64], left: &mut [u64]) -> usize
     requires { ⌜ Numbered (countsIn (now shards)) (roundsIn (now shards)) (now left) ⌝ }
     ensures { λ r. ⌜ r ≡ length (restsFrom 0 (countsIn (now (shards .entry))) (roundsIn (now (shards .entry)))) ⌝ }
-    ensures { λ _. ⌜ now (left .exit) ≡ front (restsFrom 0 (countsIn (now (shards .entry))) (roundsIn (now (shards .entry)))) (now (left .entry)) ⌝ }
+    ensures { λ _. ⌜ now (left .exit)
+        ≡ front (restsFrom 0 (countsIn (now (shards .entry))) (roundsIn (now (shards .entry)))) (now (left .entry)) ⌝ }
 {
     let counts = &shards[COUNTS_AT..ROUNDS_AT];
     rests(counts, &shards[ROUNDS_AT..SHARD_LIST], left)

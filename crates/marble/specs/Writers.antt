@@ -1,4 +1,4 @@
--- P8 and the code: the contracts of the three writers of the heap, and what a call's writers leave where k stores may be made.
+-- Request P8 and the code: the contracts of the three writers of the heap, and what a call's writers leave where k stores may be made.
 use mathlib.Core.Path.{_≡_, refl, sym, ap, _∙_, subst}
 use contract.Lifetimes.{Lfts}
 use denote.Ref.{now}
@@ -58,7 +58,7 @@ unfolding JobsMade each
 jobs-made k [] before heap rest (p, q) = subst (λ (h : List ℕ). Made k [] before h rest) (sym p) (subst (λ (n : ℕ). Made k [] before before n) (sym q) (made-none k before))
 jobs-made k (j ∷ js) before heap rest (next, m, first, others) = made-then first (jobs-made m js next heap rest others)
 
--- P8: what they leave of any call is what a power cut behind its first k stores leaves
+-- request P8: what they leave of any call is what a power cut behind its first k stores leaves
 pub writers-cut : (k : ℕ) (w : World) (c : Call) (heap : List ℕ) (rest : ℕ) → JobsMade k (jobsOf w c) (w .heap) heap rest
     → (v : World) → Alike w v → v .heap ≡ heap → CutAt k w c v
 writers-cut k w c heap rest m v a e = record {

@@ -1,9 +1,9 @@
 // Write (`src/writepath.rs`): the whole batch is decided first; nothing is stored before.
 
-pub mod plan;
+pub mod decision;
 
+use decision::Decision;
 use install::StoredFile;
-use plan::Plan;
 use rules::Answer;
 use rules::Label;
 use rules::Settings;
@@ -42,7 +42,8 @@ fn new_label(base: u64, count: u64, total: u64) -> Label
 // The whole run of the file: it is no longer than the heap.
 fn put_file(heap: &mut [u8], start: usize, batch: &[u8], new: Label, count: u64, total: u64)
     requires { ⌜ Sized (now batch) count total × (start + (64 + length (fileBytes (settled (opsIn (now batch))))) ≤ length (now heap)) ⌝ }
-    ensures { λ _. ⌜ now (heap .exit) ≡ made (fileStores start (labelBytes new) (fileBytes (settled (opsIn (now (batch .entry)))))) (now (heap .entry)) ⌝ }
+    ensures { λ _. ⌜ now (heap .exit)
+        ≡ made (fileStores start (labelBytes new) (fileBytes (settled (opsIn (now (batch .entry)))))) (now (heap .entry)) ⌝ }
 {
     let k = heap.len() as u64;
     batch_file::write_file(heap, start, batch, new, count, total, k);
@@ -66,7 +67,9 @@ fn add_file(
     file: NewFile,
 ) -> State
     requires { ⌜ Filed settings state (now heap) (table (now ids) (now locations)) (now batch) (file .slot) (file .count) (file .total) ⌝ }
-    ensures { λ r. ⌜ ((c : Claims) → world settings r c (now (heap .exit)) (table (now (ids .exit)) (now (locations .exit))) ≡ installed (2 ^ 62) 0 (world settings state c (now (heap .entry)) (table (now (ids .entry)) (now (locations .entry)))) (settled (opsIn (now (batch .entry))))) ⌝ }
+    ensures { λ r. ⌜ ((c : Claims) → world settings r c (now (heap .exit)) (table (now (ids .exit)) (now (locations .exit)))
+        ≡ installed (2 ^ 62) 0 (world settings state c (now (heap .entry)) (table (now (ids .entry)) (now (locations .entry))))
+        (settled (opsIn (now (batch .entry))))) ⌝ }
 {
     let new = new_label(state.next_position, file.count, file.total);
     let start = file.slot * settings.slot_bytes as usize;
@@ -92,18 +95,21 @@ pub fn write(
     locations: &mut [u64],
     batch: &[u8],
 ) -> Written
-    ensures { λ r. ⌜ ((c : Claims) → leaving (answerGiven (r .answer)) (world settings (r .state) c (now (heap .exit)) (table (now (ids .exit)) (now (locations .exit)))) ≡ writeCall (world settings state c (now (heap .entry)) (table (now (ids .entry)) (now (locations .entry)))) (now (batch .entry))) ⌝ }
+    ensures { λ r. ⌜ ((c : Claims) → leaving (answerGiven (r .answer))
+        (world settings (r .state) c (now (heap .exit)) (table (now (ids .exit)) (now (locations .exit))))
+        ≡ writeCall (world settings state c (now (heap .entry)) (table (now (ids .entry)) (now (locations .entry))))
+        (now (batch .entry))) ⌝ }
 {
-    match plan::decided(settings, state, heap, ids, locations, batch) {
-        Plan::Refused(r) => Written {
+    match decision::decided(settings, state, heap, ids, locations, batch) {
+        Decision::Refused(r) => Written {
             answer: Answer::Refused(r),
             state: state,
         },
-        Plan::Nothing => Written {
+        Decision::Nothing => Written {
             answer: Answer::Done,
             state: state,
         },
-        Plan::File(slot, count, total) => {
+        Decision::File(slot, count, total) => {
             let file = NewFile {
                 slot: slot,
                 count: count,

@@ -6,7 +6,7 @@ use Rattle.file_map.proofs.less_live.Statement.{statement}
 use Rattle.rules.specs.declared.Record.{Record}
 use Rattle.file_map.specs.Lists.{withLives, lessAt}
 use Rattle.file_map.specs.ListLaws.{less-live}
-use Rattle.file_map.proofs.Turns.{mapped-length}
+use Rattle.file_map.proofs.RecordTurns.{mapped-length}
 use Rattle.file_map.proofs.less_live.Tie as tie
 
 lives-requires : tie.Need-lives-requires

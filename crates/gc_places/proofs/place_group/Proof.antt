@@ -6,7 +6,7 @@ use lib.ListN.{length, length-map}
 use borrow.Author.Needs.{needs}
 use Rattle.numbers.specs.Parts.{front}
 use Rattle.rules.specs.declared.Record.{Record}
-use Rattle.file_map.proofs.Turns.{mapped-length}
+use Rattle.file_map.proofs.RecordTurns.{mapped-length}
 use Rattle.gc_files.specs.Places.{placesFor}
 use Rattle.gc_places.specs.Group.{Checked}
 use Rattle.gc_places.specs.GroupLaws.{group-checked, placeables, places-told}

@@ -1,6 +1,6 @@
 use mathlib.Core.Path.{_≡_, refl}
 use Rattle.gc_split.specs.Tally.{tally}
-use Rattle.gc_files.proofs.Turns.{Along, along-start, along-turn, along-end}
+use Rattle.gc_files.proofs.EntryTurns.{Along, along-start, along-turn, along-end}
 use Prim.Native.Nat.{_≤_, _<_, _-_}
 use native.Mathlib.Omega.{arith}
 use borrow.Author.Needs.{needs}

@@ -14,7 +14,7 @@ use Rattle.rules.specs.SlotFile.{slotBytes}
 use Rattle.rules.specs.SlotLaws.{slot-length}
 use Rattle.rules.specs.Maintenance.{fileTests}
 use Rattle.location_table.specs.LayoutLaws.{used}
-use Rattle.file_map.proofs.Turns.{mapped-length, copied, copied-start, copied-next, copied-end}
+use Rattle.file_map.proofs.RecordTurns.{mapped-length, copied, copied-start, copied-next, copied-end}
 use Rattle.gc_candidates.specs.Plan.{planned, plannedFrom, planned-here, planned-next, planned-start, planned-end}
 use Rattle.gc_group.specs.Source.{source, Lies}
 use Rattle.gc_group.specs.Checks.{groupChecks, group-refused, group-on, group-none}

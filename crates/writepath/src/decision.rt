@@ -25,10 +25,10 @@ ghost use Rattle.location_table.specs.Tables.{Formed};
 ghost use Rattle.limits.specs.Settled.{stateOf};
 ghost use Rattle.batch.specs.Reading.{opsIn};
 ghost use Rattle.writepath.specs.NewIds.{newIds, isNew, idsOf};
-ghost use Rattle.writepath.specs.Plans.{planOf, Parsed};
+ghost use Rattle.writepath.specs.Decisions.{decisionOf, Parsed};
 
 // A refusal; nothing, for an empty batch; or a file: its slot, its count of entries and T.
-pub enum Plan {
+pub enum Decision {
     Refused(Refusal),
     Nothing,
     File(usize, u64, u64),
@@ -47,7 +47,9 @@ fn is_new(ids: &[u64], locations: &[u64], id: u64) -> u64
 // How many of the batch's ids the table does not have.
 fn new_ids(ids: &[u64], locations: &[u64], batch: &[u8]) -> u64
     requires { ⌜ Formed (table (now ids) (now locations)) ⌝ }
-    ensures { λ r. ⌜ (r ≡ newIds (usedEntries (table (now (ids .entry)) (now (locations .entry)))) (idsOf (settled (opsIn (now (batch .entry)))))) × (r ≤ length (now (batch .entry))) ⌝ }
+    ensures { λ r. ⌜ (r
+        ≡ newIds (usedEntries (table (now (ids .entry)) (now (locations .entry)))) (idsOf (settled (opsIn (now (batch .entry))))))
+        × (r ≤ length (now (batch .entry))) ⌝ }
 {
     let mut count: u64 = 0;
     let mut cursor = batch::start(batch);
@@ -63,7 +65,10 @@ fn new_ids(ids: &[u64], locations: &[u64], batch: &[u8]) -> u64
 // "6 more distinct ids than table entries": the table's and the batch's together.
 fn too_many(ids: &[u64], locations: &[u64], batch: &[u8]) -> bool
     requires { ⌜ Formed (table (now ids) (now locations)) ⌝ }
-    ensures { λ r. ⌜ r ≡ tooManyIds (length (tableIds (now (ids .entry)))) (usedEntries (table (now (ids .entry)) (now (locations .entry)))) (settled (opsIn (now (batch .entry)))) ⌝ }
+    ensures { λ r. ⌜ r ≡ tooManyIds
+        (length (tableIds (now (ids .entry))))
+        (usedEntries (table (now (ids .entry)) (now (locations .entry))))
+        (settled (opsIn (now (batch .entry)))) ⌝ }
 {
     let used = location_table::used(ids, locations) as u64;
     let more = new_ids(ids, locations, batch);
@@ -79,28 +84,30 @@ fn room(
     ids: &[u64],
     locations: &[u64],
     batch: &[u8],
-) -> Plan
+) -> Decision
     requires { ⌜ Parsed settings (stateOf rest files) (now heap) (table (now ids) (now locations)) (now batch) ⌝ }
-    ensures { λ r. ⌜ ((c : Claims) → r ≡ planOf (world settings (stateOf rest files) c (now (heap .entry)) (table (now (ids .entry)) (now (locations .entry)))) (now (batch .entry))) ⌝ }
+    ensures { λ r. ⌜ ((c : Claims) → r ≡ decisionOf
+        (world settings (stateOf rest files) c (now (heap .entry)) (table (now (ids .entry)) (now (locations .entry))))
+        (now (batch .entry))) ⌝ }
 {
     let Room::Fits(count, total) = batch::sizes(batch, settings.slot_bytes) else {
-        return Plan::Refused(Refusal::SlotRoom);
+        return Decision::Refused(Refusal::SlotRoom);
     };
     if count == 0 {
-        return Plan::Nothing;
+        return Decision::Nothing;
     }
     let n = heap.len() / settings.slot_bytes as usize;
     let slot = file_map::lowest_empty(files, n);
     if n <= slot {
-        return Plan::Refused(Refusal::NoEmptySlot);
+        return Decision::Refused(Refusal::NoEmptySlot);
     }
     if too_many(ids, locations, batch) {
-        return Plan::Refused(Refusal::TableRoom);
+        return Decision::Refused(Refusal::TableRoom);
     }
     if spent(rest.next_position, total + 1) {
-        return Plan::Refused(Refusal::PositionsSpent);
+        return Decision::Refused(Refusal::PositionsSpent);
     }
-    Plan::File(slot, count, total)
+    Decision::File(slot, count, total)
 }
 
 pub fn decided(
@@ -110,17 +117,19 @@ pub fn decided(
     ids: &[u64],
     locations: &[u64],
     batch: &[u8],
-) -> Plan
-    ensures { λ r. ⌜ ((c : Claims) → r ≡ planOf (world settings state c (now (heap .entry)) (table (now (ids .entry)) (now (locations .entry)))) (now (batch .entry))) ⌝ }
+) -> Decision
+    ensures { λ r. ⌜ ((c : Claims) → r ≡ decisionOf
+        (world settings state c (now (heap .entry)) (table (now (ids .entry)) (now (locations .entry))))
+        (now (batch .entry))) ⌝ }
 {
     let files = state.files;
     let bad = bad_files(settings, heap.len() as u64, ids, locations, files);
     let rest = rest_of(state);
     if refused_apart(settings, heap.len() as u64, ids, locations, rest, bad) {
-        return Plan::Refused(Refusal::Limits);
+        return Decision::Refused(Refusal::Limits);
     }
     match batch::check(batch, settings.max_object_size) {
-        Answer::Refused(r) => Plan::Refused(r),
+        Answer::Refused(r) => Decision::Refused(r),
         Answer::Done => room(settings, rest, files, heap, ids, locations, batch),
     }
 }

@@ -29,8 +29,8 @@ use Rattle.batch.specs.ReadingLaws.{ops-of}
 use Rattle.batch.specs.Sizes.{sizesOf}
 use Rattle.batch.specs.SizeLaws.{fits-told, large-told}
 use Rattle.batch.specs.declared.Room.the-variants.{Fits, TooLarge}
-use Rattle.writepath.specs.Plans.{filed, planOf, batchTests, plan-refused, plan-done}
-use Rattle.writepath.specs.declared.plan.Plan.the-variants.{Refused, Nothing, File}
+use Rattle.writepath.specs.Decisions.{filed, decisionOf, batchTests, decision-refused, decision-done}
+use Rattle.writepath.specs.declared.decision.Decision.the-variants.{Refused, Nothing, File}
 
 -- 4 to 7 for the one file of a batch that is not empty
 abbrev pub fileTests : World → List Op → List Test
@@ -96,13 +96,13 @@ filed-none slot (o ∷ os) h = absurd (omega arith)
 
 module _ (w : World) (bytes : List ℕ) where
   -- a refusal that is given
-  given : (r : Refusal) → decide (writeTests w bytes) ≡ answer.Refused r → Refused r ≡ planOf w bytes
-  given r e = sym (plan-refused w bytes r e)
+  given : (r : Refusal) → decide (writeTests w bytes) ≡ answer.Refused r → Refused r ≡ decisionOf w bytes
+  given r e = sym (decision-refused w bytes r e)
 
   -- 1
-  pub plan-1 : refused1 w ≡ true → Refused Limits ≡ planOf w bytes
+  pub decision-1 : refused1 w ≡ true → Refused Limits ≡ decisionOf w bytes
   unfolding writeTests
-  plan-1 e = given Limits (decide-first (refused1 w) Limits _ e)
+  decision-1 e = given Limits (decide-first (refused1 w) Limits _ e)
 
   module _ (first : refused1 w ≡ false) where
     -- 1 does not hold: 2 to 7 are left
@@ -111,8 +111,8 @@ module _ (w : World) (bytes : List ℕ) where
     rest = decide-next (refused1 w) Limits _ first
 
     -- 2, 3
-    pub plan-batch : (r : Refusal) → decide (batchTests (w .settings) bytes) ≡ answer.Refused r → Refused r ≡ planOf w bytes
-    plan-batch r e = given r (rest ∙ decide-early (batchTests (w .settings) bytes) _ r e)
+    pub decision-batch : (r : Refusal) → decide (batchTests (w .settings) bytes) ≡ answer.Refused r → Refused r ≡ decisionOf w bytes
+    decision-batch r e = given r (rest ∙ decide-early (batchTests (w .settings) bytes) _ r e)
 
     module _ (second : decide (batchTests (w .settings) bytes) ≡ answer.Done) where
       -- 2 does not hold: the operations are those of the walk
@@ -125,18 +125,18 @@ module _ (w : World) (bytes : List ℕ) where
       late = rest ∙ decide-late (batchTests (w .settings) bytes) _ second ∙ ap (λ (os : List Op). decide (lateTests w os)) same
 
       -- none is given
-      done : decide (writeTests w bytes) ≡ answer.Done → filed (newSlot w) (settled (opsIn bytes)) ≡ planOf w bytes
-      done e = sym (plan-done w bytes e ∙ ap (filed (newSlot w)) same)
+      done : decide (writeTests w bytes) ≡ answer.Done → filed (newSlot w) (settled (opsIn bytes)) ≡ decisionOf w bytes
+      done e = sym (decision-done w bytes e ∙ ap (filed (newSlot w)) same)
 
       -- "An empty batch succeeds and changes nothing."
-      pub plan-none : length (settled (opsIn bytes)) ≡ 0 → Nothing ≡ planOf w bytes
-      plan-none h =
+      pub decision-none : length (settled (opsIn bytes)) ≡ 0 → Nothing ≡ decisionOf w bytes
+      decision-none h =
           let n = filed-none (newSlot w) (settled (opsIn bytes)) h in
           sym (n .1) ∙ done (late ∙ ap (λ (os : List Op). decide (lateTests w os)) (n .0) ∙ late-none w)
 
       -- 4
-      pub plan-4 : sizesOf (w .settings .«slot_bytes») (settled (opsIn bytes)) ≡ TooLarge → Refused SlotRoom ≡ planOf w bytes
-      plan-4 e =
+      pub decision-4 : sizesOf (w .settings .«slot_bytes») (settled (opsIn bytes)) ≡ TooLarge → Refused SlotRoom ≡ decisionOf w bytes
+      decision-4 e =
           let over = large-told _ (settled (opsIn bytes)) e in
           let low = passed (w .settings) _ (w .table) (w .state) first .limits .settings .slot-low in
           let some = large-some (settled (opsIn bytes)) (omega arith) in
@@ -152,8 +152,8 @@ module _ (w : World) (bytes : List ℕ) where
         behind-4 = late ∙ late-some w (settled (opsIn bytes)) (omega (arith, told .1)) ∙ decide-next _ SlotRoom _ (le-ltb _ _ (told .0))
 
         -- 5
-        pub plan-5 : slotsOf w ≤ newSlot w → Refused NoEmptySlot ≡ planOf w bytes
-        plan-5 h = given NoEmptySlot (behind-4 ∙ decide-first _ NoEmptySlot _ (lt-ltb _ _ (free-none (slotsOf w) (recordsOf w) h)))
+        pub decision-5 : slotsOf w ≤ newSlot w → Refused NoEmptySlot ≡ decisionOf w bytes
+        decision-5 h = given NoEmptySlot (behind-4 ∙ decide-first _ NoEmptySlot _ (lt-ltb _ _ (free-none (slotsOf w) (recordsOf w) h)))
 
         module _ (free : newSlot w < slotsOf w) where
           -- nor does 5
@@ -161,8 +161,8 @@ module _ (w : World) (bytes : List ℕ) where
           behind-5 = behind-4 ∙ decide-next _ NoEmptySlot _ (le-ltb _ _ (free-some (slotsOf w) (recordsOf w) free))
 
           -- 6
-          pub plan-6 : tooManyIds (capacityOf (w .table)) (mappings w) (settled (opsIn bytes)) ≡ true → Refused TableRoom ≡ planOf w bytes
-          plan-6 e = given TableRoom (behind-5 ∙ decide-first _ TableRoom _ e)
+          pub decision-6 : tooManyIds (capacityOf (w .table)) (mappings w) (settled (opsIn bytes)) ≡ true → Refused TableRoom ≡ decisionOf w bytes
+          decision-6 e = given TableRoom (behind-5 ∙ decide-first _ TableRoom _ e)
 
           module _ (room : tooManyIds (capacityOf (w .table)) (mappings w) (settled (opsIn bytes)) ≡ false) where
             -- nor does 6
@@ -172,12 +172,12 @@ module _ (w : World) (bytes : List ℕ) where
                 ∙ ap (λ (n : ℕ). decide (ltb (2 ^ 62) (w .state .«next_position» + (n + 1)) gives PositionsSpent ∷ [])) (sym (told .2))
 
             -- 7
-            pub plan-7 : ltb (2 ^ 62) (w .state .«next_position» + (total + 1)) ≡ true → Refused PositionsSpent ≡ planOf w bytes
-            plan-7 e = given PositionsSpent (behind-6 ∙ decide-first _ PositionsSpent _ e)
+            pub decision-7 : ltb (2 ^ 62) (w .state .«next_position» + (total + 1)) ≡ true → Refused PositionsSpent ≡ decisionOf w bytes
+            decision-7 e = given PositionsSpent (behind-6 ∙ decide-first _ PositionsSpent _ e)
 
             -- none of them
-            pub plan-file : ltb (2 ^ 62) (w .state .«next_position» + (total + 1)) ≡ false → File (newSlot w) count total ≡ planOf w bytes
-            plan-file e =
+            pub decision-file : ltb (2 ^ 62) (w .state .«next_position» + (total + 1)) ≡ false → File (newSlot w) count total ≡ decisionOf w bytes
+            decision-file e =
                 ap₂ (File (newSlot w)) (told .1) (told .2)
                 ∙ sym (filed-some (newSlot w) (settled (opsIn bytes)) (omega (arith, told .1)))
                 ∙ done (behind-6 ∙ decide-next _ PositionsSpent _ e ∙ decide-none)

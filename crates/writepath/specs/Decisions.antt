@@ -14,17 +14,17 @@ use Rattle.rules.specs.Condition1.{conditionOne}
 use Rattle.rules.specs.Install.{newSlot}
 use Rattle.rules.specs.Write.{writeTests}
 use Rattle.rules.specs.World.{World}
-use Rattle.writepath.specs.declared.plan.Plan.{Plan}
-use Rattle.writepath.specs.declared.plan.Plan.the-variants.{Refused, Nothing, File}
+use Rattle.writepath.specs.declared.decision.Decision.{Decision}
+use Rattle.writepath.specs.declared.decision.Decision.the-variants.{Refused, Nothing, File}
 
 -- "An empty batch succeeds and changes nothing."; any other makes a file
-abbrev pub filed : ℕ → List Op → Plan
+abbrev pub filed : ℕ → List Op → Decision
 filed slot [] = Nothing
 filed slot (o ∷ os) = File slot (length (o ∷ os)) (length (objectsOf (o ∷ os)))
 
 -- what a call's world and batch come to
-unfoldable pub planOf : World → List ℕ → Plan
-planOf w bytes = after (decide (writeTests w bytes)) Refused (filed (newSlot w) (settled (opsOf (batchIn bytes))))
+unfoldable pub decisionOf : World → List ℕ → Decision
+decisionOf w bytes = after (decide (writeTests w bytes)) Refused (filed (newSlot w) (settled (opsOf (batchIn bytes))))
 
 -- 2 and 3
 abbrev pub batchTests : Settings → List ℕ → List Test
@@ -35,12 +35,12 @@ pub record Parsed (s : Settings) (t : State) (heap : List ℕ) (b : Buffers) (by
   pub passed : conditionOne s (length heap) b t ≡ false
   pub parsed : decide (batchTests s bytes) ≡ answer.Done
 
--- a refusal that is given is the plan
-pub plan-refused : (w : World) (bytes : List ℕ) (r : Refusal) → decide (writeTests w bytes) ≡ answer.Refused r → planOf w bytes ≡ Refused r
-unfolding planOf
-plan-refused w bytes r e = after-refused (decide (writeTests w bytes)) r Refused _ e
+-- a refusal that is given is the decision
+pub decision-refused : (w : World) (bytes : List ℕ) (r : Refusal) → decide (writeTests w bytes) ≡ answer.Refused r → decisionOf w bytes ≡ Refused r
+unfolding decisionOf
+decision-refused w bytes r e = after-refused (decide (writeTests w bytes)) r Refused _ e
 
 -- where none is given, the operations say
-pub plan-done : (w : World) (bytes : List ℕ) → decide (writeTests w bytes) ≡ answer.Done → planOf w bytes ≡ filed (newSlot w) (settled (opsOf (batchIn bytes)))
-unfolding planOf
-plan-done w bytes e = after-done (decide (writeTests w bytes)) Refused _ e
+pub decision-done : (w : World) (bytes : List ℕ) → decide (writeTests w bytes) ≡ answer.Done → decisionOf w bytes ≡ filed (newSlot w) (settled (opsOf (batchIn bytes)))
+unfolding decisionOf
+decision-done w bytes e = after-done (decide (writeTests w bytes)) Refused _ e

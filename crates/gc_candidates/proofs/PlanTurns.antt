@@ -1,4 +1,4 @@
--- A list written place by place into another one of its length.
+-- A turn of the loop that writes the plan: a list written place by place into another one of its length.
 use mathlib.Core.Path.{_≡_, refl, sym, ap, _∙_}
 use mathlib.Core.List.{append-assoc, append-nil}
 use Prim.Native.Nat.{_≤_, _<_}

@@ -1,4 +1,4 @@
--- One turn of each loop, and its end.
+-- One turn of each loop that counts, and its end.
 use mathlib.Core.Path.{_≡_, refl, sym, ap, _∙_}
 use mathlib.Core.Bool.{true, false}
 use mathlib.Core.Logic.{_⊎_, inl, inr}

@@ -13,8 +13,8 @@ use Rattle.batch.specs.OrderLaws.{settled-length}
 use Rattle.batch.specs.Walk.{left}
 use Rattle.batch.specs.WalkLaws.{stepped, stepped-end}
 use Rattle.writepath.specs.NewIds.{newIds, idsOf, new-next, new-end, new-one}
-use Rattle.writepath.proofs.plan.new_ids.Statement.{statement}
-use Rattle.writepath.proofs.plan.new_ids.Tie as tie
+use Rattle.writepath.proofs.decision.new_ids.Statement.{statement}
+use Rattle.writepath.proofs.decision.new_ids.Tie as tie
 
 abbrev Inv-loop : tie.InvT-loop
 Inv-loop ids locations batch count₀ cursor₀ count cursor =

@@ -17,10 +17,10 @@ use Rattle.batch.specs.Reading.{opsIn}
 use Rattle.batch.specs.Sizes.{sizesOf}
 use Rattle.batch.specs.SizeLaws.{fits-told}
 use Rattle.batch.specs.declared.Room.the-variants.{Fits}
-use Rattle.writepath.specs.PlanLaws.{plan-none, plan-4, plan-5, plan-6, plan-7, plan-file}
-use Rattle.writepath.specs.declared.plan.Plan.the-variants.{File}
-use Rattle.writepath.proofs.plan.room.Statement.{statement}
-use Rattle.writepath.proofs.plan.room.Tie as tie
+use Rattle.writepath.specs.DecisionLaws.{decision-none, decision-4, decision-5, decision-6, decision-7, decision-file}
+use Rattle.writepath.specs.declared.decision.Decision.the-variants.{File}
+use Rattle.writepath.proofs.decision.room.Statement.{statement}
+use Rattle.writepath.proofs.decision.room.Tie as tie
 
 -- ---- the call, as each place has it
 abbrev begun : tie.After-sizes → tie.Start
@@ -80,13 +80,13 @@ returns : tie.Need-returns
 returns c =
     let z = c .before .before in
     let start = begun z in
-    λ w. plan-4 (seen z w) (start .args .batch .now) (start .pre .passed) (start .pre .parsed) (sym (z .sizes .ensures) ∙ c .enum-told .given .1)
+    λ w. decision-4 (seen z w) (start .args .batch .now) (start .pre .passed) (start .pre .parsed) (sym (z .sizes .ensures) ∙ c .enum-told .given .1)
 
 returns-2 : tie.Need-returns-2
 returns-2 c =
     let k = c .before .before in
     let start = begun (sized k) in
-    λ w. plan-none (seen (sized k) w) (start .args .batch .now) (start .pre .passed) (start .pre .parsed) (sym (fits-told _ (ops (sized k)) (count k) (total k) (fits k) .1) ∙ c .if1 .taken)
+    λ w. decision-none (seen (sized k) w) (start .args .batch .now) (start .pre .passed) (start .pre .parsed) (sym (fits-told _ (ops (sized k)) (count k) (total k) (fits k) .1) ∙ c .if1 .taken)
 
 div-n : tie.Need-div-n
 div-n c = let low = clear (sized (counted c)) .limits .settings .slot-low in omega arith
@@ -99,7 +99,7 @@ returns-3 c =
     let e = c .before .before in
     let k = counted e in
     let start = begun (sized k) in
-    λ w. plan-5 (seen (sized k) w) (start .args .batch .now) (start .pre .passed) (start .pre .parsed) (count k) (total k) (fits k) (some e) (omega (arith, c .if2 .taken, c .before .lowest-empty .ensures))
+    λ w. decision-5 (seen (sized k) w) (start .args .batch .now) (start .pre .passed) (start .pre .parsed) (count k) (total k) (fits k) (some e) (omega (arith, c .if2 .taken, c .before .lowest-empty .ensures))
 
 too-many-requires : tie.Need-too-many-requires
 too-many-requires c κs =
@@ -112,7 +112,7 @@ returns-4 c =
     let e2 = c .before .before in
     let k = counted (free e2) in
     let start = begun (sized k) in
-    λ w. plan-6 (seen (sized k) w) (start .args .batch .now) (start .pre .passed) (start .pre .parsed) (count k) (total k) (fits k) (some (free e2)) (room-left e2 w) (sym (c .before .too-many .ensures) ∙ c .if3 .taken)
+    λ w. decision-6 (seen (sized k) w) (start .args .batch .now) (start .pre .passed) (start .pre .parsed) (count k) (total k) (fits k) (some (free e2)) (room-left e2 w) (sym (c .before .too-many .ensures) ∙ c .if3 .taken)
 
 add-spent : tie.Need-add-spent
 add-spent c =
@@ -131,7 +131,7 @@ returns-5 c =
     let k = counted (free e2) in
     let start = begun (sized k) in
     λ w.
-    plan-7 (seen (sized k) w) (start .args .batch .now) (start .pre .passed) (start .pre .parsed) (count k) (total k) (fits k) (some (free e2)) (room-left e2 w) (sym (e3 .before .too-many .ensures) ∙ e3 .if3 .left)
+    decision-7 (seen (sized k) w) (start .args .batch .now) (start .pre .passed) (start .pre .parsed) (count k) (total k) (fits k) (some (free e2)) (room-left e2 w) (sym (e3 .before .too-many .ensures) ∙ e3 .if3 .left)
     (sym (c .before .spent .ensures) ∙ c .if4 .taken)
 
 returns-6 : tie.Need-returns-6
@@ -142,7 +142,7 @@ returns-6 c =
     let start = begun (sized k) in
     λ w.
     ap (λ (n : ℕ). File n (count k) (total k)) (e2 .before .lowest-empty .ensures)
-    ∙ plan-file (seen (sized k) w) (start .args .batch .now) (start .pre .passed) (start .pre .parsed) (count k) (total k) (fits k) (some (free e2)) (room-left e2 w) (sym (e3 .before .too-many .ensures) ∙ e3 .if3 .left)
+    ∙ decision-file (seen (sized k) w) (start .args .batch .now) (start .pre .passed) (start .pre .parsed) (count k) (total k) (fits k) (some (free e2)) (room-left e2 w) (sym (e3 .before .too-many .ensures) ∙ e3 .if3 .left)
     (sym (c .before .spent .ensures) ∙ c .if4 .left)
 
 pub room-spec : {M : Type 1} → statement M

@@ -12,8 +12,8 @@ use Rattle.rules.specs.SettledLaws.{settled-rising}
 use Rattle.rules.specs.Write.{tooManyIds}
 use Rattle.batch.specs.Reading.{opsIn}
 use Rattle.writepath.specs.NewIds.{entries-new}
-use Rattle.writepath.proofs.plan.too_many.Statement.{statement}
-use Rattle.writepath.proofs.plan.too_many.Tie as tie
+use Rattle.writepath.proofs.decision.too_many.Statement.{statement}
+use Rattle.writepath.proofs.decision.too_many.Tie as tie
 
 used-requires : tie.Need-used-requires
 used-requires c κs = search needs
