@@ -4,14 +4,18 @@ use Prim.Native.Nat.{_≤_, _<_}
 use native.Mathlib.Omega.{arith}
 use lib.ListN.{length-drop, length-take}
 use native.Mathlib.Nat.{min-le-right}
-use lib.Seq.{getD-take, getD-drop, take-set-le, take-set-lt, drop-set-lt, drop-set-add}
+use lib.Seq.{take-all, getD-take, getD-drop, take-set-le, take-set-lt, drop-set-lt, drop-set-add}
 use Rattle.rules.specs.Base.{List, ℕ, _+_, length, getD, set, take, drop}
 use Rattle.gc_split.specs.declared.Totals.{Totals}
 use Rattle.gc_split.specs.Tally.{sizesIn, countsIn, roundsIn, tally}
 
--- with rounds of 65 shards it is 195 long at least
-pub shards-long : (s : List ℕ) → length (roundsIn s) ≡ 65 → 195 ≤ length s
-shards-long s h = omega (arith, h, length-take 65 (drop 130 s), min-le-right 65 (length (drop 130 s)), length-drop 130 s)
+-- with rounds of 65 shards it is 195 long
+pub shards-long : (s : List ℕ) → length (roundsIn s) ≡ 65 → length s ≡ 195
+shards-long s h = omega (arith, h, length-drop 130 s)
+
+-- the rounds are its last 65
+pub all-rounds : (s : List ℕ) → length (roundsIn s) ≡ 65 → take 65 (drop 130 s) ≡ roundsIn s
+all-rounds s h = take-all 65 (drop 130 s) (omega (arith, h))
 
 -- with entries of 65 shards 130 long at least
 pub counts-long : (s : List ℕ) → length (countsIn s) ≡ 65 → 130 ≤ length s
@@ -26,19 +30,19 @@ module _ (s : List ℕ) (n : ℕ) (h : n < 65) where
   count-at = getD-take 65 (drop 65 s) n 0 h ∙ getD-drop 65 s n 0
 
   pub round-at : getD (roundsIn s) n 0 ≡ getD s (130 + n) 0
-  round-at = getD-take 65 (drop 130 s) n 0 h ∙ getD-drop 130 s n 0
+  round-at = getD-drop 130 s n 0
 
   module _ (x : ℕ) where
     -- its size stored
     pub size-put : (sizesIn (set s n x) ≡ set (sizesIn s) n x) × (countsIn (set s n x) ≡ countsIn s) × (roundsIn (set s n x) ≡ roundsIn s)
-    size-put = (take-set-lt 65 s n x h, ap (take 65) (drop-set-lt 65 s n x h), ap (take 65) (drop-set-lt 130 s n x (omega arith)))
+    size-put = (take-set-lt 65 s n x h, ap (take 65) (drop-set-lt 65 s n x h), drop-set-lt 130 s n x (omega arith))
 
     -- its entries stored
     pub count-put : (sizesIn (set s (65 + n) x) ≡ sizesIn s) × (countsIn (set s (65 + n) x) ≡ set (countsIn s) n x) × (roundsIn (set s (65 + n) x) ≡ roundsIn s)
     count-put = (
       take-set-le 65 s (65 + n) x (omega arith),
       ap (take 65) (drop-set-add 65 s n x) ∙ take-set-lt 65 (drop 65 s) n x h,
-      ap (take 65) (drop-set-lt 130 s (65 + n) x (omega arith)),
+      drop-set-lt 130 s (65 + n) x (omega arith),
     )
 
     -- its rounds stored
@@ -47,7 +51,7 @@ module _ (s : List ℕ) (n : ℕ) (h : n < 65) where
         let far : 130 + n ≡ 65 + (65 + n) = omega arith in (
           take-set-le 65 s (130 + n) x (omega arith),
           ap (λ (k : ℕ). take 65 (drop 65 (set s k x))) far ∙ ap (take 65) (drop-set-add 65 s (65 + n) x) ∙ take-set-le 65 (drop 65 s) (65 + n) x (omega arith),
-          ap (take 65) (drop-set-add 130 s n x) ∙ take-set-lt 65 (drop 130 s) n x h,
+          drop-set-add 130 s n x,
         )
 
 -- a shard that restarts at 0, cut off once more

@@ -26,7 +26,7 @@ abbrev pub countsIn : List ℕ → List ℕ
 countsIn shards = take 65 (drop 65 shards)
 
 abbrev pub roundsIn : List ℕ → List ℕ
-roundsIn shards = take 65 (drop 130 shards)
+roundsIn shards = drop 130 shards
 
 -- by what the code lends
 abbrev pub tally : List ℕ → List ℕ → Totals → Tally

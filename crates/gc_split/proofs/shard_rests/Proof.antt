@@ -1,5 +1,11 @@
+use mathlib.Core.Path.{sym, ap, _∙_, subst}
+use mathlib.Core.List.{List}
+use Prim.Native.Nat.{ℕ}
 use borrow.Author.Needs.{needs}
-use Rattle.gc_split.specs.ShardLaws.{shards-long}
+use lib.ListN.{length}
+use Rattle.numbers.specs.Parts.{front}
+use Rattle.gc_split.specs.Tally.{countsIn, restsFrom, Numbered}
+use Rattle.gc_split.specs.ShardLaws.{shards-long, all-rounds}
 use Rattle.gc_split.proofs.shard_rests.Statement.{statement}
 use Rattle.gc_split.proofs.shard_rests.Tie as tie
 
@@ -22,13 +28,23 @@ part-rests-end : tie.Need-part-rests-end
 part-rests-end c = let long = shards-long (c .before .before .before .args .shards .now) (c .before .before .before .pre .same) in search (long, needs)
 
 rests-requires : tie.Need-rests-requires
-rests-requires c κs = c .before .before .before .before .before .pre
+rests-requires c κs =
+    let start = c .before .before .before .before .before in
+    let s = start .args .shards .now in
+    subst (λ (rs : List ℕ). Numbered (countsIn s) rs (start .args .left .now)) (sym (all-rounds s (start .pre .same))) (start .pre)
 
 same-length : tie.Need-same-length
 same-length c = search needs
 
 returns : tie.Need-returns
-returns c = c .before .before .rests .ensures
+returns c =
+    let start = c .before .before .before .before .before .before .before .before in
+    let s = start .args .shards .now in
+    let e = all-rounds s (start .pre .same) in
+    let told = c .before .before .rests .ensures in (
+      told .0 ∙ ap (λ (rs : List ℕ). length (restsFrom 0 (countsIn s) rs)) e,
+      told .1 ∙ ap (λ (rs : List ℕ). front (restsFrom 0 (countsIn s) rs) (start .args .left .now)) e,
+    )
 
 pub shard-rests-spec : {M : Type 1} → statement M
 shard-rests-spec =
