@@ -5,7 +5,7 @@ use mathlib.Core.Bool.{Bool, true, false}
 use Prim.Native.Nat.{_≤_, _<_, zero-le}
 use native.Mathlib.Omega.{arith}
 use lib.ListN.{length-append, length-map}
-use Rattle.rules.specs.Base.{List, [], _∷_, map, ℕ, suc, _+_, length, take, leb, ltb, pick}
+use Rattle.rules.specs.Base.{List, [], _∷_, _++_, map, ℕ, suc, _+_, length, take, leb, ltb, pick}
 use Rattle.rules.specs.BaseLaws.{All, all-map, all-append}
 use Rattle.rules.specs.Settings.{slotsIn}
 use Rattle.rules.specs.SettingsLaws.{InRanges, HeapInRange, slot-within}
@@ -17,6 +17,11 @@ use Rattle.salvage.specs.Types.{Settings, Overlap, Loss}
 use Rattle.salvage.specs.Salvage.{loss, firstKind, Sound, theRest, startOf, endOf, placed, inOrder, givenUpBehind, secondKind, lossesIn, reportOf, emptyingOf}
 use Rattle.salvage.specs.Lines.{LabelsIn}
 use Rattle.salvage.specs.Starts.{rest-all, all-in-order, judged-length}
+
+-- "First .. Then the rest"
+pub kinds-are : (vs : List View) → lossesIn vs ≡ firstKind 0 vs ++ secondKind (inOrder (theRest 0 vs))
+unfolding lossesIn
+kinds-are vs = refl
 
 -- ---- how many
 -- of each slot at most one of the two
@@ -58,10 +63,10 @@ second-few (x ∷ xs) = omega (arith, behind-few (endOf x) xs)
 
 -- no more lines than slots
 pub losses-few : (vs : List View) → length (lossesIn vs) ≤ length vs
-unfolding lossesIn
 losses-few vs =
     omega (
       arith,
+      ap length (kinds-are vs),
       length-append (firstKind 0 vs) (secondKind (inOrder (theRest 0 vs))),
       first-and-rest 0 vs,
       second-few (inOrder (theRest 0 vs)),
@@ -97,11 +102,11 @@ second-low n (x ∷ xs) a = behind-low n (endOf x) xs (a .1)
 
 -- each is a slot's
 pub losses-low : (vs : List View) → All (λ (x : Loss). x .slot < length vs) (lossesIn vs)
-unfolding lossesIn
 losses-low vs =
-    all-append _ (firstKind 0 vs) (secondKind (inOrder (theRest 0 vs)))
+    rw (kinds-are vs)
+    (all-append _ (firstKind 0 vs) (secondKind (inOrder (theRest 0 vs)))
     (all-map _ _ (firstKind 0 vs) (λ x h. omega arith) (first-low 0 vs))
-    (second-low (length vs) (inOrder (theRest 0 vs)) (all-in-order _ (theRest 0 vs) (rest-all _ 0 vs (λ i f h e. omega arith))))
+    (second-low (length vs) (inOrder (theRest 0 vs)) (all-in-order _ (theRest 0 vs) (rest-all _ 0 vs (λ i f h e. omega arith)))))
 
 -- ---- the report of a heap
 -- a store for each line

@@ -1,9 +1,11 @@
+use mathlib.Core.Path.{sym}
 use native.Mathlib.Omega.{arith}
 use borrow.Author.Needs.{needs}
 use lib.ListN.{length}
 use Rattle.salvage.specs.Lines.{tells-as, tells-then}
 use Rattle.salvage.specs.Starts.{slotsJudged}
-use Rattle.salvage.proofs.LossTurns.{ready, kinds-are}
+use Rattle.salvage.specs.Few.{kinds-are}
+use Rattle.salvage.proofs.LossTurns.{ready}
 use Rattle.salvage.proofs.both_kinds.Statement.{statement}
 use Rattle.salvage.proofs.both_kinds.Tie as tie
 
@@ -50,7 +52,7 @@ returns c =
     let a = begun f .args in
     let told = f .first-kind .ensures in
     let w = ready (length (a .starts .now)) (a .size) (a .heap .now) _ _ _ (f .first-kind .result) (told .1 .0) (told .1 .1) (o .in-order .ensures .1) (told .0 .count) in
-    tells-as (kinds-are (slotsJudged (length (a .starts .now)) (a .size) (a .heap .now))) (tells-then (omega arith) (told .0) (tells-as (w .walk) (last .second-kind .ensures)))
+    tells-as (sym (kinds-are (slotsJudged (length (a .starts .now)) (a .size) (a .heap .now)))) (tells-then (omega arith) (told .0) (tells-as (w .walk) (last .second-kind .ensures)))
 
 pub both-kinds-spec : {M : Type 1} → statement M
 both-kinds-spec =
