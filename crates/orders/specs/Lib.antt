@@ -1,0 +1,3 @@
+-- the worlds; the table, and that it holds
+pub mod Worlds
+pub mod Orders
