@@ -18,6 +18,7 @@ use Rattle.numbers.specs.declared.Number.the-variants.{Said, Malformed}
 use Rattle.rules.specs.Ops.{Content, put, delete, Op}
 use Rattle.rules.specs.Batch.{Parsed, malformed, parsed, putOperation, operationAt, Batch, notAsAbove, operations, before, batchFrom, batchIn}
 use Rattle.rules.specs.BatchLaws.{batch-end, batch-bad, batch-next}
+use Rattle.pinned.specs.Parts.{front}
 
 -- "tag 0 (delete) or 1 (put); for a put its length in groups and the body"
 abbrev pub tagged : Content → List ℕ
@@ -42,12 +43,6 @@ abbrev pub OpFits : Op → Type 0
 OpFits o = (o .id < 2 ^ 64) × BodyFits (o .content)
 
 -- ---- an operation
--- a number that stands at the front of what is left
-front : (s : List ℕ) (at v next : ℕ) → Stands 10 s at next v → drop at s ≡ groupsOf 10 v ++ drop next s
-front s at v next h =
-    let e : at + (next - at) ≡ next = omega (arith, h .starts) in
-    sym (take-append-drop (next - at) (drop at s)) ∙ ap₂ (λ (a b : List ℕ). a ++ b) (h .form) (drop-drop (next - at) at s ∙ ap (λ (n : ℕ). drop n s) e)
-
 -- what was parsed, and what follows it
 record Parses (s : List ℕ) (at : ℕ) (o : Op) (next : ℕ) : Type 0 where
   is : drop at s ≡ opBytes o ++ drop next s
@@ -79,9 +74,9 @@ op-parses s at o next h e = go (numberIn 10 s at) refl e
         let count : length (take size (drop start s)) ≡ size = length-take size (drop start s) ∙ omega (arith, length-drop start s) in
         let behind : drop start s ≡ take size (drop start s) ++ drop (start + size) s = sym (take-append-drop size (drop start s)) ∙ ap (λ (x : List ℕ). take size (drop start s) ++ x) (drop-drop size start s) in
         let whole : drop at s ≡ groupsOf 10 id ++ (1 ∷ (groupsOf 10 size ++ (take size (drop start s) ++ drop (start + size) s))) =
-            front s at id tag st
-            ∙ ap (λ (x : List ℕ). groupsOf 10 id ++ x)
-            (drop-cons s tag 0 l ∙ ap₂ (λ (a : ℕ) (b : List ℕ). a ∷ b) e1 (front s (suc tag) size start sz ∙ ap (λ (x : List ℕ). groupsOf 10 size ++ x) behind)) in
+        front s at id tag st
+        ∙ ap (λ (x : List ℕ). groupsOf 10 id ++ x)
+        (drop-cons s tag 0 l ∙ ap₂ (λ (a : ℕ) (b : List ℕ). a ∷ b) e1 (front s (suc tag) size start sz ∙ ap (λ (x : List ℕ). groupsOf 10 size ++ x) behind)) in
         record {
           is = whole ∙ rw (count, append-assoc, append-assoc);
           fits = (st .fits, rw count (sz .fits));
@@ -109,7 +104,7 @@ op-parses s at o next h e = go (numberIn 10 s at) refl e
     zeroed id tag st l false r q = one id tag st l (eqb (getD s tag 0) 1) refl q
     zeroed id tag st l true r q =
         let whole : drop at s ≡ groupsOf 10 id ++ (0 ∷ drop (suc tag) s) =
-            front s at id tag st ∙ ap (λ (x : List ℕ). groupsOf 10 id ++ x) (drop-cons s tag 0 l ∙ ap (λ (a : ℕ). a ∷ drop (suc tag) s) (eqb-true (getD s tag 0) 0 r)) in
+        front s at id tag st ∙ ap (λ (x : List ℕ). groupsOf 10 id ++ x) (drop-cons s tag 0 l ∙ ap (λ (a : ℕ). a ∷ drop (suc tag) s) (eqb-true (getD s tag 0) 0 r)) in
         let there : Parses s at (record { id = id; content = delete }) (suc tag) = record {
           is = whole ∙ rw append-assoc;
           fits = (st .fits, tt);
@@ -152,7 +147,7 @@ content-back s xs rest at id (put body) e l fits =
     let tag = at + length g in
     let start = suc tag + length n in
     let flat : s ≡ xs ++ (g ++ (1 ∷ (n ++ (body ++ rest)))) =
-        e ∙ ap (λ (x : List ℕ). xs ++ x) (append-assoc g (1 ∷ (n ++ body)) rest ∙ ap (λ (x : List ℕ). g ++ (1 ∷ x)) (append-assoc n body rest)) in
+    e ∙ ap (λ (x : List ℕ). xs ++ x) (append-assoc g (1 ∷ (n ++ body)) rest ∙ ap (λ (x : List ℕ). g ++ (1 ∷ x)) (append-assoc n body rest)) in
     let split : s ≡ (xs ++ g) ++ (1 ∷ (n ++ (body ++ rest))) = flat ∙ sym (append-assoc xs g (1 ∷ (n ++ (body ++ rest)))) in
     let place : length (xs ++ g) ≡ tag = length-append xs g ∙ ap (λ (k : ℕ). k + length g) l in
     let here : getD s tag 0 ≡ 1 = rw split (getD-at (xs ++ g) 1 (n ++ (body ++ rest)) 0 tag place) in

@@ -3,7 +3,7 @@ use mathlib.Core.Path.{_≡_, refl, sym, ap, _∙_}
 use mathlib.Core.Logic.{_⊎_, inl, inr}
 use Prim.Native.Nat.{_≤_, _<_}
 use native.Mathlib.Omega.{arith}
-use borrow.Author.Tests.{leb-true, eq-eqb, ne-eqb, lt-ltb, le-ltb, not-false}
+use borrow.Author.Tests.{leb-true, leb-false, eq-eqb, ne-eqb, lt-ltb, le-ltb, not-false}
 use Rattle.rules.specs.Base.{Bool, true, false, not, _&&_, _||_, List, [], _∷_, ℕ, _+_, length, leb, ltb, eqb, pick}
 use Rattle.rules.specs.BaseLaws.{and-true, and-holds, or-clear, same?}
 use Rattle.theory.specs.Types.{Entry, Held, Mapped, Unmapped, Refusal, Limits, TableRoom, NotThere, EqualLocation, Location}
@@ -41,16 +41,16 @@ load-held : (b : Buffers) (id : ℕ) → notForm b ≡ false → loadCall b id �
 unfolding loadCall
 load-held b id f = rw (decide-next (notForm b) Limits [] f, decide-none)
 
+load-limits : (b : Buffers) (id : ℕ) → notForm b ≡ true → loadCall b id ≡ same b (refused Limits)
+unfolding loadCall
+load-limits b id f = rw (decide-first (notForm b) Limits [] f)
+
 pub load-facts : (b : Buffers) (id : ℕ) → Load b id
 load-facts b id = record {
-  limits = one b id;
+  limits = load-limits b id;
   mapped = λ f l h. load-held b id f ∙ ap (λ (x : Held). same b (heldGiven x)) h;
   nothing = λ f h. load-held b id f ∙ ap (λ (x : Held). same b (heldGiven x)) h;
 }
-  where
-    one : (b : Buffers) (id : ℕ) → notForm b ≡ true → loadCall b id ≡ same b (refused Limits)
-    unfolding loadCall
-    one b id f = rw (decide-first (notForm b) Limits [] f)
 
 -- ---- a store
 in-form : (b : Buffers) → notForm b ≡ false → (lengthsInRange b ≡ true) × (inForm b ≡ true)
@@ -105,7 +105,7 @@ took b id raw f some room = record {
       where
         by-room : (c : Bool) → leb (capacityOf b) (length (usedEntries b)) ≡ c → length (insert (usedEntries b) (record { id = id; location = raw })) ≤ capacityOf b
         by-room true q = absurd (room (e, leb-true (capacityOf b) (length (usedEntries b)) q))
-        by-room false q = omega (arith, insert-new (usedEntries b) (record { id = id; location = raw }) e, q)
+        by-room false q = omega (arith, insert-new (usedEntries b) (record { id = id; location = raw }) e, leb-false (capacityOf b) (length (usedEntries b)) q)
 
     fits : length es ≤ capacityOf b
     fits = length-by (heldIn b id) refl
@@ -133,7 +133,7 @@ not-full b id room = go (heldIn b id) refl
       where
         by-room : (c : Bool) → leb (capacityOf b) (length (usedEntries b)) ≡ c → full (usedEntries b) (capacityOf b) id ≡ false
         by-room true q = absurd (room (e, leb-true (capacityOf b) (length (usedEntries b)) q))
-        by-room false q = full-room (usedEntries b) (capacityOf b) id (omega (arith, q))
+        by-room false q = full-room (usedEntries b) (capacityOf b) id (leb-false (capacityOf b) (length (usedEntries b)) q)
 
 -- LAW: 1; 20 of raw 0; 6 of a new id in a full table; else stored
 pub record Store (b : Buffers) (id raw : ℕ) : Type 0 where
