@@ -1,7 +1,11 @@
 pub mod Parts
+pub mod Answered
 pub mod Batch
 pub mod Label
 pub mod Trailer
 pub mod Object
 pub mod TableCalls
+pub mod Claims
+pub mod Counts
+pub mod Reopening
 pub mod Shards
