@@ -5,6 +5,7 @@ pub mod Label
 pub mod Trailer
 pub mod Object
 pub mod TableCalls
+pub mod Read
 pub mod Claims
 pub mod Counts
 pub mod Reopening
