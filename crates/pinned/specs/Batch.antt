@@ -49,8 +49,8 @@ record Parses (s : List ℕ) (at : ℕ) (o : Op) (next : ℕ) : Type 0 where
   fits : OpFits o
   ends : next ≤ length s
 
-not-parsed : {A : Type 0} {o : Op} {next : ℕ} → malformed ≡ parsed o next → A
-not-parsed e = absurd (let z : _≡_ {A = ℕ} 0 1 = cc in omega arith)
+parsed-not : (o : Op) (next : ℕ) → parsed o next ≡ malformed → ⊥
+parsed-not o next e = let z : _≡_ {A = ℕ} 0 1 = cc in omega arith
 
 opIn : Op → Parsed → Op
 opIn d malformed = d
@@ -86,17 +86,17 @@ op-parses s at o next h e = go (numberIn 10 s at) refl e
     sized : (id tag : ℕ) → Stands 10 s at tag id → tag < length s → getD s tag 0 ≡ 1 → (n : Number) → numberIn 10 s (suc tag) ≡ n
         → saying malformed n (λ size start. pick (leb size (length s - start)) (parsed (record { id = id; content = put (take size (drop start s)) }) (start + size)) malformed) ≡ parsed o next
         → Parses s at o next
-    sized id tag st l e1 Malformed p q = not-parsed q
+    sized id tag st l e1 Malformed p q = absurd (parsed-not o next (sym q))
     sized id tag st l e1 (Said size start) p q = fitting (leb size (length s - start)) refl q
       where
         fitting : (t : Bool) → leb size (length s - start) ≡ t → pick t (parsed (record { id = id; content = put (take size (drop start s)) }) (start + size)) malformed ≡ parsed o next → Parses s at o next
-        fitting false r q = not-parsed q
+        fitting false r q = absurd (parsed-not o next (sym q))
         fitting true r q =
             parses-is s at (record { id = id; content = put (take size (drop start s)) }) o (start + size) next
             (body id tag size start st l e1 (number-stands 10 s (suc tag) size start h p) (leb-true size (length s - start) r)) q
 
     one : (id tag : ℕ) → Stands 10 s at tag id → tag < length s → (t : Bool) → eqb (getD s tag 0) 1 ≡ t → pick t (putOperation s id (suc tag)) malformed ≡ parsed o next → Parses s at o next
-    one id tag st l false r q = not-parsed q
+    one id tag st l false r q = absurd (parsed-not o next (sym q))
     one id tag st l true r q = sized id tag st l (eqb-true (getD s tag 0) 1 r) (numberIn 10 s (suc tag)) refl q
 
     zeroed : (id tag : ℕ) → Stands 10 s at tag id → tag < length s → (t : Bool) → eqb (getD s tag 0) 0 ≡ t
@@ -115,7 +115,7 @@ op-parses s at o next h e = go (numberIn 10 s at) refl e
     there : (id tag : ℕ) → Stands 10 s at tag id → (t : Bool) → leb (length s) tag ≡ t
         → pick t malformed (pick (eqb (getD s tag 0) 0) (parsed (record { id = id; content = delete }) (suc tag)) (pick (eqb (getD s tag 0) 1) (putOperation s id (suc tag)) malformed)) ≡ parsed o next
         → Parses s at o next
-    there id tag st true r q = not-parsed q
+    there id tag st true r q = absurd (parsed-not o next (sym q))
     there id tag st false r q = zeroed id tag st (leb-false (length s) tag r) (eqb (getD s tag 0) 0) refl q
 
     go : (n : Number) → numberIn 10 s at ≡ n
@@ -124,7 +124,7 @@ op-parses s at o next h e = go (numberIn 10 s at) refl e
         (pick (eqb (getD s tag 0) 0) (parsed (record { id = id; content = delete }) (suc tag))
         (pick (eqb (getD s tag 0) 1) (putOperation s id (suc tag)) malformed))) ≡ parsed o next
         → Parses s at o next
-    go Malformed p q = not-parsed q
+    go Malformed p q = absurd (parsed-not o next (sym q))
     go (Said id tag) p q = there id tag (number-stands 10 s at id tag h p) (leb (length s) tag) refl q
 
 -- the bytes of an operation are parsed as it, wherever they stand

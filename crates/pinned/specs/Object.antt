@@ -12,7 +12,7 @@ use Rattle.numbers.specs.LittleEndian.{Bytes, leBytes, leValue}
 use Rattle.checksum.specs.Checksum.{objectSum}
 use Rattle.rules.specs.Object.{objectBytes, Stored, storedAt, badChecksum}
 use Rattle.rules.specs.ObjectLaws.{object-length, storedObject, stored-back, stored-good}
-use Rattle.pinned.specs.Parts.{bytes-drop, number-bytes, cut}
+use Rattle.pinned.specs.Parts.{number-bytes, cut}
 
 -- header and body lie within the bytes, and checksum, id and body are as said
 pub record Reads (position : ℕ) (bytes : List ℕ) (id : ℕ) (body : List ℕ) : Type 0 where
@@ -33,9 +33,9 @@ unfolding storedAt badChecksum objectBytes
 reads-begins position bytes id body h r =
     let size = leValue (take 8 (drop 12 bytes)) in
     let room : 20 + size ≤ length bytes = r .room in
-    let n4 = number-bytes 4 bytes h (omega arith) in
-    let n8 = number-bytes 8 (drop 4 bytes) (bytes-drop 4 bytes h) (omega (arith, length-drop 4 bytes)) in
-    let n12 = number-bytes 8 (drop 12 bytes) (bytes-drop 12 bytes h) (omega (arith, length-drop 12 bytes)) in
+    let n4 = number-bytes 0 4 bytes h (omega arith) in
+    let n8 = number-bytes 4 8 bytes h (omega arith) in
+    let n12 = number-bytes 12 8 bytes h (omega arith) in
     let bodyIs : take size (drop 20 bytes) ≡ body = r .its-body in
     let idIs : leValue (take 8 (drop 4 bytes)) ≡ id = r .its-id in
     let count : length body ≡ size = ap length (sym bodyIs) ∙ length-take-le size (drop 20 bytes) (omega (arith, length-drop 20 bytes)) in

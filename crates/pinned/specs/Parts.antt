@@ -2,29 +2,31 @@
 use mathlib.Core.Path.{_≡_, refl, sym, ap, ap₂, _∙_, subst}
 use Prim.Native.Nat.{_≤_, _<_}
 use native.Mathlib.Omega.{arith}
-use lib.ListN.{take-append-drop}
+use lib.ListN.{length-drop, take-append-drop}
 use lib.Seq.{drop-drop, getD-drop, length-take-le}
 use Rattle.rules.specs.Base.{List, [], _∷_, _++_, ℕ, zero, suc, _+_, _-_, _^_, length, take, drop, getD}
 use Rattle.numbers.specs.LittleEndian.{Bytes, leBytes, leValue, le-unique, le-below}
 use Rattle.numbers.specs.Groups.{groupsOf}
 use Rattle.numbers.specs.GroupLaws.{Stands}
 
--- of bytes, a front and what is left
-pub bytes-take : (n : ℕ) (bs : List ℕ) → Bytes bs → Bytes (take n bs)
-bytes-take zero bs h i = omega arith
-bytes-take (suc n) [] h i = h i
-bytes-take (suc n) (b ∷ bs) h zero = h 0
-bytes-take (suc n) (b ∷ bs) h (suc i) = bytes-take n bs (λ j. h (suc j)) i
+-- of bytes, any part is bytes
+pub part-bytes : (a n b : ℕ) (bs : List ℕ) → Bytes bs → Bytes (drop b (take n (drop a bs)))
+part-bytes a n b bs h i = subst (λ (m : ℕ). m < 256) (sym (getD-drop b (take n (drop a bs)) i 0)) (below n (drop a bs) (λ j. subst (λ (m : ℕ). m < 256) (sym (getD-drop a bs j 0)) (h (a + j))) (b + i))
+  where
+    below : (m : ℕ) (xs : List ℕ) → Bytes xs → (j : ℕ) → getD (take m xs) j 0 < 256
+    below zero xs g j = omega arith
+    below (suc m) [] g j = g j
+    below (suc m) (x ∷ xs) g zero = g 0
+    below (suc m) (x ∷ xs) g (suc j) = below m xs (λ k. g (suc k)) j
 
--- are bytes too
-pub bytes-drop : (n : ℕ) (bs : List ℕ) → Bytes bs → Bytes (drop n bs)
-bytes-drop n bs h i = subst (λ (m : ℕ). m < 256) (sym (getD-drop n bs i 0)) (h (n + i))
-
--- n bytes are those of the number that they say, and it has no more
-pub number-bytes : (n : ℕ) (bs : List ℕ) → Bytes bs → n ≤ length bs → (take n bs ≡ leBytes n (leValue (take n bs))) × (leValue (take n bs) < 256 ^ n)
-number-bytes n bs h l =
-    let count : length (take n bs) ≡ n = length-take-le n bs l in
-    (sym (ap (λ (m : ℕ). leBytes m (leValue (take n bs))) (sym count) ∙ le-unique (take n bs) (bytes-take n bs h)), subst (λ (m : ℕ). leValue (take n bs) < 256 ^ m) count (le-below (take n bs) (bytes-take n bs h)))
+-- n bytes from `at` on are those of the number that they say, and it has no more
+pub number-bytes : (at n : ℕ) (bs : List ℕ) → Bytes bs → at + n ≤ length bs
+    → (take n (drop at bs) ≡ leBytes n (leValue (take n (drop at bs)))) × (leValue (take n (drop at bs)) < 256 ^ n)
+number-bytes at n bs h l =
+    let part = take n (drop at bs) in
+    let count : length part ≡ n = length-take-le n (drop at bs) (omega (arith, length-drop at bs)) in
+    let all : Bytes part = part-bytes at n 0 bs h in
+    (sym (ap (λ (m : ℕ). leBytes m (leValue part)) (sym count) ∙ le-unique part all), subst (λ (m : ℕ). leValue part < 256 ^ m) count (le-below part all))
 
 -- n bytes from `at` on, then what is left
 pub cut : (at n : ℕ) (bs : List ℕ) → drop at bs ≡ take n (drop at bs) ++ drop (at + n) bs

@@ -24,9 +24,9 @@ use Rattle.rules.specs.FileMapLaws.{IsFile, file-at, file-is, file-none, not-em
 use Rattle.rules.specs.SettingsLaws.{slot-within}
 use Rattle.rules.specs.Condition1.{refused1}
 use Rattle.rules.specs.Condition1Laws.{passed}
-use Rattle.rules.specs.Read.{objectTests, objectIn, readObject, readFile, readHeld, readOf}
-use Rattle.rules.specs.World.{World, recordsOf, mappings}
-use Rattle.pinned.specs.Parts.{bytes-take, bytes-drop}
+use Rattle.rules.specs.Read.{objectTests, objectIn, readObject, readFile, readHeld, readOf, readCall}
+use Rattle.rules.specs.World.{World, recordsOf, mappings, unchanged}
+use Rattle.pinned.specs.Parts.{part-bytes}
 use Rattle.pinned.specs.Object.{Reads, Begins, object-exactly}
 
 -- where an id is, if it is mapped
@@ -74,9 +74,9 @@ read-held : (w : World) (id : ℕ) → refused1 w ≡ false → readOf w id ≡ 
 unfolding readOf
 read-held w id f = rw (decide-next (refused1 w) Limits [] f, decide-none)
 
--- LAW: 1
-pub read-limits : (w : World) (id : ℕ) → refused1 w ≡ true → readOf w id ≡ ReadRefused Limits
-unfolding readOf
+-- LAW: 1, and nothing changes
+pub read-limits : (w : World) (id : ℕ) → refused1 w ≡ true → readCall w id ≡ unchanged w Limits
+unfolding readCall readOf
 read-limits w id f = rw (decide-first (refused1 w) Limits [] f)
 
 -- mapped and not deleted
@@ -144,54 +144,53 @@ not-there-exactly w id f = (λ e. there (sought w id) e, λ (l, h, d, n). read-m
         by (Is k) q r = absurd (object-not-18 w id k (objectIn w k (positionIn w l k)) (sym (ap (readFile w id l) q) ∙ r))
 
 -- ---- found
--- a part of a front
-part-take : (a m n : ℕ) (bs : List ℕ) → a + m ≤ length (take n bs) → take m (drop a (take n bs)) ≡ take m (drop a bs)
-part-take a m n bs h =
-    let l = length-take n bs in
+-- a part that lies in a front
+in-front : (a m n : ℕ) (bs : List ℕ) → a + m ≤ n → a + m ≤ length bs → take m (drop a (take n bs)) ≡ take m (drop a bs)
+in-front a m n bs h l =
     let p : a ≤ n = omega arith in
     let q : a ≤ length bs = omega arith in
     ap (take m) (drop-take a n bs p q) ∙ take-take m (n - a) (drop a bs) (omega arith)
 
+-- the bytes of slot k, its file's size and its file
+abbrev slotIn : World → ℕ → List ℕ
+slotIn w k = slotBytes (w .settings .«slot_bytes») (w .heap) k
+
+abbrev sizeIn : World → ℕ → ℕ
+sizeIn w k = recordAt (recordsOf w) k .label .«file_size»
+
+abbrev bytesIn : World → ℕ → List ℕ
+bytesIn w k = fileIn (recordAt (recordsOf w) k .label) (slotIn w k)
+
 -- the file of a slot that 1 lets pass: its length, and a part of it in the heap
 module _ (w : World) (k : ℕ) (f : refused1 w ≡ false) (used : 0 < recordAt (recordsOf w) k .label .lsn) where
-  slotIn : List ℕ
-  slotIn = slotBytes (w .settings .«slot_bytes») (w .heap) k
-
-  sizeIn : ℕ
-  sizeIn = recordAt (recordsOf w) k .label .«file_size»
-
-  bytesIn : List ℕ
-  bytesIn = fileIn (recordAt (recordsOf w) k .label) slotIn
-
-  slot-holds : (64 + sizeIn ≤ length slotIn) × (sizeIn < 2 ^ 64)
-  unfolding slotIn sizeIn
+  -- the slot, with its length S, has room for it
+  slot-holds : (64 + sizeIn w k ≤ w .settings .«slot_bytes») × (sizeIn w k < 2 ^ 64) × (length (slotIn w k) ≡ w .settings .«slot_bytes») × (k * w .settings .«slot_bytes» + w .settings .«slot_bytes» ≤ length (w .heap))
   slot-holds =
       let p = passed (w .settings) (length (w .heap)) (w .table) (w .state) f in
       let g = p .records k (not-empty (recordAt (recordsOf w) k) used) in
-      let s = slot-length (w .settings .«slot_bytes») (w .heap) k (slot-within (w .settings) (length (w .heap)) k (p .limits .heap) (g .place)) in
-      (omega (arith, g .bounds .size, p .limits .settings .slot-low), omega (arith, g .bounds .size, p .limits .settings .slot-high))
+      let stands = slot-within (w .settings) (length (w .heap)) k (p .limits .heap) (g .place) in
+      let s = slot-length (w .settings .«slot_bytes») (w .heap) k stands in
+      (omega (arith, g .bounds .size, p .limits .settings .slot-low), omega (arith, g .bounds .size, p .limits .settings .slot-high), s, stands)
 
-  file-length : length bytesIn ≡ sizeIn
-  unfolding bytesIn sizeIn
-  file-length = length-take-le (recordAt (recordsOf w) k .label .«file_size») (drop 64 slotIn) (omega (arith, length-drop 64 slotIn, slot-holds .0))
+  file-length : length (bytesIn w k) ≡ sizeIn w k
+  file-length = let h = slot-holds in length-take-le (sizeIn w k) (drop 64 (slotIn w k)) (omega (arith, length-drop 64 (slotIn w k), h .0, h .2))
 
-  in-heap : (a m : ℕ) → a + m ≤ sizeIn → take m (drop a bytesIn) ≡ take m (drop (fileStart w k + a) (w .heap))
-  unfolding bytesIn sizeIn slotIn slotBytes
+  in-heap : (a m : ℕ) → a + m ≤ sizeIn w k → take m (drop a (bytesIn w k)) ≡ take m (drop (fileStart w k + a) (w .heap))
+  unfolding slotBytes
   in-heap a m l =
       let h = slot-holds in
-      let n = file-length in
+      let room = h .0 in
+      let long = h .2 in
+      let stands = h .3 in
       let far : k * w .settings .«slot_bytes» + (64 + a) ≡ fileStart w k + a = omega arith in
-      part-take a m (recordAt (recordsOf w) k .label .«file_size») (drop 64 slotIn) (omega arith)
-      ∙ ap (take m) (drop-drop a 64 slotIn)
-      ∙ part-take (64 + a) m (w .settings .«slot_bytes») (drop (k * w .settings .«slot_bytes») (w .heap)) (omega arith)
+      in-front a m (sizeIn w k) (drop 64 (slotIn w k)) l (omega (arith, length-drop 64 (slotIn w k)))
+      ∙ ap (take m) (drop-drop a 64 (slotIn w k))
+      ∙ in-front (64 + a) m (w .settings .«slot_bytes») (drop (k * w .settings .«slot_bytes») (w .heap)) (omega arith) (omega (arith, length-drop (k * w .settings .«slot_bytes») (w .heap)))
       ∙ ap (take m) (drop-drop (64 + a) (k * w .settings .«slot_bytes») (w .heap) ∙ ap (λ (x : ℕ). drop x (w .heap)) far)
 
-  file-bytes : (p : ℕ) → Bytes (w .heap) → Bytes (drop p bytesIn)
-  unfolding bytesIn slotIn slotBytes
-  file-bytes p h =
-      bytes-drop p bytesIn
-      (bytes-take (recordAt (recordsOf w) k .label .«file_size») (drop 64 slotIn)
-      (bytes-drop 64 slotIn (bytes-take (w .settings .«slot_bytes») (drop (k * w .settings .«slot_bytes») (w .heap)) (bytes-drop (k * w .settings .«slot_bytes») (w .heap) h))))
+  file-bytes : (p : ℕ) → Bytes (w .heap) → Bytes (drop p (bytesIn w k))
+  unfolding slotBytes
+  file-bytes p h = part-bytes 64 (sizeIn w k) p (slotIn w k) (part-bytes (k * w .settings .«slot_bytes») (w .settings .«slot_bytes») 0 (w .heap) h)
 
 -- none of 16, 10, 17 holds: the object is read
 tests-read : (id p : ℕ) (bs : List ℕ) → NoneHolds (objectTests id (storedAt p bs)) → Reads p bs id (storedAt p bs .body)
@@ -215,13 +214,10 @@ read-tests id p bs body r = (
 )
 
 -- a body that lies within has the length that is said
-body-length : (p : ℕ) (bs : List ℕ) → 20 + storedAt p bs .size ≤ length bs → length (storedAt p bs .body) ≡ storedAt p bs .size
+body-stands : (p : ℕ) (bs : List ℕ) → 20 + storedAt p bs .size ≤ length bs
+    → (storedAt p bs .body ≡ take (storedAt p bs .size) (drop 20 bs)) × (length (storedAt p bs .body) ≡ storedAt p bs .size)
 unfolding storedAt
-body-length p bs l = length-take-le (storedAt p bs .size) (drop 20 bs) (omega (arith, length-drop 20 bs))
-
-body-is : (p : ℕ) (bs : List ℕ) → storedAt p bs .body ≡ take (storedAt p bs .size) (drop 20 bs)
-unfolding storedAt
-body-is p bs = refl
+body-stands p bs l = (refl, length-take-le (storedAt p bs .size) (drop 20 bs) (omega (arith, length-drop 20 bs)))
 
 -- what was found is where the answer says
 answer-found : (w : World) (id k : ℕ) (o : Stored) (start size : ℕ) → readObject w id k o ≡ Found start size
@@ -235,26 +231,25 @@ answer-found w id k o start size e = go (decide (objectTests id o)) refl e
 
 whole-of : (w : World) (id start size l k : ℕ) → refused1 w ≡ false → Bytes (w .heap) → heldIn w id ≡ Mapped l → deleteOf l ≡ false → IsFile (recordsOf w) l k
     → readObject w id k (objectIn w k (positionIn w l k)) ≡ Found start size → Whole w id start size
-unfolding bytesIn sizeIn slotIn
 whole-of w id start size l k f h m d at e =
     let p = positionIn w l k in
-    let bs : List ℕ = drop p (bytesIn w k f (at .used)) in
+    let bs : List ℕ = drop p (bytesIn w k) in
     let o = storedAt p bs in
     let a = answer-found w id k o start size e in
     let r = tests-read id p bs (a .0) in
     let b = object-exactly p bs id (o .body) (file-bytes w k f (at .used) p h) .0 r in
     let n = file-length w k f (at .used) in
-    let ln = length-drop p (bytesIn w k f (at .used)) in
+    let ln = length-drop p (bytesIn w k) in
     let room = r .room in
     let sz : size ≡ o .size = a .2 in
     let within : p + (20 + size) ≤ recordAt (recordsOf w) k .label .«file_size» = omega arith in
     let place : start ≡ fileStart w k + p + 20 = a .1 ∙ omega (arith, stored-position p bs) in
-    let bl : length (o .body) ≡ size = body-length p bs room ∙ sym sz in
+    let bl : length (o .body) ≡ size = body-stands p bs room .1 ∙ sym sz in
     let whole : take (20 + size) bs ≡ objectBytes id (o .body) = ap (take (20 + size)) (b .is) ∙ take-at (objectBytes id (o .body)) (b .rest) (20 + size) (object-length id (o .body) ∙ omega arith) in
     let far : fileStart w k + (p + 20) ≡ start = omega arith in
     let body : o .body ≡ take size (drop start (w .heap)) =
-    body-is p bs
-    ∙ ap₂ (λ (x : ℕ) (y : List ℕ). take x y) (sym sz) (drop-drop 20 p (bytesIn w k f (at .used)))
+    body-stands p bs room .0
+    ∙ ap₂ (λ (x : ℕ) (y : List ℕ). take x y) (sym sz) (drop-drop 20 p (bytesIn w k))
     ∙ in-heap w k f (at .used) (p + 20) size (omega arith)
     ∙ ap (λ (x : ℕ). take size (drop x (w .heap))) far in
     record {
@@ -270,18 +265,17 @@ whole-of w id start size l k f h m d at e =
 
 found-of : (w : World) (id start size : ℕ) → refused1 w ≡ false → Bytes (w .heap) → id < 2 ^ 64 → (v : Whole w id start size)
     → readObject w id (v .slot) (objectIn w (v .slot) (positionIn w (v .location) (v .slot))) ≡ Found start size
-unfolding bytesIn sizeIn slotIn
 found-of w id start size f h fits v =
     let k = v .slot in
     let p = positionIn w (v .location) k in
     let used = v .file .used in
-    let bs : List ℕ = drop p (bytesIn w k f used) in
+    let bs : List ℕ = drop p (bytesIn w k) in
     let o = storedAt p bs in
     let body = take size (drop start (w .heap)) in
     let n = file-length w k f used in
     let within = v .within in
     let front : take (20 + size) bs ≡ objectBytes id body = in-heap w k f used p (20 + size) within ∙ v .bytes in
-    let count : length (take (20 + size) bs) ≡ 20 + size = length-take-le (20 + size) bs (omega (arith, length-drop p (bytesIn w k f used))) in
+    let count : length (take (20 + size) bs) ≡ 20 + size = length-take-le (20 + size) bs (omega (arith, length-drop p (bytesIn w k))) in
     let bl : length body ≡ size = omega (arith, ap length front, object-length id body) in
     let begins : Begins bs id body = record {
       rest = drop (20 + size) bs;
@@ -290,7 +284,7 @@ found-of w id start size f h fits v =
       size-fits = omega (arith, slot-holds w k f used .1);
     } in
     let r = object-exactly p bs id body (file-bytes w k f used p h) .1 begins in
-    let sz : o .size ≡ size = sym (body-length p bs (r .room)) ∙ ap length (r .its-body) ∙ bl in
+    let sz : o .size ≡ size = sym (body-stands p bs (r .room) .1) ∙ ap length (r .its-body) ∙ bl in
     let st : k * w .settings .«slot_bytes» + 64 + o .position + 20 ≡ start = omega (arith, v .place, stored-position p bs) in
     rw (decide-clear (objectTests id o) (read-tests id p bs body r), sz, st)
 

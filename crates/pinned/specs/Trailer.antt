@@ -18,7 +18,7 @@ use Rattle.rules.specs.ObjectLaws.{crc-below}
 use Rattle.rules.specs.TableLaws.{Has}
 use Rattle.rules.specs.Trailer.{entryBytes, listed, countIn, trailerTests, entriesFrom, entriesIn}
 use Rattle.rules.specs.TrailerLaws.{Fits, entries-length, entries-next, entries-back, listed-length}
-use Rattle.pinned.specs.Parts.{bytes-drop, number-bytes, cut}
+use Rattle.pinned.specs.Parts.{number-bytes, cut}
 
 -- none of 9, 10, 11 holds, and these are the entries
 pub record Reads (trailer : List ℕ) (es : List Entry) : Type 0 where
@@ -33,29 +33,37 @@ pub record Bears (trailer : List ℕ) (es : List Entry) : Type 0 where
   pub count : length es < 2 ^ 64
   pub fits : Fits es
 
--- k entries, as they stand
-record Stand (k : ℕ) (bs : List ℕ) (es : List Entry) : Type 0 where
+-- k entries, as they stand from `at` on
+record Stand (k at : ℕ) (bs : List ℕ) (es : List Entry) : Type 0 where
   count : length es ≡ k
-  is : bs ≡ each entryBytes es ++ drop (16 * k) bs
+  is : drop at bs ≡ each entryBytes es ++ drop (at + 16 * k) bs
   fits : Fits es
 
-stand : (k : ℕ) (bs : List ℕ) → Bytes bs → 16 * k ≤ length bs → Stand k bs (entriesFrom k bs)
+stand : (k at : ℕ) (bs : List ℕ) → Bytes bs → at + 16 * k ≤ length bs → Stand k at bs (entriesFrom k (drop at bs))
 unfolding each entriesFrom
-stand zero bs h l = record { count = refl; is = refl; fits = λ x m a. absurd a }
-stand (suc k) bs h l =
-    let e : Entry = record { id = leValue (take 8 bs); location = leValue (take 8 (drop 8 bs)) } in
-    let a = number-bytes 8 bs h (omega arith) in
-    let b = number-bytes 8 (drop 8 bs) (bytes-drop 8 bs h) (omega (arith, length-drop 8 bs)) in
-    let w = stand k (drop 16 bs) (bytes-drop 16 bs h) (omega (arith, length-drop 16 bs)) in
-    let next = entries-next k bs (omega arith) in
-    let far : 16 + 16 * k ≡ 16 * suc k = omega arith in
-    let past : drop (16 * k) (drop 16 bs) ≡ drop (16 * suc k) bs = drop-drop (16 * k) 16 bs ∙ ap (λ (n : ℕ). drop n bs) far in
-    let whole : bs ≡ leBytes 8 (e .id) ++ (leBytes 8 (e .location) ++ (each entryBytes (entriesFrom k (drop 16 bs)) ++ drop (16 * suc k) bs)) =
-    cut 0 8 bs ∙ ap₂ (λ (x y : List ℕ). x ++ y) (a .0) (cut 8 8 bs ∙ ap₂ (λ (x y : List ℕ). x ++ y) (b .0) (w .is ∙ ap (λ (x : List ℕ). each entryBytes (entriesFrom k (drop 16 bs)) ++ x) past)) in
+stand zero at bs h l = let e : at + 0 ≡ at = omega arith in record { count = refl; is = ap (λ (n : ℕ). drop n bs) (sym e); fits = λ x m a. absurd a }
+stand (suc k) at bs h l =
+    let eight : drop 8 (drop at bs) ≡ drop (at + 8) bs = drop-drop 8 at bs in
+    let sixteen : drop 16 (drop at bs) ≡ drop (at + 16) bs = drop-drop 16 at bs in
+    let a = number-bytes at 8 bs h (omega arith) in
+    let b = number-bytes (at + 8) 8 bs h (omega arith) in
+    let w = stand k (at + 16) bs h (omega arith) in
+    let next : entriesFrom (suc k) (drop at bs) ≡ record { id = leValue (take 8 (drop at bs)); location = leValue (take 8 (drop (at + 8) bs)) } ∷ entriesFrom k (drop (at + 16) bs) =
+    entries-next k (drop at bs) (omega (arith, length-drop at bs)) ∙ rw (eight, sixteen) in
+    let half : at + 8 + 8 ≡ at + 16 = omega arith in
+    let far : at + 16 + 16 * k ≡ at + 16 * suc k = omega arith in
+    let whole : drop at bs
+    ≡ leBytes 8 (leValue (take 8 (drop at bs)))
+    ++ (leBytes 8 (leValue (take 8 (drop (at + 8) bs))) ++ (each entryBytes (entriesFrom k (drop (at + 16) bs)) ++ drop (at + 16 * suc k) bs)) =
+    cut at 8 bs
+    ∙ ap₂ (λ (x y : List ℕ). x ++ y) (a .0)
+    (cut (at + 8) 8 bs
+    ∙ ap₂ (λ (x y : List ℕ). x ++ y) (b .0)
+    (ap (λ (n : ℕ). drop n bs) half ∙ w .is ∙ ap (λ (n : ℕ). each entryBytes (entriesFrom k (drop (at + 16) bs)) ++ drop n bs) far)) in
     rw next (record {
       count = ap suc (w .count);
       is = whole ∙ simp append-assoc;
-      fits = fitting e (entriesFrom k (drop 16 bs)) (a .1) (b .1) (w .fits);
+      fits = fitting (record { id = leValue (take 8 (drop at bs)); location = leValue (take 8 (drop (at + 8) bs)) }) (entriesFrom k (drop (at + 16) bs)) (a .1) (b .1) (w .fits);
     })
   where
     fitting : (e : Entry) (es : List Entry) → e .id < 256 ^ 8 → e .location < 256 ^ 8 → Fits es → Fits (e ∷ es)
@@ -68,10 +76,10 @@ reads-bears trailer es h r =
     let least : 20 ≤ length trailer = ltb-false (length trailer) 20 (r .clear .0) in
     let sum : leValue (take 4 trailer) ≡ crc32 (drop 4 trailer) = eqb-true _ _ (not-false (eqb (leValue (take 4 trailer)) (crc32 (drop 4 trailer))) (r .clear .1 .0)) in
     let most : 12 + 16 * countIn trailer ≤ length trailer = ltb-false (length trailer) (12 + 16 * countIn trailer) (r .clear .1 .1 .0) in
-    let a = number-bytes 4 trailer h (omega arith) in
-    let b = number-bytes 8 (drop 4 trailer) (bytes-drop 4 trailer h) (omega (arith, length-drop 4 trailer)) in
-    let w = stand (countIn trailer) (drop 12 trailer) (bytes-drop 12 trailer h) (omega (arith, length-drop 12 trailer)) in
-    let later = drop (16 * countIn trailer) (drop 12 trailer) in
+    let a = number-bytes 0 4 trailer h (omega arith) in
+    let b = number-bytes 4 8 trailer h (omega arith) in
+    let w = stand (countIn trailer) 12 trailer h most in
+    let later = drop (12 + 16 * countIn trailer) trailer in
     let count : length es ≡ countIn trailer = ap length (sym (r .entries)) ∙ w .count in
     let entries : drop 12 trailer ≡ each entryBytes es ++ later = w .is ∙ ap (λ (x : List Entry). each entryBytes x ++ later) (r .entries) in
     let behind : drop 4 trailer ≡ (leBytes 8 (length es) ++ each entryBytes es) ++ later =
