@@ -133,6 +133,7 @@ ROWS = [
     [(busy(BATCH_BIT, OTHER), f'write {TOO_LARGE}8000'), (busy(BATCH_BIT), f'write {TOO_LARGE}8000'), (busy(BATCH_BIT), f'write {TOO_LARGE}'),
      (busy(BATCH_BIT), 'write 020100030100'), (busy(BATCH_BIT), f'write {one_put(2)}')],
     [(idle(BATCH_BIT), f'write {one_put(2)}'), (idle(BATCH_BIT - 20), f'write {one_put(1)}'), (idle(BATCH_BIT - 21), f'write {one_put(1)}')],
+    [(idle(100), 'write 01020141'), (idle(100), 'write 810000'), (idle(100), 'write 01010241')],
     [(busy(BATCH_BIT), 'write -')],
     [(filed(bad_header(6, 100), 18, OTHER), 'read 5'), (filed(bad_header(6, 100), 18), 'read 5'), (filed(bad_header(6, 100), 80), 'read 5'),
      (filed(bad_header(6, 100), 20), 'read 5'), (filed(bad_header(6, 0), 20), 'read 5'), (filed(object_bytes(6, b''), 20), 'read 5'),

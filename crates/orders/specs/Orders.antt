@@ -109,6 +109,16 @@ writeOrders =
           ∷ []);
       paper = 6 ∷ 7 ∷ 0 ∷ [];
     }
+    -- bytes that are no batch: a tag of 2; an id not in shortest form; a body cut short
+    ∷ record {
+      ours =
+          each told
+          (writeCall (idle 100) (0x01 ∷ 0x02 ∷ 0x01 ∷ 0x41 ∷ []) .answer
+          ∷ writeCall (idle 100) (0x81 ∷ 0x00 ∷ 0x00 ∷ []) .answer
+          ∷ writeCall (idle 100) (0x01 ∷ 0x01 ∷ 0x02 ∷ 0x41 ∷ []) .answer
+          ∷ []);
+      paper = 2 ∷ 2 ∷ 2 ∷ [];
+    }
     -- "An empty batch succeeds", whatever room there is
     ∷ record {
       ours =
