@@ -248,9 +248,8 @@ pub extern "C" fn marble_counts(
     counts: &mut [u64; 4],
 ) -> u64
     ensures { λ r. ⌜ ((c : Claims) → given r (now (counts .exit))
-        ≡ shown 4 (countsCall
-        (world settings (stateIn (now (state .entry))) c (now (heap .entry))
-        (table (now (ids .entry)) (now (locations .entry)))) .answer)) ⌝ }
+        ≡ shown 4 (countsCall (world settings (stateIn (now (state .entry))) c
+        (now (heap .entry)) (table (now (ids .entry)) (now (locations .entry)))) .answer)) ⌝ }
 {
     let was = state_in(state);
     let done = counts_shown(marble::counts(settings, was, heap, ids, locations));
