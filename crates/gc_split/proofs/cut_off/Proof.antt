@@ -5,7 +5,7 @@ use Rattle.gc_split.specs.ShardLaws.{shards-long, size-at, count-at, rou
 use Prim.Native.Nat.{_+_, _<_}
 use native.Mathlib.Omega.{arith}
 use borrow.Author.Needs.{needs}
-use lib.ListN.{getD, set, length-set}
+use lib.ListN.{length, getD}
 use Rattle.gc_split.proofs.cut_off.Statement.{statement}
 use Rattle.gc_split.proofs.cut_off.Tie as tie
 
@@ -65,11 +65,11 @@ mul-shards-2 c = let long = shards-long (c .before .before .before .before .befo
 
 slice-write-shards-2 : tie.Need-slice-write-shards-2
 slice-write-shards-2 c =
-    let a = c .before .before .before .before .before .before .before .before .before .before .before .before .args in
-    let long = shards-long (a .shards .now) (c .before .before .before .before .before .before .before .before .before .before .before .before .pre .1 .roundShards) in
-    let one = length-set (a .shards .now) (a .shard) 0 in
-    let two = length-set (set (a .shards .now) (a .shard) 0) (65 + a .shard) 0 in
-    search (long, one, two, needs)
+    let start = c .before .before .before .before .before .before .before .before .before .before .before .before in
+    let a = start .args in
+    let long = shards-long (a .shards .now) (start .pre .1 .roundShards) in
+    let room : 65 + a .shard < length (a .shards .now) = omega (arith, long, start .pre .0) in
+    search (room, needs)
 
 add-shards-2 : tie.Need-add-shards-2
 add-shards-2 c =
@@ -86,11 +86,11 @@ mul-shards-3 c = let long = shards-long (c .before .before .before .before .befo
 
 slice-write-shards-3 : tie.Need-slice-write-shards-3
 slice-write-shards-3 c =
-    let a = c .before .before .before .before .before .before .before .before .before .before .before .before .args in
-    let long = shards-long (a .shards .now) (c .before .before .before .before .before .before .before .before .before .before .before .before .pre .1 .roundShards) in
-    let one = length-set (a .shards .now) (a .shard) 0 in
-    let two = length-set (set (a .shards .now) (a .shard) 0) (65 + a .shard) 0 in
-    search (long, one, two, needs)
+    let start = c .before .before .before .before .before .before .before .before .before .before .before .before in
+    let a = start .args in
+    let long = shards-long (a .shards .now) (start .pre .1 .roundShards) in
+    let room : 130 + a .shard < length (a .shards .now) = omega (arith, long, start .pre .0) in
+    search (room, needs)
 
 closed-requires : tie.Need-closed-requires
 closed-requires c κs =
