@@ -22,7 +22,7 @@ import sys
 ROOT = os.path.dirname(os.path.dirname(os.path.abspath(__file__)))
 # a page, and the crates whose names it gives without their crate
 PAGES = {
-    'docs/TRACE.md': ['rules', 'disk_location', 'checksum', 'numbers', 'theory', 'marble'],
+    'docs/TRACE.md': ['rules', 'disk_location', 'checksum', 'numbers', 'theory', 'marble', 'pinned', 'orders'],
     'docs/THEOREMS.md': ['theory', 'rules'],
 }
 WORDS = {'requires'}

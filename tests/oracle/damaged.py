@@ -1,5 +1,5 @@
 #!/usr/bin/env python3
-"""Damaged, spliced and foreign heaps for the checker of document 02's P5, as console scripts.
+"""Damaged, spliced and foreign heaps for the checker of document 02's request P5, as console scripts.
 
     damaged.py [--model | --console PATH] [--seed S] [--from K] [--count N]
 
@@ -469,7 +469,7 @@ class Maker:
             'a range past 2^62': masked(lsn) + t >= BATCH_BIT}.items() if holds]
 
     def object_at_t(self, slot):
-        """12 by document 02's P2 alone"""
+        """12 by document 02's request P2 alone"""
         numbers = label_numbers(self.heap[slot][:LABEL])
         entries = trailer_entries(self.heap[slot][LABEL + numbers[1]:LABEL + numbers[2]])
         return all(raw // 2 <= numbers[1] for _, raw in entries)

@@ -454,7 +454,7 @@ class Store:
         refuse_if(self.not_rising(entries), 15)
         return numbers, entries
 
-    # -- check (document 02, P5)
+    # -- check (document 02, request P5)
 
     def check(self):
         """everything wrong with the heap, by labels and trailers alone; of the table only the length matters"""

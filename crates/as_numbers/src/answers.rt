@@ -157,7 +157,8 @@ pub fn maintain_shown(a: MaintainAnswer) -> Two
 
 // The counts, or four zeros.
 pub fn counts_shown(a: CountsAnswer) -> Four
-    ensures { λ r. ⌜ given (r .number) (r .counts .files ∷ r .counts .bytes ∷ r .counts .present ∷ r .counts .live ∷ []) ≡ shown 4 (countsGiven a) ⌝ }
+    ensures { λ r. ⌜ given (r .number) (r .counts .files ∷ r .counts .bytes ∷ r .counts .present ∷ r .counts .live ∷ [])
+        ≡ shown 4 (countsGiven a) ⌝ }
 {
     match a {
         CountsAnswer::Counted(c) => Four {

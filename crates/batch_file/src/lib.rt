@@ -69,7 +69,8 @@ fn sum(batch: &[u8], count: u64) -> u32
 // An operation's object, its body a piece of the batch. "Deletes have no object bytes."
 fn put_content(file: &mut [u8], at: usize, batch: &[u8], o: Operation, left: u64) -> u64
     requires { ⌜ (at + sizeIn o ≤ length (now file)) × (o .start + o .len ≤ length (now batch)) ⌝ }
-    ensures { λ r. ⌜ Made left (storesOf at (contentBytes (o .id) (opIn (now (batch .entry)) o .content))) (now (file .entry)) (now (file .exit)) r ⌝ }
+    ensures { λ r. ⌜ Made left (storesOf at (contentBytes (o .id) (opIn (now (batch .entry)) o .content)))
+        (now (file .entry)) (now (file .exit)) r ⌝ }
 {
     if o.delete {
         return left;
@@ -99,8 +100,10 @@ fn put_objects(file: &mut [u8], batch: &[u8], left: u64) -> u64
 
 // The entries, from `at` on.
 fn put_entries(file: &mut [u8], at: usize, batch: &[u8], left: u64) -> u64
-    requires { ⌜ (at + 16 * length (settled (opsIn (now batch))) ≤ length (now file)) × (length (objectsOf (settled (opsIn (now batch)))) < 2 ^ 62) ⌝ }
-    ensures { λ r. ⌜ Made left (storesOf at (each entryBytes (entriesOf 0 (settled (opsIn (now (batch .entry))))))) (now (file .entry)) (now (file .exit)) r ⌝ }
+    requires { ⌜ (at + 16 * length (settled (opsIn (now batch))) ≤ length (now file))
+        × (length (objectsOf (settled (opsIn (now batch)))) < 2 ^ 62) ⌝ }
+    ensures { λ r. ⌜ Made left (storesOf at (each entryBytes (entriesOf 0 (settled (opsIn (now (batch .entry)))))))
+        (now (file .entry)) (now (file .exit)) r ⌝ }
 {
     let mut rest = left;
     let mut place = at;
@@ -120,8 +123,11 @@ fn put_entries(file: &mut [u8], at: usize, batch: &[u8], left: u64) -> u64
 
 // The trailer, from `at` on: its checksum stands first, so that the operations are gone through twice.
 fn put_trailer(file: &mut [u8], at: usize, batch: &[u8], count: u64, left: u64) -> u64
-    requires { ⌜ (count ≡ length (settled (opsIn (now batch)))) × (at + (12 + 16 * count) ≤ length (now file)) × (length (objectsOf (settled (opsIn (now batch)))) < 2 ^ 62) ⌝ }
-    ensures { λ r. ⌜ Made left (storesOf at (trailerBytes (entriesOf 0 (settled (opsIn (now (batch .entry))))))) (now (file .entry)) (now (file .exit)) r ⌝ }
+    requires { ⌜ (count ≡ length (settled (opsIn (now batch))))
+        × (at + (12 + 16 * count) ≤ length (now file))
+        × (length (objectsOf (settled (opsIn (now batch)))) < 2 ^ 62) ⌝ }
+    ensures { λ r. ⌜ Made left (storesOf at (trailerBytes (entriesOf 0 (settled (opsIn (now (batch .entry)))))))
+        (now (file .entry)) (now (file .exit)) r ⌝ }
 {
     let checksum = sum(batch, count);
     let rest = write::put_head(file, at, checksum, count, left);
@@ -148,7 +154,8 @@ pub fn write_file(
     k: u64,
 ) -> u64
     requires { ⌜ Sized (now batch) count total × (start + (64 + length (fileBytes (settled (opsIn (now batch))))) ≤ length (now heap)) ⌝ }
-    ensures { λ r. ⌜ Made k (fileStores start (labelBytes new) (fileBytes (settled (opsIn (now (batch .entry)))))) (now (heap .entry)) (now (heap .exit)) r ⌝ }
+    ensures { λ r. ⌜ Made k (fileStores start (labelBytes new) (fileBytes (settled (opsIn (now (batch .entry))))))
+        (now (heap .entry)) (now (heap .exit)) r ⌝ }
 {
     let behind_label = start + LABEL_BYTES;
     let rest = put_file(&mut heap[behind_label..], batch, count, total, k);

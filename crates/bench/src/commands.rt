@@ -166,8 +166,11 @@ pub fn after_line(
     ids: &mut [u64],
     locations: &mut [u64],
 ) -> Bench
-    ensures { λ r. ⌜ Ran (length (now (decoded .entry))) (now (line .entry)) (desk b (now (heap .entry)) (now (ids .entry)) (now (locations .entry))) (desk r (now (heap .exit)) (now (ids .exit)) (now (locations .exit))) ⌝ }
-    ensures { λ _. ⌜ now (decoded .exit) ≡ front (askedBy (length (now (decoded .entry))) (now (line .entry)) .bytes) (now (decoded .entry)) ⌝ }
+    ensures { λ r. ⌜ Ran (length (now (decoded .entry))) (now (line .entry))
+        (desk b (now (heap .entry)) (now (ids .entry)) (now (locations .entry)))
+        (desk r (now (heap .exit)) (now (ids .exit)) (now (locations .exit))) ⌝ }
+    ensures { λ _. ⌜ now (decoded .exit)
+        ≡ front (askedBy (length (now (decoded .entry))) (now (line .entry)) .bytes) (now (decoded .entry)) ⌝ }
 {
     let order = script::order_of(line, decoded);
     let count = order.length;

@@ -34,7 +34,9 @@ fn too_long(s: Reading) -> Reading
 
 // More of the line, unless it is too long.
 fn held(s: Reading, line: &mut [u8], part: &[u8]) -> Reading
-    ensures { λ r. ⌜ (r .taken ≡ s .taken) × (r .whole ≡ s .whole) × Longer s (now (line .entry)) (now (part .entry)) r (now (line .exit)) ⌝ }
+    ensures { λ r. ⌜ (r .taken ≡ s .taken)
+        × (r .whole ≡ s .whole)
+        × Longer s (now (line .entry)) (now (part .entry)) r (now (line .exit)) ⌝ }
 {
     let n = least(s.held, line.len());
     if line.len() - n < part.len() {
@@ -89,7 +91,10 @@ fn answered(
     ids: &mut [u64],
     locations: &mut [u64],
 ) -> Reading
-    ensures { λ r. ⌜ (r .taken ≡ s .taken) × Answered (length (now (decoded .entry))) (s .whole) (s .long) s (take (s .held) (now (line .entry))) (desk (s .bench) (now (heap .entry)) (now (ids .entry)) (now (locations .entry))) r (desk (r .bench) (now (heap .exit)) (now (ids .exit)) (now (locations .exit))) ⌝ }
+    ensures { λ r. ⌜ (r .taken ≡ s .taken)
+        × Answered (length (now (decoded .entry))) (s .whole) (s .long) s (take (s .held) (now (line .entry)))
+        (desk (s .bench) (now (heap .entry)) (now (ids .entry)) (now (locations .entry))) r
+        (desk (r .bench) (now (heap .exit)) (now (ids .exit)) (now (locations .exit))) ⌝ }
 {
     if !s.whole {
         return s;
@@ -116,7 +121,12 @@ fn lines_in(
     ids: &mut [u64],
     locations: &mut [u64],
 ) -> Reading
-    ensures { λ r. ⌜ ((text : List ℕ) → Holds s (now (line .entry)) text → FedTo (length (now (line .entry))) (length (now (decoded .entry))) (now (input .entry)) text (desk (s .bench) (now (heap .entry)) (now (ids .entry)) (now (locations .entry))) r (now (line .exit)) (desk (r .bench) (now (heap .exit)) (now (ids .exit)) (now (locations .exit)))) ⌝ }
+    ensures { λ r. ⌜ ((text : List ℕ)
+        → Holds s (now (line .entry)) text
+        → FedTo (length (now (line .entry))) (length (now (decoded .entry))) (now (input .entry)) text
+        (desk (s .bench) (now (heap .entry)) (now (ids .entry)) (now (locations .entry))) r
+        (now (line .exit))
+        (desk (r .bench) (now (heap .exit)) (now (ids .exit)) (now (locations .exit)))) ⌝ }
 {
     let mut t = taken_to(s, 0, false);
     while t.taken < input.len() {
@@ -143,7 +153,11 @@ fn finished(
     ids: &mut [u64],
     locations: &mut [u64],
 ) -> Bench
-    ensures { λ r. ⌜ ((text : List ℕ) → Holds s (now (line .entry)) text → desk r (now (heap .exit)) (now (ids .exit)) (now (locations .exit)) ≡ lastDone (length (now (line .entry))) (length (now (decoded .entry))) text (desk (s .bench) (now (heap .entry)) (now (ids .entry)) (now (locations .entry)))) ⌝ }
+    ensures { λ r. ⌜ ((text : List ℕ)
+        → Holds s (now (line .entry)) text
+        → desk r (now (heap .exit)) (now (ids .exit)) (now (locations .exit))
+        ≡ lastDone (length (now (line .entry))) (length (now (decoded .entry))) text
+        (desk (s .bench) (now (heap .entry)) (now (ids .entry)) (now (locations .entry)))) ⌝ }
 {
     if s.held == 0 && !s.long {
         return s.bench;
@@ -171,7 +185,10 @@ pub fn run_all(
     ids: &mut [u64],
     locations: &mut [u64],
 ) -> Bench
-    ensures { λ r. ⌜ ((bytes : List ℕ) × (desk r (now (heap .exit)) (now (ids .exit)) (now (locations .exit)) ≡ told (length (now (line .entry))) (length (now (decoded .entry))) bytes (desk freshBench (now (heap .entry)) (now (ids .entry)) (now (locations .entry))))) ⌝ }
+    ensures { λ r. ⌜ ((bytes : List ℕ)
+        × (desk r (now (heap .exit)) (now (ids .exit)) (now (locations .exit))
+        ≡ told (length (now (line .entry))) (length (now (decoded .entry))) bytes
+        (desk freshBench (now (heap .entry)) (now (ids .entry)) (now (locations .entry))))) ⌝ }
 {
     let mut s = Reading {
         bench: desk::start(),

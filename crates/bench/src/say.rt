@@ -112,9 +112,8 @@ pub fn help() {
         b"# reopen   write HEX   read ID   claim SLOT   release SLOT   prune   maintain   counts\n",
     );
     text(b"# load ID   store ID RAW   cas ID OLD NEW   max ID RAW     the table alone\n");
-    text(
-        b"# check ROOM            bytes OFFSET COUNT                 what is wrong with the lent heap, ROOM lines (up to 4096); its bytes (up to 65536)\n",
-    );
+    text(b"# check ROOM            bytes OFFSET COUNT                 ");
+    text(b"what is wrong with the lent heap, ROOM lines (up to 4096); its bytes (up to 65536)\n");
     text(
         b"# salvage                                                  empties the slots that make a reopening refuse\n",
     );
@@ -126,9 +125,8 @@ pub fn help() {
         b"# A check answers fault SLOT NUMBER, or fault SLOT NUMBER POSITION, for each fault that fits, then ok FAULTS.\n",
     );
     text(b"# A salvage answers gave SLOT NUMBER for each slot given up, then ok SLOTS.\n");
-    text(
-        b"# A slot given up: any id may read as an older version, a delete may be undone. Reopen; refused with 6: larger table, no write.\n",
-    );
+    text(b"# A slot given up: any id may read as an older version, a delete may be undone. ");
+    text(b"Reopen; refused with 6: larger table, no write.\n");
     text(
         b"# A write after a refused reopening takes slot 0 whatever its label says: reopen first, and look at the answer.\n",
     );

@@ -76,12 +76,12 @@ whole-clear : (P : Fault → Type 0) (w : World) → Whole P (w .settings) (w .h
 unfolding reopenTests NoneHolds
 whole-clear P w h = none-append (each viewTests (viewsOf w)) _ (h .slots .undamaged) (h .slots .clear, (h .slots .rising, (h .room, tt)))
 
--- P5: every line has a position: reopening accepts
+-- request P5: every line has a position: reopening accepts
 pub positions-accepted : (w : World) → outOfRange (w .settings) (length (w .heap)) (w .table) ≡ false → All HasPosition (listOf w) → reopenCall w .answer ≡ accepted []
 unfolding reopenCall decide opened
 positions-accepted w range a =
     rw (range, decide-clear (reopenTests w (viewsOf w)) (whole-clear HasPosition w (list-whole HasPosition (w .settings) (w .heap) (w .table) nowhere-not a))) refl
 
--- P5: and only then
+-- request P5: and only then
 pub accepted-positions : (w : World) → reopenCall w .answer ≡ accepted [] → All HasPosition (listOf w)
 accepted-positions w h = whole-list HasPosition (w .settings) (w .heap) (w .table) (accepted-whole HasPosition w h (λ k f e. file-positions k f))

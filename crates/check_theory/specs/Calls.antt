@@ -46,17 +46,17 @@ checked-empty w buffer h = go (outOfRange (w .settings) (length (w .heap)) (w .t
     go false e = none-counted (listOf w) (ap (λ (g : Given). getD (g .values) 0 1) e)
 
 module _ (s : Settings) (heap : List ℕ) (table : Buffers) (buffer : List ℕ) where
-  -- P5: "also for 1": refused with 1 where a reopening is, and the listing stays
+  -- request P5: "also for 1": refused with 1 where a reopening is, and the listing stays
   pub check-limits : outOfRange s (length heap) table ≡ true → checkCall s heap table buffer ≡ record { answer = refused Limits; listing = buffer }
   unfolding checkCall decide
   check-limits h = rw h refl
 
-  -- P5: "the full number of faults"
+  -- request P5: "the full number of faults"
   pub check-counts : outOfRange s (length heap) table ≡ false → checkCall s heap table buffer .answer ≡ accepted (length (faultsOf s heap table) ∷ [])
   unfolding checkCall decide
   check-counts h = rw h refl
 
-  -- P5: "Refusals: 1 only."
+  -- request P5: "Refusals: 1 only."
   pub check-refuses : (r : Refusal) → checkCall s heap table buffer .answer ≡ refused r → r ≡ Limits
   check-refuses r e = go (outOfRange s (length heap) table) refl
     where

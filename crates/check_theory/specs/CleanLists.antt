@@ -64,11 +64,11 @@ pub whole-empty : (w : World) → reopenCall w .answer ≡ accepted [] → ((k :
 whole-empty w h whole =
     none-there (listOf w) (whole-list NoLine (w .settings) (w .heap) (w .table) (accepted-whole NoLine w h (λ k f e. faultless-file k f (whole-faultless f (whole k f e)))))
 
--- P5: of a clean heap nothing is listed
+-- request P5: of a clean heap nothing is listed
 pub clean-list : (w : World) → Clean w → listOf w ≡ []
 clean-list w c = whole-empty w (c .reopens) (c .whole)
 
--- P5: and a heap of bytes, in range, of which nothing is listed is clean
+-- request P5: and a heap of bytes, in range, of which nothing is listed is clean
 pub list-clean : (w : World) → outOfRange (w .settings) (length (w .heap)) (w .table) ≡ false → Bytes (w .heap) → listOf w ≡ [] → Clean w
 list-clean w range bytes e = record {
   bytes = bytes;

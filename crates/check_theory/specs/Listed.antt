@@ -217,7 +217,7 @@ module _ (s : Settings) (heap : List ℕ) (table : Buffers) where
           let m = closing-only-when s heap table x xs e in
           subst (All (IsWrong s heap table)) (sym (closing-when s heap table m)) (room m, tt)
 
-  -- P5: a line is in the list only if what it says is wrong
+  -- request P5: a line is in the list only if what it says is wrong
   pub listed-only-when : (x : Fault) → In (faultsOf s heap table) x → IsWrong s heap table x
   unfolding faultsOf
   listed-only-when x i =
@@ -247,7 +247,7 @@ module _ (s : Settings) (heap : List ℕ) (table : Buffers) where
       (in-first (os ++ es) (lineIf (meetsEarlier (filesIn (take k (judgedIn s heap))) f) (line k Overlap Nowhere)) x
       (in-first os es x (in-each (objectFaults k (f .entries)) (objectsIn (f .objects)) o x i h)))
 
-  -- P5: what is wrong is in the list
+  -- request P5: what is wrong is in the list
   pub listed-when : {x : Fault} → IsWrong s heap table x → In (faultsOf s heap table) x
   unfolding faultsOf slotFaults fileFaults objectFaults entryFaults badChecksum walked
   listed-when (own k r e) =

@@ -56,16 +56,16 @@ cut-list w history s c k v a = go (either-way k (length (runOf w c)))
     go (inr h) = stands-list w (made (take k (runOf w c)) (w .heap)) (engine (hears w history c)) (cut-whole w history s c k h) v (a .alike) (a .heap)
 
 -- ---- lives
--- P5: whatever calls were made
+-- request P5: whatever calls were made
 pub lived-list : (l : Life) → Starts l → (calls : List Call) → listOf (lived l calls .world) ≡ []
 lived-list l s calls = sound-list (lived l calls .world) (engine (lived l calls .history)) (sound-lived l s calls)
 
--- P5: and power cut behind any store of the next one
+-- request P5: and power cut behind any store of the next one
 pub lived-cut-list : (l : Life) → Starts l → (calls : List Call) (c : Call) (k : ℕ) (v : World) → CutAt k (lived l calls .world) c v → listOf v ≡ []
 lived-cut-list l s calls = cut-list (lived l calls .world) (lived l calls .history) (sound-lived l s calls)
 
 module _ (l : Life) (s : Starts l) (events : List Event) (happen : AllHappen l events) where
-  -- P5: cuts among the calls
+  -- request P5: cuts among the calls
   pub lived-on-list : listOf (livedOn l events .world) ≡ []
   lived-on-list = sound-list (livedOn l events .world) (engine (livedOn l events .history)) (sound-lived-on l s events happen)
 
@@ -75,15 +75,15 @@ module _ (l : Life) (s : Starts l) (events : List Event) (happen : AllHappen l e
 
 -- so where there was no file
 module _ (w : World) (range : outOfRange (w .settings) (length (w .heap)) (w .table) ≡ false) (blank : Blank w) where
-  -- P5: whatever calls were made
+  -- request P5: whatever calls were made
   pub any-list : (calls : List Call) → listOf (lived (born w) calls .world) ≡ []
   any-list = lived-list (born w) (born-starts w range blank)
 
-  -- P5: and power cut behind any store of the next one
+  -- request P5: and power cut behind any store of the next one
   pub any-cut-list : (calls : List Call) (c : Call) (k : ℕ) (v : World) → CutAt k (lived (born w) calls .world) c v → listOf v ≡ []
   any-cut-list = lived-cut-list (born w) (born-starts w range blank)
 
-  -- P5: and cuts among the calls
+  -- request P5: and cuts among the calls
   pub any-list-cut : (events : List Event) → AllHappen (born w) events → listOf (livedOn (born w) events .world) ≡ []
   any-list-cut = lived-on-list (born w) (born-starts w range blank)
 
@@ -93,15 +93,15 @@ module _ (w : World) (range : outOfRange (w .settings) (length (w .heap)) (w .ta
   pub empty-list-starts : Starts (resumed w)
   empty-list-starts = clean-starts w (list-clean w range bytes none)
 
-  -- P5: whatever calls are made on it, its list stays empty
+  -- request P5: whatever calls are made on it, its list stays empty
   pub list-stays : (calls : List Call) → listOf (lived (resumed w) calls .world) ≡ []
   list-stays = lived-list (resumed w) empty-list-starts
 
-  -- P5: and where power is cut behind any store of the next one
+  -- request P5: and where power is cut behind any store of the next one
   pub list-stays-cut : (calls : List Call) (c : Call) (k : ℕ) (v : World) → CutAt k (lived (resumed w) calls .world) c v → listOf v ≡ []
   list-stays-cut = lived-cut-list (resumed w) empty-list-starts
 
--- P5: a clean heap stays clean, whatever calls are made on it
+-- request P5: a clean heap stays clean, whatever calls are made on it
 pub clean-stays : (w : World) → Clean w → (calls : List Call) → All CallBytes calls → Clean (lived (resumed w) calls .world)
 unfolding made
 clean-stays w c calls b =

@@ -73,7 +73,7 @@ from-ascends n earlier (v ∷ vs) tail a =
     subst (Ascends n) (sym (append-assoc (slotFaults n earlier v) (faultsFrom (suc n) on vs) tail))
     (slot-first n (slotFaults n earlier v) (faultsFrom (suc n) on vs ++ tail) (slot-slot n earlier v) (from-lower n (suc n) (faultsFrom (suc n) on vs ++ tail) (omega arith) rest))
 
--- P5: "ascending by slot"
+-- request P5: "ascending by slot"
 pub list-ascends : (s : Settings) (heap : List ℕ) (table : Buffers) → Ascends 0 (faultsOf s heap table)
 unfolding faultsOf closing
 list-ascends s heap table =
@@ -164,7 +164,7 @@ module _ (s : Settings) (heap : List ℕ) (table : Buffers) where
       go true = (h, tt)
       go false = tt
 
-  -- P5: a slot's lines are those of what it shows by itself, behind the sound slots before it
+  -- request P5: a slot's lines are those of what it shows by itself, behind the sound slots before it
   pub slot-lines : (k : ℕ) → k < length (judgedIn s heap)
       → linesOf k (faultsOf s heap table) ≡ slotFaults k (filesIn (take k (judgedIn s heap))) (viewAt (judgedIn s heap) k)
   unfolding faultsOf
@@ -175,13 +175,13 @@ module _ (s : Settings) (heap : List ℕ) (table : Buffers) where
       subst (λ (m : ℕ). linesOf m (faultsOf s heap table) ≡ slotFaults m (filesIn (take k vs)) (viewAt vs k)) same
       (slot-lines-from 0 [] vs (closing (capacityOf table) vs) (last-ascends (0 + length vs) none) k h)
 
-  -- P5: "the first failure of 8 to 13 and 15 is the only line"
+  -- request P5: "the first failure of 8 to 13 and 15 is the only line"
   pub only-line : (k : ℕ) (r : Refusal) → k < length (judgedIn s heap) → viewAt (judgedIn s heap) k ≡ damaged r
       → linesOf k (faultsOf s heap table) ≡ line k r Nowhere ∷ []
   unfolding slotFaults
   only-line k r h e = slot-lines k h ∙ ap (slotFaults k (filesIn (take k (judgedIn s heap)))) e
 
-  -- P5: ".. with slot N": the lines of slot N are the closing one, or none
+  -- request P5: ".. with slot N": the lines of slot N are the closing one, or none
   pub closing-lines : linesOf (length (judgedIn s heap)) (faultsOf s heap table) ≡ closing (capacityOf table) (judgedIn s heap)
   unfolding faultsOf closing
   closing-lines =
@@ -192,12 +192,12 @@ module _ (s : Settings) (heap : List ℕ) (table : Buffers) where
       ∙ ap (λ (zs : List Fault). zs ++ linesOf n (closing (capacityOf table) vs)) (lines-none n (faultsFrom 0 [] vs) (earlier-none 0 [] vs n none))
       ∙ lines-all n (closing (capacityOf table) vs) (if-slot n (ltb (capacityOf table) (length (tableOf (filesIn vs)))) TableRoom Nowhere)
 
-  -- P5: "More distinct ids in sound slots than the table holds is one closing line 6"
+  -- request P5: "More distinct ids in sound slots than the table holds is one closing line 6"
   pub closing-when : MoreIds (capacityOf table) (judgedIn s heap) → closing (capacityOf table) (judgedIn s heap) ≡ line (length (judgedIn s heap)) TableRoom Nowhere ∷ []
   unfolding closing
   closing-when m = rw (lt-ltb (capacityOf table) (length (tableOf (filesIn (judgedIn s heap)))) (ids-more (judgedIn s heap) (capacityOf table) m)) refl
 
-  -- P5: and only then
+  -- request P5: and only then
   pub closing-only-when : (x : Fault) (xs : List Fault) → closing (capacityOf table) (judgedIn s heap) ≡ x ∷ xs → MoreIds (capacityOf table) (judgedIn s heap)
   unfolding closing
   closing-only-when x xs e = go (ltb (capacityOf table) (length (tableOf (filesIn (judgedIn s heap))))) refl e

@@ -211,7 +211,7 @@ module _ (w : World) (range : outOfRange (w .settings) (length (w .heap)) (w .ta
   decided : (r : Refusal) → reopenCall w .answer ≡ refused r → decide (each viewTests (viewsOf w) ++ overAll w) ≡ Refused r
   decided r e = answer-one (decide (each viewTests (viewsOf w) ++ overAll w)) (Refused r) (sym (reopen-decides w range) ∙ e)
 
-  -- P5: reopening is refused with a number of 8 to 13 only as the lowest slot's own fault among these
+  -- request P5: reopening is refused with a number of 8 to 13 only as the lowest slot's own fault among these
   pub reopen-own : (r : Refusal) → reopenCall w .answer ≡ refused r → EightToThirteen r → LowestOwn w r
   reopen-own r e in-range = go (done-or-refused (decide (each viewTests (viewsOf w))))
     where
@@ -229,7 +229,7 @@ module _ (w : World) (range : outOfRange (w .settings) (length (w .heap)) (w .ta
             lowest = λ j p h o m. l .first j p h (own-shown (viewsOf w) j p m o);
           }
 
-  -- P5: and it is refused with that
+  -- request P5: and it is refused with that
   pub own-reopen : (r : Refusal) → LowestOwn w r → reopenCall w .answer ≡ refused r
   own-reopen r l =
       let low : Lowest (viewsOf w) r = record {
@@ -239,7 +239,7 @@ module _ (w : World) (range : outOfRange (w .settings) (length (w .heap)) (w .ta
       } in
       reopen-decides w range ∙ ap answerGiven (decide-early (each viewTests (viewsOf w)) (overAll w) r (lowest-decides (viewsOf w) r low))
 
-  -- P5: there is a lowest one where there is any
+  -- request P5: there is a lowest one where there is any
   pub own-lowest : (k : ℕ) (r : Refusal) → OwnFault w k r → EightToThirteen r → (q : Refusal) × LowestOwn w q
   own-lowest k r own in-range = go (done-or-refused (decide (each viewTests (viewsOf w))))
     where
@@ -256,7 +256,7 @@ module _ (w : World) (range : outOfRange (w .settings) (length (w .heap)) (w .ta
             },
           )
 
-  -- P5: it is refused with 15 only if some slot's own fault is 15, none is of 8 to 13, and no two ranges meet
+  -- request P5: it is refused with 15 only if some slot's own fault is 15, none is of 8 to 13, and no two ranges meet
   pub reopen-fifteen : reopenCall w .answer ≡ refused NotRising → FifteenOwn w
   unfolding decide
   reopen-fifteen e = go (done-or-refused (decide (each viewTests (viewsOf w))))
@@ -285,7 +285,7 @@ module _ (w : World) (range : outOfRange (w .settings) (length (w .heap)) (w .ta
           let m = early (l .slot) NotRising (l .shows) .1 in
           absurd (omega arith)
 
-  -- P5: and then it is
+  -- request P5: and then it is
   pub fifteen-reopen : FifteenOwn w → reopenCall w .answer ≡ refused NotRising
   fifteen-reopen x =
       let f = own-fifteen (viewsOf w) (x .slot) (early (x .slot)) (x .own) in

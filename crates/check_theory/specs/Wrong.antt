@@ -128,11 +128,11 @@ module _ (s : Settings) (heap : List ℕ) (table : Buffers) where
           (all-both (StandsIn (f .objects)) (λ (o : Stored). o .position + (20 + o .size) ≤ f .label .«trailer_offset») os (objects-stand (f .objects)) (n .within k f e))
           (all-both (λ (o : Stored). o .checksum ≡ objectSum (o .id) (o .body)) (λ (o : Stored). Has (f .entries) (o .id) (rawOf (o .position) false)) os (n .checksums k f e) (n .entered k f e)))
 
-  -- P5: the list is empty if none of this holds
+  -- request P5: the list is empty if none of this holds
   pub list-empty-when : NothingWrong s heap table → faultsOf s heap table ≡ []
   list-empty-when n = none-there (faultsOf s heap table) (whole-list NoLine s heap table (right-whole n))
 
-  -- P5: and only then
+  -- request P5: and only then
   pub list-empty-only-when : faultsOf s heap table ≡ [] → NothingWrong s heap table
   list-empty-only-when e =
       whole-right (list-whole NoLine s heap table (λ slot r n. n) (subst (All NoLine) (sym e) tt))

@@ -25,7 +25,8 @@ pub fn check(
     locations: &[u64],
     listing: &mut [u64],
 ) -> CheckAnswer
-    ensures { λ r. ⌜ checked r (now (listing .exit)) ≡ checkCall settings (now (heap .entry)) (table (now (ids .entry)) (now (locations .entry))) (now (listing .entry)) ⌝ }
+    ensures { λ r. ⌜ checked r (now (listing .exit))
+        ≡ checkCall settings (now (heap .entry)) (table (now (ids .entry)) (now (locations .entry))) (now (listing .entry)) ⌝ }
 {
     if out_of_range(settings, heap.len() as u64, ids, locations) {
         return CheckAnswer::CheckRefused(Refusal::Limits);

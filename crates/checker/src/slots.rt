@@ -30,7 +30,8 @@ ghost use Rattle.checker.specs.SlotLines.{ownLine, slotLines, slotsJudge
 // "In a slot the first failure of 8 to 13 and 15 is its only line."
 fn own_line(listing: &mut [u64], count: u64, number: u64, slot: &[u8]) -> u64
     requires { ⌜ count + 1 < 2 ^ 64 ⌝ }
-    ensures { λ r. ⌜ Tells count (ownLine number (shownBy (judged (viewIn (now (slot .entry)))))) (now (listing .entry)) (now (listing .exit)) r ⌝ }
+    ensures { λ r. ⌜ Tells count (ownLine number (shownBy (judged (viewIn (now (slot .entry))))))
+        (now (listing .entry)) (now (listing .exit)) r ⌝ }
 {
     match own(slot) {
         SlotAnswer::Damaged(r) => note(listing, count, nowhere(number, r)),
@@ -43,7 +44,8 @@ fn own_line(listing: &mut [u64], count: u64, number: u64, slot: &[u8]) -> u64
 fn slot_lines(listing: &mut [u64], count: u64, number: u64, slot: &[u8], l: Label, met: bool) -> u64
     requires { ⌜ Judges (now slot) l ⌝ }
     requires { ⌜ count + length (slotLines number met (judged (viewIn (now slot)))) + 2 < 2 ^ 64 ⌝ }
-    ensures { λ r. ⌜ Tells count (slotLines number met (judged (viewIn (now (slot .entry))))) (now (listing .entry)) (now (listing .exit)) r ⌝ }
+    ensures { λ r. ⌜ Tells count (slotLines number met (judged (viewIn (now (slot .entry)))))
+        (now (listing .entry)) (now (listing .exit)) r ⌝ }
 {
     if no_file(l) {
         return own_line(listing, count, number, slot);

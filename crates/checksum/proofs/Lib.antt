@@ -1,3 +1,3 @@
 pub mod Linear
 pub mod Entries
-pub mod Turns
+pub mod ByteTurns

@@ -145,7 +145,10 @@ fn decided(
     slot: u64,
     barred: bool,
 ) -> Answer
-    ensures { λ r. ⌜ ((files : FileMap) (c : Claims) → bad ≡ badFiles s (length (now (heap .entry))) (table (now (ids .entry)) (now (locations .entry))) (files .records) → let w = world s (stateOf rest files) c (now (heap .entry)) (table (now (ids .entry)) (now (locations .entry))) in r ≡ decide (refused1 w gives Limits ∷ (leb (slotsOf w) slot || barred) gives Claim ∷ [])) ⌝ }
+    ensures { λ r. ⌜ ((files : FileMap) (c : Claims)
+        → bad ≡ badFiles s (length (now (heap .entry))) (table (now (ids .entry)) (now (locations .entry))) (files .records)
+        → let w = world s (stateOf rest files) c (now (heap .entry)) (table (now (ids .entry)) (now (locations .entry))) in
+        r ≡ decide (refused1 w gives Limits ∷ (leb (slotsOf w) slot || barred) gives Claim ∷ [])) ⌝ }
 {
     if refused_apart(s, heap.len() as u64, ids, locations, rest, bad) {
         return Answer::Refused(Refusal::Limits);
@@ -175,7 +178,9 @@ pub fn claim(
     locations: &[u64],
     slot: u64,
 ) -> ClaimAnswer
-    ensures { λ r. ⌜ leaving (answerGiven (r .answer)) (world s state (r .claims) (now (heap .entry)) (table (now (ids .entry)) (now (locations .entry)))) ≡ claimCall (world s state claims (now (heap .entry)) (table (now (ids .entry)) (now (locations .entry)))) slot ⌝ }
+    ensures { λ r. ⌜ leaving (answerGiven (r .answer))
+        (world s state (r .claims) (now (heap .entry)) (table (now (ids .entry)) (now (locations .entry))))
+        ≡ claimCall (world s state claims (now (heap .entry)) (table (now (ids .entry)) (now (locations .entry)))) slot ⌝ }
 {
     let files = state.files;
     let bad = bad_files(s, heap.len() as u64, ids, locations, files);
@@ -213,7 +218,9 @@ pub fn release(
     locations: &[u64],
     slot: u64,
 ) -> ClaimAnswer
-    ensures { λ r. ⌜ leaving (answerGiven (r .answer)) (world s state (r .claims) (now (heap .entry)) (table (now (ids .entry)) (now (locations .entry)))) ≡ releaseCall (world s state claims (now (heap .entry)) (table (now (ids .entry)) (now (locations .entry)))) slot ⌝ }
+    ensures { λ r. ⌜ leaving (answerGiven (r .answer))
+        (world s state (r .claims) (now (heap .entry)) (table (now (ids .entry)) (now (locations .entry))))
+        ≡ releaseCall (world s state claims (now (heap .entry)) (table (now (ids .entry)) (now (locations .entry)))) slot ⌝ }
 {
     let files = state.files;
     let bad = bad_files(s, heap.len() as u64, ids, locations, files);
@@ -249,7 +256,9 @@ pub fn counts(
     ids: &[u64],
     locations: &[u64],
 ) -> CountsAnswer
-    ensures { λ r. ⌜ ((claims : Claims) → leaving (countsGiven r) (world s state claims (now (heap .entry)) (table (now (ids .entry)) (now (locations .entry)))) ≡ countsCall (world s state claims (now (heap .entry)) (table (now (ids .entry)) (now (locations .entry))))) ⌝ }
+    ensures { λ r. ⌜ ((claims : Claims)
+        → leaving (countsGiven r) (world s state claims (now (heap .entry)) (table (now (ids .entry)) (now (locations .entry))))
+        ≡ countsCall (world s state claims (now (heap .entry)) (table (now (ids .entry)) (now (locations .entry))))) ⌝ }
 {
     let files = state.files;
     let bad = bad_files(s, heap.len() as u64, ids, locations, files);

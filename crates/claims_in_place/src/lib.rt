@@ -27,7 +27,9 @@ fn claimed(
     locations: &[u64],
     slot: u64,
 ) -> Outcome
-    ensures { λ r. ⌜ leaving (numbered (r .number)) (world s state (r .claims) (now (heap .entry)) (table (now (ids .entry)) (now (locations .entry)))) ≡ claimCall (world s state claims (now (heap .entry)) (table (now (ids .entry)) (now (locations .entry)))) slot ⌝ }
+    ensures { λ r. ⌜ leaving (numbered (r .number))
+        (world s state (r .claims) (now (heap .entry)) (table (now (ids .entry)) (now (locations .entry))))
+        ≡ claimCall (world s state claims (now (heap .entry)) (table (now (ids .entry)) (now (locations .entry)))) slot ⌝ }
 {
     let r = claims::claim(s, state, claims, heap, ids, locations, slot);
     let answer = r.answer;
@@ -48,7 +50,9 @@ fn released(
     locations: &[u64],
     slot: u64,
 ) -> Outcome
-    ensures { λ r. ⌜ leaving (numbered (r .number)) (world s state (r .claims) (now (heap .entry)) (table (now (ids .entry)) (now (locations .entry)))) ≡ releaseCall (world s state claims (now (heap .entry)) (table (now (ids .entry)) (now (locations .entry)))) slot ⌝ }
+    ensures { λ r. ⌜ leaving (numbered (r .number))
+        (world s state (r .claims) (now (heap .entry)) (table (now (ids .entry)) (now (locations .entry))))
+        ≡ releaseCall (world s state claims (now (heap .entry)) (table (now (ids .entry)) (now (locations .entry)))) slot ⌝ }
 {
     let r = claims::release(s, state, claims, heap, ids, locations, slot);
     let answer = r.answer;
@@ -70,7 +74,9 @@ pub fn claim(
     locations: &[u64],
     slot: u64,
 ) -> u64
-    ensures { λ r. ⌜ leaving (numbered r) (world s state (now (claims .exit)) (now (heap .entry)) (table (now (ids .entry)) (now (locations .entry)))) ≡ claimCall (world s state (now (claims .entry)) (now (heap .entry)) (table (now (ids .entry)) (now (locations .entry)))) slot ⌝ }
+    ensures { λ r. ⌜ leaving (numbered r)
+        (world s state (now (claims .exit)) (now (heap .entry)) (table (now (ids .entry)) (now (locations .entry))))
+        ≡ claimCall (world s state (now (claims .entry)) (now (heap .entry)) (table (now (ids .entry)) (now (locations .entry)))) slot ⌝ }
 {
     let was = *claims;
     let next = claimed(was, s, state, heap, ids, locations, slot);
@@ -88,7 +94,9 @@ pub fn release(
     locations: &[u64],
     slot: u64,
 ) -> u64
-    ensures { λ r. ⌜ leaving (numbered r) (world s state (now (claims .exit)) (now (heap .entry)) (table (now (ids .entry)) (now (locations .entry)))) ≡ releaseCall (world s state (now (claims .entry)) (now (heap .entry)) (table (now (ids .entry)) (now (locations .entry)))) slot ⌝ }
+    ensures { λ r. ⌜ leaving (numbered r)
+        (world s state (now (claims .exit)) (now (heap .entry)) (table (now (ids .entry)) (now (locations .entry))))
+        ≡ releaseCall (world s state (now (claims .entry)) (now (heap .entry)) (table (now (ids .entry)) (now (locations .entry)))) slot ⌝ }
 {
     let was = *claims;
     let next = released(was, s, state, heap, ids, locations, slot);

@@ -11,7 +11,8 @@ ghost use mathlib.Core.Path.{_≡_};
 ghost use lib.ListN.{length, replicate};
 ghost use Rattle.rules.specs.Base.{List, ℕ};
 ghost use Rattle.desk.specs.Desk.{desk, left, done};
-ghost use Rattle.desk.specs.Commands.{settingsFrom, recordFrom, claimsFrom, withSettings, withState, withClaims, stateFrom, recordBy, heapBy, tableBy, pokeBy, entryBy};
+ghost use Rattle.desk.specs.Commands.{settingsFrom, recordFrom, claimsFrom, withSettings, withState, withClaims, stateFrom};
+ghost use Rattle.desk.specs.Commands.{recordBy, heapBy, tableBy, pokeBy, entryBy};
 
 fn settings_of(n: [u64; 9]) -> Settings
     ensures { λ r. ⌜ r ≡ settingsFrom n ⌝ }
@@ -46,7 +47,8 @@ fn zero_bytes(s: &mut [u8])
 }
 
 pub fn heap(b: Bench, bytes: u64, heap: &mut [u8]) -> Turn
-    ensures { λ r. ⌜ ((ids locations : List ℕ) → left r (now (heap .exit)) ids locations ≡ heapBy bytes (desk b (now (heap .entry)) ids locations)) ⌝ }
+    ensures { λ r. ⌜ ((ids locations : List ℕ)
+        → left r (now (heap .exit)) ids locations ≡ heapBy bytes (desk b (now (heap .entry)) ids locations)) ⌝ }
 {
     let mut next = b;
     if (heap.len() as u64) < bytes {
@@ -64,7 +66,8 @@ pub fn table(
     ids: &mut [u64],
     locations: &mut [u64],
 ) -> Turn
-    ensures { λ r. ⌜ ((heap : List ℕ) → left r heap (now (ids .exit)) (now (locations .exit)) ≡ tableBy count «locations_count» (desk b heap (now (ids .entry)) (now (locations .entry)))) ⌝ }
+    ensures { λ r. ⌜ ((heap : List ℕ) → left r heap (now (ids .exit)) (now (locations .exit))
+        ≡ tableBy count «locations_count» (desk b heap (now (ids .entry)) (now (locations .entry)))) ⌝ }
 {
     let mut next = b;
     if (ids.len() as u64) < count {
@@ -80,7 +83,8 @@ pub fn table(
 }
 
 pub fn poke(b: Bench, at: u64, bytes: &[u8], heap: &mut [u8]) -> Turn
-    ensures { λ r. ⌜ ((ids locations : List ℕ) → left r (now (heap .exit)) ids locations ≡ pokeBy at (now (bytes .entry)) (desk b (now (heap .entry)) ids locations)) ⌝ }
+    ensures { λ r. ⌜ ((ids locations : List ℕ)
+        → left r (now (heap .exit)) ids locations ≡ pokeBy at (now (bytes .entry)) (desk b (now (heap .entry)) ids locations)) ⌝ }
 {
     if heap.len() < bytes.len() {
         return bad_line(b);
@@ -101,7 +105,8 @@ pub fn entry(
     ids: &mut [u64],
     locations: &mut [u64],
 ) -> Turn
-    ensures { λ r. ⌜ ((heap : List ℕ) → left r heap (now (ids .exit)) (now (locations .exit)) ≡ entryBy k id location (desk b heap (now (ids .entry)) (now (locations .entry)))) ⌝ }
+    ensures { λ r. ⌜ ((heap : List ℕ) → left r heap (now (ids .exit)) (now (locations .exit))
+        ≡ entryBy k id location (desk b heap (now (ids .entry)) (now (locations .entry)))) ⌝ }
 {
     if (ids.len() as u64) <= k {
         return bad_line(b);

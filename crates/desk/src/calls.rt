@@ -21,7 +21,8 @@ ghost use Rattle.desk.specs.Commands.{salvageOn, salvageBy};
 ghost use Rattle.desk.specs.Desk.{desk, left, plain, found, moved, counted, located, compared, raised, called, onTable};
 
 pub fn reopen(b: Bench, heap: &[u8], ids: &mut [u64], locations: &mut [u64]) -> Turn
-    ensures { λ r. ⌜ left r (now (heap .entry)) (now (ids .exit)) (now (locations .exit)) ≡ called plain reopenCall (desk b (now (heap .entry)) (now (ids .entry)) (now (locations .entry))) ⌝ }
+    ensures { λ r. ⌜ left r (now (heap .entry)) (now (ids .exit)) (now (locations .exit))
+        ≡ called plain reopenCall (desk b (now (heap .entry)) (now (ids .entry)) (now (locations .entry))) ⌝ }
 {
     let done = marble::reopen(b.settings, b.state, b.claims, heap, ids, locations);
     let answer = done.answer;
@@ -35,7 +36,9 @@ pub fn write(
     locations: &mut [u64],
     batch: &[u8],
 ) -> Turn
-    ensures { λ r. ⌜ left r (now (heap .exit)) (now (ids .exit)) (now (locations .exit)) ≡ called plain (λ (w : World). writeCall w (now (batch .entry))) (desk b (now (heap .entry)) (now (ids .entry)) (now (locations .entry))) ⌝ }
+    ensures { λ r. ⌜ left r (now (heap .exit)) (now (ids .exit)) (now (locations .exit))
+        ≡ called plain (λ (w : World). writeCall w (now (batch .entry)))
+        (desk b (now (heap .entry)) (now (ids .entry)) (now (locations .entry))) ⌝ }
 {
     let done = marble::write(b.settings, b.state, heap, ids, locations, batch);
     let answer = done.answer;
@@ -43,7 +46,8 @@ pub fn write(
 }
 
 pub fn read(b: Bench, heap: &[u8], ids: &[u64], locations: &[u64], id: u64) -> Turn
-    ensures { λ r. ⌜ left r (now (heap .entry)) (now (ids .entry)) (now (locations .entry)) ≡ called found (λ (w : World). readCall w id) (desk b (now (heap .entry)) (now (ids .entry)) (now (locations .entry))) ⌝ }
+    ensures { λ r. ⌜ left r (now (heap .entry)) (now (ids .entry)) (now (locations .entry))
+        ≡ called found (λ (w : World). readCall w id) (desk b (now (heap .entry)) (now (ids .entry)) (now (locations .entry))) ⌝ }
 {
     let answer = marble::read_answer(b.settings, b.state, heap, ids, locations, id);
     Turn {
@@ -53,7 +57,8 @@ pub fn read(b: Bench, heap: &[u8], ids: &[u64], locations: &[u64], id: u64) -> T
 }
 
 pub fn prune(b: Bench, heap: &mut [u8], ids: &[u64], locations: &[u64]) -> Turn
-    ensures { λ r. ⌜ left r (now (heap .exit)) (now (ids .entry)) (now (locations .entry)) ≡ called plain pruneCall (desk b (now (heap .entry)) (now (ids .entry)) (now (locations .entry))) ⌝ }
+    ensures { λ r. ⌜ left r (now (heap .exit)) (now (ids .entry)) (now (locations .entry))
+        ≡ called plain pruneCall (desk b (now (heap .entry)) (now (ids .entry)) (now (locations .entry))) ⌝ }
 {
     let done = marble::prune(b.settings, b.state, b.claims, heap, ids, locations);
     let answer = done.answer;
@@ -61,7 +66,8 @@ pub fn prune(b: Bench, heap: &mut [u8], ids: &[u64], locations: &[u64]) -> Turn
 }
 
 pub fn maintain(b: Bench, heap: &mut [u8], ids: &mut [u64], locations: &mut [u64]) -> Turn
-    ensures { λ r. ⌜ left r (now (heap .exit)) (now (ids .exit)) (now (locations .exit)) ≡ called moved maintainCall (desk b (now (heap .entry)) (now (ids .entry)) (now (locations .entry))) ⌝ }
+    ensures { λ r. ⌜ left r (now (heap .exit)) (now (ids .exit)) (now (locations .exit))
+        ≡ called moved maintainCall (desk b (now (heap .entry)) (now (ids .entry)) (now (locations .entry))) ⌝ }
 {
     let done = marble::maintain(b.settings, b.state, b.claims, heap, ids, locations);
     let answer = done.answer;
@@ -72,7 +78,8 @@ pub fn maintain(b: Bench, heap: &mut [u8], ids: &mut [u64], locations: &mut [u64
 }
 
 pub fn claim(b: Bench, heap: &[u8], ids: &[u64], locations: &[u64], slot: u64) -> Turn
-    ensures { λ r. ⌜ left r (now (heap .entry)) (now (ids .entry)) (now (locations .entry)) ≡ called plain (λ (w : World). claimCall w slot) (desk b (now (heap .entry)) (now (ids .entry)) (now (locations .entry))) ⌝ }
+    ensures { λ r. ⌜ left r (now (heap .entry)) (now (ids .entry)) (now (locations .entry))
+        ≡ called plain (λ (w : World). claimCall w slot) (desk b (now (heap .entry)) (now (ids .entry)) (now (locations .entry))) ⌝ }
 {
     let done = marble::claim(b.settings, b.state, b.claims, heap, ids, locations, slot);
     let answer = done.answer;
@@ -80,7 +87,8 @@ pub fn claim(b: Bench, heap: &[u8], ids: &[u64], locations: &[u64], slot: u64) -
 }
 
 pub fn release(b: Bench, heap: &[u8], ids: &[u64], locations: &[u64], slot: u64) -> Turn
-    ensures { λ r. ⌜ left r (now (heap .entry)) (now (ids .entry)) (now (locations .entry)) ≡ called plain (λ (w : World). releaseCall w slot) (desk b (now (heap .entry)) (now (ids .entry)) (now (locations .entry))) ⌝ }
+    ensures { λ r. ⌜ left r (now (heap .entry)) (now (ids .entry)) (now (locations .entry))
+        ≡ called plain (λ (w : World). releaseCall w slot) (desk b (now (heap .entry)) (now (ids .entry)) (now (locations .entry))) ⌝ }
 {
     let done = marble::release(b.settings, b.state, b.claims, heap, ids, locations, slot);
     let answer = done.answer;
@@ -88,7 +96,8 @@ pub fn release(b: Bench, heap: &[u8], ids: &[u64], locations: &[u64], slot: u64)
 }
 
 pub fn counts(b: Bench, heap: &[u8], ids: &[u64], locations: &[u64]) -> Turn
-    ensures { λ r. ⌜ left r (now (heap .entry)) (now (ids .entry)) (now (locations .entry)) ≡ called counted countsCall (desk b (now (heap .entry)) (now (ids .entry)) (now (locations .entry))) ⌝ }
+    ensures { λ r. ⌜ left r (now (heap .entry)) (now (ids .entry)) (now (locations .entry))
+        ≡ called counted countsCall (desk b (now (heap .entry)) (now (ids .entry)) (now (locations .entry))) ⌝ }
 {
     let answer = marble::counts(b.settings, b.state, heap, ids, locations);
     Turn {
@@ -122,7 +131,8 @@ pub fn salvage(
 }
 
 pub fn load(b: Bench, ids: &[u64], locations: &[u64], id: u64) -> Turn
-    ensures { λ r. ⌜ ((heap : List ℕ) → left r heap (now (ids .entry)) (now (locations .entry)) ≡ called located (onTable (λ (t : Buffers). loadCall t id)) (desk b heap (now (ids .entry)) (now (locations .entry)))) ⌝ }
+    ensures { λ r. ⌜ ((heap : List ℕ) → left r heap (now (ids .entry)) (now (locations .entry))
+        ≡ called located (onTable (λ (t : Buffers). loadCall t id)) (desk b heap (now (ids .entry)) (now (locations .entry)))) ⌝ }
 {
     let answer = marble::load(ids, locations, id);
     Turn {
@@ -132,13 +142,16 @@ pub fn load(b: Bench, ids: &[u64], locations: &[u64], id: u64) -> Turn
 }
 
 pub fn store(b: Bench, ids: &mut [u64], locations: &mut [u64], id: u64, raw: u64) -> Turn
-    ensures { λ r. ⌜ ((heap : List ℕ) → left r heap (now (ids .exit)) (now (locations .exit)) ≡ called plain (onTable (λ (t : Buffers). storeCall t id raw)) (desk b heap (now (ids .entry)) (now (locations .entry)))) ⌝ }
+    ensures { λ r. ⌜ ((heap : List ℕ) → left r heap (now (ids .exit)) (now (locations .exit))
+        ≡ called plain (onTable (λ (t : Buffers). storeCall t id raw)) (desk b heap (now (ids .entry)) (now (locations .entry)))) ⌝ }
 {
     answered(marble::store(ids, locations, id, raw), b)
 }
 
 pub fn cas(b: Bench, ids: &mut [u64], locations: &mut [u64], id: u64, old: u64, raw: u64) -> Turn
-    ensures { λ r. ⌜ ((heap : List ℕ) → left r heap (now (ids .exit)) (now (locations .exit)) ≡ called compared (onTable (λ (t : Buffers). compareCall t id old raw)) (desk b heap (now (ids .entry)) (now (locations .entry)))) ⌝ }
+    ensures { λ r. ⌜ ((heap : List ℕ) → left r heap (now (ids .exit)) (now (locations .exit))
+        ≡ called compared (onTable (λ (t : Buffers). compareCall t id old raw))
+        (desk b heap (now (ids .entry)) (now (locations .entry)))) ⌝ }
 {
     let answer = marble::compare_and_store(ids, locations, id, old, raw);
     Turn {
@@ -148,7 +161,8 @@ pub fn cas(b: Bench, ids: &mut [u64], locations: &mut [u64], id: u64, old: u64, 
 }
 
 pub fn max(b: Bench, ids: &mut [u64], locations: &mut [u64], id: u64, raw: u64) -> Turn
-    ensures { λ r. ⌜ ((heap : List ℕ) → left r heap (now (ids .exit)) (now (locations .exit)) ≡ called raised (onTable (λ (t : Buffers). greaterCall t id raw)) (desk b heap (now (ids .entry)) (now (locations .entry)))) ⌝ }
+    ensures { λ r. ⌜ ((heap : List ℕ) → left r heap (now (ids .exit)) (now (locations .exit))
+        ≡ called raised (onTable (λ (t : Buffers). greaterCall t id raw)) (desk b heap (now (ids .entry)) (now (locations .entry)))) ⌝ }
 {
     let answer = marble::store_if_greater(ids, locations, id, raw);
     Turn {

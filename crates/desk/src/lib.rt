@@ -116,7 +116,8 @@ pub fn least(a: usize, b: usize) -> usize
 // Commands that touch no buffer.
 fn at_bench(b: Bench, keyword: Keyword, n: [u64; 9]) -> Turn
     requires { ⌜ Among atBench keyword ⌝ }
-    ensures { λ r. ⌜ ((bytes heap ids locations : List ℕ) → left r heap ids locations ≡ doneBy keyword n bytes (desk b heap ids locations)) ⌝ }
+    ensures { λ r. ⌜ ((bytes heap ids locations : List ℕ)
+        → left r heap ids locations ≡ doneBy keyword n bytes (desk b heap ids locations)) ⌝ }
 {
     match keyword {
         Keyword::Blank => shown(Look::Comment, b),
@@ -142,7 +143,8 @@ fn asked(
     locations: &[u64],
 ) -> Turn
     requires { ⌜ Among asking keyword ⌝ }
-    ensures { λ r. ⌜ ((bytes : List ℕ) → left r (now (heap .entry)) (now (ids .entry)) (now (locations .entry)) ≡ lentBy keyword n bytes (desk b (now (heap .entry)) (now (ids .entry)) (now (locations .entry)))) ⌝ }
+    ensures { λ r. ⌜ ((bytes : List ℕ) → left r (now (heap .entry)) (now (ids .entry)) (now (locations .entry))
+        ≡ lentBy keyword n bytes (desk b (now (heap .entry)) (now (ids .entry)) (now (locations .entry)))) ⌝ }
 {
     let x = n[0];
     match keyword {
@@ -158,7 +160,8 @@ fn asked(
 // Commands that change the table alone.
 fn on_table(b: Bench, keyword: Keyword, n: [u64; 9], ids: &mut [u64], locations: &mut [u64]) -> Turn
     requires { ⌜ Among tabling keyword ⌝ }
-    ensures { λ r. ⌜ ((bytes heap : List ℕ) → left r heap (now (ids .exit)) (now (locations .exit)) ≡ lentBy keyword n bytes (desk b heap (now (ids .entry)) (now (locations .entry)))) ⌝ }
+    ensures { λ r. ⌜ ((bytes heap : List ℕ) → left r heap (now (ids .exit)) (now (locations .exit))
+        ≡ lentBy keyword n bytes (desk b heap (now (ids .entry)) (now (locations .entry)))) ⌝ }
 {
     let x = n[0];
     let y = n[1];
@@ -181,7 +184,8 @@ fn after_lent(
     ids: &mut [u64],
     locations: &mut [u64],
 ) -> Turn
-    ensures { λ r. ⌜ left r (now (heap .exit)) (now (ids .exit)) (now (locations .exit)) ≡ lentBy keyword n (now (bytes .entry)) (desk b (now (heap .entry)) (now (ids .entry)) (now (locations .entry))) ⌝ }
+    ensures { λ r. ⌜ left r (now (heap .exit)) (now (ids .exit)) (now (locations .exit))
+        ≡ lentBy keyword n (now (bytes .entry)) (desk b (now (heap .entry)) (now (ids .entry)) (now (locations .entry))) ⌝ }
 {
     match keyword {
         Keyword::Poke => by_hand::poke(b, n[0], bytes, heap),
@@ -211,7 +215,8 @@ fn lent(
     ids: &mut [u64],
     locations: &mut [u64],
 ) -> Turn
-    ensures { λ r. ⌜ left r (now (heap .exit)) (now (ids .exit)) (now (locations .exit)) ≡ onLent (lentBy keyword n (now (bytes .entry))) (desk b (now (heap .entry)) (now (ids .entry)) (now (locations .entry))) ⌝ }
+    ensures { λ r. ⌜ left r (now (heap .exit)) (now (ids .exit)) (now (locations .exit))
+        ≡ onLent (lentBy keyword n (now (bytes .entry))) (desk b (now (heap .entry)) (now (ids .entry)) (now (locations .entry))) ⌝ }
 {
     let h = least(b.heap_len, heap.len());
     let i = least(b.ids_len, ids.len());

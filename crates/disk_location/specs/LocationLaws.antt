@@ -8,7 +8,7 @@ use borrow.Author.Tests.{lt-ltb, le-ltb, eq-eqb, ne-eqb}
 use lib.Dec.{lit<}
 use Rattle.disk_location.specs.declared.Located.the-variants.{At, Refused}
 use Rattle.disk_location.specs.declared.RelativeLocated.the-variants as relative
-use Rattle.disk_location.specs.Locations.{maskedOf, batchOf, hasBatch, positionOf, deleteOf, rawOf, locatedAt, relativeAt, digitsIn}
+use Rattle.disk_location.specs.Locations.{maskedOf, batchOf, positionOf, deleteOf, rawOf, locatedAt, relativeAt, digitsIn}
 
 -- a position is read back from its raw location
 pub position-raw : (p : ℕ) (d : Bool) → positionOf (rawOf p d) ≡ p
@@ -71,11 +71,7 @@ pub batch-plain : (x : ℕ) → x < 2 ^ 62 → batchOf x ≡ x + 2 ^ 62
 unfolding batchOf
 batch-plain x h = ap (λ (m : ℕ). m + 2 ^ 62) (masked-plain x h)
 
--- the bit set is the bit there, and cleared again it leaves what clearing it left before
-pub batch-has : (x : ℕ) → hasBatch (batchOf x) ≡ true
-unfolding batchOf maskedOf
-batch-has x = eq-eqb (batchOf x / 2 ^ 62 % 2) 1 (omega arith)
-
+-- the bit set and cleared again leaves what clearing it left before
 pub batch-masked : (x : ℕ) → maskedOf (batchOf x) ≡ maskedOf x
 unfolding batchOf maskedOf
 batch-masked x = omega arith

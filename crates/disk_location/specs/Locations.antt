@@ -57,10 +57,6 @@ maskedOf x = x % 2 ^ 62 + x / 2 ^ 63 * 2 ^ 63
 unfoldable pub batchOf : ℕ → ℕ
 batchOf x = maskedOf x + 2 ^ 62
 
--- whether the batch bit is there
-abbrev pub hasBatch : ℕ → Bool
-hasBatch x = eqb (x / 2 ^ 62 % 2) 1
-
 -- how many binary digits x has, at most k: halving until nothing is left
 unfoldable pub digitsIn : ℕ → ℕ → ℕ
 digitsIn zero x = zero

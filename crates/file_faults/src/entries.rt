@@ -3,6 +3,7 @@ use crate::tell::at_object;
 use crate::tell::note_if;
 use disk_location::RelativeDiskLocation;
 use rules::Entry;
+use rules::OBJECT_HEADER;
 use rules::Refusal;
 use slot_file::Step;
 use slot_file::object;
@@ -28,10 +29,10 @@ fn walk(objects: &[u8], from: u64, position: u64) -> u64
             Step::End => return at,
             Step::HeaderCut => return at,
             Step::Here(h) => {
-                if h.room - 20 < h.size {
+                if h.room - (OBJECT_HEADER as u64) < h.size {
                     return at;
                 }
-                at += 20 + h.size;
+                at += OBJECT_HEADER as u64 + h.size;
             }
         }
     }
@@ -47,7 +48,7 @@ fn none_here(objects: &[u8], at: u64, e: Entry) -> bool
         Step::End => true,
         Step::HeaderCut => true,
         Step::Here(o) => {
-            if o.room - 20 < o.size {
+            if o.room - (OBJECT_HEADER as u64) < o.size {
                 return true;
             }
             e.id != o.id
@@ -106,7 +107,8 @@ pub fn entry_lines(
 ) -> u64
     requires { ⌜ 12 + 16 * countIn (now trailer) ≤ length (now trailer) ⌝ }
     requires { ⌜ count + length (each (entryFaults slot (walkedFrom (now objects) 0)) (entriesIn (now trailer))) + 2 < 2 ^ 64 ⌝ }
-    ensures { λ r. ⌜ Tells count (each (entryFaults slot (walkedFrom (now (objects .entry)) 0)) (entriesIn (now (trailer .entry)))) (now (listing .entry)) (now (listing .exit)) r ⌝ }
+    ensures { λ r. ⌜ Tells count (each (entryFaults slot (walkedFrom (now (objects .entry)) 0)) (entriesIn (now (trailer .entry))))
+        (now (listing .entry)) (now (listing .exit)) r ⌝ }
 {
     let n = trailer::count(trailer);
     let mut told = count;

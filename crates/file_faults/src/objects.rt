@@ -4,6 +4,7 @@ use crate::tell::note;
 use crate::tell::note_if;
 use disk_location::RelativeDiskLocation;
 use rules::Entry;
+use rules::OBJECT_HEADER;
 use rules::Refusal;
 use slot_file::Header;
 use slot_file::Step;
@@ -53,7 +54,8 @@ fn find(trailer: &[u8], from: u64, to: u64, id: u64, position: u64) -> u64
 // Whether there is none in the whole trailer: from a cursor to the end, then from the front to the cursor.
 fn seek(trailer: &[u8], cursor: u64, id: u64, position: u64) -> Sought
     requires { ⌜ (cursor ≤ countIn (now trailer)) × (12 + 16 * countIn (now trailer) ≤ length (now trailer)) ⌝ }
-    ensures { λ s. ⌜ (s .missing ≡ not (any (enteredAs id position) (entriesIn (now (trailer .entry))))) × (s .next ≤ countIn (now (trailer .entry))) ⌝ }
+    ensures { λ s. ⌜ (s .missing ≡ not (any (enteredAs id position) (entriesIn (now (trailer .entry)))))
+        × (s .next ≤ countIn (now (trailer .entry))) ⌝ }
 {
     let n = trailer::count(trailer);
     let k = find(trailer, cursor, n, id, position);
@@ -89,7 +91,9 @@ fn object_line(
     requires { ⌜ Walked (now objects) position h ⌝ }
     requires { ⌜ 20 + h .size ≤ h .room ⌝ }
     requires { ⌜ count + 2 < 2 ^ 64 ⌝ }
-    ensures { λ r. ⌜ Tells count (objectLines slot position (badChecksum (storedAt position (drop position (now (objects .entry))))) missing) (now (listing .entry)) (now (listing .exit)) r ⌝ }
+    ensures { λ r. ⌜ Tells count
+        (objectLines slot position (badChecksum (storedAt position (drop position (now (objects .entry))))) missing)
+        (now (listing .entry)) (now (listing .exit)) r ⌝ }
 {
     let bad = object::bad_checksum(objects, position, h);
     let sum = at_object(slot, Refusal::Checksum, position);
@@ -108,7 +112,8 @@ pub fn object_lines(
 ) -> u64
     requires { ⌜ 12 + 16 * countIn (now trailer) ≤ length (now trailer) ⌝ }
     requires { ⌜ count + length (each (objectFaults slot (entriesIn (now trailer))) (objectsIn (now objects))) + 2 < 2 ^ 64 ⌝ }
-    ensures { λ r. ⌜ Tells count (each (objectFaults slot (entriesIn (now (trailer .entry)))) (objectsIn (now (objects .entry)))) (now (listing .entry)) (now (listing .exit)) r ⌝ }
+    ensures { λ r. ⌜ Tells count (each (objectFaults slot (entriesIn (now (trailer .entry)))) (objectsIn (now (objects .entry))))
+        (now (listing .entry)) (now (listing .exit)) r ⌝ }
 {
     let mut told = count;
     let mut position: u64 = 0;
@@ -120,13 +125,13 @@ pub fn object_lines(
                 return note(listing, told, at_object(slot, Refusal::CutShort, position));
             }
             Step::Here(h) => {
-                if h.room - 20 < h.size {
+                if h.room - (OBJECT_HEADER as u64) < h.size {
                     return note(listing, told, at_object(slot, Refusal::CutShort, position));
                 }
                 let sought = seek(trailer, cursor, h.id, position);
                 told = object_line(listing, told, slot, objects, position, h, sought.missing);
                 cursor = sought.next;
-                position += 20 + h.size;
+                position += OBJECT_HEADER as u64 + h.size;
             }
         }
     }

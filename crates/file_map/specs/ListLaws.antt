@@ -1,8 +1,8 @@
 -- What the lists say of the records: a call may look up files in the lsns and count in the live counts, and put the counts back at its end.
-use mathlib.Core.Path.{_≡_, refl, sym, ap, _∙_}
+use mathlib.Core.Path.{_≡_, refl, ap, _∙_}
 use Rattle.rules.specs.Base.{List, [], _∷_, ℕ, zero, suc, _-_, length, getD, set}
 use native.Mathlib.Omega.{arith}
-use lib.ListN.{length-map, length-set}
+use lib.ListN.{length-set}
 use Rattle.rules.specs.declared.Record.{Record}
 use Rattle.rules.specs.declared.Slot.{Slot}
 use Rattle.rules.specs.declared.Slot.the-variants.{Is, NoSlot}
@@ -60,10 +60,6 @@ pub less-with-lives : (slot : Slot) (rs : List Record) (ls : List ℕ) → lengt
 less-with-lives (Is k) rs ls e =
     ap (λ (v : ℕ). set (withLives rs ls) k (withLive (recordAt (withLives rs ls) k) (v - 1))) (live-with-lives rs ls k e) ∙ set-lives rs ls k (getD ls k 0 - 1) e
 less-with-lives NoSlot rs ls e = refl
-
-pub less-live : (slot : Slot) (rs : List Record) → lessLive slot rs ≡ withLives rs (lessAt slot (livesOf rs))
-less-live slot rs =
-    ap (lessLive slot) (sym (lives-back rs)) ∙ less-with-lives slot rs (livesOf rs) (length-map rs (λ (r : Record). r .live))
 
 pub length-less : (slot : Slot) (ls : List ℕ) → length (lessAt slot ls) ≡ length ls
 length-less (Is k) ls = length-set ls k (getD ls k 0 - 1)

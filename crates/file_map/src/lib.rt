@@ -11,7 +11,7 @@ use rules::Slot;
 ghost use mathlib.Core.Path.{_≡_};
 ghost use Prim.Native.Nat.{ℕ, _-_, _<_, _≤_};
 ghost use lib.ListN.{set, length};
-ghost use Rattle.rules.specs.FileMap.{emptyLabel, recorded, emptyRecord, isEmpty, withLive, noFiles, lowestEmpty, fileFor, lessLive};
+ghost use Rattle.rules.specs.FileMap.{emptyLabel, recorded, emptyRecord, isEmpty, withLive, noFiles, lowestEmpty, fileFor};
 ghost use Rattle.rules.specs.Label.{outOfBounds};
 ghost use Rattle.rules.specs.Counts.{countsOf};
 ghost use Rattle.rules.specs.declared.Slot.the-variants.{Is};
@@ -219,7 +219,8 @@ pub fn with_lives(m: FileMap, lives: &[u64]) -> FileMap
     n
 }
 
-// "the file with the greatest own location not above the one sought, the lowest slot of equals": a file's own raw location is twice its lsn, the batch bit in it.
+// "the file with the greatest own location not above the one sought, the lowest slot of equals":
+// a file's own raw location is twice its lsn, the batch bit in it.
 pub fn lsn_at(lsns: &[u64], location: u64) -> Slot
     ensures { λ r. ⌜ r ≡ lsnAt (now (lsns .entry)) location ⌝ }
 {
@@ -264,13 +265,4 @@ pub fn file_for(m: FileMap, location: u64) -> Slot
 {
     let l = lsns(m);
     lsn_at(&l, location)
-}
-
-pub fn less_live(m: FileMap, slot: Slot) -> FileMap
-    requires { ⌜ ((k : ℕ) → slot ≡ Is k → k < 256) ⌝ }
-    ensures { λ n. ⌜ n .records ≡ lessLive slot (m .records) ⌝ }
-{
-    let mut l = lives(m);
-    less_at(&mut l, slot);
-    with_lives(m, &l)
 }

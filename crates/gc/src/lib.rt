@@ -86,8 +86,12 @@ fn generation_step(
 ) -> Run
     requires { ⌜ Underway settings (length (now heap)) (table (now ids) (now locations)) (run .state) (now plan) ⌝ }
     requires { ⌜ (0 < generation) × (generation ≤ 3) × (run .moved ≤ 2 ^ 32) ⌝ }
-    ensures { λ r. ⌜ ((c : Claims) → standing r (world settings (r .state) c (now (heap .exit)) (table (now (ids .exit)) (now (locations .exit)))) ≡ rewriteGroup generation (planned (now (plan .entry)) generation) (run .moved) (world settings (run .state) c (now (heap .entry)) (table (now (ids .entry)) (now (locations .entry))))) ⌝ }
-    ensures { λ r. ⌜ Underway settings (length (now (heap .exit))) (table (now (ids .exit)) (now (locations .exit))) (r .state) (now (plan .entry)) ⌝ }
+    ensures { λ r. ⌜ ((c : Claims)
+        → standing r (world settings (r .state) c (now (heap .exit)) (table (now (ids .exit)) (now (locations .exit))))
+        ≡ rewriteGroup generation (planned (now (plan .entry)) generation) (run .moved)
+        (world settings (run .state) c (now (heap .entry)) (table (now (ids .entry)) (now (locations .entry))))) ⌝ }
+    ensures { λ r. ⌜ Underway settings (length (now (heap .exit))) (table (now (ids .exit)) (now (locations .exit)))
+        (r .state) (now (plan .entry)) ⌝ }
     ensures { λ r. ⌜ r .moved ≤ run .moved + 65536 ⌝ }
 {
     let state = run.state;
@@ -120,8 +124,12 @@ fn generations(
     plan: &[u64],
 ) -> Run
     requires { ⌜ Underway settings (length (now heap)) (table (now ids) (now locations)) state (now plan) ⌝ }
-    ensures { λ r. ⌜ ((c : Claims) → standing r (world settings (r .state) c (now (heap .exit)) (table (now (ids .exit)) (now (locations .exit)))) ≡ byPlan (now (plan .entry)) (world settings state c (now (heap .entry)) (table (now (ids .entry)) (now (locations .entry))))) ⌝ }
-    ensures { λ r. ⌜ Underway settings (length (now (heap .exit))) (table (now (ids .exit)) (now (locations .exit))) (r .state) (now (plan .entry)) ⌝ }
+    ensures { λ r. ⌜ ((c : Claims)
+        → standing r (world settings (r .state) c (now (heap .exit)) (table (now (ids .exit)) (now (locations .exit))))
+        ≡ byPlan (now (plan .entry))
+        (world settings state c (now (heap .entry)) (table (now (ids .entry)) (now (locations .entry))))) ⌝ }
+    ensures { λ r. ⌜ Underway settings (length (now (heap .exit))) (table (now (ids .exit)) (now (locations .exit)))
+        (r .state) (now (plan .entry)) ⌝ }
 {
     let mut run = Run {
         halt: Halt::Going,
@@ -149,7 +157,8 @@ fn rewrite_groups(
     locations: &mut [u64],
 ) -> Run
     requires { ⌜ Passed settings (length (now heap)) (table (now ids) (now locations)) state ⌝ }
-    ensures { λ r. ⌜ standing r (world settings (r .state) claims (now (heap .exit)) (table (now (ids .exit)) (now (locations .exit)))) ≡ courseOf (world settings state claims (now (heap .entry)) (table (now (ids .entry)) (now (locations .entry)))) ⌝ }
+    ensures { λ r. ⌜ standing r (world settings (r .state) claims (now (heap .exit)) (table (now (ids .exit)) (now (locations .exit))))
+        ≡ courseOf (world settings state claims (now (heap .entry)) (table (now (ids .entry)) (now (locations .entry)))) ⌝ }
     ensures { λ r. ⌜ LabelsIn (settings .«slot_bytes») (r .state .files .records) (length (now (heap .exit))) ⌝ }
 {
     let files = state.files;
@@ -170,7 +179,9 @@ fn answer_of(halt: Halt, moved: u64) -> MaintainAnswer
 // "nothing is pruned. Success prunes and gives the count of ids moved."
 fn finish(settings: Settings, run: Run, claims: Claims, heap: &mut [u8]) -> Maintained
     requires { ⌜ LabelsIn (settings .«slot_bytes») (run .state .files .records) (length (now heap)) ⌝ }
-    ensures { λ r. ⌜ ((ids locations : List ℕ) → leaving (maintainGiven (r .answer)) (world settings (r .state) claims (now (heap .exit)) (table ids locations)) ≡ finished (standing run (world settings (run .state) claims (now (heap .entry)) (table ids locations)))) ⌝ }
+    ensures { λ r. ⌜ ((ids locations : List ℕ)
+        → leaving (maintainGiven (r .answer)) (world settings (r .state) claims (now (heap .exit)) (table ids locations))
+        ≡ finished (standing run (world settings (run .state) claims (now (heap .entry)) (table ids locations)))) ⌝ }
 {
     let end = run.halt;
     let state = run.state;
@@ -191,7 +202,9 @@ pub fn maintain(
     ids: &mut [u64],
     locations: &mut [u64],
 ) -> Maintained
-    ensures { λ r. ⌜ leaving (maintainGiven (r .answer)) (world settings (r .state) claims (now (heap .exit)) (table (now (ids .exit)) (now (locations .exit)))) ≡ maintainCall (world settings state claims (now (heap .entry)) (table (now (ids .entry)) (now (locations .entry)))) ⌝ }
+    ensures { λ r. ⌜ leaving (maintainGiven (r .answer))
+        (world settings (r .state) claims (now (heap .exit)) (table (now (ids .exit)) (now (locations .exit))))
+        ≡ maintainCall (world settings state claims (now (heap .entry)) (table (now (ids .entry)) (now (locations .entry)))) ⌝ }
 {
     if limits::refused(settings, heap.len() as u64, ids, locations, state) {
         return Maintained {

@@ -25,7 +25,8 @@ fn at_least_one(n: u64) -> u64
     n
 }
 
-// "live × 100 / max(present, 1), rounded down, strictly below the percentage, or both file count ≥ threshold and file_size × min_compaction_files < target_file_size"
+// "live × 100 / max(present, 1), rounded down, strictly below the percentage, or both file count ≥ threshold and
+// file_size × min_compaction_files < target_file_size"
 pub fn worth_it(s: Settings, files: u64, r: Record) -> bool
     requires { ⌜ InRanges s ⌝ }
     requires { ⌜ Small r ⌝ }

@@ -36,7 +36,9 @@ pub fn place_all(
 )
     requires { ⌜ «slot_bytes» ≤ 2 ^ 20 ⌝ }
     requires { ⌜ Placeables (now lsns) (tableLocations (now locations)) (now marks) (now places) ⌝ }
-    ensures { λ _. ⌜ now (places .exit) ≡ front (placesFor «slot_bytes» (now (lsns .entry)) (tableLocations (now (locations .entry))) (now (marks .entry))) (now (places .entry)) ⌝ }
+    ensures { λ _. ⌜ now (places .exit) ≡ front
+        (placesFor «slot_bytes» (now (lsns .entry)) (tableLocations (now (locations .entry))) (now (marks .entry)))
+        (now (places .entry)) ⌝ }
 {
     let n = capacity(locations);
     let mut i: usize = 0;

@@ -38,7 +38,8 @@ fn unmapped(ids: &[u64], locations: &[u64], id: u64) -> bool
     }
 }
 
-// "header past T (16), length ≥ max_object_size (3), id unmapped (18), body past T (16), checksum (10)", for an object whose header is whole.
+// "header past T (16), length ≥ max_object_size (3), id unmapped (18), body past T (16), checksum (10)", for an object
+// whose header is whole.
 fn check_object(
     objects: &[u8],
     position: u64,
@@ -49,7 +50,8 @@ fn check_object(
 ) -> Answer
     requires { ⌜ Walked (now objects) position h ⌝ }
     requires { ⌜ Formed (table (now ids) (now locations)) ⌝ }
-    ensures { λ r. ⌜ r ≡ decide (movedTests limit (used (now (ids .entry)) (now (locations .entry))) (storedAt position (drop position (now (objects .entry))))) ⌝ }
+    ensures { λ r. ⌜ r ≡ decide (movedTests limit (used (now (ids .entry)) (now (locations .entry)))
+        (storedAt position (drop position (now (objects .entry))))) ⌝ }
 {
     if limit <= h.size {
         return Answer::Refused(Refusal::ObjectSize);
@@ -69,7 +71,8 @@ fn check_object(
 // "each object", walked by the stored lengths.
 fn check_objects(objects: &[u8], ids: &[u64], locations: &[u64], limit: u64) -> Answer
     requires { ⌜ Formed (table (now ids) (now locations)) ⌝ }
-    ensures { λ r. ⌜ r ≡ decide (each (movedTests limit (used (now (ids .entry)) (now (locations .entry)))) (objectsIn (now (objects .entry)))) ⌝ }
+    ensures { λ r. ⌜ r
+        ≡ decide (each (movedTests limit (used (now (ids .entry)) (now (locations .entry)))) (objectsIn (now (objects .entry)))) ⌝ }
 {
     let mut position: u64 = 0;
     loop {
@@ -109,7 +112,8 @@ fn check_entry(e: Entry, lsn: u64, ids: &[u64], locations: &[u64]) -> Answer
 fn check_deletes(trailer: &[u8], lsn: u64, ids: &[u64], locations: &[u64]) -> Answer
     requires { ⌜ 12 + 16 * countIn (now trailer) ≤ length (now trailer) ⌝ }
     requires { ⌜ Formed (table (now ids) (now locations)) ⌝ }
-    ensures { λ r. ⌜ r ≡ decide (each (entryTests lsn (used (now (ids .entry)) (now (locations .entry)))) (entriesIn (now (trailer .entry)))) ⌝ }
+    ensures { λ r. ⌜ r
+        ≡ decide (each (entryTests lsn (used (now (ids .entry)) (now (locations .entry)))) (entriesIn (now (trailer .entry)))) ⌝ }
 {
     let n = trailer::count(trailer);
     let mut k: u64 = 0;

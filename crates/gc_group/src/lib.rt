@@ -2,3 +2,11 @@
 
 pub mod check;
 pub mod marks;
+
+use rules::Settings;
+
+// A group: the settings that it is rewritten under, and its generation.
+pub struct Group {
+    pub settings: Settings,
+    pub generation: u64,
+}

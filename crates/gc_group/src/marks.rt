@@ -1,3 +1,4 @@
+use crate::Group;
 use crate::check::check_file;
 use disk_location::DiskLocation;
 use disk_location::RelativeDiskLocation;
@@ -10,7 +11,6 @@ use rules::FileMap;
 use rules::Label;
 use rules::OBJECT_HEADER;
 use rules::RECORDS;
-use rules::Settings;
 use slot_file::Step;
 use slot_file::object;
 use slot_file::slot::object_part;
@@ -39,7 +39,10 @@ ghost use Rattle.gc_group.specs.Marks.{foundFile, idsOf, current, object
 fn mark_id(ids: &[u64], locations: &[u64], marks: &mut [u32], id: u64, location: u64, mark: u32)
     requires { ⌜ Formed (table (now ids) (now locations)) ⌝ }
     requires { ⌜ length (tableIds (now ids)) ≤ length (now marks) ⌝ }
-    ensures { λ _. ⌜ now (marks .exit) ≡ marked mark (current (used (now (ids .entry)) (now (locations .entry))) id location) (used (now (ids .entry)) (now (locations .entry))) (now (marks .entry)) ⌝ }
+    ensures { λ _. ⌜ now (marks .exit) ≡ marked mark
+        (current (used (now (ids .entry)) (now (locations .entry))) id location)
+        (used (now (ids .entry)) (now (locations .entry)))
+        (now (marks .entry)) ⌝ }
 {
     match find(ids, locations, id) {
         Place::Found(i) => {
@@ -64,7 +67,10 @@ fn mark_objects(
     requires { ⌜ lsn + length (now objects) < 2 ^ 63 ⌝ }
     requires { ⌜ Formed (table (now ids) (now locations)) ⌝ }
     requires { ⌜ length (tableIds (now ids)) ≤ length (now marks) ⌝ }
-    ensures { λ _. ⌜ now (marks .exit) ≡ marked mark (each (objectId lsn (used (now (ids .entry)) (now (locations .entry)))) (objectsIn (now (objects .entry)))) (used (now (ids .entry)) (now (locations .entry))) (now (marks .entry)) ⌝ }
+    ensures { λ _. ⌜ now (marks .exit) ≡ marked mark
+        (each (objectId lsn (used (now (ids .entry)) (now (locations .entry)))) (objectsIn (now (objects .entry))))
+        (used (now (ids .entry)) (now (locations .entry)))
+        (now (marks .entry)) ⌝ }
 {
     let mut position: u64 = 0;
     loop {
@@ -85,7 +91,10 @@ fn mark_delete(e: Entry, lsn: u64, ids: &[u64], locations: &[u64], marks: &mut [
     requires { ⌜ SumFits lsn e ⌝ }
     requires { ⌜ Formed (table (now ids) (now locations)) ⌝ }
     requires { ⌜ length (tableIds (now ids)) ≤ length (now marks) ⌝ }
-    ensures { λ _. ⌜ now (marks .exit) ≡ marked mark (deleteId lsn (used (now (ids .entry)) (now (locations .entry))) e) (used (now (ids .entry)) (now (locations .entry))) (now (marks .entry)) ⌝ }
+    ensures { λ _. ⌜ now (marks .exit) ≡ marked mark
+        (deleteId lsn (used (now (ids .entry)) (now (locations .entry))) e)
+        (used (now (ids .entry)) (now (locations .entry)))
+        (now (marks .entry)) ⌝ }
 {
     let location = RelativeDiskLocation(e.location);
     if location.is_delete() {
@@ -113,7 +122,10 @@ fn mark_deletes(
     requires { ⌜ All (SumFits lsn) (entriesIn (now trailer)) ⌝ }
     requires { ⌜ Formed (table (now ids) (now locations)) ⌝ }
     requires { ⌜ length (tableIds (now ids)) ≤ length (now marks) ⌝ }
-    ensures { λ _. ⌜ now (marks .exit) ≡ marked mark (each (deleteId lsn (used (now (ids .entry)) (now (locations .entry)))) (entriesIn (now (trailer .entry)))) (used (now (ids .entry)) (now (locations .entry))) (now (marks .entry)) ⌝ }
+    ensures { λ _. ⌜ now (marks .exit) ≡ marked mark
+        (each (deleteId lsn (used (now (ids .entry)) (now (locations .entry)))) (entriesIn (now (trailer .entry))))
+        (used (now (ids .entry)) (now (locations .entry)))
+        (now (marks .entry)) ⌝ }
 {
     let n = trailer::count(trailer);
     let mut k: u64 = 0;
@@ -136,7 +148,10 @@ pub fn mark_file(
     requires { ⌜ Clear l (now slot) ⌝ }
     requires { ⌜ Formed (table (now ids) (now locations)) ⌝ }
     requires { ⌜ length (tableIds (now ids)) ≤ length (now marks) ⌝ }
-    ensures { λ _. ⌜ now (marks .exit) ≡ marked mark (idsOf (foundFile (used (now (ids .entry)) (now (locations .entry))) l (now (slot .entry)))) (used (now (ids .entry)) (now (locations .entry))) (now (marks .entry)) ⌝ }
+    ensures { λ _. ⌜ now (marks .exit) ≡ marked mark
+        (idsOf (foundFile (used (now (ids .entry)) (now (locations .entry))) l (now (slot .entry))))
+        (used (now (ids .entry)) (now (locations .entry)))
+        (now (marks .entry)) ⌝ }
 {
     mark_objects(object_part(slot, l), l.lsn, ids, locations, marks, mark);
     mark_deletes(trailer_part(slot, l), l.lsn, ids, locations, marks, mark);
@@ -156,21 +171,25 @@ fn unmark(marks: &mut [u32])
 // group are looked at by no one. "one found twice only once, as last found": a later slot's mark takes the place of an earlier one's.
 // One walk over the records, which also gives their lsns.
 pub fn mark_group(
-    s: Settings,
+    group: Group,
     heap: &[u8],
     m: FileMap,
     plan: &[u64],
-    generation: u64,
     ids: &[u64],
     locations: &[u64],
     marks: &mut [u32],
     lsns: &mut [u64],
 ) -> Answer
-    requires { ⌜ Ready (s .«slot_bytes») (length (now heap)) (m .records) (now plan) generation ⌝ }
+    requires { ⌜ Ready (group .settings .«slot_bytes») (length (now heap)) (m .records) (now plan) (group .generation) ⌝ }
     requires { ⌜ Formed (table (now ids) (now locations)) ⌝ }
     requires { ⌜ (length (tableIds (now ids)) ≤ length (now marks)) × (length (now lsns) ≡ 256) ⌝ }
-    ensures { λ r. ⌜ r ≡ decide (groupChecks (s .«max_object_size») (source (s .«slot_bytes») (now (heap .entry)) (m .records) (used (now (ids .entry)) (now (locations .entry)))) (planned (now (plan .entry)) generation)) ⌝ }
-    ensures { λ r. ⌜ (r ≡ Done → now (marks .exit) ≡ marksOf (source (s .«slot_bytes») (now (heap .entry)) (m .records) (used (now (ids .entry)) (now (locations .entry)))) (length (now (marks .entry))) (planned (now (plan .entry)) generation)) ⌝ }
+    ensures { λ r. ⌜ r ≡ decide (groupChecks (group .settings .«max_object_size»)
+        (source (group .settings .«slot_bytes») (now (heap .entry)) (m .records) (used (now (ids .entry)) (now (locations .entry))))
+        (planned (now (plan .entry)) (group .generation))) ⌝ }
+    ensures { λ r. ⌜ (r ≡ Done → now (marks .exit) ≡ marksOf
+        (source (group .settings .«slot_bytes») (now (heap .entry)) (m .records) (used (now (ids .entry)) (now (locations .entry))))
+        (length (now (marks .entry)))
+        (planned (now (plan .entry)) (group .generation))) ⌝ }
     ensures { λ r. ⌜ (r ≡ Done → now (lsns .exit) ≡ lsnsOf (m .records)) ⌝ }
 {
     unmark(marks);
@@ -179,9 +198,9 @@ pub fn mark_group(
         let r = m.records[i];
         let l = r.label;
         lsns[i] = l.lsn;
-        if plan[i] == generation {
-            let slot = slot_at(heap, s.slot_bytes as usize, i);
-            match check_file(slot, l, ids, locations, s.max_object_size) {
+        if plan[i] == group.generation {
+            let slot = slot_at(heap, group.settings.slot_bytes as usize, i);
+            match check_file(slot, l, ids, locations, group.settings.max_object_size) {
                 Answer::Refused(refusal) => return Answer::Refused(refusal),
                 Answer::Done => {}
             }

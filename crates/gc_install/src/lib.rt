@@ -1,5 +1,7 @@
 // One file of a group of maintenance (`src/gc.rs`) written and added, and what stays as it was for the group's other files.
 
+use gc_writer::PieceFile;
+use install::StoredFile;
 use rules::Label;
 use rules::Settings;
 use rules::State;
@@ -24,33 +26,36 @@ ghost use Rattle.gc_install.specs.Placing.{Placing};
 // The whole run of the file: it is no longer than the heap.
 fn put_piece(
     heap: &mut [u8],
-    start: usize,
-    slot_bytes: u64,
     ids: &[u64],
     places: &[u32],
     pieces: &[u32],
-    piece: u32,
+    file: PieceFile,
     new: Label,
-    count: u64,
-    total: u64,
 )
-    requires { ⌜ Writing start «slot_bytes» (now heap) (tableIds (now ids)) (now places) (now pieces) piece count total ⌝ }
-    ensures { λ _. ⌜ now (heap .exit) ≡ made (fileStores start (labelBytes new) (fileBytes (filedOps piece (now (heap .entry)) (tableIds (now (ids .entry))) (now (places .entry)) (now (pieces .entry))))) (now (heap .entry)) ⌝ }
+    requires { ⌜ Writing (file .start) (file .«slot_bytes»)
+        (now heap) (tableIds (now ids)) (now places) (now pieces) (file .piece) (file .count) (file .total) ⌝ }
+    ensures { λ _. ⌜ now (heap .exit) ≡ made (fileStores (file .start) (labelBytes new)
+        (fileBytes (filedOps (file .piece) (now (heap .entry)) (tableIds (now (ids .entry))) (now (places .entry)) (now (pieces .entry)))))
+        (now (heap .entry)) ⌝ }
 {
     let k = heap.len() as u64;
-    gc_writer::write_piece(
-        heap,
-        start,
-        slot_bytes,
-        ids,
-        places,
-        pieces,
-        piece,
-        new,
-        count,
-        total,
-        k,
-    );
+    gc_writer::write_piece(heap, ids, places, pieces, file, new, k);
+}
+
+// What a piece becomes: a file of a generation in a slot.
+pub struct NewFile {
+    pub piece: u32,
+    pub generation: u64,
+    pub slot: usize,
+}
+
+// The same with its count of entries and T.
+struct SizedFile {
+    piece: u32,
+    generation: u64,
+    slot: usize,
+    count: u64,
+    total: u64,
 }
 
 // The file of a piece in its slot, then table, live counts, record and next position by the trailer that stands there.
@@ -62,52 +67,45 @@ fn add_at(
     locations: &mut [u64],
     places: &[u32],
     pieces: &[u32],
-    piece: u32,
-    generation: u64,
-    slot: usize,
-    count: u64,
-    total: u64,
+    file: SizedFile,
 ) -> State
-    requires { ⌜ Addable 0 (filedOps piece (now heap) (tableIds (now ids)) (now places) (now pieces)) settings state (now heap) (table (now ids) (now locations)) slot count total ⌝ }
-    requires { ⌜ Writing (slot * settings .«slot_bytes») (settings .«slot_bytes») (now heap) (tableIds (now ids)) (now places) (now pieces) piece count total ⌝ }
-    ensures { λ r. ⌜ ((c : Claims) → world settings r c (now (heap .exit)) (table (now (ids .exit)) (now (locations .exit))) ≡ installed 0 generation (world settings state c (now (heap .entry)) (table (now (ids .entry)) (now (locations .entry)))) (filedOps piece (now (heap .entry)) (tableIds (now (ids .entry))) (now (places .entry)) (now (pieces .entry)))) ⌝ }
+    requires { ⌜ Addable 0 (filedOps (file .piece) (now heap) (tableIds (now ids)) (now places) (now pieces))
+        settings state (now heap) (table (now ids) (now locations)) (file .slot) (file .count) (file .total) ⌝ }
+    requires { ⌜ Writing (file .slot * settings .«slot_bytes») (settings .«slot_bytes»)
+        (now heap) (tableIds (now ids)) (now places) (now pieces) (file .piece) (file .count) (file .total) ⌝ }
+    ensures { λ r. ⌜ ((c : Claims) → world settings r c (now (heap .exit)) (table (now (ids .exit)) (now (locations .exit)))
+        ≡ installed 0 (file .generation) (world settings state c (now (heap .entry)) (table (now (ids .entry)) (now (locations .entry))))
+        (filedOps (file .piece) (now (heap .entry)) (tableIds (now (ids .entry))) (now (places .entry)) (now (pieces .entry)))) ⌝ }
 {
     // "lsn = base without the batch bit", the new generation
     let base = state.next_position;
-    let new = install::new_label(base, count, total, generation);
+    let new = install::new_label(base, file.count, file.total, file.generation);
     let slot_bytes = settings.slot_bytes;
-    let start = slot * slot_bytes as usize;
-    put_piece(
-        heap,
-        start,
-        slot_bytes,
-        ids,
-        places,
-        pieces,
-        piece,
-        new,
-        count,
-        total,
-    );
+    let start = file.slot * slot_bytes as usize;
+    let written = PieceFile {
+        piece: file.piece,
+        start: start,
+        slot_bytes: slot_bytes,
+        count: file.count,
+        total: file.total,
+    };
+    put_piece(heap, ids, places, pieces, written, new);
     let files = state.files;
     let lsns = file_map::lsns(files);
     let mut lives = file_map::lives(files);
-    install::install(
-        &lsns,
-        &mut lives,
-        ids,
-        locations,
-        heap,
-        start,
-        count,
-        total,
-        new.lsn,
-    );
-    install::with_file(state, &lives, slot, new)
+    let stored = StoredFile {
+        start: start,
+        count: file.count,
+        total: file.total,
+        lsn: new.lsn,
+    };
+    install::install(&lsns, &mut lives, ids, locations, heap, stored);
+    install::with_file(state, &lives, file.slot, new)
 }
 
-// One file of a group, whose operations stand at their places: written into the lowest empty slot and added. The other files' operations stay as they are,
-// and so do the other empty slots: the caller has listed them, so that no file goes through the records for its slot.
+// One file of a group, whose operations stand at their places: written into the lowest empty slot and added. The other
+// files' operations stay as they are, and so do the other empty slots: the caller has listed them, so that no file goes
+// through the records for its slot.
 pub fn add_piece(
     settings: Settings,
     state: State,
@@ -116,35 +114,39 @@ pub fn add_piece(
     locations: &mut [u64],
     places: &[u32],
     pieces: &[u32],
-    piece: u32,
-    generation: u64,
-    slot: usize,
+    file: NewFile,
 ) -> State
     requires { ⌜ Placing settings state (now heap) (now ids) (now locations) (now places) (now pieces) ⌝ }
-    requires { ⌜ generation ≤ 255 ⌝ }
-    requires { ⌜ 64 + length (fileBytes (filedOps piece (now heap) (tableIds (now ids)) (now places) (now pieces))) ≤ settings .«slot_bytes» ⌝ }
-    requires { ⌜ (0 < length (emptySlots (slotsIn settings (length (now heap))) (state .files .records))) × (slot ≡ lowestEmpty (slotsIn settings (length (now heap))) (state .files .records)) ⌝ }
-    requires { ⌜ state .«next_position» + (length (objectsOf (filedOps piece (now heap) (tableIds (now ids)) (now places) (now pieces))) + 1) ≤ 2 ^ 62 ⌝ }
-    ensures { λ r. ⌜ ((c : Claims) → world settings r c (now (heap .exit)) (table (now (ids .exit)) (now (locations .exit))) ≡ installed 0 generation (world settings state c (now (heap .entry)) (table (now (ids .entry)) (now (locations .entry)))) (filedOps piece (now (heap .entry)) (tableIds (now (ids .entry))) (now (places .entry)) (now (pieces .entry)))) ⌝ }
-    ensures { λ r. ⌜ Placing settings r (now (heap .exit)) (now (ids .exit)) (now (locations .exit)) (now (places .entry)) (now (pieces .entry)) ⌝ }
+    requires { ⌜ file .generation ≤ 255 ⌝ }
+    requires { ⌜ 64 + length (fileBytes (filedOps (file .piece) (now heap) (tableIds (now ids)) (now places) (now pieces)))
+        ≤ settings .«slot_bytes» ⌝ }
+    requires { ⌜ (0 < length (emptySlots (slotsIn settings (length (now heap))) (state .files .records)))
+        × (file .slot ≡ lowestEmpty (slotsIn settings (length (now heap))) (state .files .records)) ⌝ }
+    requires { ⌜ state .«next_position»
+        + (length (objectsOf (filedOps (file .piece) (now heap) (tableIds (now ids)) (now places) (now pieces))) + 1)
+        ≤ 2 ^ 62 ⌝ }
+    ensures { λ r. ⌜ ((c : Claims) → world settings r c (now (heap .exit)) (table (now (ids .exit)) (now (locations .exit)))
+        ≡ installed 0 (file .generation) (world settings state c (now (heap .entry)) (table (now (ids .entry)) (now (locations .entry))))
+        (filedOps (file .piece) (now (heap .entry)) (tableIds (now (ids .entry))) (now (places .entry)) (now (pieces .entry)))) ⌝ }
+    ensures { λ r. ⌜ Placing settings r (now (heap .exit)) (now (ids .exit)) (now (locations .exit))
+        (now (places .entry)) (now (pieces .entry)) ⌝ }
     ensures { λ _. ⌜ now (ids .exit) ≡ now (ids .entry) ⌝ }
-    ensures { λ _. ⌜ ((q : ℕ) → filedOps q (now (heap .exit)) (tableIds (now (ids .exit))) (now (places .entry)) (now (pieces .entry)) ≡ filedOps q (now (heap .entry)) (tableIds (now (ids .entry))) (now (places .entry)) (now (pieces .entry))) ⌝ }
-    ensures { λ r. ⌜ emptySlots (slotsIn settings (length (now (heap .entry)))) (state .files .records) ≡ slot ∷ emptySlots (slotsIn settings (length (now (heap .exit)))) (r .files .records) ⌝ }
-    ensures { λ r. ⌜ r .«next_position» ≡ state .«next_position» + (length (objectsOf (filedOps piece (now (heap .entry)) (tableIds (now (ids .entry))) (now (places .entry)) (now (pieces .entry)))) + 1) ⌝ }
+    ensures { λ _. ⌜ ((q : ℕ) → filedOps q (now (heap .exit)) (tableIds (now (ids .exit))) (now (places .entry)) (now (pieces .entry))
+        ≡ filedOps q (now (heap .entry)) (tableIds (now (ids .entry))) (now (places .entry)) (now (pieces .entry))) ⌝ }
+    ensures { λ r. ⌜ emptySlots (slotsIn settings (length (now (heap .entry)))) (state .files .records)
+        ≡ file .slot ∷ emptySlots (slotsIn settings (length (now (heap .exit)))) (r .files .records) ⌝ }
+    ensures { λ r. ⌜ r .«next_position» ≡ state .«next_position»
+        + (length (objectsOf
+        (filedOps (file .piece) (now (heap .entry)) (tableIds (now (ids .entry))) (now (places .entry)) (now (pieces .entry))))
+        + 1) ⌝ }
 {
-    let sizes = gc_writer::sized(heap, ids, places, pieces, piece);
-    add_at(
-        settings,
-        state,
-        heap,
-        ids,
-        locations,
-        places,
-        pieces,
-        piece,
-        generation,
-        slot,
-        sizes.count,
-        sizes.total,
-    )
+    let sizes = gc_writer::sized(heap, ids, places, pieces, file.piece);
+    let sized = SizedFile {
+        piece: file.piece,
+        generation: file.generation,
+        slot: file.slot,
+        count: sizes.count,
+        total: sizes.total,
+    };
+    add_at(settings, state, heap, ids, locations, places, pieces, sized)
 }

@@ -1,11 +1,11 @@
 // Where everything that a group of maintenance found stands in the heap (`src/gc.rs`).
 
 use gc_files::marked::place_all;
+use gc_group::Group;
 use gc_group::marks::mark_group;
 use rules::Answer;
 use rules::FileMap;
 use rules::RECORDS;
-use rules::Settings;
 ghost use mathlib.Core.Path.{_≡_};
 ghost use Prim.Native.Nat.{_≤_};
 ghost use lib.ListN.{length, replicate};
@@ -24,41 +24,41 @@ ghost use Rattle.gc_group.specs.Marks.{foundAt};
 ghost use Rattle.gc_files.specs.Places.{placedOps, Standing};
 ghost use Rattle.gc_places.specs.Group.{OfUsed, InGroup};
 
-// The group's checks; where none refuses it, "Objects and deletes at their id's current location .. one found twice only once, as last found":
-// a place for each, 0 for every other entry. `marks` is room for a mark of each entry, whatever stood there.
+// The group's checks; where none refuses it, "Objects and deletes at their id's current location .. one found twice only
+// once, as last found": a place for each, 0 for every other entry. `marks` is room for a mark of each entry, whatever
+// stood there.
 pub fn place_group(
-    s: Settings,
+    group: Group,
     heap: &[u8],
     m: FileMap,
     plan: &[u64],
-    generation: u64,
     ids: &[u64],
     locations: &[u64],
     marks: &mut [u32],
     places: &mut [u32],
 ) -> Answer
-    requires { ⌜ InRanges s ⌝ }
-    requires { ⌜ Ready (s .«slot_bytes») (length (now heap)) (m .records) (now plan) generation ⌝ }
+    requires { ⌜ InRanges (group .settings) ⌝ }
+    requires { ⌜ Ready (group .settings .«slot_bytes») (length (now heap)) (m .records) (now plan) (group .generation) ⌝ }
     requires { ⌜ Formed (table (now ids) (now locations)) ⌝ }
-    requires { ⌜ (length (tableIds (now ids)) ≤ length (now marks)) × (length (tableIds (now ids)) ≤ length (now places)) × (now places ≡ replicate (length (now places)) 0) ⌝ }
-    ensures { λ r. ⌜ r ≡ decide (groupChecks (s .«max_object_size») (source (s .«slot_bytes») (now (heap .entry)) (m .records) (used (now (ids .entry)) (now (locations .entry)))) (planned (now (plan .entry)) generation)) ⌝ }
-    ensures { λ r. ⌜ (r ≡ Done → (placedOps (now (heap .entry)) (tableIds (now (ids .entry))) (now (places .exit)) ≡ settled (each (foundAt (source (s .«slot_bytes») (now (heap .entry)) (m .records) (used (now (ids .entry)) (now (locations .entry))))) (planned (now (plan .entry)) generation))) × (OfUsed (now (ids .entry)) (now (locations .entry)) (now (places .exit)) × (Standing (now (heap .entry)) (now (places .exit)) × InGroup (s .«slot_bytes») (now (heap .entry)) (now (plan .entry)) generation (now (places .exit))))) ⌝ }
+    requires { ⌜ (length (tableIds (now ids)) ≤ length (now marks))
+        × (length (tableIds (now ids)) ≤ length (now places))
+        × (now places ≡ replicate (length (now places)) 0) ⌝ }
+    ensures { λ r. ⌜ r ≡ decide (groupChecks (group .settings .«max_object_size»)
+        (source (group .settings .«slot_bytes») (now (heap .entry)) (m .records) (used (now (ids .entry)) (now (locations .entry))))
+        (planned (now (plan .entry)) (group .generation))) ⌝ }
+    ensures { λ r. ⌜ (r ≡ Done → (placedOps (now (heap .entry)) (tableIds (now (ids .entry))) (now (places .exit))
+        ≡ settled (each (foundAt
+        (source (group .settings .«slot_bytes») (now (heap .entry)) (m .records) (used (now (ids .entry)) (now (locations .entry)))))
+        (planned (now (plan .entry)) (group .generation))))
+        × (OfUsed (now (ids .entry)) (now (locations .entry)) (now (places .exit))
+        × (Standing (now (heap .entry)) (now (places .exit))
+        × InGroup (group .settings .«slot_bytes») (now (heap .entry)) (now (plan .entry)) (group .generation) (now (places .exit))))) ⌝ }
 {
     let mut lsns = [0u64; RECORDS];
-    match mark_group(
-        s,
-        heap,
-        m,
-        plan,
-        generation,
-        ids,
-        locations,
-        marks,
-        &mut lsns,
-    ) {
+    match mark_group(group, heap, m, plan, ids, locations, marks, &mut lsns) {
         Answer::Refused(refusal) => return Answer::Refused(refusal),
         Answer::Done => {}
     }
-    place_all(locations, marks, &lsns, s.slot_bytes, places);
+    place_all(locations, marks, &lsns, group.settings.slot_bytes, places);
     Answer::Done
 }

@@ -21,7 +21,7 @@ use Rattle.rules.specs.Maintenance.{filesOf}
 use Rattle.rules.specs.World.{world}
 use Rattle.rules.specs.FileMapLaws.{empty-most}
 use Rattle.gc_split.specs.declared.Totals.{Totals}
-use Rattle.gc_split.specs.Tally.{Tally, tally, tallyFrom, tallyOf, emptyTally, closingRests, closedOf, restsFrom, orderOf, totalsFor, Within, Closable, Numbered}
+use Rattle.gc_split.specs.Tally.{Tally, tallyFrom, tallyOf, emptyTally, closingRests, closedOf, restsFrom, orderOf, totalsFor, Within, Closable, Numbered}
 use Rattle.gc_split.specs.BoundLaws.{closable, numbered}
 use Rattle.gc_split.specs.TotalLaws.{totalsTests, split-totals}
 use Rattle.gc_split.specs.OrderLaws.{fragments-among, files-counted}
@@ -85,21 +85,20 @@ module _ (s : Settings) (t : State) (heap ids locations places : List ℕ) where
     pub moving-tallied : Tallied whole
     moving-tallied = tallied (s .«target_file_size») (s .«slot_bytes») ops (placed-short heap ids places standing) (omega (arith, placed-count heap ids places, few))
 
-    module _ (sizes counts rounds cuts : List ℕ) (totals : Totals)
-        (e : tally sizes counts rounds cuts totals ≡ tallyFrom (s .«target_file_size») (s .«slot_bytes») ops emptyTally) where
+    module _ (lent : Tally) (e : lent ≡ tallyFrom (s .«target_file_size») (s .«slot_bytes») ops emptyTally) where
       -- what the code lends is that tally
-      told : tally sizes counts rounds cuts totals ≡ whole
+      told : lent ≡ whole
       unfolding tallyOf
       told = e
 
       -- what closing it asks for
-      pub split-closable : Closable counts sizes totals
-      split-closable = closable (tally sizes counts rounds cuts totals) (subst Within (sym told) (moving-tallied .within))
+      pub split-closable : Closable (lent .counts) (lent .sizes) (lent .totals)
+      split-closable = closable lent (subst Within (sym told) (moving-tallied .within))
 
       -- closed
       pub split-up : (old pieces : List ℕ) (total : Totals) → length ids ≤ length old
           → pieces ≡ piecesAlong (s .«target_file_size») (s .«slot_bytes») heap ids places old emptyTally
-          → total ≡ closingRests (s .«slot_bytes») counts sizes totals → SplitUp pieces counts rounds cuts total
+          → total ≡ closingRests (s .«slot_bytes») (lent .counts) (lent .sizes) (lent .totals) → SplitUp pieces (lent .counts) (lent .rounds) (lent .cuts) total
       unfolding closedOf
       split-up old pieces total wide p q = record {
         placing = record { limits = m .limits; wide = m .wide; numbered = omega (arith, ap length p, along-length (s .«target_file_size») (s .«slot_bytes») heap ids places old emptyTally); used = m .used; kept = m .kept };

@@ -3,6 +3,7 @@
 pub mod files;
 
 use files::split_files;
+use gc_group::Group;
 use gc_places::place_group;
 use rules::Answer;
 use rules::Settings;
@@ -44,7 +45,10 @@ pub fn rewrite_group(
     requires { ⌜ Ready (settings .«slot_bytes») (length (now heap)) (state .files .records) (now plan) generation ⌝ }
     requires { ⌜ Filled state (now plan) generation ⌝ }
     requires { ⌜ (0 < generation) × (generation ≤ 3) × (moved ≤ 2 ^ 40) ⌝ }
-    ensures { λ r. ⌜ ((c : Claims) → courseGiven generation (r .answer) (r .moved) (world settings (r .state) c (now (heap .exit)) (table (now (ids .exit)) (now (locations .exit)))) ≡ rewriteGroup generation (planned (now (plan .entry)) generation) moved (world settings state c (now (heap .entry)) (table (now (ids .entry)) (now (locations .entry))))) ⌝ }
+    ensures { λ r. ⌜ ((c : Claims) → courseGiven generation (r .answer) (r .moved)
+        (world settings (r .state) c (now (heap .exit)) (table (now (ids .exit)) (now (locations .exit))))
+        ≡ rewriteGroup generation (planned (now (plan .entry)) generation) moved
+        (world settings state c (now (heap .entry)) (table (now (ids .entry)) (now (locations .entry))))) ⌝ }
     ensures { λ r. ⌜ Passed settings (length (now (heap .exit))) (table (now (ids .exit)) (now (locations .exit))) (r .state) ⌝ }
     ensures { λ r. ⌜ (r .moved ≤ moved + 65536) × (length (now (heap .exit)) ≡ length (now (heap .entry))) ⌝ }
     ensures { λ r. ⌜ Kept state (r .state) ⌝ }
@@ -52,12 +56,15 @@ pub fn rewrite_group(
     let files = state.files;
     let mut places = [0u32; 65536];
     let mut pieces = [0u32; 65536];
+    let group = Group {
+        settings: settings,
+        generation: generation,
+    };
     match place_group(
-        settings,
+        group,
         heap,
         files,
         plan,
-        generation,
         ids,
         locations,
         &mut pieces,
@@ -73,14 +80,13 @@ pub fn rewrite_group(
         Answer::Done => {}
     }
     split_files(
-        settings,
+        group,
         state,
         heap,
         ids,
         locations,
         &places,
         &mut pieces,
-        generation,
         moved,
     )
 }

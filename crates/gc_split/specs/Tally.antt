@@ -1,7 +1,7 @@
 -- The split by sizes alone: each shard's size and entries, how often it was cut off, and what the files come to. No operation is held.
 use mathlib.Core.Path.{_≡_}
 use Prim.Native.Nat.{_≤_}
-use Rattle.rules.specs.Base.{false, _||_, List, [], _∷_, _++_, ℕ, suc, _+_, _*_, _^_, length, getD, set, replicate, take, ltb, eqb, pick, any, sum}
+use Rattle.rules.specs.Base.{false, _||_, List, [], _∷_, _++_, ℕ, suc, _+_, _*_, _^_, length, getD, set, replicate, take, drop, ltb, eqb, pick, any, sum}
 use Rattle.rules.specs.Ops.{Op, sizeOf, shardFor, objectsOf, fileBytes}
 use Rattle.gc_split.specs.declared.Totals.{Totals}
 
@@ -18,9 +18,19 @@ pub record Tally : Type 0 where
   -- the entries so far, and the fragments' totals
   pub totals : Totals
 
+-- the code lends one list for the shards: their sizes, behind these their entries, behind these how often each was cut off
+abbrev pub sizesIn : List ℕ → List ℕ
+sizesIn shards = take 65 shards
+
+abbrev pub countsIn : List ℕ → List ℕ
+countsIn shards = take 65 (drop 65 shards)
+
+abbrev pub roundsIn : List ℕ → List ℕ
+roundsIn shards = drop 130 shards
+
 -- by what the code lends
-abbrev pub tally : List ℕ → List ℕ → List ℕ → List ℕ → Totals → Tally
-tally sizes counts rounds cuts totals = record { sizes = sizes; counts = counts; rounds = rounds; cuts = cuts; totals = totals }
+abbrev pub tally : List ℕ → List ℕ → Totals → Tally
+tally shards cuts totals = record { sizes = sizesIn shards; counts = countsIn shards; rounds = roundsIn shards; cuts = cuts; totals = totals }
 
 -- ---- entry by entry
 -- the number of what is in shard n after so many cuts

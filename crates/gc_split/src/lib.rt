@@ -5,6 +5,7 @@ use new_file::spent;
 use new_file::too_large;
 use rules::Answer;
 use rules::Refusal;
+use rules::Settings;
 ghost use mathlib.Core.Path.{_≡_};
 ghost use mathlib.Core.Bool.{_||_};
 ghost use mathlib.Core.List.{_++_};
@@ -15,7 +16,15 @@ ghost use Rattle.numbers.specs.Choice.{pick};
 ghost use Rattle.numbers.specs.Parts.{front, putAt};
 ghost use Rattle.rules.specs.Refusal.{decide};
 ghost use Rattle.gc_split.specs.TotalLaws.{totalsTests};
-ghost use Rattle.gc_split.specs.Tally.{tally, pieceNo, closing, cutting, taking, closingRests, restOf, restsFrom, Within, Closable, Numbered};
+ghost use Rattle.gc_split.specs.Tally.{sizesIn, countsIn, roundsIn, tally, pieceNo, closing, cutting, taking};
+ghost use Rattle.gc_split.specs.Tally.{closingRests, restOf, restsFrom, Within, Closable, Numbered};
+
+// A split's list for the 65 shards: their sizes, then their entries, then how often each was cut off.
+pub const SHARD_LIST: usize = 195;
+
+const COUNTS_AT: usize = 65;
+
+const ROUNDS_AT: usize = 130;
 
 // Entries taken, files closed, the sum of T + 1 over these, and whether one is too large for a slot.
 pub struct Totals {
@@ -67,58 +76,61 @@ fn note(cuts: &mut [u64], at: u64, piece: u64)
 
 // "a shard of size over target_file_size is cut off as a fragment and restarts at 0"
 fn cut_off(
-    sizes: &mut [u64],
-    counts: &mut [u64],
-    rounds: &mut [u64],
+    shards: &mut [u64],
     cuts: &mut [u64],
     totals: Totals,
     shard: usize,
-    target: u64,
-    slot_bytes: u64,
+    settings: Settings,
 ) -> Totals
-    requires { ⌜ (shard < 65) × Within (tally (now sizes) (now counts) (now rounds) (now cuts) totals) ⌝ }
-    ensures { λ r. ⌜ tally (now (sizes .exit)) (now (counts .exit)) (now (rounds .exit)) (now (cuts .exit)) r ≡ cutting target «slot_bytes» shard (tally (now (sizes .entry)) (now (counts .entry)) (now (rounds .entry)) (now (cuts .entry)) totals) ⌝ }
+    requires { ⌜ (shard < 65) × Within (tally (now shards) (now cuts) totals) ⌝ }
+    ensures { λ r. ⌜ tally (now (shards .exit)) (now (cuts .exit)) r
+        ≡ cutting (settings .«target_file_size») (settings .«slot_bytes») shard (tally (now (shards .entry)) (now (cuts .entry)) totals) ⌝ }
 {
-    let size = sizes[shard];
-    if size <= target {
+    let size = shards[shard];
+    if size <= settings.target_file_size {
         return totals;
     }
-    let count = counts[shard];
-    let round = rounds[shard];
+    let count = shards[COUNTS_AT + shard];
+    let round = shards[ROUNDS_AT + shard];
     note(cuts, totals.files, piece(shard, round));
-    sizes[shard] = 0;
-    counts[shard] = 0;
-    rounds[shard] = round + 1;
-    closed(totals, slot_bytes, size, count)
+    shards[shard] = 0;
+    shards[COUNTS_AT + shard] = 0;
+    shards[ROUNDS_AT + shard] = round + 1;
+    closed(totals, settings.slot_bytes, size, count)
 }
 
-// An entry of that size joins a shard, which is cut off before or not; `rounds` then has the piece that the entry is in.
+// An entry of that size in a shard.
+fn enter(shards: &mut [u64], shard: usize, size: u64)
+    requires { ⌜ (shard < 65) × (length (roundsIn (now shards)) ≡ 65) ⌝ }
+    requires { ⌜ (getD (sizesIn (now shards)) shard 0 + size < 2 ^ 64) × (getD (countsIn (now shards)) shard 0 + 1 < 2 ^ 64) ⌝ }
+    ensures { λ _. ⌜ sizesIn (now (shards .exit))
+        ≡ set (sizesIn (now (shards .entry))) shard (getD (sizesIn (now (shards .entry))) shard 0 + size) ⌝ }
+    ensures { λ _. ⌜ countsIn (now (shards .exit))
+        ≡ set (countsIn (now (shards .entry))) shard (getD (countsIn (now (shards .entry))) shard 0 + 1) ⌝ }
+    ensures { λ _. ⌜ roundsIn (now (shards .exit)) ≡ roundsIn (now (shards .entry)) ⌝ }
+{
+    let sum = shards[shard] + size;
+    let count = shards[COUNTS_AT + shard] + 1;
+    shards[shard] = sum;
+    shards[COUNTS_AT + shard] = count;
+}
+
+// An entry of that size joins a shard, which is cut off before or not; its rounds then have the piece that the entry is in.
 pub fn join(
-    sizes: &mut [u64],
-    counts: &mut [u64],
-    rounds: &mut [u64],
+    shards: &mut [u64],
     cuts: &mut [u64],
     totals: Totals,
     shard: usize,
     size: u64,
-    target: u64,
-    slot_bytes: u64,
+    settings: Settings,
 ) -> Totals
-    requires { ⌜ (shard < 65) × (size ≤ 2 ^ 21) × (totals .entries < 65536) × Within (tally (now sizes) (now counts) (now rounds) (now cuts) totals) ⌝ }
-    ensures { λ r. ⌜ tally (now (sizes .exit)) (now (counts .exit)) (now (rounds .exit)) (now (cuts .exit)) r ≡ taking target «slot_bytes» shard size (tally (now (sizes .entry)) (now (counts .entry)) (now (rounds .entry)) (now (cuts .entry)) totals) ⌝ }
+    requires { ⌜ (shard < 65) × (size ≤ 2 ^ 21) × (totals .entries < 65536) × Within (tally (now shards) (now cuts) totals) ⌝ }
+    ensures { λ r. ⌜ tally (now (shards .exit)) (now (cuts .exit)) r
+        ≡ taking (settings .«target_file_size») (settings .«slot_bytes») shard size
+        (tally (now (shards .entry)) (now (cuts .entry)) totals) ⌝ }
 {
-    let t = cut_off(
-        sizes,
-        counts,
-        rounds,
-        cuts,
-        totals,
-        shard,
-        target,
-        slot_bytes,
-    );
-    sizes[shard] = sizes[shard] + size;
-    counts[shard] = counts[shard] + 1;
+    let t = cut_off(shards, cuts, totals, shard, settings);
+    enter(shards, shard, size);
     Totals {
         entries: t.entries + 1,
         files: t.files,
@@ -128,11 +140,11 @@ pub fn join(
 }
 
 // The piece that an entry is in, right after it joined the shard.
-pub fn piece_in(rounds: &[u64], shard: usize) -> u64
-    requires { ⌜ (shard < 65) × (length (now rounds) ≡ 65) × (getD (now rounds) shard 0 ≤ 65536) ⌝ }
-    ensures { λ r. ⌜ (r ≡ pieceNo shard (getD (now (rounds .entry)) shard 0)) × (r < 2 ^ 32) ⌝ }
+pub fn piece_in(shards: &[u64], shard: usize) -> u64
+    requires { ⌜ (shard < 65) × (length (roundsIn (now shards)) ≡ 65) × (getD (roundsIn (now shards)) shard 0 ≤ 65536) ⌝ }
+    ensures { λ r. ⌜ (r ≡ pieceNo shard (getD (roundsIn (now (shards .entry))) shard 0)) × (r < 2 ^ 32) ⌝ }
 {
-    piece(shard, rounds[shard])
+    piece(shard, shards[ROUNDS_AT + shard])
 }
 
 // What is left of a shard comes out: "The writer never writes an empty list."
@@ -146,8 +158,8 @@ fn closed_rest(t: Totals, slot_bytes: u64, size: u64, count: u64) -> Totals
     closed(t, slot_bytes, size, count)
 }
 
-// The totals of all files, behind the last entry.
-pub fn close_rests(sizes: &[u64], counts: &[u64], totals: Totals, slot_bytes: u64) -> Totals
+// What is left of the shards, by their sizes and entries.
+fn close_rests(sizes: &[u64], counts: &[u64], totals: Totals, slot_bytes: u64) -> Totals
     requires { ⌜ Closable (now counts) (now sizes) totals ⌝ }
     ensures { λ r. ⌜ r ≡ closingRests «slot_bytes» (now (counts .entry)) (now (sizes .entry)) totals ⌝ }
 {
@@ -158,6 +170,15 @@ pub fn close_rests(sizes: &[u64], counts: &[u64], totals: Totals, slot_bytes: u6
         n += 1;
     }
     t
+}
+
+// The totals of all files, behind the last entry.
+pub fn close_shards(shards: &[u64], totals: Totals, slot_bytes: u64) -> Totals
+    requires { ⌜ Closable (countsIn (now shards)) (sizesIn (now shards)) totals ⌝ }
+    ensures { λ r. ⌜ r ≡ closingRests «slot_bytes» (countsIn (now (shards .entry))) (sizesIn (now (shards .entry))) totals ⌝ }
+{
+    let counts = &shards[COUNTS_AT..ROUNDS_AT];
+    close_rests(&shards[0..COUNTS_AT], counts, totals, slot_bytes)
 }
 
 // "4, 5, 7 are decided first, for the whole group": by the totals of all its files.
@@ -182,7 +203,8 @@ pub fn decided(t: Totals, empty: u64, base: u64) -> Answer
 // What is left of a shard takes the next place, if there is anything.
 fn put_rest(rests: &mut [u64], left: usize, entries: u64, piece: u64) -> usize
     requires { ⌜ left < length (now rests) ⌝ }
-    ensures { λ r. ⌜ (r ≡ left + length (restOf entries piece)) × (now (rests .exit) ≡ putAt (now (rests .entry)) left (restOf entries piece)) ⌝ }
+    ensures { λ r. ⌜ (r ≡ left + length (restOf entries piece))
+        × (now (rests .exit) ≡ putAt (now (rests .entry)) left (restOf entries piece)) ⌝ }
 {
     if entries == 0 {
         return left;
@@ -191,10 +213,11 @@ fn put_rest(rests: &mut [u64], left: usize, entries: u64, piece: u64) -> usize
     left + 1
 }
 
-// What is left of the shards, ascending, and how many that are.
-pub fn rests(counts: &[u64], rounds: &[u64], rests: &mut [u64]) -> usize
+// The numbers of what is left of the shards, by their entries and rounds, ascending, and how many that are.
+fn rests(counts: &[u64], rounds: &[u64], rests: &mut [u64]) -> usize
     requires { ⌜ Numbered (now counts) (now rounds) (now rests) ⌝ }
-    ensures { λ r. ⌜ (r ≡ length (restsFrom 0 (now (counts .entry)) (now (rounds .entry)))) × (now (rests .exit) ≡ front (restsFrom 0 (now (counts .entry)) (now (rounds .entry))) (now (rests .entry))) ⌝ }
+    ensures { λ r. ⌜ (r ≡ length (restsFrom 0 (now (counts .entry)) (now (rounds .entry))))
+        × (now (rests .exit) ≡ front (restsFrom 0 (now (counts .entry)) (now (rounds .entry))) (now (rests .entry))) ⌝ }
 {
     let mut left: usize = 0;
     let mut n: usize = 0;
@@ -203,6 +226,17 @@ pub fn rests(counts: &[u64], rounds: &[u64], rests: &mut [u64]) -> usize
         n += 1;
     }
     left
+}
+
+// The same by the split's list.
+pub fn shard_rests(shards: &[u64], left: &mut [u64]) -> usize
+    requires { ⌜ Numbered (countsIn (now shards)) (roundsIn (now shards)) (now left) ⌝ }
+    ensures { λ r. ⌜ r ≡ length (restsFrom 0 (countsIn (now (shards .entry))) (roundsIn (now (shards .entry)))) ⌝ }
+    ensures { λ _. ⌜ now (left .exit)
+        ≡ front (restsFrom 0 (countsIn (now (shards .entry))) (roundsIn (now (shards .entry)))) (now (left .entry)) ⌝ }
+{
+    let counts = &shards[COUNTS_AT..ROUNDS_AT];
+    rests(counts, &shards[ROUNDS_AT..SHARD_LIST], left)
 }
 
 // The number of the file that comes out in that place: "by ascending shard, then fragments as cut".

@@ -72,7 +72,8 @@ fn next_filed(ids: &[u64], places: &[u32], pieces: &[u32], piece: u32, from: usi
 fn turn_at(heap: &[u8], ids: &[u64], places: &[u32], pieces: &[u32], piece: u32, i: usize) -> Turn
     requires { ⌜ Walking (now heap) (tableIds (now ids)) (now places) (now pieces) ⌝ }
     requires { ⌜ (i < length (tableIds (now ids))) × (filedHere piece (getD (now places) i 0) (getD (now pieces) i 0) ≡ true) ⌝ }
-    ensures { λ r. ⌜ Turned piece (now (heap .entry)) (tableIds (now (ids .entry))) (now (places .entry)) (now (pieces .entry)) i (r .operation) (r .size) (r .next) ⌝ }
+    ensures { λ r. ⌜ Turned piece (now (heap .entry)) (tableIds (now (ids .entry))) (now (places .entry)) (now (pieces .entry)) i
+        (r .operation) (r .size) (r .next) ⌝ }
 {
     let id = id_at(ids, i);
     let o = moving_at(heap, id, places[i]);
@@ -89,7 +90,10 @@ fn turn_at(heap: &[u8], ids: &[u64], places: &[u32], pieces: &[u32], piece: u32,
 pub fn sized(heap: &[u8], ids: &[u64], places: &[u32], pieces: &[u32], piece: u32) -> Sizes
     requires { ⌜ Walking (now heap) (tableIds (now ids)) (now places) (now pieces) ⌝ }
     requires { ⌜ length (tableIds (now ids)) ≤ 65536 ⌝ }
-    ensures { λ r. ⌜ (r .count ≡ length (filedOps piece (now (heap .entry)) (tableIds (now (ids .entry))) (now (places .entry)) (now (pieces .entry)))) × (r .total ≡ length (objectsOf (filedOps piece (now (heap .entry)) (tableIds (now (ids .entry))) (now (places .entry)) (now (pieces .entry))))) ⌝ }
+    ensures { λ r. ⌜ (r .count ≡ length
+        (filedOps piece (now (heap .entry)) (tableIds (now (ids .entry))) (now (places .entry)) (now (pieces .entry))))
+        × (r .total ≡ length (objectsOf
+        (filedOps piece (now (heap .entry)) (tableIds (now (ids .entry))) (now (places .entry)) (now (pieces .entry))))) ⌝ }
 {
     let mut count: u64 = 0;
     let mut total: u64 = 0;
@@ -112,7 +116,8 @@ fn sum(heap: &[u8], ids: &[u64], places: &[u32], pieces: &[u32], piece: u32, cou
     requires { ⌜ Walking (now heap) (tableIds (now ids)) (now places) (now pieces) ⌝ }
     requires { ⌜ count ≡ length (filedOps piece (now heap) (tableIds (now ids)) (now places) (now pieces)) ⌝ }
     requires { ⌜ length (objectsOf (filedOps piece (now heap) (tableIds (now ids)) (now places) (now pieces))) < 2 ^ 62 ⌝ }
-    ensures { λ r. ⌜ r ≡ crc32 (listed (entriesOf 0 (filedOps piece (now (heap .entry)) (tableIds (now (ids .entry))) (now (places .entry)) (now (pieces .entry))))) ⌝ }
+    ensures { λ r. ⌜ r ≡ crc32 (listed (entriesOf 0
+        (filedOps piece (now (heap .entry)) (tableIds (now (ids .entry))) (now (places .entry)) (now (pieces .entry))))) ⌝ }
 {
     let mut register = write::sum_count(count);
     let mut position: u64 = 0;
@@ -130,8 +135,11 @@ fn sum(heap: &[u8], ids: &[u64], places: &[u32], pieces: &[u32], piece: u32, cou
 
 // An operation's object, its body a piece of the heap itself. "Deletes have no object bytes."
 fn put_content(heap: &mut [u8], at: usize, o: Operation, left: u64) -> u64
-    requires { ⌜ (at + sizeIn o ≤ length (now heap)) × (o .start + o .len ≤ length (now heap)) × ((at + sizeIn o ≤ o .start) ⊎ (o .start + o .len ≤ at)) ⌝ }
-    ensures { λ r. ⌜ Made left (storesOf at (contentBytes (o .id) (opIn (now (heap .entry)) o .content))) (now (heap .entry)) (now (heap .exit)) r ⌝ }
+    requires { ⌜ (at + sizeIn o ≤ length (now heap))
+        × (o .start + o .len ≤ length (now heap))
+        × ((at + sizeIn o ≤ o .start) ⊎ (o .start + o .len ≤ at)) ⌝ }
+    ensures { λ r. ⌜ Made left (storesOf at (contentBytes (o .id) (opIn (now (heap .entry)) o .content)))
+        (now (heap .entry)) (now (heap .exit)) r ⌝ }
 {
     if o.delete {
         return left;
@@ -149,8 +157,11 @@ fn put_objects(
     piece: u32,
     left: u64,
 ) -> u64
-    requires { ⌜ Free at (length (objectsOf (filedOps piece (now heap) (tableIds (now ids)) (now places) (now pieces)))) (now heap) (tableIds (now ids)) (now places) (now pieces) ⌝ }
-    ensures { λ r. ⌜ Made left (storesOf at (objectsOf (filedOps piece (now (heap .entry)) (tableIds (now (ids .entry))) (now (places .entry)) (now (pieces .entry))))) (now (heap .entry)) (now (heap .exit)) r ⌝ }
+    requires { ⌜ Free at (length (objectsOf (filedOps piece (now heap) (tableIds (now ids)) (now places) (now pieces))))
+        (now heap) (tableIds (now ids)) (now places) (now pieces) ⌝ }
+    ensures { λ r. ⌜ Made left (storesOf at
+        (objectsOf (filedOps piece (now (heap .entry)) (tableIds (now (ids .entry))) (now (places .entry)) (now (pieces .entry)))))
+        (now (heap .entry)) (now (heap .exit)) r ⌝ }
 {
     let mut rest = left;
     let mut to = at;
@@ -175,9 +186,12 @@ fn put_entries(
     piece: u32,
     left: u64,
 ) -> u64
-    requires { ⌜ Free at (16 * length (filedOps piece (now heap) (tableIds (now ids)) (now places) (now pieces))) (now heap) (tableIds (now ids)) (now places) (now pieces) ⌝ }
+    requires { ⌜ Free at (16 * length (filedOps piece (now heap) (tableIds (now ids)) (now places) (now pieces)))
+        (now heap) (tableIds (now ids)) (now places) (now pieces) ⌝ }
     requires { ⌜ length (objectsOf (filedOps piece (now heap) (tableIds (now ids)) (now places) (now pieces))) < 2 ^ 62 ⌝ }
-    ensures { λ r. ⌜ Made left (storesOf at (each entryBytes (entriesOf 0 (filedOps piece (now (heap .entry)) (tableIds (now (ids .entry))) (now (places .entry)) (now (pieces .entry)))))) (now (heap .entry)) (now (heap .exit)) r ⌝ }
+    ensures { λ r. ⌜ Made left (storesOf at (each entryBytes
+        (entriesOf 0 (filedOps piece (now (heap .entry)) (tableIds (now (ids .entry))) (now (places .entry)) (now (pieces .entry))))))
+        (now (heap .entry)) (now (heap .exit)) r ⌝ }
 {
     let mut rest = left;
     let mut to = at;
@@ -209,42 +223,52 @@ fn put_trailer(
     requires { ⌜ Free at (12 + 16 * count) (now heap) (tableIds (now ids)) (now places) (now pieces) ⌝ }
     requires { ⌜ count ≡ length (filedOps piece (now heap) (tableIds (now ids)) (now places) (now pieces)) ⌝ }
     requires { ⌜ length (objectsOf (filedOps piece (now heap) (tableIds (now ids)) (now places) (now pieces))) < 2 ^ 62 ⌝ }
-    ensures { λ r. ⌜ Made left (storesOf at (trailerBytes (entriesOf 0 (filedOps piece (now (heap .entry)) (tableIds (now (ids .entry))) (now (places .entry)) (now (pieces .entry)))))) (now (heap .entry)) (now (heap .exit)) r ⌝ }
+    ensures { λ r. ⌜ Made left (storesOf at (trailerBytes (entriesOf 0
+        (filedOps piece (now (heap .entry)) (tableIds (now (ids .entry))) (now (places .entry)) (now (pieces .entry))))))
+        (now (heap .entry)) (now (heap .exit)) r ⌝ }
 {
     let checksum = sum(heap, ids, places, pieces, piece, count);
     let rest = write::put_head(heap, at, checksum, count, left);
     put_entries(heap, at + TRAILER_HEAD, ids, places, pieces, piece, rest)
 }
 
-// A piece's file and its label into the slot that begins at `start`, in the order of the file's run.
+// The file of a piece: the piece's number, where its slot begins and how long that is, its count of entries and T.
+pub struct PieceFile {
+    pub piece: u32,
+    pub start: usize,
+    pub slot_bytes: u64,
+    pub count: u64,
+    pub total: u64,
+}
+
+// Such a file and its label into its slot, in the order of the file's run.
 pub fn write_piece(
     heap: &mut [u8],
-    start: usize,
-    slot_bytes: u64,
     ids: &[u64],
     places: &[u32],
     pieces: &[u32],
-    piece: u32,
+    file: PieceFile,
     new: Label,
-    count: u64,
-    total: u64,
     k: u64,
 ) -> u64
-    requires { ⌜ Writing start «slot_bytes» (now heap) (tableIds (now ids)) (now places) (now pieces) piece count total ⌝ }
-    ensures { λ r. ⌜ Made k (fileStores start (labelBytes new) (fileBytes (filedOps piece (now (heap .entry)) (tableIds (now (ids .entry))) (now (places .entry)) (now (pieces .entry))))) (now (heap .entry)) (now (heap .exit)) r ⌝ }
+    requires { ⌜ Writing (file .start) (file .«slot_bytes»)
+        (now heap) (tableIds (now ids)) (now places) (now pieces) (file .piece) (file .count) (file .total) ⌝ }
+    ensures { λ r. ⌜ Made k (fileStores (file .start) (labelBytes new)
+        (fileBytes (filedOps (file .piece) (now (heap .entry)) (tableIds (now (ids .entry))) (now (places .entry)) (now (pieces .entry)))))
+        (now (heap .entry)) (now (heap .exit)) r ⌝ }
 {
-    let objects = start + LABEL_BYTES;
-    let behind_objects = put_objects(heap, objects, ids, places, pieces, piece, k);
-    let trailer = objects + total as usize;
+    let objects = file.start + LABEL_BYTES;
+    let behind_objects = put_objects(heap, objects, ids, places, pieces, file.piece, k);
+    let trailer = objects + file.total as usize;
     let behind_trailer = put_trailer(
         heap,
         trailer,
         ids,
         places,
         pieces,
-        piece,
-        count,
+        file.piece,
+        file.count,
         behind_objects,
     );
-    slot_writer::label::put(heap, start, new, behind_trailer)
+    slot_writer::label::put(heap, file.start, new, behind_trailer)
 }

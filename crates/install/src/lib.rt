@@ -27,7 +27,9 @@ ghost use Rattle.install.specs.Adding.{taken, Placed, trailerAt, Install
 // "loses one live": the file of the location that the table has for the id.
 fn lose_one(lsns: &[u64], lives: &mut [u64], ids: &[u64], locations: &[u64], id: u64)
     requires { ⌜ Formed (table (now ids) (now locations)) × (length (now lsns) ≤ length (now lives)) ⌝ }
-    ensures { λ _. ⌜ now (lives .exit) ≡ lessAt (slotHolding (now (lsns .entry)) (lookup (usedEntries (table (now (ids .entry)) (now (locations .entry)))) id)) (now (lives .entry)) ⌝ }
+    ensures { λ _. ⌜ now (lives .exit) ≡ lessAt
+        (slotHolding (now (lsns .entry)) (lookup (usedEntries (table (now (ids .entry)) (now (locations .entry)))) id))
+        (now (lives .entry)) ⌝ }
 {
     match location_table::load_in(ids, locations, id) {
         Held::Mapped(location) => {
@@ -40,8 +42,13 @@ fn lose_one(lsns: &[u64], lives: &mut [u64], ids: &[u64], locations: &[u64], id:
 
 // "each replaced location's file, found before the new one is added, loses one live"
 fn lose(lsns: &[u64], lives: &mut [u64], ids: &[u64], locations: &[u64], trailer: &[u8])
-    requires { ⌜ Formed (table (now ids) (now locations)) × (length (now lsns) ≤ length (now lives)) × (12 + 16 * countIn (now trailer) ≤ length (now trailer)) ⌝ }
-    ensures { λ _. ⌜ now (lives .exit) ≡ losingLives (now (lsns .entry)) (usedEntries (table (now (ids .entry)) (now (locations .entry)))) (entriesIn (now (trailer .entry))) (now (lives .entry)) ⌝ }
+    requires { ⌜ Formed (table (now ids) (now locations))
+        × (length (now lsns) ≤ length (now lives))
+        × (12 + 16 * countIn (now trailer) ≤ length (now trailer)) ⌝ }
+    ensures { λ _. ⌜ now (lives .exit) ≡ losingLives (now (lsns .entry))
+        (usedEntries (table (now (ids .entry)) (now (locations .entry))))
+        (entriesIn (now (trailer .entry)))
+        (now (lives .entry)) ⌝ }
 {
     let n = trailer::count(trailer);
     let mut k: u64 = 0;
@@ -67,8 +74,12 @@ pub fn absolute(e: Entry, lsn: u64) -> Entry
 
 // "Each id takes its new location", for one entry.
 fn store_one(ids: &mut [u64], locations: &mut [u64], e: Entry, lsn: u64)
-    requires { ⌜ Formed (table (now ids) (now locations)) × (positionOf (e .location) + lsn < 2 ^ 63) × (0 < lsn) × (full (usedEntries (table (now ids) (now locations))) (length (tableIds (now ids))) (e .id) ≡ false) ⌝ }
-    ensures { λ _. ⌜ table (now (ids .exit)) (now (locations .exit)) ≡ withStored (table (now (ids .entry)) (now (locations .entry))) (e .id) (absolute lsn e .location) ⌝ }
+    requires { ⌜ Formed (table (now ids) (now locations))
+        × (positionOf (e .location) + lsn < 2 ^ 63)
+        × (0 < lsn)
+        × (full (usedEntries (table (now ids) (now locations))) (length (tableIds (now ids))) (e .id) ≡ false) ⌝ }
+    ensures { λ _. ⌜ table (now (ids .exit)) (now (locations .exit))
+        ≡ withStored (table (now (ids .entry)) (now (locations .entry))) (e .id) (absolute lsn e .location) ⌝ }
 {
     let placed = absolute(e, lsn);
     location_table::store_in(ids, locations, e.id, placed.location);
@@ -76,8 +87,15 @@ fn store_one(ids: &mut [u64], locations: &mut [u64], e: Entry, lsn: u64)
 
 // "Each id takes its new location"
 fn store_all(ids: &mut [u64], locations: &mut [u64], trailer: &[u8], lsn: u64)
-    requires { ⌜ Formed (table (now ids) (now locations)) × (12 + 16 * countIn (now trailer) ≤ length (now trailer)) × Placed lsn (entriesIn (now trailer)) × (0 < lsn) × (length (insertAll (usedEntries (table (now ids) (now locations))) (taken lsn (entriesIn (now trailer)))) ≤ length (tableIds (now ids))) ⌝ }
-    ensures { λ _. ⌜ table (now (ids .exit)) (now (locations .exit)) ≡ laidOut (length (tableIds (now (ids .entry)))) (insertAll (usedEntries (table (now (ids .entry)) (now (locations .entry)))) (taken lsn (entriesIn (now (trailer .entry))))) ⌝ }
+    requires { ⌜ Formed (table (now ids) (now locations))
+        × (12 + 16 * countIn (now trailer) ≤ length (now trailer))
+        × Placed lsn (entriesIn (now trailer))
+        × (0 < lsn)
+        × (length (insertAll (usedEntries (table (now ids) (now locations))) (taken lsn (entriesIn (now trailer))))
+        ≤ length (tableIds (now ids))) ⌝ }
+    ensures { λ _. ⌜ table (now (ids .exit)) (now (locations .exit))
+        ≡ laidOut (length (tableIds (now (ids .entry))))
+        (insertAll (usedEntries (table (now (ids .entry)) (now (locations .entry)))) (taken lsn (entriesIn (now (trailer .entry))))) ⌝ }
 {
     let n = trailer::count(trailer);
     let mut k: u64 = 0;
@@ -133,37 +151,65 @@ fn by_trailer(
     trailer: &[u8],
     lsn: u64,
 )
-    requires { ⌜ Formed (table (now ids) (now locations)) × (length (now lsns) ≤ length (now lives)) × (12 + 16 * countIn (now trailer) ≤ length (now trailer)) × Placed lsn (entriesIn (now trailer)) × (0 < lsn) × (length (insertAll (usedEntries (table (now ids) (now locations))) (taken lsn (entriesIn (now trailer)))) ≤ length (tableIds (now ids))) ⌝ }
-    ensures { λ _. ⌜ (now (lives .exit) ≡ losingLives (now (lsns .entry)) (usedEntries (table (now (ids .entry)) (now (locations .entry)))) (entriesIn (now (trailer .entry))) (now (lives .entry))) × (table (now (ids .exit)) (now (locations .exit)) ≡ laidOut (length (tableIds (now (ids .entry)))) (insertAll (usedEntries (table (now (ids .entry)) (now (locations .entry)))) (taken lsn (entriesIn (now (trailer .entry)))))) ⌝ }
+    requires { ⌜ Formed (table (now ids) (now locations))
+        × (length (now lsns) ≤ length (now lives))
+        × (12 + 16 * countIn (now trailer) ≤ length (now trailer))
+        × Placed lsn (entriesIn (now trailer))
+        × (0 < lsn)
+        × (length (insertAll (usedEntries (table (now ids) (now locations))) (taken lsn (entriesIn (now trailer))))
+        ≤ length (tableIds (now ids))) ⌝ }
+    ensures { λ _. ⌜ (now (lives .exit) ≡ losingLives (now (lsns .entry))
+        (usedEntries (table (now (ids .entry)) (now (locations .entry))))
+        (entriesIn (now (trailer .entry)))
+        (now (lives .entry)))
+        × (table (now (ids .exit)) (now (locations .exit))
+        ≡ laidOut (length (tableIds (now (ids .entry))))
+        (insertAll (usedEntries (table (now (ids .entry)) (now (locations .entry))))
+        (taken lsn (entriesIn (now (trailer .entry)))))) ⌝ }
 {
     lose(lsns, lives, ids, locations, trailer);
     store_all(ids, locations, trailer, lsn);
 }
 
-// The entries of a file that stands in the heap, by its trailer.
+// A file that stands in the heap: where its slot begins, its count of entries, T and its lsn.
+pub struct StoredFile {
+    pub start: usize,
+    pub count: u64,
+    pub total: u64,
+    pub lsn: u64,
+}
+
+// The entries of such a file, by its trailer.
 pub fn install(
     lsns: &[u64],
     lives: &mut [u64],
     ids: &mut [u64],
     locations: &mut [u64],
     heap: &[u8],
-    start: usize,
-    count: u64,
-    total: u64,
-    lsn: u64,
+    file: StoredFile,
 )
-    requires { ⌜ Installable (now lsns) (now lives) (table (now ids) (now locations)) (now heap) start count total lsn ⌝ }
-    ensures { λ _. ⌜ (now (lives .exit) ≡ losingLives (now (lsns .entry)) (usedEntries (table (now (ids .entry)) (now (locations .entry)))) (entriesIn (trailerAt (now (heap .entry)) start count total)) (now (lives .entry))) × (table (now (ids .exit)) (now (locations .exit)) ≡ laidOut (length (tableIds (now (ids .entry)))) (insertAll (usedEntries (table (now (ids .entry)) (now (locations .entry)))) (taken lsn (entriesIn (trailerAt (now (heap .entry)) start count total))))) ⌝ }
+    requires { ⌜ Installable (now lsns) (now lives) (table (now ids) (now locations))
+        (now heap) (file .start) (file .count) (file .total) (file .lsn) ⌝ }
+    ensures { λ _. ⌜ (now (lives .exit) ≡ losingLives (now (lsns .entry))
+        (usedEntries (table (now (ids .entry)) (now (locations .entry))))
+        (entriesIn (trailerAt (now (heap .entry)) (file .start) (file .count) (file .total)))
+        (now (lives .entry)))
+        × (table (now (ids .exit)) (now (locations .exit))
+        ≡ laidOut (length (tableIds (now (ids .entry))))
+        (insertAll (usedEntries (table (now (ids .entry)) (now (locations .entry))))
+        (taken (file .lsn) (entriesIn (trailerAt (now (heap .entry)) (file .start) (file .count) (file .total)))))) ⌝ }
 {
-    let from = start + LABEL_BYTES + total as usize;
-    let end = from + (TRAILER_HEAD + TRAILER_ENTRY * count as usize);
-    by_trailer(lsns, lives, ids, locations, &heap[from..end], lsn);
+    let from = file.start + LABEL_BYTES + file.total as usize;
+    let end = from + (TRAILER_HEAD + TRAILER_ENTRY * file.count as usize);
+    by_trailer(lsns, lives, ids, locations, &heap[from..end], file.lsn);
 }
 
 // The state with the live counts that are left and the new file's record in its slot.
 pub fn with_file(state: State, lives: &[u64], slot: usize, new: Label) -> State
     requires { ⌜ (length (now lives) ≡ 256) × (slot < 256) × (state .«next_position» + (new .«trailer_offset» + 1) < 2 ^ 64) ⌝ }
-    ensures { λ r. ⌜ r ≡ stateWith state (set (withLives (state .files .records) (now (lives .entry))) slot (fresh new)) (state .«next_position» + (new .«trailer_offset» + 1)) ⌝ }
+    ensures { λ r. ⌜ r ≡ stateWith state
+        (set (withLives (state .files .records) (now (lives .entry))) slot (fresh new))
+        (state .«next_position» + (new .«trailer_offset» + 1)) ⌝ }
 {
     let before = state.files;
     let fewer = file_map::with_lives(before, lives);

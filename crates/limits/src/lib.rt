@@ -157,7 +157,9 @@ pub fn refused_apart(
     rest: Rest,
     bad: bool,
 ) -> bool
-    ensures { λ r. ⌜ ((files : FileMap) → bad ≡ badFiles s heap (table (now (ids .entry)) (now (locations .entry))) (files .records) → r ≡ conditionOne s heap (table (now (ids .entry)) (now (locations .entry))) (stateOf rest files)) ⌝ }
+    ensures { λ r. ⌜ ((files : FileMap)
+        → bad ≡ badFiles s heap (table (now (ids .entry)) (now (locations .entry))) (files .records)
+        → r ≡ conditionOne s heap (table (now (ids .entry)) (now (locations .entry))) (stateOf rest files)) ⌝ }
     ensures { λ r. ⌜ (r ≡ false → InLimits s heap (table (now (ids .entry)) (now (locations .entry)))) ⌝ }
 {
     if out_of_range(s, heap, ids, locations) {

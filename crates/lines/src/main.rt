@@ -8,7 +8,7 @@ use disk_location::RelativeDiskLocation;
 use libc::STDOUT_FILENO;
 use numbers::Number;
 
-// P5: whether a position is later than another, the batch bit aside.
+// Line P5: whether a position is later than another, the batch bit aside.
 fn is_later(a: u64, b: u64) -> bool
     ensures { λ r. ⌜ r ≡ ltb (maskedOf b) (maskedOf a) ⌝ }
 {

@@ -229,7 +229,7 @@ module _ (l : Lived) where
       go (last delete) = refl
       go (last (put body)) = refl
 
-  -- P8: a call that is cut leaves every read as before it, or every read as after it
+  -- request P8: a call that is cut leaves every read as before it, or every read as after it
   pub life-survives : (c : Call) (k : ℕ) (v : World) → CutAt k (reached l .world) c v → Survived k (reached l .world) c v
   life-survives c k v = cut-survived (reached l .world) (reached l .history) life-sound k v c
 

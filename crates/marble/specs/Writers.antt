@@ -1,4 +1,4 @@
--- P8 and the code: the contracts of the three writers of the heap, and what a call's writers leave where k stores may be made.
+-- Request P8 and the code: the contracts of the three writers of the heap, and what a call's writers leave where k stores may be made.
 use mathlib.Core.Path.{_≡_, refl, sym, ap, _∙_, subst}
 use contract.Lifetimes.{Lfts}
 use denote.Ref.{now}
@@ -17,6 +17,7 @@ use Rattle.stores.specs.Runs.{Made, made-then, made-none}
 use Rattle.batch.specs.Reading.{opsIn}
 use Rattle.batch_file.proofs.«write_file».Reads as batchFile
 use Rattle.gc_files.specs.Places.{filedOps}
+use Rattle.gc_writer.specs.declared.PieceFile.{PieceFile}
 use Rattle.gc_writer.proofs.«write_piece».Reads as piece
 use Rattle.prune.proofs.«prune_stores».Reads as labels
 use Rattle.theory.specs.History.{Call, called}
@@ -35,11 +36,10 @@ pub write-file-contract : (κs : Lfts 2) (heap batch : Lent) (start : ℕ) (new 
 write-file-contract κs heap batch start new count total k rest heap′ = refl
 
 -- `gc_writer::write_piece`: a file that maintenance rewrites, its operations where their objects stand in the heap
-pub write-piece-contract : (κs : Lfts 4) (heap ids places pieces : Lent) (start size number : ℕ) (new : Label) (count total k rest : ℕ) (heap′ : Lent)
-    → piece.Learnt κs (heap, (start, (size, (ids, (places, (pieces, (number, (new, (count, (total, (k, tt))))))))))) rest
-    (heap′, (start, (size, (ids, (places, (pieces, (number, (new, (count, (total, (k, tt)))))))))))
-    ≡ Made k (jobRun (file start new (filedOps number (now heap) (tableIds (now ids)) (now places) (now pieces)))) (now heap) (now heap′) rest
-write-piece-contract κs heap ids places pieces start size number new count total k rest heap′ = refl
+pub write-piece-contract : (κs : Lfts 4) (heap ids places pieces : Lent) (f : PieceFile) (new : Label) (k rest : ℕ) (heap′ : Lent)
+    → piece.Learnt κs (heap, (ids, (places, (pieces, (f, (new, (k, tt))))))) rest (heap′, (ids, (places, (pieces, (f, (new, (k, tt)))))))
+    ≡ Made k (jobRun (file (f .start) new (filedOps (f .piece) (now heap) (tableIds (now ids)) (now places) (now pieces)))) (now heap) (now heap′) rest
+write-piece-contract κs heap ids places pieces f new k rest heap′ = refl
 
 -- `prune::prune_stores`, where it is due: it gives the records in the place of what is left
 pub prune-stores-contract : (κs : Lfts 1) (heap : Lent) (size : ℕ) (claims : Claims) (files : FileMap) (k : ℕ) (after : FileMap) (heap′ : Lent)
@@ -58,7 +58,7 @@ unfolding JobsMade each
 jobs-made k [] before heap rest (p, q) = subst (λ (h : List ℕ). Made k [] before h rest) (sym p) (subst (λ (n : ℕ). Made k [] before before n) (sym q) (made-none k before))
 jobs-made k (j ∷ js) before heap rest (next, m, first, others) = made-then first (jobs-made m js next heap rest others)
 
--- P8: what they leave of any call is what a power cut behind its first k stores leaves
+-- request P8: what they leave of any call is what a power cut behind its first k stores leaves
 pub writers-cut : (k : ℕ) (w : World) (c : Call) (heap : List ℕ) (rest : ℕ) → JobsMade k (jobsOf w c) (w .heap) heap rest
     → (v : World) → Alike w v → v .heap ≡ heap → CutAt k w c v
 writers-cut k w c heap rest m v a e = record {

@@ -60,7 +60,12 @@ pub extern "C" fn marble_reopen(
     ids: &mut [u64],
     locations: &mut [u64],
 ) -> u64
-    ensures { λ r. ⌜ leaving (numbered r) (world settings (stateIn (now (state .exit))) (claimsIn (now (claims .exit))) (now (heap .entry)) (table (now (ids .exit)) (now (locations .exit)))) ≡ reopenCall (world settings (stateIn (now (state .entry))) (claimsIn (now (claims .entry))) (now (heap .entry)) (table (now (ids .entry)) (now (locations .entry)))) ⌝ }
+    ensures { λ r. ⌜ leaving (numbered r)
+        (world settings (stateIn (now (state .exit))) (claimsIn (now (claims .exit)))
+        (now (heap .entry)) (table (now (ids .exit)) (now (locations .exit))))
+        ≡ reopenCall
+        (world settings (stateIn (now (state .entry))) (claimsIn (now (claims .entry)))
+        (now (heap .entry)) (table (now (ids .entry)) (now (locations .entry)))) ⌝ }
 {
     let was = state_in(state);
     let held = claims_in(claims);
@@ -83,7 +88,11 @@ pub extern "C" fn marble_write(
     locations: &mut [u64],
     batch: &[u8],
 ) -> u64
-    ensures { λ r. ⌜ ((c : Claims) → leaving (numbered r) (world settings (stateIn (now (state .exit))) c (now (heap .exit)) (table (now (ids .exit)) (now (locations .exit)))) ≡ writeCall (world settings (stateIn (now (state .entry))) c (now (heap .entry)) (table (now (ids .entry)) (now (locations .entry)))) (now (batch .entry))) ⌝ }
+    ensures { λ r. ⌜ ((c : Claims) → leaving (numbered r)
+        (world settings (stateIn (now (state .exit))) c (now (heap .exit)) (table (now (ids .exit)) (now (locations .exit))))
+        ≡ writeCall
+        (world settings (stateIn (now (state .entry))) c (now (heap .entry)) (table (now (ids .entry)) (now (locations .entry))))
+        (now (batch .entry))) ⌝ }
 {
     let was = state_in(state);
     let done = marble::write(settings, was, heap, ids, locations, batch);
@@ -105,7 +114,10 @@ pub extern "C" fn marble_read(
     offset: &mut u64,
     size: &mut u64,
 ) -> u64
-    ensures { λ r. ⌜ ((c : Claims) → given r (now (offset .exit) ∷ now (size .exit) ∷ []) ≡ shown 2 (readCall (world settings (stateIn (now (state .entry))) c (now (heap .entry)) (table (now (ids .entry)) (now (locations .entry)))) id .answer)) ⌝ }
+    ensures { λ r. ⌜ ((c : Claims) → given r (now (offset .exit) ∷ now (size .exit) ∷ [])
+        ≡ shown 2 (readCall
+        (world settings (stateIn (now (state .entry))) c (now (heap .entry)) (table (now (ids .entry)) (now (locations .entry))))
+        id .answer)) ⌝ }
 {
     let was = state_in(state);
     let found = read_shown(marble::read_answer(settings, was, heap, ids, locations, id));
@@ -125,7 +137,12 @@ pub extern "C" fn marble_claim(
     locations: &[u64],
     slot: u64,
 ) -> u64
-    ensures { λ r. ⌜ leaving (numbered r) (world settings (stateIn (now (state .entry))) (claimsIn (now (claims .exit))) (now (heap .entry)) (table (now (ids .entry)) (now (locations .entry)))) ≡ claimCall (world settings (stateIn (now (state .entry))) (claimsIn (now (claims .entry))) (now (heap .entry)) (table (now (ids .entry)) (now (locations .entry)))) slot ⌝ }
+    ensures { λ r. ⌜ leaving (numbered r)
+        (world settings (stateIn (now (state .entry))) (claimsIn (now (claims .exit)))
+        (now (heap .entry)) (table (now (ids .entry)) (now (locations .entry))))
+        ≡ claimCall
+        (world settings (stateIn (now (state .entry))) (claimsIn (now (claims .entry)))
+        (now (heap .entry)) (table (now (ids .entry)) (now (locations .entry)))) slot ⌝ }
 {
     let was = state_in(state);
     let held = claims_in(claims);
@@ -147,7 +164,12 @@ pub extern "C" fn marble_release(
     locations: &[u64],
     slot: u64,
 ) -> u64
-    ensures { λ r. ⌜ leaving (numbered r) (world settings (stateIn (now (state .entry))) (claimsIn (now (claims .exit))) (now (heap .entry)) (table (now (ids .entry)) (now (locations .entry)))) ≡ releaseCall (world settings (stateIn (now (state .entry))) (claimsIn (now (claims .entry))) (now (heap .entry)) (table (now (ids .entry)) (now (locations .entry)))) slot ⌝ }
+    ensures { λ r. ⌜ leaving (numbered r)
+        (world settings (stateIn (now (state .entry))) (claimsIn (now (claims .exit)))
+        (now (heap .entry)) (table (now (ids .entry)) (now (locations .entry))))
+        ≡ releaseCall
+        (world settings (stateIn (now (state .entry))) (claimsIn (now (claims .entry)))
+        (now (heap .entry)) (table (now (ids .entry)) (now (locations .entry)))) slot ⌝ }
 {
     let was = state_in(state);
     let held = claims_in(claims);
@@ -168,7 +190,12 @@ pub extern "C" fn marble_prune(
     ids: &[u64],
     locations: &[u64],
 ) -> u64
-    ensures { λ r. ⌜ leaving (numbered r) (world settings (stateIn (now (state .exit))) (claimsIn (now (claims .entry))) (now (heap .exit)) (table (now (ids .entry)) (now (locations .entry)))) ≡ pruneCall (world settings (stateIn (now (state .entry))) (claimsIn (now (claims .entry))) (now (heap .entry)) (table (now (ids .entry)) (now (locations .entry)))) ⌝ }
+    ensures { λ r. ⌜ leaving (numbered r)
+        (world settings (stateIn (now (state .exit))) (claimsIn (now (claims .entry)))
+        (now (heap .exit)) (table (now (ids .entry)) (now (locations .entry))))
+        ≡ pruneCall
+        (world settings (stateIn (now (state .entry))) (claimsIn (now (claims .entry)))
+        (now (heap .entry)) (table (now (ids .entry)) (now (locations .entry)))) ⌝ }
 {
     let was = state_in(state);
     let held = claims_in(claims);
@@ -191,7 +218,12 @@ pub extern "C" fn marble_maintain(
     generation: &mut u64,
     moved: &mut u64,
 ) -> u64
-    ensures { λ r. ⌜ leaving (given r (now (generation .exit) ∷ now (moved .exit) ∷ [])) (world settings (stateIn (now (state .exit))) (claimsIn (now (claims .entry))) (now (heap .exit)) (table (now (ids .exit)) (now (locations .exit)))) ≡ stopAfter (maintainCall (world settings (stateIn (now (state .entry))) (claimsIn (now (claims .entry))) (now (heap .entry)) (table (now (ids .entry)) (now (locations .entry))))) ⌝ }
+    ensures { λ r. ⌜ leaving (given r (now (generation .exit) ∷ now (moved .exit) ∷ []))
+        (world settings (stateIn (now (state .exit))) (claimsIn (now (claims .entry)))
+        (now (heap .exit)) (table (now (ids .exit)) (now (locations .exit))))
+        ≡ stopAfter (maintainCall
+        (world settings (stateIn (now (state .entry))) (claimsIn (now (claims .entry)))
+        (now (heap .entry)) (table (now (ids .entry)) (now (locations .entry))))) ⌝ }
 {
     let was = state_in(state);
     let held = claims_in(claims);
@@ -215,7 +247,9 @@ pub extern "C" fn marble_counts(
     locations: &[u64],
     counts: &mut [u64; 4],
 ) -> u64
-    ensures { λ r. ⌜ ((c : Claims) → given r (now (counts .exit)) ≡ shown 4 (countsCall (world settings (stateIn (now (state .entry))) c (now (heap .entry)) (table (now (ids .entry)) (now (locations .entry)))) .answer)) ⌝ }
+    ensures { λ r. ⌜ ((c : Claims) → given r (now (counts .exit))
+        ≡ shown 4 (countsCall (world settings (stateIn (now (state .entry))) c
+        (now (heap .entry)) (table (now (ids .entry)) (now (locations .entry)))) .answer)) ⌝ }
 {
     let was = state_in(state);
     let done = counts_shown(marble::counts(settings, was, heap, ids, locations));
@@ -250,7 +284,10 @@ pub extern "C" fn marble_check(
     listing: &mut [u64],
     faults: &mut u64,
 ) -> u64
-    ensures { λ r. ⌜ (given r (now (faults .exit) ∷ []) ≡ shown 1 (checkCall settings (now (heap .entry)) (table (now (ids .entry)) (now (locations .entry))) (now (listing .entry)) .answer)) × (now (listing .exit) ≡ checkCall settings (now (heap .entry)) (table (now (ids .entry)) (now (locations .entry))) (now (listing .entry)) .listing) ⌝ }
+    ensures { λ r. ⌜ (given r (now (faults .exit) ∷ []) ≡ shown 1
+        (checkCall settings (now (heap .entry)) (table (now (ids .entry)) (now (locations .entry))) (now (listing .entry)) .answer))
+        × (now (listing .exit)
+        ≡ checkCall settings (now (heap .entry)) (table (now (ids .entry)) (now (locations .entry))) (now (listing .entry)) .listing) ⌝ }
 {
     let done = check_shown(marble::check(settings, heap, ids, locations, listing));
     *faults = done.value;
@@ -298,7 +335,8 @@ pub extern "C" fn marble_salvage(
 // "Load (nothing for an unmapped id)": a held location is never 0.
 #[no_mangle]
 pub extern "C" fn marble_load(ids: &[u64], locations: &[u64], id: u64, location: &mut u64) -> u64
-    ensures { λ r. ⌜ given r (now (location .exit) ∷ []) ≡ shown 1 (loadCall (table (now (ids .entry)) (now (locations .entry))) id .answer) ⌝ }
+    ensures { λ r. ⌜ given r (now (location .exit) ∷ [])
+        ≡ shown 1 (loadCall (table (now (ids .entry)) (now (locations .entry))) id .answer) ⌝ }
 {
     let held = load_shown(marble::load(ids, locations, id));
     *location = held.value;
@@ -313,7 +351,8 @@ pub extern "C" fn marble_store(
     id: u64,
     location: u64,
 ) -> u64
-    ensures { λ r. ⌜ tableLeaving (numbered r) (table (now (ids .exit)) (now (locations .exit))) ≡ storeCall (table (now (ids .entry)) (now (locations .entry))) id location ⌝ }
+    ensures { λ r. ⌜ tableLeaving (numbered r) (table (now (ids .exit)) (now (locations .exit)))
+        ≡ storeCall (table (now (ids .entry)) (now (locations .entry))) id location ⌝ }
 {
     number(marble::store(ids, locations, id, location))
 }
@@ -328,7 +367,8 @@ pub extern "C" fn marble_compare_and_store(
     location: u64,
     current: &mut u64,
 ) -> u64
-    ensures { λ r. ⌜ tableLeaving (given r (now (current .exit) ∷ [])) (table (now (ids .exit)) (now (locations .exit))) ≡ shownTable 1 (compareCall (table (now (ids .entry)) (now (locations .entry))) id old location) ⌝ }
+    ensures { λ r. ⌜ tableLeaving (given r (now (current .exit) ∷ [])) (table (now (ids .exit)) (now (locations .exit)))
+        ≡ shownTable 1 (compareCall (table (now (ids .entry)) (now (locations .entry))) id old location) ⌝ }
 {
     let held = compare_shown(marble::compare_and_store(ids, locations, id, old, location));
     *current = held.value;
@@ -344,7 +384,8 @@ pub extern "C" fn marble_store_if_greater(
     location: u64,
     held: &mut u64,
 ) -> u64
-    ensures { λ r. ⌜ tableLeaving (given r (now (held .exit) ∷ [])) (table (now (ids .exit)) (now (locations .exit))) ≡ shownTable 1 (greaterCall (table (now (ids .entry)) (now (locations .entry))) id location) ⌝ }
+    ensures { λ r. ⌜ tableLeaving (given r (now (held .exit) ∷ [])) (table (now (ids .exit)) (now (locations .exit)))
+        ≡ shownTable 1 (greaterCall (table (now (ids .entry)) (now (locations .entry))) id location) ⌝ }
 {
     let was = load_shown(marble::store_if_greater(ids, locations, id, location));
     *held = was.value;

@@ -85,7 +85,8 @@ fn forms() {
     say_load(table_calls::load(&ids[0..0], &locations[0..0], 7));
 }
 
-// A batch file of base 101 in slot 0, the same one in slot 2, a rewritten one of base 205 in slot 1: raw locations decide, the lowest slot of equals.
+// A batch file of base 101 in slot 0, the same one in slot 2, a rewritten one of base 205 in slot 1: raw locations
+// decide, the lowest slot of equals.
 fn files() -> FileMap {
     let batch = file_map::fresh(file_map::labelled(4611686018427388005, 21, 65, 2, 0));
     let rewritten = file_map::fresh(file_map::labelled(205, 21, 65, 2, 1));

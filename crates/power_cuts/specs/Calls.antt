@@ -1,4 +1,4 @@
--- P8, call by call: a run cut before its end leaves what the engine said before the call, a run made whole what it says after it.
+-- Request P8, call by call: a run cut before its end leaves what the engine said before the call, a run made whole what it says after it.
 use mathlib.Core.Path.{_≡_, refl, sym, ap, _∙_, subst}
 use mathlib.Core.List.{append-nil}
 use Prim.Native.Nat.{_<_, _≤_}

@@ -1,4 +1,4 @@
--- P8: what a power cut leaves, what is read after it, and lives with power cuts in them.
+-- Request P8: what a power cut leaves, what is read after it, and lives with power cuts in them.
 use mathlib.Core.Path.{_≡_}
 use mathlib.Core.Logic.{_⊎_}
 use Prim.Native.Nat.{_<_, _≤_}

@@ -1,4 +1,4 @@
--- P8: "pruning is one store per file": after each of them a store of the invariant stands, and nothing else is said of any id.
+-- Request P8: "pruning is one store per file": after each of them a store of the invariant stands, and nothing else is said of any id.
 use mathlib.Core.Path.{_≡_, refl, sym, ap, _∙_, subst}
 use mathlib.Core.Logic.{_⊎_, inl, inr}
 use Prim.Native.Nat.{_<_}

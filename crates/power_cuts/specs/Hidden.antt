@@ -1,4 +1,4 @@
--- P8: "file, then label bytes 2 to 64, then label byte 1": until the last store the file is not seen, and the slots show what they showed.
+-- Request P8: "file, then label bytes 2 to 64, then label byte 1": until the last store the file is not seen, and the slots show what they showed.
 use mathlib.Core.Path.{_≡_, refl, sym, ap, _∙_, subst}
 use mathlib.Core.List.{append-assoc}
 use mathlib.Core.Logic.{_⊎_, inl, inr}

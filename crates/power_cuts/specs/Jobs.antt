@@ -1,4 +1,4 @@
--- P8: the run of a call is the runs of its writers, one behind the other, with what the call gives each of them.
+-- Request P8: the run of a call is the runs of its writers, one behind the other, with what the call gives each of them.
 use mathlib.Core.Path.{_≡_, refl, sym, ap, ap₂, _∙_}
 use mathlib.Core.List.{append-assoc, append-nil}
 use Rattle.rules.specs.Base.{Bool, true, false, List, [], _∷_, _++_, each, ℕ, _*_, _^_, length, ltb, pick}

@@ -11,7 +11,7 @@ pub mod Hidden
 pub mod Emptying
 pub mod Rewriting
 pub mod Calls
--- P8
+-- request P8
 pub mod PowerCut
 -- cuts worked out
 pub mod Witness

@@ -1,4 +1,4 @@
--- P8, "Power pulled in the middle": the theorems.
+-- Request P8, "Power pulled in the middle": the theorems.
 use mathlib.Core.Path.{_≡_, refl, sym, _∙_, subst}
 use mathlib.Core.Logic.{_⊎_, inl, inr}
 use Prim.Native.Nat.{_<_, _≤_}
@@ -88,11 +88,11 @@ module _ (w : World) (history : List Op) (s : SoundWorld w (engine history)) (k 
       answer (inl h) = found-early w history s k c v a h .0
       answer (inr h) = found-whole w history s k c v a h .0
 
--- P8: on any store of the invariant, whatever calls were made, any call, accepted or refused, is cut behind any of its stores
+-- request P8: on any store of the invariant, whatever calls were made, any call, accepted or refused, is cut behind any of its stores
 pub lived-cut : (l : Life) → Starts l → (calls : List Call) (c : Call) (k : ℕ) (v : World) → CutAt k (lived l calls .world) c v → Survived k (lived l calls .world) c v
 lived-cut l s calls c k v a = cut-survived (lived l calls .world) (lived l calls .history) (sound-lived l s calls) k v c a
 
--- P8: so on every store of demand 3 that began with no file
+-- request P8: so on every store of demand 3 that began with no file
 pub power-cut : (w : World) → outOfRange (w .settings) (length (w .heap)) (w .table) ≡ false → Blank w
     → (calls : List Call) (c : Call) (k : ℕ) (v : World) → CutAt k (lived (born w) calls .world) c v → Survived k (lived (born w) calls .world) c v
 power-cut w range blank = lived-cut (born w) (born-starts w range blank)
@@ -109,7 +109,7 @@ sound-lived-on l s [] h = s
 sound-lived-on l s (e ∷ es) h = sound-lived-on (happened l e) (sound-happened l e s (h .0)) es (h .1)
 
 module _ (l : Life) (s : Starts l) (events : List Event) (happen : AllHappen l events) where
-  -- P8 and DEMAND 3: reads give the last put of the writes that were accepted and not cut short, and a reopening finds the store as it was
+  -- request P8 and DEMAND 3: reads give the last put of the writes that were accepted and not cut short, and a reopening finds the store as it was
   pub lived-on-kept : Kept (livedOn l events .world) (livedOn l events .history)
   lived-on-kept = sound-kept (livedOn l events .world) (livedOn l events .history) (sound-lived-on l s events happen)
 
@@ -123,7 +123,7 @@ module _ (w : World) (range : outOfRange (w .settings) (length (w .heap)) (w .ta
   pub sound-history-cut : Starts (livedOn (born w) events)
   sound-history-cut = sound-lived-on (born w) (born-starts w range blank) events happen
 
-  -- P8 and DEMAND 3
+  -- request P8 and DEMAND 3
   pub any-history-cut : Kept (livedOn (born w) events .world) (livedOn (born w) events .history)
   any-history-cut = lived-on-kept (born w) (born-starts w range blank) events happen
 

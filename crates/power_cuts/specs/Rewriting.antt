@@ -1,4 +1,4 @@
--- P8: maintenance's run, cut anywhere: files of current contents one behind the other, group by group, then prune's stores.
+-- Request P8: maintenance's run, cut anywhere: files of current contents one behind the other, group by group, then prune's stores.
 use mathlib.Core.Path.{_≡_, refl, sym, ap, _∙_, subst}
 use mathlib.Core.Logic.{_⊎_, inl, inr}
 use Prim.Native.Nat.{_<_, _≤_}

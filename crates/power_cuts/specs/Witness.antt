@@ -1,4 +1,4 @@
--- P8 worked out on a small store: calls cut behind some of their stores, the memory lost, and what the reopening then finds.
+-- Request P8 worked out on a small store: calls cut behind some of their stores, the memory lost, and what the reopening then finds.
 use mathlib.Core.Path.{_≡_, refl}
 use Rattle.checksum.specs.Checksum.{shiftBit, shifts, crcFrom, crc32, objectSum}
 use Rattle.disk_location.specs.Locations.{maskedOf, digitsIn}

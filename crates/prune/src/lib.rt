@@ -94,7 +94,8 @@ pub fn prune_stores(
 ) -> FileMap
     requires { ⌜ (due ≡ true → LabelsIn «slot_bytes» (files .records) (length (now heap))) ⌝ }
     ensures { λ n. ⌜ n .records ≡ pick due (emptiedFrom claims 0 (files .records)) (files .records) ⌝ }
-    ensures { λ _. ⌜ now (heap .exit) ≡ made (take left (pick due (emptying «slot_bytes» (slotsWhere (isDead claims) 0 (files .records))) [])) (now (heap .entry)) ⌝ }
+    ensures { λ _. ⌜ now (heap .exit)
+        ≡ made (take left (pick due (emptying «slot_bytes» (slotsWhere (isDead claims) 0 (files .records))) [])) (now (heap .entry)) ⌝ }
 {
     let mut n = files;
     let mut rest = left;
@@ -113,7 +114,9 @@ pub fn prune_stores(
 // For a call that has decided refusal 1: the state after it, where a prune is due.
 pub fn pruned(settings: Settings, state: State, claims: Claims, heap: &mut [u8], due: bool) -> State
     requires { ⌜ (due ≡ true → LabelsIn (settings .«slot_bytes») (state .files .records) (length (now heap))) ⌝ }
-    ensures { λ r. ⌜ ((ids locations : List ℕ) → world settings r claims (now (heap .exit)) (table ids locations) ≡ pick due (pruned (world settings state claims (now (heap .entry)) (table ids locations))) (world settings state claims (now (heap .entry)) (table ids locations))) ⌝ }
+    ensures { λ r. ⌜ ((ids locations : List ℕ) → world settings r claims (now (heap .exit)) (table ids locations)
+        ≡ pick due (pruned (world settings state claims (now (heap .entry)) (table ids locations)))
+        (world settings state claims (now (heap .entry)) (table ids locations))) ⌝ }
 {
     let files = state.files;
     let next = prune_stores(
@@ -147,7 +150,9 @@ pub fn prune(
     ids: &[u64],
     locations: &[u64],
 ) -> PruneAnswer
-    ensures { λ r. ⌜ leaving (answerGiven (r .answer)) (world settings (r .state) claims (now (heap .exit)) (table (now (ids .entry)) (now (locations .entry)))) ≡ pruneCall (world settings state claims (now (heap .entry)) (table (now (ids .entry)) (now (locations .entry)))) ⌝ }
+    ensures { λ r. ⌜ leaving (answerGiven (r .answer))
+        (world settings (r .state) claims (now (heap .exit)) (table (now (ids .entry)) (now (locations .entry))))
+        ≡ pruneCall (world settings state claims (now (heap .entry)) (table (now (ids .entry)) (now (locations .entry)))) ⌝ }
 {
     let files = state.files;
     let bad = bad_files(settings, heap.len() as u64, ids, locations, files);

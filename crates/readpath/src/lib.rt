@@ -47,7 +47,8 @@ fn object_at(
     id: u64,
 ) -> ReadAnswer
     requires { ⌜ Lies «slot_bytes» l slot (length (now heap)) ⌝ }
-    ensures { λ x. ⌜ x ≡ inHeap (slot * «slot_bytes» + 64) (bodyOf id (storedAt position (drop position (fileIn l (slotBytes «slot_bytes» (now (heap .entry)) slot))))) ⌝ }
+    ensures { λ x. ⌜ x ≡ inHeap (slot * «slot_bytes» + 64)
+        (bodyOf id (storedAt position (drop position (fileIn l (slotBytes «slot_bytes» (now (heap .entry)) slot))))) ⌝ }
 {
     match slot_file::object::read(file_part(heap, slot_bytes, slot, l), position, id) {
         BodyAnswer::Body(start, size) => {
@@ -66,7 +67,8 @@ pub fn read_answer(
     locations: &[u64],
     id: u64,
 ) -> ReadAnswer
-    ensures { λ r. ⌜ ((c : Claims) → r ≡ readOf (world settings state c (now (heap .entry)) (table (now (ids .entry)) (now (locations .entry)))) id) ⌝ }
+    ensures { λ r. ⌜ ((c : Claims)
+        → r ≡ readOf (world settings state c (now (heap .entry)) (table (now (ids .entry)) (now (locations .entry)))) id) ⌝ }
 {
     let files = state.files;
     let lsns = file_map::lsns(files);
@@ -123,8 +125,12 @@ pub fn read<'a>(
     locations: &[u64],
     id: u64,
 ) -> &'a [u8]
-    ensures { λ r. ⌜ ((c : Claims) → now r ≡ partOf (readOf (world settings state c (now (heap .entry)) (table (now (ids .entry)) (now (locations .entry)))) id) (now (heap .entry))) ⌝ }
-    ensures { λ r. ⌜ ((c : Claims) → r .ptr ≡ placeOf (readOf (world settings state c (now (heap .entry)) (table (now (ids .entry)) (now (locations .entry)))) id) (heap .entry .ptr)) ⌝ }
+    ensures { λ r. ⌜ ((c : Claims) → now r ≡ partOf
+        (readOf (world settings state c (now (heap .entry)) (table (now (ids .entry)) (now (locations .entry)))) id)
+        (now (heap .entry))) ⌝ }
+    ensures { λ r. ⌜ ((c : Claims) → r .ptr ≡ placeOf
+        (readOf (world settings state c (now (heap .entry)) (table (now (ids .entry)) (now (locations .entry)))) id)
+        (heap .entry .ptr)) ⌝ }
 {
     let answer = read_answer(settings, state, heap, ids, locations, id);
     part(heap, answer)

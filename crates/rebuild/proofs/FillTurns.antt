@@ -21,7 +21,7 @@ use Rattle.reopen_tests.specs.Shown.{FileAt, Sound, file-of}
 use Rattle.rebuild.specs.Types.{Label, Entry}
 use Rattle.rebuild.specs.Latest.{InUse}
 use Rattle.rebuild.specs.Filled.{rowsOf, Placed, Filled, filled-then, filled-stop, rows-in-use}
-use Rattle.rebuild.proofs.Turns.{taken, taken-map}
+use Rattle.rebuild.proofs.CountTurns.{taken, taken-map}
 
 module _ (b : Buffers) (formed : Formed b) (xs chunk : List Entry) (used : All InUse xs) (m : Buffers) (w : Filled b xs true m) (room : Bool) (after : Buffers) (v : Filled m chunk room after) where
   -- there was room: the chunk is in

@@ -44,7 +44,9 @@ fn replaces(held: Held, location: u64) -> bool
 // One entry beside those met before; where a new id finds no room both buffers are cleared.
 fn meet(ids: &mut [u64], locations: &mut [u64], id: u64, location: u64) -> bool
     requires { ⌜ Formed (table (now ids) (now locations)) × (0 < location) ⌝ }
-    ensures { λ r. ⌜ Filled (table (now (ids .entry)) (now (locations .entry))) (record { id = id; location = location } ∷ []) r (table (now (ids .exit)) (now (locations .exit))) ⌝ }
+    ensures { λ r. ⌜ Filled (table (now (ids .entry)) (now (locations .entry)))
+        (record { id = id; location = location } ∷ []) r
+        (table (now (ids .exit)) (now (locations .exit))) ⌝ }
 {
     if !replaces(load_in(ids, locations, id), location) {
         return true;
@@ -58,8 +60,12 @@ fn meet(ids: &mut [u64], locations: &mut [u64], id: u64, location: u64) -> bool
 
 // The entries of one trailer, in one pass over it.
 fn fill_file(trailer: &[u8], lsn: u64, ids: &mut [u64], locations: &mut [u64]) -> bool
-    requires { ⌜ Formed (table (now ids) (now locations)) × (12 + 16 * countIn (now trailer) ≤ length (now trailer)) × Placed lsn (entriesIn (now trailer)) ⌝ }
-    ensures { λ r. ⌜ Filled (table (now (ids .entry)) (now (locations .entry))) (map (absolute lsn) (entriesIn (now (trailer .entry)))) r (table (now (ids .exit)) (now (locations .exit))) ⌝ }
+    requires { ⌜ Formed (table (now ids) (now locations))
+        × (12 + 16 * countIn (now trailer) ≤ length (now trailer))
+        × Placed lsn (entriesIn (now trailer)) ⌝ }
+    ensures { λ r. ⌜ Filled (table (now (ids .entry)) (now (locations .entry)))
+        (map (absolute lsn) (entriesIn (now (trailer .entry)))) r
+        (table (now (ids .exit)) (now (locations .exit))) ⌝ }
 {
     let n = trailer::count(trailer);
     let mut k: u64 = 0;
@@ -76,7 +82,9 @@ fn fill_file(trailer: &[u8], lsn: u64, ids: &mut [u64], locations: &mut [u64]) -
 // The entries of a slot's file, if there is one.
 fn fill_slot(slot: &[u8], l: Label, ids: &mut [u64], locations: &mut [u64]) -> bool
     requires { ⌜ Formed (table (now ids) (now locations)) × Shown (now slot) l ⌝ }
-    ensures { λ b. ⌜ Filled (table (now (ids .entry)) (now (locations .entry))) (each rowsOf (fileOf (viewIn (now (slot .entry))))) b (table (now (ids .exit)) (now (locations .exit))) ⌝ }
+    ensures { λ b. ⌜ Filled (table (now (ids .entry)) (now (locations .entry)))
+        (each rowsOf (fileOf (viewIn (now (slot .entry))))) b
+        (table (now (ids .exit)) (now (locations .exit))) ⌝ }
 {
     if no_file(l) {
         return true;
@@ -94,7 +102,9 @@ pub fn fill(
     locations: &mut [u64],
 ) -> bool
     requires { ⌜ Formed (table (now ids) (now locations)) × Surveyed n size (now heap) (slots .labels) ⌝ }
-    ensures { λ b. ⌜ Filled (table (now (ids .entry)) (now (locations .entry))) (each rowsOf (filesIn (viewsIn n size (now (heap .entry))))) b (table (now (ids .exit)) (now (locations .exit))) ⌝ }
+    ensures { λ b. ⌜ Filled (table (now (ids .entry)) (now (locations .entry)))
+        (each rowsOf (filesIn (viewsIn n size (now (heap .entry))))) b
+        (table (now (ids .exit)) (now (locations .exit))) ⌝ }
 {
     let mut k: usize = 0;
     while k < n {

@@ -67,7 +67,8 @@ fn rebuilt(
     locations: &mut [u64],
 ) -> Reopened
     requires { ⌜ Surveyed n size (now heap) (slots .labels) × (size ≤ 1048576) × Blank (table (now ids) (now locations)) ⌝ }
-    ensures { λ r. ⌜ leaves settings r (now (heap .entry)) (now (ids .exit)) (now (locations .exit)) ≡ pastTests (bare settings (now (heap .entry)) (now (ids .entry)) (now (locations .entry))) (viewsIn n size (now (heap .entry))) ⌝ }
+    ensures { λ r. ⌜ leaves settings r (now (heap .entry)) (now (ids .exit)) (now (locations .exit))
+        ≡ pastTests (bare settings (now (heap .entry)) (now (ids .entry)) (now (locations .entry))) (viewsIn n size (now (heap .entry))) ⌝ }
 {
     let heap_len = heap.len() as u64;
     let table_len = ids.len() as u64;
@@ -93,7 +94,8 @@ fn tested(
     locations: &mut [u64],
 ) -> Reopened
     requires { ⌜ Surveyed n size (now heap) (slots .labels) × (size ≤ 1048576) × Blank (table (now ids) (now locations)) ⌝ }
-    ensures { λ r. ⌜ leaves settings r (now (heap .entry)) (now (ids .exit)) (now (locations .exit)) ≡ pastSlots (bare settings (now (heap .entry)) (now (ids .entry)) (now (locations .entry))) (viewsIn n size (now (heap .entry))) ⌝ }
+    ensures { λ r. ⌜ leaves settings r (now (heap .entry)) (now (ids .exit)) (now (locations .exit))
+        ≡ pastSlots (bare settings (now (heap .entry)) (now (ids .entry)) (now (locations .entry))) (viewsIn n size (now (heap .entry))) ⌝ }
 {
     match check(heap, size, n, slots) {
         Answer::Refused(r) => given_up(settings, heap.len() as u64, ids.len() as u64, r),
@@ -104,7 +106,8 @@ fn tested(
 // All but 1.
 fn recovered(settings: Settings, heap: &[u8], ids: &mut [u64], locations: &mut [u64]) -> Reopened
     requires { ⌜ InLimits settings (length (now heap)) (table (now ids) (now locations)) ⌝ }
-    ensures { λ r. ⌜ leaves settings r (now (heap .entry)) (now (ids .exit)) (now (locations .exit)) ≡ pastLimits (bare settings (now (heap .entry)) (now (ids .entry)) (now (locations .entry))) ⌝ }
+    ensures { λ r. ⌜ leaves settings r (now (heap .entry)) (now (ids .exit)) (now (locations .exit))
+        ≡ pastLimits (bare settings (now (heap .entry)) (now (ids .entry)) (now (locations .entry))) ⌝ }
 {
     let size = settings.slot_bytes as usize;
     let n = heap.len() / size;
@@ -129,7 +132,9 @@ pub fn reopen(
     ids: &mut [u64],
     locations: &mut [u64],
 ) -> Reopened
-    ensures { λ r. ⌜ leaving (answerGiven (r .answer)) (world settings (r .state) (r .claims) (now (heap .entry)) (table (now (ids .exit)) (now (locations .exit)))) ≡ reopenCall (world settings state claims (now (heap .entry)) (table (now (ids .entry)) (now (locations .entry)))) ⌝ }
+    ensures { λ r. ⌜ leaving (answerGiven (r .answer))
+        (world settings (r .state) (r .claims) (now (heap .entry)) (table (now (ids .exit)) (now (locations .exit))))
+        ≡ reopenCall (world settings state claims (now (heap .entry)) (table (now (ids .entry)) (now (locations .entry)))) ⌝ }
 {
     if out_of_range(settings, heap.len() as u64, ids, locations) {
         return Reopened {

@@ -1,4 +1,4 @@
--- "Lines to hold, both sides": P1 to P10, one table and one proved statement.
+-- "Lines to hold, both sides": lines P1 to P10, one table and one proved statement.
 use Rattle.rules.specs.Base.{Bool, true, false, not, _&&_, List, [], _∷_, _++_, map, ℕ, _+_, _-_, _^_, length, replicate, eqb, any, zeros, keep, each, sum, greatest, padded}
 use Rattle.rules.specs.Types.{Entry, Record}
 use mathlib.Core.Path.{_≡_, refl}
@@ -91,39 +91,39 @@ entries10 w = trailerEntries (recordAt (recordsOf w) 0 .label) (slotBytes (w .se
 -- the table
 unfoldable pub lines : List Line
 lines =
-    -- P1 "position 5: raw 10; delete: 11"
+    -- line P1 "position 5: raw 10; delete: 11"
     record { ours = told (relativeGiven 5 false) ++ told (relativeGiven 5 true); paper = 0 ∷ 10 ∷ 0 ∷ 11 ∷ [] }
-    -- P2 "absolute position 0, object: 20; position 0, delete: raw 1"
+    -- line P2 "absolute position 0, object: 20; position 0, delete: raw 1"
     ∷ record { ours = told (absoluteGiven 0 false) ++ told (absoluteGiven 0 true); paper = 20 ∷ 0 ∷ 1 ∷ [] }
-    -- P3 "position 2^63 − 1, delete: raw 2^64 − 1; 2^63: 20"
+    -- line P3 "position 2^63 − 1, delete: raw 2^64 − 1; 2^63: 20"
     ∷ record { ours = told (absoluteGiven (2 ^ 63 - 1) true) ++ (told (absoluteGiven (2 ^ 63) false) ++ told (relativeGiven (2 ^ 63) true)); paper = 0 ∷ (2 ^ 64 - 1) ∷ 20 ∷ 20 ∷ [] }
-    -- P4 "300 is AC 02; 80 00 is refused"
+    -- line P4 "300 is AC 02; 80 00 is refused"
     ∷ record { ours = groupsOf 10 300 ++ (said (numberIn 10 (0xac ∷ 0x02 ∷ []) 0) ++ said (numberIn 10 (0x80 ∷ 0x00 ∷ []) 0)); paper = 0xac ∷ 0x02 ∷ 300 ∷ [] }
-    -- P5 "masked 205 without the bit is later than masked 101 with it"
+    -- line P5 "masked 205 without the bit is later than masked 101 with it"
     ∷ record {
       ours = pairs (latestOf (mapping 1 (rawOf 205 false) ∷ mapping 1 (rawOf (2 ^ 62 + 101) false) ∷ [])) ++ pairs (latestOf (mapping 1 (rawOf (2 ^ 62 + 101) false) ∷ mapping 1 (rawOf 205 false) ∷ []));
       paper = 1 ∷ 410 ∷ 1 ∷ 410 ∷ [];
     }
-    -- P6 "3 live of 4 at 75: no candidate; 2 of 3 (66): a candidate"
+    -- line P6 "3 live of 4 at 75: no candidate; 2 of 3 (66): a candidate"
     ∷ record {
       ours = livePercent (lived 3 4) ∷ bit (worthIt defaults 2 (lived 3 4)) ∷ livePercent (lived 2 3) ∷ bit (worthIt defaults 2 (lived 2 3)) ∷ [];
       paper = 75 ∷ 0 ∷ 66 ∷ 1 ∷ [];
     }
-    -- P7 "generations 0, 3, 255 give 1, 3, 3"
+    -- line P7 "generations 0, 3, 255 give 1, 3, 3"
     ∷ record { ours = newGeneration 0 ∷ newGeneration 3 ∷ newGeneration 255 ∷ []; paper = 1 ∷ 3 ∷ 3 ∷ [] }
-    -- P8 "lengths 0, 1, 60, 255, 256: shards 0, 1, 6, 8, 9"
+    -- line P8 "lengths 0, 1, 60, 255, 256: shards 0, 1, 6, 8, 9"
     ∷ record { ours = map (λ (n : ℕ). shardFor (put (replicate n 0))) (0 ∷ 1 ∷ 60 ∷ 255 ∷ 256 ∷ []); paper = 0 ∷ 1 ∷ 6 ∷ 8 ∷ 9 ∷ [] }
-    -- P9 "target 100, ids 1, 2, 3 of 60 bytes each: files {3}, then {1, 2}" (each file's count, then its ids)
+    -- line P9 "target 100, ids 1, 2, 3 of 60 bytes each: files {3}, then {1, 2}" (each file's count, then its ids)
     ∷ record {
       ours = each (λ (f : List Op). length f ∷ map (λ (o : Op). o .id) f) (filesOf 100 (object 1 60 ∷ object 2 60 ∷ object 3 60 ∷ []));
       paper = 1 ∷ 3 ∷ 2 ∷ 1 ∷ 2 ∷ [];
     }
-    -- P10 "T 21, entries (7, 0) and (9, 43), file_size 65, next position 23; after reopening 67"
+    -- line P10 "T 21, entries (7, 0) and (9, 43), file_size 65, next position 23; after reopening 67"
     ∷ record {
       ours = recordAt (recordsOf wrote) 0 .label .«trailer_offset» ∷ (pairs (entries10 wrote) ++ (recordAt (recordsOf wrote) 0 .label .«file_size» ∷ wrote .state .«next_position» ∷ reopenCall wrote .world .state .«next_position» ∷ []));
       paper = 21 ∷ 7 ∷ 0 ∷ 9 ∷ 43 ∷ 65 ∷ 23 ∷ 67 ∷ [];
     }
-    -- "The listing program prints for P10 exactly"
+    -- line P10: "The listing program prints for P10 exactly"
     ∷ record {
       ours = listing wrote;
       paper = 115 ∷ 108 ∷ 111 ∷ 116 ∷ 32 ∷ 108 ∷ 115 ∷ 110 ∷ 32 ∷ 103 ∷ 101 ∷ 110 ∷ 32 ∷ 112 ∷ 114 ∷ 101 ∷ 115 ∷ 101 ∷ 110 ∷ 116 ∷ 32 ∷ 108 ∷ 105 ∷ 118 ∷ 101 ∷ 32 ∷ 115 ∷ 105 ∷ 122 ∷ 101 ∷ 10 ∷ 48 ∷ 32 ∷ 52 ∷ 54 ∷ 49 ∷ 49 ∷ 54 ∷ 56 ∷ 54 ∷ 48 ∷ 49 ∷ 56 ∷ 52 ∷ 50 ∷ 55 ∷ 51 ∷ 56 ∷ 55 ∷ 57 ∷ 48 ∷ 53 ∷ 32 ∷ 48 ∷ 32 ∷ 50 ∷ 32 ∷ 50 ∷ 32 ∷ 54 ∷ 53 ∷ 10 ∷ 105 ∷ 100 ∷ 115 ∷ 32 ∷ 50 ∷ 10 ∷ [];

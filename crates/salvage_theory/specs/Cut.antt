@@ -61,7 +61,7 @@ pub no-words : (words : List ℕ) → front (each lossWords []) words ≡ words
 unfolding front each
 no-words words = refl
 
--- P9: "Refusals: 1 only": refused with 1 where a reopening is, and nothing changes
+-- request P9: "Refusals: 1 only": refused with 1 where a reopening is, and nothing changes
 pub salvage-limits : (s : Settings) (heap : List ℕ) (table : Buffers) (words : List ℕ) → outOfRange s (length heap) table ≡ true
     → salvageCall s heap table words ≡ record { answer = refused Limits; report = words; heap = heap }
 unfolding salvageCall decide
@@ -71,13 +71,13 @@ salvage-limits s heap table words h = rw h refl
 abbrev pub gaveUp : List Loss → List ℕ → List ℕ → Salvaged
 gaveUp report words heap = record { answer = accepted (length report ∷ []); report = front (each lossWords report) words; heap = heap }
 
--- P9: the number of lines; "slot and refusal number .. in the order emptied"; the heap after the stores
+-- request P9: the number of lines; "slot and refusal number .. in the order emptied"; the heap after the stores
 pub salvage-reports : (s : Settings) (heap : List ℕ) (table : Buffers) (words : List ℕ) → outOfRange s (length heap) table ≡ false
     → salvageCall s heap table words ≡ gaveUp (reportOf s heap) words (made (emptyingOf s (reportOf s heap)) heap)
 unfolding salvageCall decide
 salvage-reports s heap table words range = rw range refl
 
--- P9: "Refusals: 1 only"
+-- request P9: "Refusals: 1 only"
 pub salvage-refuses : (s : Settings) (heap : List ℕ) (table : Buffers) (words : List ℕ) (r : Refusal) → salvageCall s heap table words .answer ≡ refused r → r ≡ Limits
 salvage-refuses s heap table words r e = go (outOfRange s (length heap) table) refl
   where
@@ -100,7 +100,7 @@ module _ (s : Settings) (heap : List ℕ) (table : Buffers) (range : outOfRange 
   pub cut-report : (k : ℕ) → reportOf s (made (take k (emptyingOf s (reportOf s heap))) heap) ≡ drop k (reportOf s heap)
   cut-report = let l = in-limits s (length heap) table range in rest-reported s (l .settings) (reportOf s heap) heap (l .heap) refl
 
-  -- P9: power cut behind the first k stores: a second salvage reports the rest, in the same order, and ends in the same heap
+  -- request P9: power cut behind the first k stores: a second salvage reports the rest, in the same order, and ends in the same heap
   pub cut-salvage : (k : ℕ) (words : List ℕ) → salvageCall s (made (take k (emptyingOf s (reportOf s heap))) heap) table words
       ≡ gaveUp (drop k (reportOf s heap)) words (salvageCall s heap table words .heap)
   cut-salvage k words =
@@ -126,7 +126,7 @@ module _ (s : Settings) (heap : List ℕ) (table : Buffers) (range : outOfRange 
   pub salvage-length : (words : List ℕ) → length (salvageCall s heap table words .heap) ≡ length heap
   salvage-length words = ap length (sym (whole-cut words)) ∙ cut-length (length (reportOf s heap))
 
-  -- P9: a second salvage reports nothing and changes nothing
+  -- request P9: a second salvage reports nothing and changes nothing
   pub second-salvage : (words again : List ℕ)
       → salvageCall s (salvageCall s heap table words .heap) table again ≡ record { answer = accepted (0 ∷ []); report = again; heap = salvageCall s heap table words .heap }
   unfolding emptyingOf made

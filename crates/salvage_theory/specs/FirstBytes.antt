@@ -40,7 +40,7 @@ module _ (s : Settings) (heap : List ℕ) (table : Buffers) (words : List ℕ) (
   left : salvageCall s heap table words .heap ≡ made (emptyingOf s (reportOf s heap)) heap
   left = ap (λ (c : Salvaged). c .heap) (salvage-reports s heap table words range)
 
-  -- P9: "Only the first label byte of reported slots changes.": a byte that is no reported slot's first stays
+  -- request P9: "Only the first label byte of reported slots changes.": a byte that is no reported slot's first stays
   pub only-first-bytes : (i : ℕ) → ((x : Loss) → In (reportOf s heap) x → i ≡ x .slot * s .«slot_bytes» → ⊥) → getD (salvageCall s heap table words .heap) i 0 ≡ getD heap i 0
   unfolding emptyingOf
   only-first-bytes i n =
@@ -48,7 +48,7 @@ module _ (s : Settings) (heap : List ℕ) (table : Buffers) (words : List ℕ) (
       ∙ other-byte (s .«slot_bytes») (map (λ (x : Loss). x .slot) (reportOf s heap)) heap i
       (λ k a e. let w = slot-line (reportOf s heap) k a in n (w .0) (w .1) (e ∙ ap (λ (m : ℕ). m * s .«slot_bytes») (sym (w .2))))
 
-  -- P9: "emptied": that of a reported slot is 0
+  -- request P9: "emptied": that of a reported slot is 0
   pub first-bytes-zero : (x : Loss) → In (reportOf s heap) x → getD (salvageCall s heap table words .heap) (x .slot * s .«slot_bytes») 0 ≡ 0
   unfolding emptyingOf
   first-bytes-zero x i =
@@ -68,7 +68,7 @@ module _ (s : Settings) (heap : List ℕ) (table : Buffers) (words : List ℕ) (
   low : (k : ℕ) → Among (map (λ (x : Loss). x .slot) (reportOf s heap)) k → k < slotsIn s (length heap)
   low k a = let w = slot-line (reportOf s heap) k a in subst (λ (m : ℕ). m < slotsIn s (length heap)) (w .2) (reported-low s heap (w .0) (w .1))
 
-  -- P9: a reported slot is empty afterwards
+  -- request P9: a reported slot is empty afterwards
   pub reported-empty : (x : Loss) → In (reportOf s heap) x
       → viewAt (viewsIn (slotsIn s (length (salvageCall s heap table words .heap))) (s .«slot_bytes») (salvageCall s heap table words .heap)) (x .slot) ≡ empty
   unfolding emptyingOf
@@ -80,7 +80,7 @@ module _ (s : Settings) (heap : List ℕ) (table : Buffers) (words : List ℕ) (
       ∙ emptying-these (slotsIn s (length heap)) (s .«slot_bytes») (omega arith) (map (λ (y : Loss). y .slot) (reportOf s heap)) heap low (omega arith) (x .slot)
       (line-slot (reportOf s heap) x i)
 
-  -- P9: every other slot shows what it showed
+  -- request P9: every other slot shows what it showed
   pub others-stay : (k : ℕ) → ((x : Loss) → In (reportOf s heap) x → x .slot ≡ k → ⊥)
       → viewAt (viewsIn (slotsIn s (length (salvageCall s heap table words .heap))) (s .«slot_bytes») (salvageCall s heap table words .heap)) k
       ≡ viewAt (viewsIn (slotsIn s (length heap)) (s .«slot_bytes») heap) k

@@ -193,7 +193,7 @@ reported? (y ∷ report) k = go (same? (y .slot) k) (reported? report k)
         other x (inr i) q = none x i q
 
 module _ (s : Settings) (heap : List ℕ) where
-  -- P9: "one whose masked lsn isn't above the end .. of the last kept file": each slot reported with 14 meets a sound one that is not reported
+  -- request P9: "one whose masked lsn isn't above the end .. of the last kept file": each slot reported with 14 meets a sound one that is not reported
   pub met-a-kept : (x : Loss) → In (reportOf s heap) x → x .refusal ≡ Overlap → MeetsKept (judgedIn s heap) x
   unfolding lossesIn
   met-a-kept x i e = go (in-either (firstKind 0 (judgedIn s heap)) (secondKind (inOrder (theRest 0 (judgedIn s heap)))) x i)
@@ -204,11 +204,11 @@ module _ (s : Settings) (heap : List ℕ) where
           (all-in (λ (y : Loss). viewAt (judgedIn s heap) (y .slot) ≡ damaged (y .refusal)) (firstKind 0 (judgedIn s heap)) (first-lost (judgedIn s heap)) x h ∙ ap damaged e))
       go (inr h) = second-meets (judgedIn s heap) x h
 
-  -- P9: and no two kept files' ranges meet
+  -- request P9: and no two kept files' ranges meet
   pub kept-disjoint : (j k : ℕ) (f g : File) → KeptFile (judgedIn s heap) j f → KeptFile (judgedIn s heap) k g → (j ≡ k → ⊥) → Apart f g
   kept-disjoint = kept-apart (judgedIn s heap)
 
-  -- P9: so every sound slot that meets a kept one is reported, with 14
+  -- request P9: so every sound slot that meets a kept one is reported, with 14
   pub meets-kept-reported : (j k : ℕ) (f g : File) → KeptFile (judgedIn s heap) j f → viewAt (judgedIn s heap) k ≡ holds g → (j ≡ k → ⊥) → (Apart f g → ⊥)
       → In (reportOf s heap) (loss k Overlap)
   meets-kept-reported j k f g p e n m = go (reported? (reportOf s heap) k)

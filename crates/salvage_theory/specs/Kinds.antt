@@ -55,7 +55,7 @@ climbs-from : (m n : ℕ) (xs : List Loss) → m ≤ n → Climbs n xs → Climb
 climbs-from m n [] h c = tt
 climbs-from m n (x ∷ xs) h c = let a = c .0 in (omega arith, c .1)
 
--- P9: "the first kind goes ascending by slot"
+-- request P9: "the first kind goes ascending by slot"
 pub first-ascends : (n : ℕ) (views : List View) → Climbs n (firstKind n views)
 unfolding firstKind
 first-ascends n [] = tt
@@ -159,7 +159,7 @@ behind-given end (y ∷ ys) o = go (ltb end (startOf y)) (behind-given (endOf y)
       are = ap (λ (xs : List Loss). loss (y .slot) Overlap ∷ xs) (same .are);
     }
 
--- P9: "in the order emptied": the second kind goes by ascending masked lsn, equal ones by ascending slot
+-- request P9: "in the order emptied": the second kind goes by ascending masked lsn, equal ones by ascending slot
 pub second-ascends : (views : List View) → GivenUp (inOrder (theRest 0 views)) (secondKind (inOrder (theRest 0 views)))
 unfolding secondKind
 second-ascends views = go (inOrder (theRest 0 views)) (order-ascends (theRest 0 views) (rest-by-slot 0 views))

@@ -4,13 +4,13 @@ pub mod InOrder
 pub mod Kinds
 pub mod Next
 pub mod Nothing
--- P9: what stands in a reported slot; the heap after stores of 0
+-- request P9: what stands in a reported slot; the heap after stores of 0
 pub mod Lost
 pub mod Emptied
--- P9: the call; cut behind any of its stores; a second one; reopening afterwards
+-- request P9: the call; cut behind any of its stores; a second one; reopening afterwards
 pub mod Cut
 pub mod Reopens
--- P9: which slots are reported, which files are kept; which bytes change
+-- request P9: which slots are reported, which files are kept; which bytes change
 pub mod Reported
 pub mod KeptFiles
 pub mod FirstBytes

@@ -160,11 +160,11 @@ module _ (w : World) (words : List ℕ) (range : outOfRange (w .settings) (lengt
   pub rescued-range : outOfRange (w .settings) (length (rescued w words .heap)) (w .table) ≡ false
   rescued-range = ap (λ (n : ℕ). outOfRange (w .settings) n (w .table)) (salvage-length (w .settings) (w .heap) (w .table) range words) ∙ range
 
-  -- P9: "Reopening afterwards is accepted, or is refused with 6."
+  -- request P9: "Reopening afterwards is accepted, or is refused with 6."
   pub reopens-or-table-room : AcceptedOr6 (rescued w words)
   reopens-or-table-room = nothing-opens (rescued w words) rescued-range (nothing-left (w .settings) (w .heap) (w .table) range words)
 
-  -- P9: with a table of any size, at the same settings
+  -- request P9: with a table of any size, at the same settings
   pub reopens-with-any-table : (v : World) → v .settings ≡ w .settings → v .heap ≡ rescued w words .heap
       → outOfRange (v .settings) (length (v .heap)) (v .table) ≡ false → AcceptedOr6 v
   reopens-with-any-table v e h again =
@@ -179,12 +179,12 @@ module _ (w : World) (words : List ℕ) (range : outOfRange (w .settings) (lengt
       ∙ ap (λ (xs : List Loss). gaveUp xs words (made (emptyingOf (w .settings) xs) (w .heap))) e
       ∙ ap (λ (r : List ℕ). record { answer = accepted (0 ∷ []); report = r; heap = w .heap }) (no-words words)
 
-  -- P9: "A heap that reopening accepts gets an empty report.", and stays as it is
+  -- request P9: "A heap that reopening accepts gets an empty report.", and stays as it is
   pub nothing-to-give-up : reopenCall w .answer ≡ accepted []
       → salvageCall (w .settings) (w .heap) (w .table) words ≡ record { answer = accepted (0 ∷ []); report = words; heap = w .heap }
   nothing-to-give-up h = nothing-written (opens-nothing w (inl h))
 
-  -- P9: so does one that it refuses with 6
+  -- request P9: so does one that it refuses with 6
   pub six-gives-nothing-up : reopenCall w .answer ≡ refused TableRoom
       → salvageCall (w .settings) (w .heap) (w .table) words ≡ record { answer = accepted (0 ∷ []); report = words; heap = w .heap }
   six-gives-nothing-up h = nothing-written (opens-nothing w (inr h))

@@ -52,14 +52,14 @@ module _ (s : Settings) (heap : List ℕ) where
       judged-not (viewsIn (slotsIn s (length heap)) (s .«slot_bytes») heap) k
       (λ r q. views-early (slotsIn s (length heap)) (s .«slot_bytes») heap k r q .1) e
 
-  -- P9: "every slot that fails 8, 9, 10, 11, 12, 13 or 15 by itself", with the first of these, is reported
+  -- request P9: "every slot that fails 8, 9, 10, 11, 12, 13 or 15 by itself", with the first of these, is reported
   pub own-reported : (k : ℕ) (r : Refusal) → viewAt (judgedIn s heap) k ≡ damaged r → In (reportOf s heap) (loss k r)
   unfolding lossesIn
   own-reported k r e =
       let vs = judgedIn s heap in
       in-first (firstKind 0 vs) (secondKind (inOrder (theRest 0 vs))) (loss k r) (subst (λ (n : ℕ). In (firstKind 0 vs) (loss n r)) (zero-add k) (own-first 0 vs k r e))
 
-  -- P9: and a number other than 14 is reported of no other slot
+  -- request P9: and a number other than 14 is reported of no other slot
   pub reported-own : (x : Loss) → In (reportOf s heap) x → (x .refusal ≡ Overlap → ⊥) → viewAt (judgedIn s heap) (x .slot) ≡ damaged (x .refusal)
   reported-own x i n = go (all-in (Lost (judgedIn s heap)) (reportOf s heap) (all-lost (judgedIn s heap)) x i)
     where
@@ -67,7 +67,7 @@ module _ (s : Settings) (heap : List ℕ) where
       go (inl e) = e
       go (inr (q, w)) = absurd (n q)
 
-  -- P9: 14 is reported of sound slots
+  -- request P9: 14 is reported of sound slots
   pub overlap-sound : (x : Loss) → In (reportOf s heap) x → x .refusal ≡ Overlap → (f : File) × (viewAt (judgedIn s heap) (x .slot) ≡ holds f)
   overlap-sound x i e = go (all-in (Lost (judgedIn s heap)) (reportOf s heap) (all-lost (judgedIn s heap)) x i)
     where
@@ -107,11 +107,11 @@ module _ (s : Settings) (heap : List ℕ) where
   report-slots = omega (arith, losses-few (judgedIn s heap), judged-length s heap)
 
   module _ (table : Buffers) (range : outOfRange s (length heap) table ≡ false) where
-    -- P9: "the report always has room for 256 lines": there are no more
+    -- request P9: "the report always has room for 256 lines": there are no more
     pub report-room : length (reportOf s heap) ≤ 256
     report-room = let n = report-slots in let m = in-limits s (length heap) table range .heap .most in omega arith
 
-    -- P9: so every line is written, and the lent words keep their number
+    -- request P9: so every line is written, and the lent words keep their number
     pub report-fits : (words : List ℕ) → 2 * 256 ≤ length words → length (salvageCall s heap table words .report) ≡ length words
     report-fits words h =
         let n = report-room in

@@ -29,7 +29,7 @@ module _ (w : World) (words : List ℕ) (v : World) (r : Afresh w words v) where
   pub rescued-clean : Clean v
   rescued-clean = list-clean v (r .range) still-bytes (r .listed)
 
-  -- P9: a life may start from it
+  -- request P9: a life may start from it
   pub rescued-starts : Starts (resumed v)
   rescued-starts = clean-starts v rescued-clean
 
@@ -50,6 +50,6 @@ module _ (w : World) (words : List ℕ) (v : World) (r : Afresh w words v) where
       → Survived k (livedOn (resumed v) events .world) c u
   rescued-cut-again = lived-on-cut (resumed v) rescued-starts
 
-  -- P9: the checker's list stays empty
+  -- request P9: the checker's list stays empty
   pub rescued-list : (calls : List Call) → listOf (lived (resumed v) calls .world) ≡ []
   rescued-list = list-stays v (r .range) still-bytes (r .listed)

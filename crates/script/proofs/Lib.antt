@@ -1,5 +1,5 @@
 pub mod Digits
-pub mod Turns
+pub mod WordTurns
 pub mod Cuts
 pub mod Told
 pub mod Taken

@@ -134,7 +134,11 @@ fn no_order(keyword: Keyword) -> Order
 // `n` numbers from `from` on, a word each; none of them where one is missing or wrong.
 fn numbers_from(text: &[u8], from: usize, n: usize) -> Numbers
     requires { ⌜ (from ≤ length (now text)) × (n ≤ 9) ⌝ }
-    ensures { λ r. ⌜ (r .next ≤ length (now (text .entry))) × (r .good ≡ numbered n (wordsOf (drop from (now (text .entry))))) × (r .values ≡ pick (r .good) (front (numbersIn n (wordsOf (drop from (now (text .entry))))) noNumbers) noNumbers) × (wordsOf (drop (r .next) (now (text .entry))) ≡ pick (r .good) (drop n (wordsOf (drop from (now (text .entry))))) (wordsOf (drop from (now (text .entry))))) ⌝ }
+    ensures { λ r. ⌜ (r .next ≤ length (now (text .entry)))
+        × (r .good ≡ numbered n (wordsOf (drop from (now (text .entry)))))
+        × (r .values ≡ pick (r .good) (front (numbersIn n (wordsOf (drop from (now (text .entry))))) noNumbers) noNumbers)
+        × (wordsOf (drop (r .next) (now (text .entry)))
+        ≡ pick (r .good) (drop n (wordsOf (drop from (now (text .entry))))) (wordsOf (drop from (now (text .entry))))) ⌝ }
 {
     let mut values = [0u64; 9];
     let mut at = from;
@@ -198,7 +202,10 @@ fn with_bytes(
     bytes: &mut [u8],
 ) -> Order
     requires { ⌜ from ≤ length (now text) ⌝ }
-    ensures { λ r. ⌜ (r ≡ orderFor (endedBy (length (now (bytes .entry))) true keyword numbers (wordsOf (drop from (now (text .entry)))))) × (now (bytes .exit) ≡ front (endedBy (length (now (bytes .entry))) true keyword numbers (wordsOf (drop from (now (text .entry)))) .bytes) (now (bytes .entry))) ⌝ }
+    ensures { λ r. ⌜ (r ≡ orderFor (endedBy (length (now (bytes .entry))) true keyword numbers (wordsOf (drop from (now (text .entry))))))
+        × (now (bytes .exit) ≡ front
+        (endedBy (length (now (bytes .entry))) true keyword numbers (wordsOf (drop from (now (text .entry)))) .bytes)
+        (now (bytes .entry))) ⌝ }
 {
     let word = words::next_word(text, from);
     let start = word.start;
@@ -233,7 +240,9 @@ fn wordless(comment: bool) -> Order
 
 // A line without its comment, if it has one.
 fn order_in(text: &[u8], comment: bool, bytes: &mut [u8]) -> Order
-    ensures { λ r. ⌜ (r ≡ orderFor (askedIn (length (now (bytes .entry))) comment (wordsOf (now (text .entry))))) × (now (bytes .exit) ≡ front (askedIn (length (now (bytes .entry))) comment (wordsOf (now (text .entry))) .bytes) (now (bytes .entry))) ⌝ }
+    ensures { λ r. ⌜ (r ≡ orderFor (askedIn (length (now (bytes .entry))) comment (wordsOf (now (text .entry)))))
+        × (now (bytes .exit)
+        ≡ front (askedIn (length (now (bytes .entry))) comment (wordsOf (now (text .entry))) .bytes) (now (bytes .entry))) ⌝ }
 {
     let first = words::next_word(text, 0);
     let start = first.start;
@@ -258,7 +267,9 @@ fn order_in(text: &[u8], comment: bool, bytes: &mut [u8]) -> Order
 
 // What a line asks for. Its bytes, if it has any, come to stand at the front of `bytes`.
 pub fn order_of(line: &[u8], bytes: &mut [u8]) -> Order
-    ensures { λ r. ⌜ (r ≡ orderFor (askedBy (length (now (bytes .entry))) (now (line .entry)))) × (now (bytes .exit) ≡ front (askedBy (length (now (bytes .entry))) (now (line .entry)) .bytes) (now (bytes .entry))) × (r .length ≤ length (now (bytes .exit))) ⌝ }
+    ensures { λ r. ⌜ (r ≡ orderFor (askedBy (length (now (bytes .entry))) (now (line .entry))))
+        × (now (bytes .exit) ≡ front (askedBy (length (now (bytes .entry))) (now (line .entry)) .bytes) (now (bytes .entry)))
+        × (r .length ≤ length (now (bytes .exit))) ⌝ }
 {
     let end = bytes::scan::find(line, 0, line.len(), b'#');
     order_in(&line[0..end], end < line.len(), bytes)

@@ -46,7 +46,10 @@ fn run_end(text: &[u8], from: usize, blank: bool) -> usize
 
 pub fn next_word(text: &[u8], from: usize) -> Word
     requires { ⌜ from ≤ length (now text) ⌝ }
-    ensures { λ r. ⌜ (from ≤ r .start) × (r .start ≤ r .end) × (r .end ≤ length (now (text .entry))) × (r ≡ nextWord (now (text .entry)) from) ⌝ }
+    ensures { λ r. ⌜ (from ≤ r .start)
+        × (r .start ≤ r .end)
+        × (r .end ≤ length (now (text .entry)))
+        × (r ≡ nextWord (now (text .entry)) from) ⌝ }
 {
     let start = run_end(text, from, true);
     let end = run_end(text, start, false);

@@ -232,7 +232,8 @@ fn show_slots(slots: &[u8]) {
     }
 }
 
-// Files that the original wrote, damaged copies of each, and entries around T: tests/oracle/slots.py made them, with the answers of its model.
+// Files that the original wrote, damaged copies of each, and entries around T: tests/oracle/slots.py made them,
+// with the answers of its model.
 fn made_slots() {
     let mut slots = io::large_buffer();
     let n = io::read_full(0, &mut slots);

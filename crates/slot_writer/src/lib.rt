@@ -17,7 +17,8 @@ ghost use Rattle.stores.specs.Runs.{Made};
 // "checksum 4, id 8, length 8"
 fn put_header(heap: &mut [u8], at: usize, sum: u32, id: u64, size: u64, left: u64) -> u64
     requires { ⌜ at + 20 ≤ length (now heap) ⌝ }
-    ensures { λ r. ⌜ Made left (storesOf at ((leBytes 4 sum ++ leBytes 8 id) ++ leBytes 8 size)) (now (heap .entry)) (now (heap .exit)) r ⌝ }
+    ensures { λ r. ⌜ Made left (storesOf at ((leBytes 4 sum ++ leBytes 8 id) ++ leBytes 8 size))
+        (now (heap .entry)) (now (heap .exit)) r ⌝ }
 {
     let behind_sum = stores::put_number(heap, at, 4, sum as u64, left);
     let behind_id = stores::put_number(heap, at + 4, 8, id, behind_sum);
@@ -37,7 +38,8 @@ pub fn put_object(heap: &mut [u8], at: usize, id: u64, body: &[u8], left: u64) -
 // An object whose body is a piece of the heap itself, apart from where it goes.
 pub fn move_object(heap: &mut [u8], at: usize, id: u64, from: usize, size: usize, left: u64) -> u64
     requires { ⌜ (at + (20 + size) ≤ length (now heap)) × (from + size ≤ length (now heap)) × ((at + 20 ≤ from) ⊎ (from + size ≤ at)) ⌝ }
-    ensures { λ r. ⌜ Made left (storesOf at (objectBytes id (take size (drop from (now (heap .entry)))))) (now (heap .entry)) (now (heap .exit)) r ⌝ }
+    ensures { λ r. ⌜ Made left (storesOf at (objectBytes id (take size (drop from (now (heap .entry))))))
+        (now (heap .entry)) (now (heap .exit)) r ⌝ }
 {
     let end = from + size;
     let sum = checksum::object_sum(id, &heap[from..end]);

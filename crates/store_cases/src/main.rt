@@ -216,7 +216,7 @@ fn pair(first: u64, second: u64) {
     );
 }
 
-// Ranges that meet in one position, that touch, in both orders; the batch bit aside; a rewritten file after a batch file (P5).
+// Ranges that meet in one position, that touch, in both orders; the batch bit aside; a rewritten file after a batch file (line P5).
 fn overlaps() {
     pair(1, 1);
     pair(1, 22);

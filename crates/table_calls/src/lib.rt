@@ -19,7 +19,8 @@ ghost use Rattle.table_calls.specs.Front.{frontTests};
 
 // "Load (nothing for an unmapped id)"
 pub fn load(ids: &[u64], locations: &[u64], id: u64) -> LoadAnswer
-    ensures { λ r. ⌜ leaving (loadGiven r) (table (now (ids .entry)) (now (locations .entry))) ≡ loadCall (table (now (ids .entry)) (now (locations .entry))) id ⌝ }
+    ensures { λ r. ⌜ leaving (loadGiven r) (table (now (ids .entry)) (now (locations .entry)))
+        ≡ loadCall (table (now (ids .entry)) (now (locations .entry))) id ⌝ }
 {
     if !formed(ids, locations) {
         return LoadAnswer::LoadRefused(Refusal::Limits);
@@ -53,7 +54,8 @@ fn either_zero(a: u64, b: u64) -> bool
 }
 
 pub fn store(ids: &mut [u64], locations: &mut [u64], id: u64, location: u64) -> Answer
-    ensures { λ r. ⌜ leaving (answerGiven r) (table (now (ids .exit)) (now (locations .exit))) ≡ storeCall (table (now (ids .entry)) (now (locations .entry))) id location ⌝ }
+    ensures { λ r. ⌜ leaving (answerGiven r) (table (now (ids .exit)) (now (locations .exit)))
+        ≡ storeCall (table (now (ids .entry)) (now (locations .entry))) id location ⌝ }
 {
     if let Answer::Refused(r) = front(ids, locations, location == 0) {
         return Answer::Refused(r);
@@ -72,7 +74,8 @@ pub fn compare_and_store(
     old: u64,
     location: u64,
 ) -> CompareAnswer
-    ensures { λ r. ⌜ leaving (compareGiven r) (table (now (ids .exit)) (now (locations .exit))) ≡ compareCall (table (now (ids .entry)) (now (locations .entry))) id old location ⌝ }
+    ensures { λ r. ⌜ leaving (compareGiven r) (table (now (ids .exit)) (now (locations .exit)))
+        ≡ compareCall (table (now (ids .entry)) (now (locations .entry))) id old location ⌝ }
 {
     if let Answer::Refused(r) = front(ids, locations, either_zero(old, location)) {
         return CompareAnswer::CompareRefused(r);
@@ -94,7 +97,8 @@ pub fn store_if_greater(
     id: u64,
     location: u64,
 ) -> LoadAnswer
-    ensures { λ r. ⌜ leaving (loadGiven r) (table (now (ids .exit)) (now (locations .exit))) ≡ greaterCall (table (now (ids .entry)) (now (locations .entry))) id location ⌝ }
+    ensures { λ r. ⌜ leaving (loadGiven r) (table (now (ids .exit)) (now (locations .exit)))
+        ≡ greaterCall (table (now (ids .entry)) (now (locations .entry))) id location ⌝ }
 {
     if let Answer::Refused(r) = front(ids, locations, location == 0) {
         return LoadAnswer::LoadRefused(r);

@@ -1,4 +1,5 @@
-// A trailer written in the order of its run: its checksum stands first, so the entries are gone through once for the sum and once to be put.
+// A trailer written in the order of its run: its checksum stands first, so the entries are gone through once for the
+// sum and once to be put.
 
 use rules::Entry;
 ghost use mathlib.Core.Path.{_≡_};

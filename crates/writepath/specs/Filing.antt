@@ -24,9 +24,9 @@ use Rattle.rules.specs.World.{World, leaving, answerGiven, accepted, unchanged}
 use Rattle.batch.specs.Reading.{opsIn}
 use Rattle.batch.specs.ReadingLaws.{ops-of}
 use Rattle.batch_file.specs.Steps.{Sized}
-use Rattle.writepath.specs.Plans.{filed, planOf, plan-refused, plan-done}
-use Rattle.writepath.specs.declared.plan.Plan.{Plan}
-use Rattle.writepath.specs.declared.plan.Plan.the-variants.{Refused, Nothing, File}
+use Rattle.writepath.specs.Decisions.{filed, decisionOf, decision-refused, decision-done}
+use Rattle.writepath.specs.declared.decision.Decision.{Decision}
+use Rattle.writepath.specs.declared.decision.Decision.the-variants.{Refused, Nothing, File}
 
 -- none of 1 to 7, and the batch is not empty
 pub record Filed (s : Settings) (t : State) (heap : List ℕ) (b : Buffers) (bytes : List ℕ) (slot count total : ℕ) : Type 0 where
@@ -38,7 +38,7 @@ pub record Filed (s : Settings) (t : State) (heap : List ℕ) (b : Buffers) (byt
   pub ids : length (insertAll (usedEntries b) (entriesOf 0 (settled (opsIn bytes)))) ≤ capacityOf b
   pub last : t .«next_position» + (total + 1) ≤ 2 ^ 62
 
--- ---- what a plan says of the call
+-- ---- what a decision says of the call
 -- by what was decided
 module _ (w : World) (bytes : List ℕ) where
   -- a batch that is not refused
@@ -47,20 +47,20 @@ module _ (w : World) (bytes : List ℕ) where
   filed-kept slot (o ∷ os) r e = let z : _≡_ {A = ℕ} 0 1 = cc in omega arith
 
   -- a refusal
-  pub call-refused : (r : Refusal) → planOf w bytes ≡ Refused r → leaving (answerGiven (answer.Refused r)) w ≡ writeCall w bytes
+  pub call-refused : (r : Refusal) → decisionOf w bytes ≡ Refused r → leaving (answerGiven (answer.Refused r)) w ≡ writeCall w bytes
   unfolding writeCall
   call-refused r e = ⊎-elim
-      (λ d. absurd (filed-kept (newSlot w) (settled (opsOf (batchIn bytes))) r (sym (plan-done w bytes d) ∙ e)))
-      (λ d. let same : d .0 ≡ r = refusal-one (sym (plan-refused w bytes (d .0) (d .1)) ∙ e) in
+      (λ d. absurd (filed-kept (newSlot w) (settled (opsOf (batchIn bytes))) r (sym (decision-done w bytes d) ∙ e)))
+      (λ d. let same : d .0 ≡ r = refusal-one (sym (decision-refused w bytes (d .0) (d .1)) ∙ e) in
       sym (after-refused (decide (writeTests w bytes)) r (unchanged w) _ (d .1 ∙ ap answer.Refused same)))
       (done-or-refused (decide (writeTests w bytes)))
     where
       refusal-one : {q r : Refusal} → Refused q ≡ Refused r → q ≡ r
       refusal-one e = cc
 
-  -- any other plan: no refusal was given
-  accepted-when : (p : Plan) → planOf w bytes ≡ p → ((r : Refusal) → p ≡ Refused r → ⊥) → decide (writeTests w bytes) ≡ answer.Done
-  accepted-when p e n = ⊎-elim (λ d. d) (λ d. absurd (n (d .0) (sym e ∙ plan-refused w bytes (d .0) (d .1)))) (done-or-refused (decide (writeTests w bytes)))
+  -- any other decision: no refusal was given
+  accepted-when : (p : Decision) → decisionOf w bytes ≡ p → ((r : Refusal) → p ≡ Refused r → ⊥) → decide (writeTests w bytes) ≡ answer.Done
+  accepted-when p e n = ⊎-elim (λ d. d) (λ d. absurd (n (d .0) (sym e ∙ decision-refused w bytes (d .0) (d .1)))) (done-or-refused (decide (writeTests w bytes)))
 
   -- so the call does what it says
   call-done : decide (writeTests w bytes) ≡ answer.Done → leaving (accepted []) (written w (settled (opsOf (batchIn bytes)))) ≡ writeCall w bytes
@@ -68,17 +68,17 @@ module _ (w : World) (bytes : List ℕ) where
   call-done d = sym (after-done (decide (writeTests w bytes)) (unchanged w) _ d)
 
   -- "An empty batch succeeds and changes nothing."
-  pub call-kept : planOf w bytes ≡ Nothing → leaving (answerGiven answer.Done) w ≡ writeCall w bytes
+  pub call-kept : decisionOf w bytes ≡ Nothing → leaving (answerGiven answer.Done) w ≡ writeCall w bytes
   unfolding written installedAll
   call-kept e =
       let d = accepted-when Nothing e (λ r q. let z : _≡_ {A = ℕ} 0 1 = cc in omega arith) in
-      ap (leaving (accepted [])) (sym (none (settled (opsOf (batchIn bytes))) (sym (plan-done w bytes d) ∙ e))) ∙ call-done d
+      ap (leaving (accepted [])) (sym (none (settled (opsOf (batchIn bytes))) (sym (decision-done w bytes d) ∙ e))) ∙ call-done d
     where
       none : (ops : List Op) → filed (newSlot w) ops ≡ Nothing → written w ops ≡ w
       none [] e = refl
       none (o ∷ os) e = absurd (let z : _≡_ {A = ℕ} 0 1 = cc in omega arith)
 
-  module _ (slot count total : ℕ) (e : planOf w bytes ≡ File slot count total) where
+  module _ (slot count total : ℕ) (e : decisionOf w bytes ≡ File slot count total) where
     -- no refusal was given
     done : decide (writeTests w bytes) ≡ answer.Done
     done = accepted-when (File slot count total) e (λ r q. let z : _≡_ {A = ℕ} 0 1 = cc in omega arith)
@@ -91,9 +91,9 @@ module _ (w : World) (bytes : List ℕ) where
     same : settled (opsOf (batchIn bytes)) ≡ settled (opsIn bytes)
     same = ap settled (ops-of bytes (knows .parsed))
 
-    -- which say the plan
+    -- which say the decision
     shown : filed (newSlot w) (settled (opsIn bytes)) ≡ File slot count total
-    shown = ap (filed (newSlot w)) (sym same) ∙ sym (plan-done w bytes done) ∙ e
+    shown = ap (filed (newSlot w)) (sym same) ∙ sym (decision-done w bytes done) ∙ e
 
     -- a file
     pub call-written : (after : World) → after ≡ installed (2 ^ 62) 0 w (settled (opsIn bytes)) → leaving (answerGiven answer.Done) after ≡ writeCall w bytes
@@ -110,8 +110,8 @@ module _ (w : World) (bytes : List ℕ) where
     numbers (o ∷ os) q = (cc, cc, cc, omega arith)
 
     -- and what is known of it
-    pub plan-filed : Filed (w .settings) (w .state) (w .heap) (w .table) bytes slot count total
-    plan-filed =
+    pub decision-filed : Filed (w .settings) (w .state) (w .heap) (w .table) bytes slot count total
+    decision-filed =
         let told = numbers (settled (opsIn bytes)) shown in
         let some : 0 < length (settled (opsOf (batchIn bytes))) = rw same (told .3) in
         let limits = passed (w .settings) (length (w .heap)) (w .table) (w .state) (knows .passed) in

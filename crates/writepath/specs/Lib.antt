@@ -1,6 +1,6 @@
 pub mod NewIds
-pub mod Plans
-pub mod PlanLaws
+pub mod Decisions
+pub mod DecisionLaws
 pub mod Filing
 pub mod Standing
 pub mod Unique

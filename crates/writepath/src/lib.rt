@@ -1,8 +1,9 @@
 // Write (`src/writepath.rs`): the whole batch is decided first; nothing is stored before.
 
-pub mod plan;
+pub mod decision;
 
-use plan::Plan;
+use decision::Decision;
+use install::StoredFile;
 use rules::Answer;
 use rules::Label;
 use rules::Settings;
@@ -41,10 +42,18 @@ fn new_label(base: u64, count: u64, total: u64) -> Label
 // The whole run of the file: it is no longer than the heap.
 fn put_file(heap: &mut [u8], start: usize, batch: &[u8], new: Label, count: u64, total: u64)
     requires { ⌜ Sized (now batch) count total × (start + (64 + length (fileBytes (settled (opsIn (now batch))))) ≤ length (now heap)) ⌝ }
-    ensures { λ _. ⌜ now (heap .exit) ≡ made (fileStores start (labelBytes new) (fileBytes (settled (opsIn (now (batch .entry)))))) (now (heap .entry)) ⌝ }
+    ensures { λ _. ⌜ now (heap .exit)
+        ≡ made (fileStores start (labelBytes new) (fileBytes (settled (opsIn (now (batch .entry)))))) (now (heap .entry)) ⌝ }
 {
     let k = heap.len() as u64;
     batch_file::write_file(heap, start, batch, new, count, total, k);
+}
+
+// A batch's file to be: its slot, its count of entries and T.
+struct NewFile {
+    slot: usize,
+    count: u64,
+    total: u64,
 }
 
 // The file of the batch in its slot, then table, live counts, record and next position by the trailer that stands there.
@@ -55,31 +64,27 @@ fn add_file(
     ids: &mut [u64],
     locations: &mut [u64],
     batch: &[u8],
-    slot: usize,
-    count: u64,
-    total: u64,
+    file: NewFile,
 ) -> State
-    requires { ⌜ Filed settings state (now heap) (table (now ids) (now locations)) (now batch) slot count total ⌝ }
-    ensures { λ r. ⌜ ((c : Claims) → world settings r c (now (heap .exit)) (table (now (ids .exit)) (now (locations .exit))) ≡ installed (2 ^ 62) 0 (world settings state c (now (heap .entry)) (table (now (ids .entry)) (now (locations .entry)))) (settled (opsIn (now (batch .entry))))) ⌝ }
+    requires { ⌜ Filed settings state (now heap) (table (now ids) (now locations)) (now batch) (file .slot) (file .count) (file .total) ⌝ }
+    ensures { λ r. ⌜ ((c : Claims) → world settings r c (now (heap .exit)) (table (now (ids .exit)) (now (locations .exit)))
+        ≡ installed (2 ^ 62) 0 (world settings state c (now (heap .entry)) (table (now (ids .entry)) (now (locations .entry))))
+        (settled (opsIn (now (batch .entry))))) ⌝ }
 {
-    let new = new_label(state.next_position, count, total);
-    let start = slot * settings.slot_bytes as usize;
-    put_file(heap, start, batch, new, count, total);
+    let new = new_label(state.next_position, file.count, file.total);
+    let start = file.slot * settings.slot_bytes as usize;
+    put_file(heap, start, batch, new, file.count, file.total);
     let files = state.files;
     let lsns = file_map::lsns(files);
     let mut lives = file_map::lives(files);
-    install::install(
-        &lsns,
-        &mut lives,
-        ids,
-        locations,
-        heap,
-        start,
-        count,
-        total,
-        new.lsn,
-    );
-    install::with_file(state, &lives, slot, new)
+    let stored = StoredFile {
+        start: start,
+        count: file.count,
+        total: file.total,
+        lsn: new.lsn,
+    };
+    install::install(&lsns, &mut lives, ids, locations, heap, stored);
+    install::with_file(state, &lives, file.slot, new)
 }
 
 pub fn write(
@@ -90,29 +95,27 @@ pub fn write(
     locations: &mut [u64],
     batch: &[u8],
 ) -> Written
-    ensures { λ r. ⌜ ((c : Claims) → leaving (answerGiven (r .answer)) (world settings (r .state) c (now (heap .exit)) (table (now (ids .exit)) (now (locations .exit)))) ≡ writeCall (world settings state c (now (heap .entry)) (table (now (ids .entry)) (now (locations .entry)))) (now (batch .entry))) ⌝ }
+    ensures { λ r. ⌜ ((c : Claims) → leaving (answerGiven (r .answer))
+        (world settings (r .state) c (now (heap .exit)) (table (now (ids .exit)) (now (locations .exit))))
+        ≡ writeCall (world settings state c (now (heap .entry)) (table (now (ids .entry)) (now (locations .entry))))
+        (now (batch .entry))) ⌝ }
 {
-    match plan::decided(settings, state, heap, ids, locations, batch) {
-        Plan::Refused(r) => Written {
+    match decision::decided(settings, state, heap, ids, locations, batch) {
+        Decision::Refused(r) => Written {
             answer: Answer::Refused(r),
             state: state,
         },
-        Plan::Nothing => Written {
+        Decision::Nothing => Written {
             answer: Answer::Done,
             state: state,
         },
-        Plan::File(slot, count, total) => {
-            let after = add_file(
-                settings,
-                state,
-                heap,
-                ids,
-                locations,
-                batch,
-                slot,
-                count,
-                total,
-            );
+        Decision::File(slot, count, total) => {
+            let file = NewFile {
+                slot: slot,
+                count: count,
+                total: total,
+            };
+            let after = add_file(settings, state, heap, ids, locations, batch, file);
             Written {
                 answer: Answer::Done,
                 state: after,

@@ -5,7 +5,7 @@ use native.Mathlib.Omega.{arith}
 use borrow.Author.Needs.{needs}
 use lib.ListN.{length, drop, drop-of-length-le}
 use Rattle.checksum.specs.Checksum.{crcFrom, crc-nil}
-use Rattle.checksum.proofs.Turns.{list-turn}
+use Rattle.checksum.proofs.ByteTurns.{list-turn}
 use Rattle.checksum.proofs.fed.Statement.{statement}
 use Rattle.checksum.proofs.fed.Tie as tie
 

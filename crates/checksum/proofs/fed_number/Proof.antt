@@ -5,7 +5,7 @@ use native.Mathlib.Omega.{arith}
 use borrow.Author.Needs.{needs}
 use Rattle.numbers.specs.LittleEndian.{leBytes, le-none}
 use Rattle.checksum.specs.Checksum.{crcFrom, crc-nil}
-use Rattle.checksum.proofs.Turns.{number-turn}
+use Rattle.checksum.proofs.ByteTurns.{number-turn}
 use Rattle.checksum.proofs.fed_number.Statement.{statement}
 use Rattle.checksum.proofs.fed_number.Tie as tie
 

@@ -4,7 +4,7 @@ use borrow.Author.Needs.{needs}
 use lib.ListN.{length, List·getD-eq-default}
 use Rattle.rules.specs.FileMap.{emptyRecord, isEmpty}
 use Rattle.rules.specs.FileMapLaws.{is-empty}
-use Rattle.file_map.proofs.Turns.{mapped-length}
+use Rattle.file_map.proofs.RecordTurns.{mapped-length}
 use Rattle.claims.proofs.empty_at.Statement.{statement}
 use Rattle.claims.proofs.empty_at.Tie as tie
 

@@ -10,7 +10,7 @@ use borrow.Author.Tests.{not-true, not-false}
 use Rattle.numbers.specs.Choice.{pick}
 use Rattle.rules.specs.FileMap.{isEmpty, recordAt}
 use Rattle.rules.specs.Counts.{countsOf}
-use Rattle.file_map.proofs.Turns.{mapped-length, countsFrom, counts-start, counts-next, counts-end}
+use Rattle.file_map.proofs.RecordTurns.{mapped-length, countsFrom, counts-start, counts-next, counts-end}
 use native.Mathlib.Nat.{add-zero}
 use Rattle.file_map.proofs.counts.Tie as tie
 

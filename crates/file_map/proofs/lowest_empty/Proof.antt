@@ -6,7 +6,7 @@ use lib.ListN.{length, getD}
 use Rattle.file_map.proofs.lowest_empty.Statement.{statement}
 use mathlib.Core.List.{List}
 use Rattle.rules.specs.FileMap.{lowestEmpty}
-use Rattle.file_map.proofs.Turns.{mapped-length, emptyFrom, empty-here, empty-next, empty-end, lowest-start}
+use Rattle.file_map.proofs.RecordTurns.{mapped-length, emptyFrom, empty-here, empty-next, empty-end, lowest-start}
 use Rattle.file_map.proofs.lowest_empty.Tie as tie
 
 abbrev Inv-loop : tie.InvT-loop

@@ -7,7 +7,7 @@ use Rattle.file_map.proofs.lsn_at.Statement.{statement}
 use mathlib.Core.Logic.{⊎-elim}
 use Rattle.rules.specs.FileMap.{Lead}
 use Rattle.file_map.specs.Lists.{leadLsn, slotOf, lsnAt}
-use Rattle.file_map.proofs.Turns.{lead-next, lead-end, leads-took, leads-far, leads-less, slot-none, slot-some, lead-same}
+use Rattle.file_map.proofs.RecordTurns.{lead-next, lead-end, leads-took, leads-far, leads-less, slot-none, slot-some, lead-same}
 use Rattle.file_map.proofs.lsn_at.Tie as tie
 
 abbrev Inv-loop : tie.InvT-loop

@@ -7,7 +7,7 @@ use Rattle.file_map.proofs.with_lives.Statement.{statement}
 use mathlib.Core.List.{List}
 use Rattle.rules.specs.declared.Record.{Record}
 use Rattle.rules.specs.FileMap.{recordAt, withLive}
-use Rattle.file_map.proofs.Turns.{mapped-length, livesTo, lives-start, lives-read, lives-next, lives-end}
+use Rattle.file_map.proofs.RecordTurns.{mapped-length, livesTo, lives-start, lives-read, lives-next, lives-end}
 use Rattle.file_map.proofs.with_lives.Tie as tie
 
 abbrev Inv-loop : tie.InvT-loop

@@ -3,7 +3,7 @@ use borrow.Author.Needs.{needs}
 use lib.ListN.{length}
 use Rattle.rules.specs.World.{world}
 use Rattle.rules.specs.Layout.{table}
-use Rattle.file_map.proofs.Turns.{mapped-length}
+use Rattle.file_map.proofs.RecordTurns.{mapped-length}
 use Rattle.limits.specs.Settled.{passed-bounded}
 use Rattle.prune.specs.Labels.{passed-labels}
 use Rattle.gc.specs.RunLaws.{under-start, by-plan}

@@ -9,9 +9,9 @@ use mathlib.Core.List.{List}
 use Rattle.rules.specs.declared.Counts.{Counts}
 use Rattle.rules.specs.FileMap.{fileCount, recordAt}
 use Rattle.rules.specs.Counts.{countsOf}
-use Rattle.file_map.proofs.Turns.{mapped-length}
+use Rattle.file_map.proofs.RecordTurns.{mapped-length}
 use Rattle.gc_candidates.specs.Plan.{planOf, planFor, plan-length, plan-at}
-use Rattle.gc_candidates.proofs.Turns.{filled, filled-start, filled-next, filled-end}
+use Rattle.gc_candidates.proofs.PlanTurns.{filled, filled-start, filled-next, filled-end}
 
 abbrev Inv-loop : tie.InvT-loop
 Inv-loop s claims m files p₀ i₀ p i = (i ≤ 256) × (length p ≡ 256) × (files ≡ fileCount (m .records)) × (p ≡ filled (planOf s claims (m .records)) i p₀)

@@ -34,7 +34,7 @@ install-requires : tie.Need-install-requires
 install-requires c κs =
     let l = c .before .before .before .before .before in
     let p = l .before .before .before .before .before in
-    let n = p .before .before .before in
+    let n = p .before .before .before .before in
     let f = n .before .before .before .before .before .before .pre .0 in
     installable f (sym (add-zero _)) (n .new-label .ensures) (p .put-piece .ensures) (l .before .lsns .ensures) (l .lives .ensures) (passed-formed _ _ _ _ (f .limits))
 
@@ -43,7 +43,7 @@ slice-aggregate-with-file c = search needs
 
 with-file-requires : tie.Need-with-file-requires
 with-file-requires c κs =
-    let n = c .before .before .before .before .before .before .before .before .before .before .before .before .before .before .before .before .before .before .before .before in
+    let n = c .before .before .before .before .before .before .before .before .before .before .before .before .before .before .before .before .before .before .before .before .before in
     let fits = record-fits (n .before .before .before .before .before .before .pre .0) (n .new-label .ensures) in
     (search needs, fits .0, fits .1)
 
@@ -61,7 +61,7 @@ returns c =
     let i = c .before .before .before .before .before .before .before in
     let l = i .before .before .before .before .before .before in
     let p = l .before .before .before .before .before in
-    let n = p .before .before .before in
+    let n = p .before .before .before .before in
     let f = n .before .before .before .before .before .before .pre .0 in
     added f (sym (add-zero _)) (n .new-label .ensures) (p .put-piece .ensures) (l .before .lsns .ensures) (l .lives .ensures) (i .install .ensures) (c .with-file .ensures)
 

@@ -20,11 +20,11 @@ add-at-requires c κs =
     let start = known .before .before in
     let a = start .args in
     let p = start .pre .0 in
-    let f : Fits (a .settings) (a .state) (a .heap .now) (filedOps (a .piece) (a .heap .now) (a .ids .now) (a .places .now) (a .pieces .now)) (a .generation) =
+    let f : Fits (a .settings) (a .state) (a .heap .now) (filedOps (a .file .piece) (a .heap .now) (a .ids .now) (a .places .now) (a .pieces .now)) (a .file .generation) =
     record { young = start .pre .1 .0; room = start .pre .1 .1 .0; free = start .pre .1 .1 .1 .0 .0; last = start .pre .1 .1 .1 .1 } in
     let e = z .sized .ensures in (
-      piece-addable (a .settings) (a .state) (a .heap .now) (a .ids .now) (a .locations .now) (a .places .now) (a .pieces .now) p (a .piece) (a .generation) f _ _ _ (start .pre .1 .1 .1 .0 .1) (e .0) (e .1) (λ i. known .slice-known2 .given i .fits),
-      piece-writing (a .settings) (a .state) (a .heap .now) (a .ids .now) (a .locations .now) (a .places .now) (a .pieces .now) p (a .piece) (a .generation) f _ _ _ (start .pre .1 .1 .1 .0 .1) (e .0) (e .1),
+      piece-addable (a .settings) (a .state) (a .heap .now) (a .ids .now) (a .locations .now) (a .places .now) (a .pieces .now) p (a .file .piece) (a .file .generation) f _ _ _ (start .pre .1 .1 .1 .0 .1) (e .0) (e .1) (λ i. known .slice-known2 .given i .fits),
+      piece-writing (a .settings) (a .state) (a .heap .now) (a .ids .now) (a .locations .now) (a .places .now) (a .pieces .now) p (a .file .piece) (a .file .generation) f _ _ _ (start .pre .1 .1 .1 .0 .1) (e .0) (e .1),
     )
 
 same-length : tie.Need-same-length
@@ -43,9 +43,9 @@ returns c =
     let start = z .before .before .before .before .before .before .before .before in
     let a = start .args in
     let p = start .pre .0 in
-    let f : Fits (a .settings) (a .state) (a .heap .now) (filedOps (a .piece) (a .heap .now) (a .ids .now) (a .places .now) (a .pieces .now)) (a .generation) =
+    let f : Fits (a .settings) (a .state) (a .heap .now) (filedOps (a .file .piece) (a .heap .now) (a .ids .now) (a .places .now) (a .pieces .now)) (a .file .generation) =
     record { young = start .pre .1 .0; room = start .pre .1 .1 .0; free = start .pre .1 .1 .1 .0 .0; last = start .pre .1 .1 .1 .1 } in
-    let left = piece-left (a .settings) (a .state) (a .heap .now) (a .ids .now) (a .locations .now) (a .places .now) (a .pieces .now) p (a .piece) (a .generation) f _ _ _ _ (d .add-at .ensures noClaims) in
+    let left = piece-left (a .settings) (a .state) (a .heap .now) (a .ids .now) (a .locations .now) (a .places .now) (a .pieces .now) p (a .file .piece) (a .file .generation) f _ _ _ _ (d .add-at .ensures noClaims) in
     (d .add-at .ensures, (left .placing, (left .same, (left .filed, (rw (start .pre .1 .1 .1 .0 .1) (left .frees), left .next)))))
 
 pub add-piece-spec : {M : Type 1} → statement M

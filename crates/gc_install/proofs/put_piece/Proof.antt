@@ -17,7 +17,7 @@ returns c =
     let w = c .before .before in
     let start = w .before .before .before .before .before .before in
     let a = start .args in
-    file-whole (a .start) (a .new) (fileBytes (filedOps (a .piece) (a .heap .now) (a .ids .now) (a .places .now) (a .pieces .now))) (omega (arith, start .pre .room, start .pre .inside)) (w .write-piece .ensures)
+    file-whole (a .file .start) (a .new) (fileBytes (filedOps (a .file .piece) (a .heap .now) (a .ids .now) (a .places .now) (a .pieces .now))) (omega (arith, start .pre .room, start .pre .inside)) (w .write-piece .ensures)
 
 pub put-piece-spec : {M : Type 1} → statement M
 put-piece-spec = tie.close (tie.spec write-piece-requires same-length returns)

@@ -3,7 +3,7 @@ use Prim.Native.Nat.{_*_, _^_}
 use lib.Dec.{eqb}
 use lib.ListN.{drop}
 use Rattle.gc_split.specs.Tally.{closingRests}
-use Rattle.gc_split.proofs.Turns.{closing-next, closing-end, closing-bounds}
+use Rattle.gc_split.proofs.RestTurns.{closing-next, closing-end, closing-bounds}
 use Prim.Native.Nat.{_+_, _≤_, _<_, _-_}
 use mathlib.Core.Path.{_≡_}
 use native.Mathlib.Omega.{arith}

@@ -1,78 +1,106 @@
-use mathlib.Core.Path.{refl}
+use mathlib.Core.Path.{refl, _∙_}
 use borrow.Author.Tests.{le-ltb, lt-ltb}
-use Rattle.gc_split.specs.Tally.{cutting}
-use Prim.Native.Nat.{_<_, _-_}
+use Rattle.gc_split.specs.Tally.{sizesIn, cutting}
+use Rattle.gc_split.specs.ShardLaws.{shards-long, size-at, count-at, round-at, restarted}
+use Prim.Native.Nat.{_+_, _<_}
 use native.Mathlib.Omega.{arith}
 use borrow.Author.Needs.{needs}
-use lib.ListN.{getD}
-use borrow.Author.Needs.{needs}
+use lib.ListN.{length, getD}
 use Rattle.gc_split.proofs.cut_off.Statement.{statement}
 use Rattle.gc_split.proofs.cut_off.Tie as tie
 
 mul-size : tie.Need-mul-size
-mul-size c = search needs
+mul-size c = let long = shards-long (c .before .before .args .shards .now) (c .before .before .pre .1 .roundShards) in search (long, needs)
 
 slice-read-size : tie.Need-slice-read-size
-slice-read-size c = search needs
+slice-read-size c = let long = shards-long (c .before .before .before .args .shards .now) (c .before .before .before .pre .1 .roundShards) in search (long, needs)
 
 returns : tie.Need-returns
 unfolding cutting
 returns c =
-    let start = c .before .before .before .before .before .before in
-    rw (le-ltb (start .args .target) (getD (start .args .sizes .now) (start .args .shard) 0) (c .if1 .taken)) refl
+    let start = c .before .before .before .before .before in
+    let a = start .args in
+    let here = size-at (a .shards .now) (a .shard) (start .pre .0) in
+    rw (le-ltb (a .settings .«target_file_size») (getD (sizesIn (a .shards .now)) (a .shard) 0) (omega (arith, here, c .if1 .taken))) refl
+
+add-count : tie.Need-add-count
+add-count c = search needs
 
 mul-count : tie.Need-mul-count
-mul-count c = search needs
+mul-count c = let long = shards-long (c .before .before .before .before .before .args .shards .now) (c .before .before .before .before .before .pre .1 .roundShards) in search (long, needs)
 
 slice-read-count : tie.Need-slice-read-count
-slice-read-count c = search needs
+slice-read-count c = let long = shards-long (c .before .before .before .before .before .before .args .shards .now) (c .before .before .before .before .before .before .pre .1 .roundShards) in search (long, needs)
+
+add-round : tie.Need-add-round
+add-round c = search needs
 
 mul-round : tie.Need-mul-round
-mul-round c = search needs
+mul-round c = let long = shards-long (c .before .before .before .before .before .before .args .shards .now) (c .before .before .before .before .before .before .pre .1 .roundShards) in search (long, needs)
 
 slice-read-round : tie.Need-slice-read-round
-slice-read-round c = search needs
+slice-read-round c = let long = shards-long (c .before .before .before .before .before .before .before .args .shards .now) (c .before .before .before .before .before .before .before .pre .1 .roundShards) in search (long, needs)
 
 piece-requires : tie.Need-piece-requires
 piece-requires c κs =
-    let start = c .before .before .before .before .before .before .before .before .before in
+    let start = c .before .before .before .before .before .before .before .before in
     let within = start .pre .1 in
-    (start .pre .0, omega (arith, within .rounds (start .args .shard), within .entries))
+    let here = round-at (start .args .shards .now) (start .args .shard) (start .pre .0) in
+    (start .pre .0, omega (arith, here, within .rounds (start .args .shard), within .entries))
 
 note-requires : tie.Need-note-requires
 note-requires c κs = search needs
 
-mul-sizes : tie.Need-mul-sizes
-mul-sizes c = search needs
+mul-shards : tie.Need-mul-shards
+mul-shards c = let long = shards-long (c .before .before .before .before .before .before .before .before .before .before .before .before .args .shards .now) (c .before .before .before .before .before .before .before .before .before .before .before .before .pre .1 .roundShards) in search (long, needs)
 
-slice-write-sizes : tie.Need-slice-write-sizes
-slice-write-sizes c = search needs
+slice-write-shards : tie.Need-slice-write-shards
+slice-write-shards c = let long = shards-long (c .before .before .before .before .before .before .before .before .before .before .before .before .args .shards .now) (c .before .before .before .before .before .before .before .before .before .before .before .before .pre .1 .roundShards) in search (long, needs)
 
-mul-counts : tie.Need-mul-counts
-mul-counts c = search needs
+add-shards : tie.Need-add-shards
+add-shards c = search needs
 
-slice-write-counts : tie.Need-slice-write-counts
-slice-write-counts c = search needs
+mul-shards-2 : tie.Need-mul-shards-2
+mul-shards-2 c = let long = shards-long (c .before .before .before .before .before .before .before .before .before .before .before .before .args .shards .now) (c .before .before .before .before .before .before .before .before .before .before .before .before .pre .1 .roundShards) in search (long, needs)
 
-add-rounds : tie.Need-add-rounds
-add-rounds c =
-    let start = c .before .before .before .before .before .before .before .before .before .before .before .before .before in
+slice-write-shards-2 : tie.Need-slice-write-shards-2
+slice-write-shards-2 c =
+    let start = c .before .before .before .before .before .before .before .before .before .before .before .before in
+    let a = start .args in
+    let long = shards-long (a .shards .now) (start .pre .1 .roundShards) in
+    let room : 65 + a .shard < length (a .shards .now) = omega (arith, long, start .pre .0) in
+    search (room, needs)
+
+add-shards-2 : tie.Need-add-shards-2
+add-shards-2 c =
+    let start = c .before .before .before .before .before .before .before .before .before .before .before .before in
     let within = start .pre .1 in
-    omega (arith, within .rounds (start .args .shard), within .entries)
+    let here = round-at (start .args .shards .now) (start .args .shard) (start .pre .0) in
+    omega (arith, here, within .rounds (start .args .shard), within .entries)
 
-mul-rounds : tie.Need-mul-rounds
-mul-rounds c = search needs
+add-shards-3 : tie.Need-add-shards-3
+add-shards-3 c = search needs
 
-slice-write-rounds : tie.Need-slice-write-rounds
-slice-write-rounds c = search needs
+mul-shards-3 : tie.Need-mul-shards-3
+mul-shards-3 c = let long = shards-long (c .before .before .before .before .before .before .before .before .before .before .before .before .args .shards .now) (c .before .before .before .before .before .before .before .before .before .before .before .before .pre .1 .roundShards) in search (long, needs)
+
+slice-write-shards-3 : tie.Need-slice-write-shards-3
+slice-write-shards-3 c =
+    let start = c .before .before .before .before .before .before .before .before .before .before .before .before in
+    let a = start .args in
+    let long = shards-long (a .shards .now) (start .pre .1 .roundShards) in
+    let room : 130 + a .shard < length (a .shards .now) = omega (arith, long, start .pre .0) in
+    search (room, needs)
 
 closed-requires : tie.Need-closed-requires
 closed-requires c κs =
-    let start = c .before .before .before .before .before .before .before .before .before .before .before .before .before in
+    let start = c .before .before .before .before .before .before .before .before .before .before .before .before in
     let within = start .pre .1 in
     let n = start .args .shard in
     let k = within .entries in
-    (omega (arith, within .sizes n), omega (arith, within .counts n), omega (arith, within .files), omega (arith, within .positions))
+    let size = size-at (start .args .shards .now) n (start .pre .0) in
+    let count = count-at (start .args .shards .now) n (start .pre .0) in
+    (omega (arith, size, within .sizes n), omega (arith, count, within .counts n), omega (arith, within .files), omega (arith, within .positions))
 
 same-length : tie.Need-same-length
 same-length c = search needs
@@ -80,19 +108,18 @@ same-length c = search needs
 same-length-2 : tie.Need-same-length-2
 same-length-2 c = search needs
 
-same-length-3 : tie.Need-same-length-3
-same-length-3 c = search needs
-
-same-length-4 : tie.Need-same-length-4
-same-length-4 c = search needs
-
 returns-2 : tie.Need-returns-2
 unfolding cutting
 returns-2 c =
     let called = c .before .before .before in
-    let start = called .before .before .before .before .before .before .before .before .before .before .before in
-    let over : start .args .target < getD (start .args .sizes .now) (start .args .shard) 0 = omega (arith, c .before .before .before .before .before .before .before .before .if1 .left) in
-    rw (lt-ltb (start .args .target) (getD (start .args .sizes .now) (start .args .shard) 0) over, called .note .ensures, called .before .piece .ensures, c .closed .ensures) refl
+    let start = called .before .before .before .before .before .before .before .before .before .before in
+    let s = start .args .shards .now in
+    let n = start .args .shard in
+    let h = start .pre .0 in
+    let size = size-at s n h in
+    let over : start .args .settings .«target_file_size» < getD (sizesIn s) n 0 = omega (arith, size, called .before .before .before .before .before .if1 .left) in
+    restarted s n h (getD s (130 + n) 0 + 1) _ _
+    ∙ rw (lt-ltb (start .args .settings .«target_file_size») (getD (sizesIn s) n 0) over, called .note .ensures, called .before .piece .ensures, c .closed .ensures, size, count-at s n h, round-at s n h) refl
 
 pub cut-off-spec : {M : Type 1} → statement M
 cut-off-spec =
@@ -101,22 +128,24 @@ cut-off-spec =
     mul-size
     slice-read-size
     returns
+    add-count
     mul-count
     slice-read-count
+    add-round
     mul-round
     slice-read-round
     piece-requires
     note-requires
-    mul-sizes
-    slice-write-sizes
-    mul-counts
-    slice-write-counts
-    add-rounds
-    mul-rounds
-    slice-write-rounds
+    mul-shards
+    slice-write-shards
+    add-shards
+    mul-shards-2
+    slice-write-shards-2
+    add-shards-2
+    add-shards-3
+    mul-shards-3
+    slice-write-shards-3
     closed-requires
     same-length
     same-length-2
-    same-length-3
-    same-length-4
     returns-2)

@@ -1,6 +1,6 @@
 use Rattle.numbers.specs.Parts.{front}
 use Rattle.gc_split.specs.Tally.{restsFrom}
-use Rattle.gc_split.proofs.Turns.{Placing, placing-start, placing-turn, placing-end}
+use Rattle.gc_split.proofs.RestTurns.{Placing, placing-start, placing-turn, placing-end}
 use Prim.Native.Nat.{_≤_, _<_, _-_}
 use native.Mathlib.Omega.{arith}
 use borrow.Author.Needs.{needs}

@@ -13,27 +13,27 @@ add-objects c = search needs
 
 put-objects-requires : tie.Need-put-objects-requires
 put-objects-requires c κs =
-    let start = c .before .before .before .before .before in
+    let start = c .before .before .before .before .before .before in
     let w = start .pre in
-    free-part (writing-free w) (start .args .start + 64) _ (omega arith) (omega (arith, w .objects, writing-room w))
+    free-part (writing-free w) (start .args .file .start + 64) _ (omega arith) (omega (arith, w .objects, writing-room w))
 
 add-trailer : tie.Need-add-trailer
 add-trailer c =
-    let start = c .before .before .before .before .before .before .before .before in
+    let start = c .before .before .before .before .before .before .before .before .before in
     let w = start .pre in
     omega (arith, writing-room w, w .inside)
 
 put-trailer-requires : tie.Need-put-trailer-requires
 put-trailer-requires c κs =
     let first = c .before .before .before in
-    let start = first .before .before .before .before .before .before in
+    let start = first .before .before .before .before .before .before .before in
     let a = start .args in
     let w = start .pre in
     let away = objects-elsewhere w (first .put-objects .ensures) in
-    let same = filed-elsewhere away (a .piece) (a .ids .now) (a .places .now) (a .pieces .now) (w .apart) in
+    let same = filed-elsewhere away (a .file .piece) (a .ids .now) (a .places .now) (a .pieces .now) (w .apart) in
     let room = writing-room w in
     rw same (
-      free-part (free-elsewhere (writing-free w) away) (a .start + 64 + a .total) (12 + 16 * a .count) (omega arith) (omega arith),
+      free-part (free-elsewhere (writing-free w) away) (a .file .start + 64 + a .file .total) (12 + 16 * a .file .count) (omega arith) (omega arith),
       (w .entries, omega (arith, room, w .objects, w .small)),
     )
 
@@ -48,13 +48,13 @@ returns c =
     let third = c .before .before in
     let second = third .before .before .before .before in
     let first = second .before .before .before .before in
-    let start = first .before .before .before .before .before .before in
+    let start = first .before .before .before .before .before .before .before in
     let a = start .args in
     let w = start .pre in
     let away = objects-elsewhere w (first .put-objects .ensures) in
-    let same = filed-elsewhere away (a .piece) (a .ids .now) (a .places .now) (a .pieces .now) (w .apart) in
-    let ops = filedOps (a .piece) (a .heap .now) (a .ids .now) (a .places .now) (a .pieces .now) in
-    file-made (a .start) ops (a .new) (first .put-objects .ensures) (rw (same, w .objects) at (second .put-trailer .ensures)) (third .put .ensures)
+    let same = filed-elsewhere away (a .file .piece) (a .ids .now) (a .places .now) (a .pieces .now) (w .apart) in
+    let ops = filedOps (a .file .piece) (a .heap .now) (a .ids .now) (a .places .now) (a .pieces .now) in
+    file-made (a .file .start) ops (a .new) (first .put-objects .ensures) (rw (same, w .objects) at (second .put-trailer .ensures)) (third .put .ensures)
 
 pub write-piece-spec : {M : Type 1} → statement M
 write-piece-spec =

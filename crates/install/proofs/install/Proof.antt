@@ -33,12 +33,12 @@ part-by-trailer-end c = search needs
 
 by-trailer-requires : tie.Need-by-trailer-requires
 by-trailer-requires c κs =
-    let start = c .before .before .before .before .before .before .before .before .before in
+    let start = c .before .before .before .before .before .before .before .before .before .before in
     let a = start .args in
     let w = start .pre in
-    let from = a .start + 64 + a .total in
-    let size : from + (12 + 16 * a .count) - from ≡ 12 + 16 * a .count = omega arith in
-    let long = length-take-le (12 + 16 * a .count) (drop from (a .heap .now)) (omega (arith, length-drop from (a .heap .now), w .inside)) in
+    let from = a .file .start + 64 + a .file .total in
+    let size : from + (12 + 16 * a .file .count) - from ≡ 12 + 16 * a .file .count = omega arith in
+    let long = length-take-le (12 + 16 * a .file .count) (drop from (a .heap .now)) (omega (arith, length-drop from (a .heap .now), w .inside)) in
     rw size (w .formed, w .even, omega (arith, long, w .counted), w .placed, w .some, w .room)
 
 same-length : tie.Need-same-length
@@ -53,9 +53,9 @@ same-length-3 c = search needs
 returns : tie.Need-returns
 returns c =
     let t = c .before .before .before .before .before .before in
-    let a = t .before .before .before .before .before .before .before .before .before .before .args in
-    let from = a .start + 64 + a .total in
-    let size : from + (12 + 16 * a .count) - from ≡ 12 + 16 * a .count = omega arith in
+    let a = t .before .before .before .before .before .before .before .before .before .before .before .args in
+    let from = a .file .start + 64 + a .file .total in
+    let size : from + (12 + 16 * a .file .count) - from ≡ 12 + 16 * a .file .count = omega arith in
     rw size at (t .by-trailer .ensures)
 
 pub install-spec : {M : Type 1} → statement M

@@ -8,9 +8,9 @@ use Rattle.limits.proofs.bad_files.Statement.{statement}
 use Rattle.rules.specs.BaseLaws.{within-true}
 use Rattle.rules.specs.Condition1.{badFrom}
 use Rattle.rules.specs.Layout.{table}
-use Rattle.file_map.proofs.Turns.{mapped-length}
+use Rattle.file_map.proofs.RecordTurns.{mapped-length}
 use Rattle.limits.specs.Settled.{badFiles, bad-files}
-use Rattle.limits.proofs.Turns.{bad-here, bad-next, bad-end}
+use Rattle.limits.proofs.BadFileTurns.{bad-here, bad-next, bad-end}
 use Rattle.limits.proofs.bad_files.Tie as tie
 
 abbrev Inv-loop : tie.InvT-loop

@@ -12,8 +12,8 @@ use Rattle.rules.specs.FileMap.{emptyRecord, isEmpty, recordAt}
 use Rattle.rules.specs.Prune.{emptiedFrom}
 use Rattle.rules.specs.PruneLaws.{dead}
 use Rattle.stores.specs.Runs.{Made, made-then, made-none, made-length}
-use Rattle.file_map.proofs.Turns.{mapped-length}
-use Rattle.prune.proofs.Turns.{emptiedOn, emptied-start, emptied-next, emptied-end, storesFrom, stores-start, stores-next, stores-end, labels-start, labels-next}
+use Rattle.file_map.proofs.RecordTurns.{mapped-length}
+use Rattle.prune.proofs.EmptyingTurns.{emptiedOn, emptied-start, emptied-next, emptied-end, storesFrom, stores-start, stores-next, stores-end, labels-start, labels-next}
 use Rattle.prune.proofs.prune_stores.Statement.{statement}
 use Rattle.prune.proofs.prune_stores.Tie as tie
 

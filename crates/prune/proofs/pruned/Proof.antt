@@ -1,9 +1,9 @@
 use mathlib.Core.Path.{_≡_, _∙_}
 use borrow.Author.Needs.{needs}
 use lib.ListN.{length}
-use Rattle.file_map.proofs.Turns.{mapped-length}
+use Rattle.file_map.proofs.RecordTurns.{mapped-length}
 use Rattle.prune.specs.CallLaws.{pruned-parts}
-use Rattle.prune.proofs.Turns.{all-made}
+use Rattle.prune.proofs.EmptyingTurns.{all-made}
 use Rattle.prune.proofs.pruned.Statement.{statement}
 use Rattle.prune.proofs.pruned.Tie as tie
 

@@ -1,6 +1,6 @@
 use borrow.Author.Needs.{needs}
 use Rattle.stores.specs.Runs.{made-none}
-use Rattle.prune.proofs.Turns.{one-store}
+use Rattle.prune.proofs.EmptyingTurns.{one-store}
 use Rattle.prune.proofs.zero_label.Statement.{statement}
 use Rattle.prune.proofs.zero_label.Tie as tie
 

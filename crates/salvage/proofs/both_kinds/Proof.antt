@@ -5,7 +5,7 @@ use lib.ListN.{length}
 use Rattle.salvage.specs.Lines.{reports-as, reports-then}
 use Rattle.salvage.specs.Starts.{slotsJudged}
 use Rattle.salvage.specs.Few.{kinds-are}
-use Rattle.salvage.proofs.Turns.{ready}
+use Rattle.salvage.proofs.LossTurns.{ready}
 use Rattle.salvage.proofs.both_kinds.Statement.{statement}
 use Rattle.salvage.proofs.both_kinds.Tie as tie
 

@@ -5,7 +5,7 @@ use lib.ListN.{length}
 use Rattle.salvage.specs.Salvage.{lossesIn}
 use Rattle.salvage.specs.Lines.{reports-as}
 use Rattle.salvage.specs.Starts.{slotsJudged}
-use Rattle.salvage.proofs.Turns.{part-long, lists-ready}
+use Rattle.salvage.proofs.LossTurns.{part-long, lists-ready}
 use Rattle.salvage.proofs.list_losses.Statement.{statement}
 use Rattle.salvage.proofs.list_losses.Tie as tie
 

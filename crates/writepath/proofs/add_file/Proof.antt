@@ -14,12 +14,12 @@ new-label-requires c κs =
 
 mul-start : tie.Need-mul-start
 mul-start c =
-    let start = c .before .before .before .before .before in
+    let start = c .before .before .before .before .before .before in
     omega (arith, slot-inside (filed-addable (start .pre)), start .good)
 
 put-file-requires : tie.Need-put-file-requires
 put-file-requires c κs =
-    let f = c .before .before .before .before .before .before .pre in
+    let f = c .before .before .before .before .before .before .before .pre in
     (f .sized, slot-inside (filed-addable f))
 
 lsns-requires : tie.Need-lsns-requires
@@ -38,7 +38,7 @@ install-requires : tie.Need-install-requires
 install-requires c κs =
     let l = c .before .before .before .before .before in
     let p = l .before .before .before .before .before in
-    let n = p .before .before in
+    let n = p .before .before .before in
     let f = filed-addable (n .before .before .before .before .before .pre) in
     installable f refl (n .new-label .ensures) (p .put-file .ensures) (l .before .lsns .ensures) (l .lives .ensures) (passed-formed _ _ _ _ (f .limits))
 
@@ -47,7 +47,7 @@ slice-aggregate-with-file c = search needs
 
 with-file-requires : tie.Need-with-file-requires
 with-file-requires c κs =
-    let n = c .before .before .before .before .before .before .before .before .before .before .before .before .before .before .before .before .before .before .before in
+    let n = c .before .before .before .before .before .before .before .before .before .before .before .before .before .before .before .before .before .before .before .before in
     let fits = record-fits (filed-addable (n .before .before .before .before .before .pre)) (n .new-label .ensures) in
     (search needs, fits .0, fits .1)
 
@@ -65,7 +65,7 @@ returns c =
     let i = c .before .before .before .before .before .before .before in
     let l = i .before .before .before .before .before .before in
     let p = l .before .before .before .before .before in
-    let n = p .before .before in
+    let n = p .before .before .before in
     let f = filed-addable (n .before .before .before .before .before .pre) in
     added f refl (n .new-label .ensures) (p .put-file .ensures) (l .before .lsns .ensures) (l .lives .ensures) (i .install .ensures) (c .with-file .ensures)
 

@@ -3,7 +3,7 @@ use borrow.Author.Needs.{needs}
 use Rattle.rules.specs.Claims.{noClaims}
 use Rattle.rules.specs.World.{world}
 use Rattle.rules.specs.Layout.{table}
-use Rattle.writepath.specs.Filing.{call-refused, call-kept, call-written, plan-filed}
+use Rattle.writepath.specs.Filing.{call-refused, call-kept, call-written, decision-filed}
 use Rattle.writepath.proofs.write.Statement.{statement}
 use Rattle.writepath.proofs.write.Tie as tie
 
@@ -24,7 +24,7 @@ add-file-requires c κs =
     let o = c .before .before .before .before in
     let d = o .before .before in
     let a = d .before .before .before .before .before .before .before .before .args in
-    plan-filed (world (a .settings) (a .state) noClaims (a .heap .now) (table (a .ids .now) (a .locations .now))) (a .batch .now) _ _ _ (sym (d .decided .ensures noClaims) ∙ o .slot .given .1)
+    decision-filed (world (a .settings) (a .state) noClaims (a .heap .now) (table (a .ids .now) (a .locations .now))) (a .batch .now) _ _ _ (sym (d .decided .ensures noClaims) ∙ o .slot .given .1)
 
 same-length : tie.Need-same-length
 same-length c = search needs

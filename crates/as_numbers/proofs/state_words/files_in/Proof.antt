@@ -3,9 +3,9 @@ use mathlib.Core.List.{_++_}
 use Prim.Native.Nat.{_*_, zero-le}
 use lib.ListN.{take}
 use Rattle.rules.specs.declared.Record.{Record}
-use Rattle.file_map.proofs.Turns.{mapped-length}
+use Rattle.file_map.proofs.RecordTurns.{mapped-length}
 use Rattle.as_numbers.specs.StateWords.{recordsFrom}
-use Rattle.as_numbers.proofs.Turns.{read-next, read-end}
+use Rattle.as_numbers.proofs.StateWordTurns.{read-next, read-end}
 use Prim.Native.Nat.{_+_, _≤_, _-_}
 use mathlib.Core.Path.{_≡_}
 use native.Mathlib.Omega.{arith}

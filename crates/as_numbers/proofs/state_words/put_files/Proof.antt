@@ -4,10 +4,10 @@ use Prim.Native.Nat.{_*_, zero-le}
 use lib.ListN.{drop}
 use Rattle.numbers.specs.Parts.{putAt, put-length}
 use Rattle.rules.specs.FileMap.{emptyRecord}
-use Rattle.file_map.proofs.Turns.{mapped-length}
+use Rattle.file_map.proofs.RecordTurns.{mapped-length}
 use Rattle.as_numbers.specs.StateWords.{recordWords, recordsWords}
 use Rattle.as_numbers.specs.StateLaws.{record-length}
-use Rattle.as_numbers.proofs.Turns.{write-next, write-end}
+use Rattle.as_numbers.proofs.StateWordTurns.{write-next, write-end}
 use Prim.Native.Nat.{ℕ, _+_, _≤_, _-_}
 use mathlib.Core.Path.{_≡_}
 use native.Mathlib.Omega.{arith}

@@ -2,7 +2,7 @@ use mathlib.Core.Path.{_≡_, sym, _∙_}
 use native.Mathlib.Omega.{arith}
 use borrow.Author.Needs.{needs}
 use lib.ListN.{length, length-set}
-use Rattle.file_map.proofs.Turns.{mapped-length}
+use Rattle.file_map.proofs.RecordTurns.{mapped-length}
 use Rattle.as_numbers.specs.StateLaws.{put-all}
 use Rattle.as_numbers.proofs.state_words.put_state.Statement.{statement}
 use Rattle.as_numbers.proofs.state_words.put_state.Tie as tie

@@ -4,7 +4,7 @@ use Prim.Native.Nat.{_-_, _≤_, zero-le}
 use lib.ListN.{length, take, drop}
 use Rattle.rules.specs.Base.{any}
 use Rattle.rules.specs.FileMap.{emptyLabel}
-use Rattle.file_map.proofs.Turns.{mapped-length}
+use Rattle.file_map.proofs.RecordTurns.{mapped-length}
 use Rattle.reopen_tests.specs.Labels.{labelAt, clash}
 use Rattle.file_faults.specs.Search.{part-here, part-later, part-end}
 use Rattle.checker.specs.Types.{Label}

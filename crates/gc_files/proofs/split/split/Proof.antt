@@ -1,6 +1,6 @@
-use mathlib.Core.Path.{sym, _∙_}
+use mathlib.Core.Path.{_≡_, refl}
 use Rattle.gc_split.specs.Tally.{tally}
-use Rattle.gc_files.proofs.Turns.{Along, along-start, along-turn, along-end}
+use Rattle.gc_files.proofs.EntryTurns.{Along, along-start, along-turn, along-end}
 use Prim.Native.Nat.{_≤_, _<_, _-_}
 use native.Mathlib.Omega.{arith}
 use borrow.Author.Needs.{needs}
@@ -9,35 +9,35 @@ use Rattle.gc_files.proofs.split.split.Statement.{statement}
 use Rattle.gc_files.proofs.split.split.Tie as tie
 
 abbrev Inv-loop : tie.InvT-loop
-Inv-loop heap ids places sizes₀ counts₀ rounds₀ cuts₀ pieces₀ target slot-bytes t₀ n i₀ sizes counts rounds cuts pieces t i =
-    Along target slot-bytes heap ids places pieces₀ (tally sizes₀ counts₀ rounds₀ cuts₀ t₀) (tally sizes counts rounds cuts t) pieces i
+Inv-loop heap ids places shards₀ cuts₀ pieces₀ settings t₀ n i₀ shards cuts pieces t i =
+    (length shards ≡ length shards₀) × Along (settings .«target_file_size») (settings .«slot_bytes») heap ids places pieces₀ (tally shards₀ cuts₀ t₀) (tally shards cuts t) pieces i
 
 abbrev μ-loop : tie.MeasureT-loop
-μ-loop heap ids places sizes₀ counts₀ rounds₀ cuts₀ pieces₀ target slot-bytes t₀ n i₀ sizes counts rounds cuts pieces t i = length ids - i
+μ-loop heap ids places shards₀ cuts₀ pieces₀ settings t₀ n i₀ shards cuts pieces t i = length ids - i
 
 capacity-requires : tie.Need-capacity-requires Inv-loop μ-loop
 capacity-requires c κs = search needs
 
 loop-holds : tie.Need-loop-holds Inv-loop μ-loop
 loop-holds c =
-    let start = c .before .before .before .before .before .before .before .before .before in
-    along-start (start .args .target) (start .args .slot-bytes) (start .args .heap .now) (start .args .ids .now) (start .args .places .now) (start .args .pieces .now) _ (start .pre .1)
+    let start = c .before .before .before .before .before .before .before in
+    (refl, along-start (start .args .settings .«target_file_size») (start .args .settings .«slot_bytes») (start .args .heap .now) (start .args .ids .now) (start .args .places .now) (start .args .pieces .now) _ (start .pre .1))
 
 id-at-requires : tie.Need-id-at-requires Inv-loop μ-loop
 id-at-requires c κs = search needs
 
-mul-split-entry : tie.Need-mul-split-entry Inv-loop μ-loop
-mul-split-entry c = search needs
+mul-t15 : tie.Need-mul-t15 Inv-loop μ-loop
+mul-t15 c = search needs
 
-shared-slice-read-split-entry : tie.Need-shared-slice-read-split-entry Inv-loop μ-loop
-shared-slice-read-split-entry c = search needs
+shared-slice-read-t17 : tie.Need-shared-slice-read-t17 Inv-loop μ-loop
+shared-slice-read-t17 c = search needs
 
 split-entry-requires : tie.Need-split-entry-requires Inv-loop μ-loop
 split-entry-requires c κs =
-    let at = c .before .before .before .before .before .before .before .before in
-    let start = at .before .before .before .before .before .before .before .before .before .before in
+    let at = c .before .before .before .before .before .before in
+    let start = at .before .before .before .before .before .before .before .before in
     let entries = at .before .capacity .ensures in
-    let along = at .loop .inv in
+    let along = at .loop .inv .1 in
     let asked = start .pre .0 in
     let low : at .loop .i < length (start .args .ids .now) = omega arith in
     let wide = asked .pieces in
@@ -49,81 +49,47 @@ add-i c = search needs
 
 loop-less : tie.Need-loop-less Inv-loop μ-loop
 loop-less c =
-    let at = c .before .before .before .before .before .before .before .before .before .before .before .before .before .before .before .before .before .before .before in
-    let start = at .before .before .before .before .before .before .before .before .before .before in
+    let at = c .before .before .before .before .before .before .before .before .before .before .before .before .before in
+    let start = at .before .before .before .before .before .before .before .before in
     let entries = at .before .capacity .ensures in
-    let along = at .loop .inv in
+    let along = at .loop .inv .1 in
     let asked = start .pre .0 in
-    omega (arith, along .low, c .before .before .before .before .before .before .before .before .before .before .before .before .before .before .before .before .before .before .loop-test .taken)
+    omega (arith, along .low, c .before .before .before .before .before .before .before .before .before .before .before .before .loop-test .taken)
 
 loop-again : tie.Need-loop-again Inv-loop μ-loop
 loop-again c =
-    let at = c .before .before .before .before .before .before .before .before .before .before .before .before .before .before .before .before .before .before .before in
-    let start = at .before .before .before .before .before .before .before .before .before .before in
+    let at = c .before .before .before .before .before .before .before .before .before .before .before .before .before in
+    let start = at .before .before .before .before .before .before .before .before in
     let entries = at .before .capacity .ensures in
-    let along = at .loop .inv in
+    let along = at .loop .inv .1 in
     let asked = start .pre .0 in
-    let done = c .before .before .before .before .before .before .before .before .before .before .split-entry .ensures in
+    let done = c .before .before .before .before .before .before .split-entry .ensures in
     let i = at .loop .i in
-    let low : i < length (start .args .ids .now) = omega (arith, c .before .before .before .before .before .before .before .before .before .before .before .before .before .before .before .before .before .before .loop-test .taken) in
-    let room : i < length (at .loop .pieces) = omega (arith, asked .pieces, along .long) in
-    along-turn (start .args .target) (start .args .slot-bytes) (start .args .heap .now) (start .args .ids .now) (start .args .places .now) (start .args .pieces .now) _ _ _ (at .loop .pieces) _ i
-    low (omega (arith, asked .places)) room (asked .standing i) (omega (arith, along .entries, asked .room)) along (rw (c .before .before .before .before .before .before .before .before .before .before .before .before .before .before .before .before .before .id-at .ensures) at (done .0)) (rw (c .before .before .before .before .before .before .before .before .before .before .before .before .before .before .before .before .before .id-at .ensures) at (done .1))
+    let low : i < length (start .args .ids .now) = omega (arith, c .before .before .before .before .before .before .before .before .before .before .before .before .loop-test .taken) in
+    let room : i < length (at .loop .pieces) = omega (arith, asked .pieces, along .long) in (
+      search (at .loop .inv .0, needs),
+      along-turn (start .args .settings .«target_file_size») (start .args .settings .«slot_bytes») (start .args .heap .now) (start .args .ids .now) (start .args .places .now) (start .args .pieces .now) _ _ _ (at .loop .pieces) _ i
+          low (omega (arith, asked .places)) room (asked .standing i) (omega (arith, along .entries, asked .room)) along (rw (c .before .before .before .before .before .before .before .before .before .before .before .id-at .ensures) at (done .0)) (rw (c .before .before .before .before .before .before .before .before .before .before .before .id-at .ensures) at (done .1)),
+    )
 
 same-length : tie.Need-same-length Inv-loop μ-loop
-same-length c =
-    let at = c .before in
-    let start = at .before .before .before .before .before .before .before .before .before .before in
-    let entries = at .before .capacity .ensures in
-    let along = at .loop .inv in
-    let asked = start .pre .0 in
-    along .within .sizeShards ∙ sym (start .pre .1 .sizeShards)
+same-length c = c .before .loop .inv .0
 
 same-length-2 : tie.Need-same-length-2 Inv-loop μ-loop
-same-length-2 c =
-    let at = c .before in
-    let start = at .before .before .before .before .before .before .before .before .before .before in
-    let entries = at .before .capacity .ensures in
-    let along = at .loop .inv in
-    let asked = start .pre .0 in
-    along .within .countShards ∙ sym (start .pre .1 .countShards)
+same-length-2 c = c .before .loop .inv .1 .cuts
 
 same-length-3 : tie.Need-same-length-3 Inv-loop μ-loop
-same-length-3 c =
-    let at = c .before in
-    let start = at .before .before .before .before .before .before .before .before .before .before in
-    let entries = at .before .capacity .ensures in
-    let along = at .loop .inv in
-    let asked = start .pre .0 in
-    along .within .roundShards ∙ sym (start .pre .1 .roundShards)
-
-same-length-4 : tie.Need-same-length-4 Inv-loop μ-loop
-same-length-4 c =
-    let at = c .before in
-    let start = at .before .before .before .before .before .before .before .before .before .before in
-    let entries = at .before .capacity .ensures in
-    let along = at .loop .inv in
-    let asked = start .pre .0 in
-    along .cuts
-
-same-length-5 : tie.Need-same-length-5 Inv-loop μ-loop
-same-length-5 c =
-    let at = c .before in
-    let start = at .before .before .before .before .before .before .before .before .before .before in
-    let entries = at .before .capacity .ensures in
-    let along = at .loop .inv in
-    let asked = start .pre .0 in
-    along .long
+same-length-3 c = c .before .loop .inv .1 .long
 
 returns : tie.Need-returns Inv-loop μ-loop
 returns c =
     let at = c .before in
-    let start = at .before .before .before .before .before .before .before .before .before .before in
+    let start = at .before .before .before .before .before .before .before .before in
     let entries = at .before .capacity .ensures in
-    let along = at .loop .inv in
+    let along = at .loop .inv .1 in
     let asked = start .pre .0 in
     let past : length (start .args .ids .now) ≤ at .loop .i = omega arith in
-    along-end (start .args .target) (start .args .slot-bytes) (start .args .heap .now) (start .args .ids .now) (start .args .places .now) (start .args .pieces .now) _ _ (at .loop .pieces) (at .loop .i) past along
+    along-end (start .args .settings .«target_file_size») (start .args .settings .«slot_bytes») (start .args .heap .now) (start .args .ids .now) (start .args .places .now) (start .args .pieces .now) _ _ (at .loop .pieces) (at .loop .i) past along
 
 pub split-spec : {M : Type 1} → statement M
 split-spec =
@@ -134,8 +100,8 @@ split-spec =
     capacity-requires
     loop-holds
     id-at-requires
-    mul-split-entry
-    shared-slice-read-split-entry
+    mul-t15
+    shared-slice-read-t17
     split-entry-requires
     add-i
     loop-less
@@ -143,6 +109,4 @@ split-spec =
     same-length
     same-length-2
     same-length-3
-    same-length-4
-    same-length-5
     returns)

@@ -16,8 +16,8 @@ use Rattle.gc_files.proofs.split.split_entry.Tie as tie
 returns : tie.Need-returns
 unfolding entryTaken entryPiece
 returns c =
-    let start = c .before .before .before .before .before .before .before in
-    rw (eq-eqb (start .args .place) 0 (c .if1 .taken)) (refl, sym (set-getD (start .args .pieces .now) (start .args .i) 0))
+    let start = c .before .before .before .before .before .before in
+    rw (eq-eqb (start .args .e .place) 0 (c .if1 .taken)) (refl, sym (set-getD (start .args .pieces .now) (start .args .e .at) 0))
 
 moving-at-requires : tie.Need-moving-at-requires
 moving-at-requires c κs = search needs
@@ -28,32 +28,32 @@ shard-of-requires c κs = search needs
 size-of-requires : tie.Need-size-of-requires
 size-of-requires c κs =
     let moved = c .before in
-    let start = moved .before .before .before .before .before .before .before .before in
-    let some : 0 < start .args .place = omega (arith, moved .before .if1 .left) in
-    let told = moving-told (start .args .heap .now) (start .args .id) (start .args .place) some (start .pre .0) in
+    let start = moved .before .before .before .before .before .before .before in
+    let some : 0 < start .args .e .place = omega (arith, moved .before .if1 .left) in
+    let told = moving-told (start .args .heap .now) (start .args .e .id) (start .args .e .place) some (start .pre .0) in
     rw (moved .moving-at .ensures) (omega (arith, told .short))
 
 join-requires : tie.Need-join-requires
 join-requires c κs =
-    let z = c .before .before .before .before in
+    let z = c .before .before in
     let moved = z .before .before in
-    let start = moved .before .before .before .before .before .before .before .before in
+    let start = moved .before .before .before .before .before .before .before in
     let a = start .args in
-    let found = measured (a .heap .now) (a .id) (a .place) (moved .before .if1 .left) (start .pre .0) (moved .moving-at .ensures) (z .before .shard-of .ensures) (z .size-of .ensures) in
-    (rw (found .shard) (shard-most (opAt (a .heap .now) (a .id) (a .place) .content)), omega (arith, found .most), start .pre .1 .1 .0, start .pre .1 .1 .1)
+    let found = measured (a .heap .now) (a .e .id) (a .e .place) (moved .before .if1 .left) (start .pre .0) (moved .moving-at .ensures) (z .before .shard-of .ensures) (z .size-of .ensures) in
+    (rw (found .shard) (shard-most (opAt (a .heap .now) (a .e .id) (a .e .place) .content)), omega (arith, found .most), start .pre .1 .1 .0, start .pre .1 .1 .1)
 
 piece-in-requires : tie.Need-piece-in-requires
 piece-in-requires c κs =
-    let call = c .before .before .before .before .before .before .before .before .before in
-    let z = call .before .before .before .before .before in
+    let call = c .before .before .before .before .before in
+    let z = call .before .before .before in
     let moved = z .before .before in
-    let start = moved .before .before .before .before .before .before .before .before in
+    let start = moved .before .before .before .before .before .before .before in
     let a = start .args in
-    let found = measured (a .heap .now) (a .id) (a .place) (moved .before .if1 .left) (start .pre .0) (moved .moving-at .ensures) (z .before .shard-of .ensures) (z .size-of .ensures) in
-    let t = tally (a .sizes .now) (a .counts .now) (a .rounds .now) (a .cuts .now) (a .totals) in
-    let after = take-within (a .target) (a .slot-bytes) (z .before .shard-of .result) (z .size-of .result) t (start .pre .1 .1 .1) (start .pre .1 .1 .0) (found .most) in
+    let found = measured (a .heap .now) (a .e .id) (a .e .place) (moved .before .if1 .left) (start .pre .0) (moved .moving-at .ensures) (z .before .shard-of .ensures) (z .size-of .ensures) in
+    let t = tally (a .shards .now) (a .cuts .now) (a .totals) in
+    let after = take-within (a .settings .«target_file_size») (a .settings .«slot_bytes») (z .before .shard-of .result) (z .size-of .result) t (start .pre .1 .1 .1) (start .pre .1 .1 .0) (found .most) in
     let kept = rw (← call .join .ensures) at after in (
-      rw (found .shard) (shard-most (opAt (a .heap .now) (a .id) (a .place) .content)),
+      rw (found .shard) (shard-most (opAt (a .heap .now) (a .e .id) (a .e .place) .content)),
       kept .roundShards,
       omega (arith, kept .rounds (z .before .shard-of .result), kept .entries),
     )
@@ -63,13 +63,13 @@ cast-pieces c = search needs
 
 mul-pieces : tie.Need-mul-pieces
 mul-pieces c =
-    let start = c .before .before .before .before .before .before .before .before .before .before .before .before .before .before .before .before .before .before .before .before .before .before .before .before .before in
+    let start = c .before .before .before .before .before .before .before .before .before .before .before .before .before .before .before .before .before .before in
     let room = start .pre .1 .0 in
     omega arith
 
 slice-write-pieces : tie.Need-slice-write-pieces
 slice-write-pieces c =
-    let start = c .before .before .before .before .before .before .before .before .before .before .before .before .before .before .before .before .before .before .before .before .before .before .before .before .before in
+    let start = c .before .before .before .before .before .before .before .before .before .before .before .before .before .before .before .before .before .before in
     let room = start .pre .1 .0 in
     omega arith
 
@@ -82,25 +82,19 @@ same-length-2 c = search needs
 same-length-3 : tie.Need-same-length-3
 same-length-3 c = search needs
 
-same-length-4 : tie.Need-same-length-4
-same-length-4 c = search needs
-
-same-length-5 : tie.Need-same-length-5
-same-length-5 c = search needs
-
 returns-2 : tie.Need-returns-2
 unfolding entryTaken entryPiece
 returns-2 c =
-    let call = c .before .before .before .before .before .before .before .before .before .before in
-    let z = call .before .before .before .before .before in
+    let call = c .before .before .before .before .before .before in
+    let z = call .before .before .before in
     let moved = z .before .before in
-    let start = moved .before .before .before .before .before .before .before .before in
+    let start = moved .before .before .before .before .before .before .before in
     let a = start .args in
-    let found = measured (a .heap .now) (a .id) (a .place) (moved .before .if1 .left) (start .pre .0) (moved .moving-at .ensures) (z .before .shard-of .ensures) (z .size-of .ensures) in
-    let t = tally (a .sizes .now) (a .counts .now) (a .rounds .now) (a .cuts .now) (a .totals) in
-    let joined = call .join .ensures ∙ ap₂ (λ (n k : ℕ). taking (a .target) (a .slot-bytes) n k t) (found .shard) (found .size) in
+    let found = measured (a .heap .now) (a .e .id) (a .e .place) (moved .before .if1 .left) (start .pre .0) (moved .moving-at .ensures) (z .before .shard-of .ensures) (z .size-of .ensures) in
+    let t = tally (a .shards .now) (a .cuts .now) (a .totals) in
+    let joined = call .join .ensures ∙ ap₂ (λ (n k : ℕ). taking (a .settings .«target_file_size») (a .settings .«slot_bytes») n k t) (found .shard) (found .size) in
     let number = c .piece-in .ensures .0 ∙ ap₂ (λ (n : ℕ) (u : Tally). pieceNo n (getD (u .rounds) n 0)) (found .shard) joined in
-    rw (ne-eqb (a .place) 0 (moved .before .if1 .left)) (joined, ap (set (a .pieces .now) (a .i)) number)
+    rw (ne-eqb (a .e .place) 0 (moved .before .if1 .left)) (joined, ap (set (a .pieces .now) (a .e .at)) number)
 
 pub split-entry-spec : {M : Type 1} → statement M
 split-entry-spec =
@@ -118,6 +112,4 @@ split-entry-spec =
     same-length
     same-length-2
     same-length-3
-    same-length-4
-    same-length-5
     returns-2)

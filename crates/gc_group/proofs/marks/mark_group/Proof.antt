@@ -14,7 +14,7 @@ use Rattle.rules.specs.SlotFile.{slotBytes}
 use Rattle.rules.specs.SlotLaws.{slot-length}
 use Rattle.rules.specs.Maintenance.{fileTests}
 use Rattle.location_table.specs.LayoutLaws.{used}
-use Rattle.file_map.proofs.Turns.{mapped-length, copied, copied-start, copied-next, copied-end}
+use Rattle.file_map.proofs.RecordTurns.{mapped-length, copied, copied-start, copied-next, copied-end}
 use Rattle.gc_candidates.specs.Plan.{planned, plannedFrom, planned-here, planned-next, planned-start, planned-end}
 use Rattle.gc_group.specs.Source.{source, Lies}
 use Rattle.gc_group.specs.Checks.{groupChecks, group-refused, group-on, group-none}
@@ -25,15 +25,15 @@ use Rattle.gc_group.proofs.marks.mark_group.Statement.{statement}
 use Rattle.gc_group.proofs.marks.mark_group.Tie as tie
 
 abbrev Inv-loop : tie.InvT-loop
-Inv-loop s heap plan generation ids locations marks₀ lsns₀ m i₀ marks lsns i =
-    let from = source (s .«slot_bytes») heap (m .records) (used ids locations) in
+Inv-loop group heap plan ids locations marks₀ lsns₀ m i₀ marks lsns i =
+    let from = source (group .settings .«slot_bytes») heap (m .records) (used ids locations) in
     (i ≤ 256) × (length marks ≡ length marks₀) × (length lsns ≡ 256)
-    × (decide (groupChecks (s .«max_object_size») from (plannedFrom i (drop i plan) generation)) ≡ decide (groupChecks (s .«max_object_size») from (planned plan generation)))
-    × (marksFrom from (plannedFrom i (drop i plan) generation) marks ≡ marksOf from (length marks₀) (planned plan generation))
+    × (decide (groupChecks (group .settings .«max_object_size») from (plannedFrom i (drop i plan) (group .generation))) ≡ decide (groupChecks (group .settings .«max_object_size») from (planned plan (group .generation))))
+    × (marksFrom from (plannedFrom i (drop i plan) (group .generation)) marks ≡ marksOf from (length marks₀) (planned plan (group .generation)))
     × (lsns ≡ copied (λ (r : Record). r .label .lsn) (m .records) i lsns₀)
 
 abbrev μ-loop : tie.MeasureT-loop
-μ-loop s heap plan generation ids locations marks₀ lsns₀ m i₀ marks lsns i = 256 - i
+μ-loop group heap plan ids locations marks₀ lsns₀ m i₀ marks lsns i = 256 - i
 
 all-records : (start : tie.Start Inv-loop μ-loop) → length (start .args .t3 .records) ≡ 256
 all-records start = search (mapped-length, needs)
@@ -45,15 +45,15 @@ loop-holds : tie.Need-loop-holds Inv-loop μ-loop
 loop-holds c =
     let start = c .before .before .before .before .before .before .before .before .before .before in
     let a = start .args in
-    let from = source (a .s .«slot_bytes») (a .heap .now) (a .t3 .records) (used (a .ids .now) (a .locations .now)) in
+    let from = source (a .group .settings .«slot_bytes») (a .heap .now) (a .t3 .records) (used (a .ids .now) (a .locations .now)) in
     let zeros = c .before .before .unmark .ensures in
-    let first = planned-start (a .plan .now) (a .generation) in (
+    let first = planned-start (a .plan .now) (a .group .generation) in (
       omega arith,
       refl,
       start .pre .1 .1 .1,
-      ap (λ (ks : List ℕ). decide (groupChecks (a .s .«max_object_size») from ks)) (sym first),
-      ap₂ (marksFrom from) (sym first) zeros ∙ marks-start from (length (a .marks .now)) (planned (a .plan .now) (a .generation))
-          ∙ ap (λ (n : ℕ). marksOf from n (planned (a .plan .now) (a .generation))) (sym (ap length zeros ∙ length-replicate {A = ℕ} (length (a .marks .now)) 0)),
+      ap (λ (ks : List ℕ). decide (groupChecks (a .group .settings .«max_object_size») from ks)) (sym first),
+      ap₂ (marksFrom from) (sym first) zeros ∙ marks-start from (length (a .marks .now)) (planned (a .plan .now) (a .group .generation))
+          ∙ ap (λ (n : ℕ). marksOf from n (planned (a .plan .now) (a .group .generation))) (sym (ap length zeros ∙ length-replicate {A = ℕ} (length (a .marks .now)) 0)),
       copied-start (λ (r : Record). r .label .lsn) (a .t3 .records) (a .lsns .now),
     )
 
@@ -77,29 +77,29 @@ shared-slice-read-if1 c = search needs
 
 slot-at-requires : tie.Need-slot-at-requires Inv-loop μ-loop
 slot-at-requires c κs =
-    let at = c .before .before .before .before .before in
+    let at = c .before .before .before .before .before .before in
     let start = at .before .before .before .before .before .before .before .before .before .before .before in
     start .pre .0 .standing (at .loop .i) (c .if1 .taken)
 
 check-file-requires : tie.Need-check-file-requires Inv-loop μ-loop
 check-file-requires c κs =
     let chosen = c .before in
-    let at = chosen .before .before .before .before .before in
+    let at = chosen .before .before .before .before .before .before in
     let start = at .before .before .before .before .before .before .before .before .before .before .before in
     let a = start .args in
     let i = at .loop .i in
-    let whole : length (c .slot-at .result .now) ≡ a .s .«slot_bytes» =
-    ap length (c .slot-at .ensures) ∙ slot-length (a .s .«slot_bytes») (a .heap .now) i (start .pre .0 .standing i (chosen .if1 .taken)) in
+    let whole : length (c .slot-at .result .now) ≡ a .group .settings .«slot_bytes» =
+    ap length (c .slot-at .ensures) ∙ slot-length (a .group .settings .«slot_bytes») (a .heap .now) i (start .pre .0 .standing i (chosen .if1 .taken)) in
     (subst (λ (n : ℕ). Lies n (recordAt (a .t3 .records) i .label)) (sym whole) (start .pre .0 .files i), start .pre .1 .0)
 
 -- what is decided of the file in a slot
-checked : (c : tie.After-check-file Inv-loop μ-loop) → let at = c .before .before .before .before .before .before .before in
+checked : (c : tie.After-check-file Inv-loop μ-loop) → let at = c .before .before .before .before .before .before .before .before in
     let a = at .before .before .before .before .before .before .before .before .before .before .before .args in
-    decide (fileTests (a .s .«max_object_size») (used (a .ids .now) (a .locations .now)) (recordAt (a .t3 .records) (at .loop .i) .label) (slotBytes (a .s .«slot_bytes») (a .heap .now) (at .loop .i))) ≡ c .check-file .result
+    decide (fileTests (a .group .settings .«max_object_size») (used (a .ids .now) (a .locations .now)) (recordAt (a .t3 .records) (at .loop .i) .label) (slotBytes (a .group .settings .«slot_bytes») (a .heap .now) (at .loop .i))) ≡ c .check-file .result
 checked c =
-    let at = c .before .before .before .before .before .before .before in
+    let at = c .before .before .before .before .before .before .before .before in
     let a = at .before .before .before .before .before .before .before .before .before .before .before .args in
-    ap (λ (bytes : List ℕ). decide (fileTests (a .s .«max_object_size») (used (a .ids .now) (a .locations .now)) (recordAt (a .t3 .records) (at .loop .i) .label) bytes)) (sym (c .before .slot-at .ensures))
+    ap (λ (bytes : List ℕ). decide (fileTests (a .group .settings .«max_object_size») (used (a .ids .now) (a .locations .now)) (recordAt (a .t3 .records) (at .loop .i) .label) bytes)) (sym (c .before .slot-at .ensures))
     ∙ sym (c .check-file .ensures)
 
 enum-known-refusal : tie.Need-enum-known-refusal Inv-loop μ-loop
@@ -110,7 +110,7 @@ same-length c = search needs
 
 same-length-2 : tie.Need-same-length-2 Inv-loop μ-loop
 same-length-2 c =
-    let at = c .before .before .before .before .before .before .before .before .before .before in
+    let at = c .before .before .before .before .before .before .before .before .before .before .before in
     let start = at .before .before .before .before .before .before .before .before .before .before .before in
     length-set (at .loop .lsns) (at .loop .i) _ ∙ at .loop .inv .2 ∙ sym (start .pre .1 .1 .1)
 
@@ -118,14 +118,14 @@ returns : tie.Need-returns Inv-loop μ-loop
 returns c =
     let done = c .before .before .before in
     let chosen = done .before .before in
-    let at = chosen .before .before .before .before .before in
+    let at = chosen .before .before .before .before .before .before in
     let start = at .before .before .before .before .before .before .before .before .before .before .before in
     let a = start .args in
-    let from = source (a .s .«slot_bytes») (a .heap .now) (a .t3 .records) (used (a .ids .now) (a .locations .now)) in
+    let from = source (a .group .settings .«slot_bytes») (a .heap .now) (a .t3 .records) (used (a .ids .now) (a .locations .now)) in
     let i = at .loop .i in (
       sym (
-          ap (λ (ks : List ℕ). decide (groupChecks (a .s .«max_object_size») from ks)) (planned-here (a .plan .now) (a .generation) i (omega (arith, start .pre .0 .slots, chosen .before .before .before .before .loop-test .taken)) (chosen .if1 .taken))
-          ∙ group-refused (a .s .«max_object_size») from i _ _ (checked done ∙ c .before .refusal .given .1))
+          ap (λ (ks : List ℕ). decide (groupChecks (a .group .settings .«max_object_size») from ks)) (planned-here (a .plan .now) (a .group .generation) i (omega (arith, start .pre .0 .slots, chosen .before .before .before .before .before .loop-test .taken)) (chosen .if1 .taken))
+          ∙ group-refused (a .group .settings .«max_object_size») from i _ _ (checked done ∙ c .before .refusal .given .1))
           ∙ at .loop .inv .3,
       ((λ e. absurd (let z : _≡_ {A = ℕ} 0 1 = cc in omega arith)), (λ e. absurd (let z : _≡_ {A = ℕ} 0 1 = cc in omega arith))),
     )
@@ -143,17 +143,17 @@ mark-file-requires : tie.Need-mark-file-requires Inv-loop μ-loop
 mark-file-requires c κs =
     let done = c .before .before .before in
     let chosen = done .before .before in
-    let at = chosen .before .before .before .before .before in
+    let at = chosen .before .before .before .before .before .before in
     let blank = at .before .before .before in
     let start = blank .before .before .before .before .before .before .before .before in
     let a = start .args in
     let i = at .loop .i in
     let l = recordAt (a .t3 .records) i .label in
     let bytes = done .before .slot-at .ensures in
-    let whole : length (done .before .slot-at .result .now) ≡ a .s .«slot_bytes» =
-    ap length bytes ∙ slot-length (a .s .«slot_bytes») (a .heap .now) i (start .pre .0 .standing i (chosen .if1 .taken)) in
+    let whole : length (done .before .slot-at .result .now) ≡ a .group .settings .«slot_bytes» =
+    ap length bytes ∙ slot-length (a .group .settings .«slot_bytes») (a .heap .now) i (start .pre .0 .standing i (chosen .if1 .taken)) in
     let clear =
-    file-clear (a .s .«max_object_size») (used (a .ids .now) (a .locations .now)) l (slotBytes (a .s .«slot_bytes») (a .heap .now) i) (checked done ∙ c .before .enum-told .given .1) in (
+    file-clear (a .group .settings .«max_object_size») (used (a .ids .now) (a .locations .now)) l (slotBytes (a .group .settings .«slot_bytes») (a .heap .now) i) (checked done ∙ c .before .enum-told .given .1) in (
       subst (λ (n : ℕ). Lies n l) (sym whole) (start .pre .0 .files i),
       (
         subst (Clear l) (sym bytes) clear,
@@ -169,25 +169,25 @@ loop-less c = search needs
 
 loop-again : tie.Need-loop-again Inv-loop μ-loop
 loop-again c =
-    let at = c .before .before .before .before .before in
+    let at = c .before .before .before .before .before .before in
     let start = at .before .before .before .before .before .before .before .before .before .before .before in
     let a = start .args in
     let i = at .loop .i in
     let table = used (a .ids .now) (a .locations .now) in
-    let from = source (a .s .«slot_bytes») (a .heap .now) (a .t3 .records) table in
+    let from = source (a .group .settings .«slot_bytes») (a .heap .now) (a .t3 .records) table in
     let rs = a .t3 .records in
     let l = recordAt rs i .label in
-    let rest = plannedFrom (i + 1) (drop (i + 1) (a .plan .now)) (a .generation) in
+    let rest = plannedFrom (i + 1) (drop (i + 1) (a .plan .now)) (a .group .generation) in
     let inside : i < length (a .plan .now) = omega (arith, start .pre .0 .slots) in
-    let f : List ℕ → Answer = λ ks. decide (groupChecks (a .s .«max_object_size») from ks) in
+    let f : List ℕ → Answer = λ ks. decide (groupChecks (a .group .settings .«max_object_size») from ks) in
     let all = all-records start in
     let long = length-set (at .loop .lsns) i (l .lsn) ∙ at .loop .inv .2 in
     let read =
     ap (λ (ns : List ℕ). set ns i (l .lsn)) (at .loop .inv .5) ∙ copied-next (λ (q : Record). q .label .lsn) rs i (a .lsns .now) (omega arith) (omega (arith, start .pre .1 .1 .1)) in
     ⊎-elim
     (λ w.
-    let here = planned-here (a .plan .now) (a .generation) i inside (w .0 .taken) in
-    let ids = idsOf (foundFile table l (slotBytes (a .s .«slot_bytes») (a .heap .now) i)) in
+    let here = planned-here (a .plan .now) (a .group .generation) i inside (w .0 .taken) in
+    let ids = idsOf (foundFile table l (slotBytes (a .group .settings .«slot_bytes») (a .heap .now) i)) in
     let after : c .if1 .marks ≡ marked (suc i) ids table (at .loop .marks) =
     w .9 ∙ w .6 .ensures ∙ ap₂ (λ (m : ℕ) (bytes : List ℕ). marked m (idsOf (foundFile table l bytes)) table (at .loop .marks)) (add-one i) (w .1 .ensures) in (
       omega arith,
@@ -195,13 +195,13 @@ loop-again c =
       long,
       sym (
           ap f here
-          ∙ group-on (a .s .«max_object_size») from i _ (checked (record { before = record { before = record { before = c .before; if1 = w .0 }; slot-at = w .1 }; check-file = w .2 }) ∙ w .4 .given .1))
+          ∙ group-on (a .group .settings .«max_object_size») from i _ (checked (record { before = record { before = record { before = c .before; if1 = w .0 }; slot-at = w .1 }; check-file = w .2 }) ∙ w .4 .given .1))
           ∙ at .loop .inv .3,
       ap (marksFrom from rest) after ∙ sym (marks-next from i rest (at .loop .marks)) ∙ sym (ap (λ (ks : List ℕ). marksFrom from ks (at .loop .marks)) here) ∙ at .loop .inv .4,
       read,
     ))
     (λ w.
-    let past = planned-next (a .plan .now) (a .generation) i inside (w .0 .left) in (
+    let past = planned-next (a .plan .now) (a .group .generation) i inside (w .0 .left) in (
       omega arith,
       ap length (w .1) ∙ at .loop .inv .1,
       long,
@@ -223,16 +223,16 @@ returns-2 c =
     let blank = at .before .before .before in
     let start = blank .before .before .before .before .before .before .before .before in
     let a = start .args in
-    let from = source (a .s .«slot_bytes») (a .heap .now) (a .t3 .records) (used (a .ids .now) (a .locations .now)) in
+    let from = source (a .group .settings .«slot_bytes») (a .heap .now) (a .t3 .records) (used (a .ids .now) (a .locations .now)) in
     let rs = a .t3 .records in
     let all = all-records start in
-    let past = planned-end (a .plan .now) (a .generation) (at .loop .i) (omega (arith, start .pre .0 .slots)) in (
-      sym (ap (λ (ks : List ℕ). decide (groupChecks (a .s .«max_object_size») from ks)) past ∙ group-none (a .s .«max_object_size») from) ∙ at .loop .inv .3,
+    let past = planned-end (a .plan .now) (a .group .generation) (at .loop .i) (omega (arith, start .pre .0 .slots)) in (
+      sym (ap (λ (ks : List ℕ). decide (groupChecks (a .group .settings .«max_object_size») from ks)) past ∙ group-none (a .group .settings .«max_object_size») from) ∙ at .loop .inv .3,
       (
         (λ e.
             sym (ap (λ (ks : List ℕ). marksFrom from ks (at .loop .marks)) past ∙ marks-end from (at .loop .marks))
             ∙ at .loop .inv .4
-            ∙ ap (λ (n : ℕ). marksOf from n (planned (a .plan .now) (a .generation))) (ap length (blank .unmark .ensures) ∙ length-replicate {A = ℕ} (length (a .marks .now)) 0)),
+            ∙ ap (λ (n : ℕ). marksOf from n (planned (a .plan .now) (a .group .generation))) (ap length (blank .unmark .ensures) ∙ length-replicate {A = ℕ} (length (a .marks .now)) 0)),
         (λ e. at .loop .inv .5 ∙ copied-end (λ (r : Record). r .label .lsn) rs (at .loop .i) (a .lsns .now) (omega arith) (omega (arith, start .pre .1 .1 .1))),
       ),
     )

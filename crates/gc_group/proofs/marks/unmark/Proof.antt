@@ -6,7 +6,7 @@ use lib.ListN.{length, getD, set, length-set, replicate, length-replicate}
 use Rattle.gc_group.proofs.marks.unmark.Statement.{statement}
 use Rattle.gc_group.proofs.marks.unmark.Tie as tie
 use mathlib.Core.List.{List}
-use Rattle.gc_candidates.proofs.Turns.{filled, filled-start, filled-next, filled-end}
+use Rattle.gc_candidates.proofs.PlanTurns.{filled, filled-start, filled-next, filled-end}
 use Rattle.rules.specs.BaseLaws.{replicate-at}
 
 abbrev Inv-loop : tie.InvT-loop

@@ -3,7 +3,7 @@ use mathlib.Core.Logic.{⊎-elim}
 use Rattle.disk_location.specs.Locations.{maskedOf, positionOf}
 use Rattle.rules.specs.Reopen.{inRange, mappedInto}
 use Rattle.location_table.specs.LayoutLaws.{used-fits, used-location, used}
-use Rattle.rebuild.proofs.Turns.{count-here, count-later, count-end}
+use Rattle.rebuild.proofs.CountTurns.{count-here, count-later, count-end}
 use lib.ListN.{drop, length}
 use Prim.Native.Nat.{ℕ, _+_, _≤_, _<_, _-_}
 use native.Mathlib.Omega.{arith}

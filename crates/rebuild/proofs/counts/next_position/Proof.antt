@@ -1,8 +1,8 @@
-use Rattle.file_map.proofs.Turns.{mapped-length}
+use Rattle.file_map.proofs.RecordTurns.{mapped-length}
 use mathlib.Core.Path.{sym, ap, ap₂, _∙_, _≡_}
 use Prim.Native.Nat.{zero-le, ℕ, _+_, _≤_, _-_}
 use Rattle.rebuild.specs.Records.{nextFrom, maskedLsn, sizeOf}
-use Rattle.rebuild.proofs.Turns.{greatest-start, greatest-next, greatest-end}
+use Rattle.rebuild.proofs.CountTurns.{greatest-start, greatest-next, greatest-end}
 use lib.ListN.{drop, length}
 use Rattle.rules.specs.Base.{larger, greatest}
 use native.Mathlib.Omega.{arith}

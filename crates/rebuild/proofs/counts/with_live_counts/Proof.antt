@@ -1,11 +1,11 @@
-use Rattle.file_map.proofs.Turns.{mapped-length}
+use Rattle.file_map.proofs.RecordTurns.{mapped-length}
 use mathlib.Core.Path.{ap, refl, _∙_, _≡_}
 use mathlib.Core.List.{List}
 use Prim.Native.Nat.{zero-le, _≤_, _-_}
 use Rattle.rules.specs.declared.Record.{Record}
 use Rattle.location_table.specs.LayoutLaws.{used}
 use Rattle.rebuild.specs.Records.{counted}
-use Rattle.rebuild.proofs.Turns.{mapTo, map-next, map-end}
+use Rattle.rebuild.proofs.CountTurns.{mapTo, map-next, map-end}
 use native.Mathlib.Omega.{arith}
 use borrow.Author.Needs.{needs}
 use lib.ListN.{length, set}

@@ -1,7 +1,7 @@
 use mathlib.Core.Path.{sym, ap, _∙_, _≡_}
 use Rattle.trailer.specs.Entries.{entries-count}
 use Rattle.rules.specs.declared.Entry.{Entry}
-use Rattle.reopen_tests.proofs.Turns.{ascending-none, ascending-start, ascending-stop, ascending-next, ascending-end}
+use Rattle.reopen_tests.proofs.TestTurns.{ascending-none, ascending-start, ascending-stop, ascending-next, ascending-end}
 use lib.ListN.{drop}
 use Rattle.rules.specs.Trailer.{countIn, entriesIn}
 use Rattle.reopen_tests.specs.Ascending.{ascending, ascendingFrom}

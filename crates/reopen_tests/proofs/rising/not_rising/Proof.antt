@@ -7,7 +7,7 @@ use Rattle.rules.specs.SlotLaws.{slots-apart, views-length}
 use Rattle.rules.specs.Reopen.{filesIn}
 use Rattle.reopen_tests.specs.Ascending.{fileFalls}
 use Rattle.reopen_tests.specs.Shown.{shown-at}
-use Rattle.reopen_tests.proofs.Turns.{slot-here, slot-later, slot-end, slot-read}
+use Rattle.reopen_tests.proofs.TestTurns.{slot-here, slot-later, slot-end, slot-read}
 use native.Mathlib.Omega.{arith}
 use borrow.Author.Needs.{needs}
 use Rattle.reopen_tests.proofs.rising.not_rising.Statement.{statement}

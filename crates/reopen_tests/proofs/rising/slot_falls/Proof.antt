@@ -5,7 +5,7 @@ use Rattle.rules.specs.Trailer.{entriesIn}
 use Rattle.rules.specs.Reopen.{notRising}
 use Rattle.reopen_tests.specs.Ascending.{fileFalls}
 use Rattle.reopen_tests.specs.Shown.{fileSeen, shown-empty, shown-file, file-of}
-use Rattle.reopen_tests.proofs.Turns.{any-one}
+use Rattle.reopen_tests.proofs.TestTurns.{any-one}
 use Prim.Native.Nat.{ℕ}
 use borrow.Author.Needs.{needs}
 use Rattle.reopen_tests.proofs.rising.slot_falls.Statement.{statement}

@@ -4,7 +4,7 @@ use lib.ListN.{drop}
 use Rattle.rules.specs.Trailer.{countIn, entriesIn}
 use Rattle.rules.specs.Reopen.{notRising}
 use Rattle.trailer.specs.Entries.{entries-count}
-use Rattle.reopen_tests.proofs.Turns.{rising-here, rising-later, rising-end}
+use Rattle.reopen_tests.proofs.TestTurns.{rising-here, rising-later, rising-end}
 use native.Mathlib.Omega.{arith}
 use borrow.Author.Needs.{needs}
 use Rattle.reopen_tests.proofs.rising.some_repeated.Statement.{statement}

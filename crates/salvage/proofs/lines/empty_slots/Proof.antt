@@ -2,7 +2,7 @@ use mathlib.Core.Path.{refl, sym, _∙_, subst, _≡_}
 use Prim.Native.Nat.{zero-le, ℕ, _+_, _*_, _≤_, _-_}
 use native.Mathlib.Nat.{sub-zero}
 use Rattle.stores.specs.Runs.{made-then, made-none, made-length, Made}
-use Rattle.salvage.proofs.Turns.{told-step, told-end, made-one}
+use Rattle.salvage.proofs.LossTurns.{told-step, told-end, made-one}
 use Rattle.salvage.specs.Lines.{slotsTold, LabelsIn}
 use Rattle.rules.specs.PruneLaws.{emptying}
 use native.Mathlib.Omega.{arith}

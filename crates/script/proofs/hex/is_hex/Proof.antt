@@ -3,7 +3,7 @@ use mathlib.Core.Bool.{Bool, true, false, _&&_}
 use borrow.Author.Tests.{not-true, not-false}
 use lib.ListN.{drop, length, getD}
 use Rattle.script.specs.Hex.{isHexDigit, allHex}
-use Rattle.script.proofs.Turns.{odd-none, even-hex, hex-turn, hex-end}
+use Rattle.script.proofs.WordTurns.{odd-none, even-hex, hex-turn, hex-end}
 use Prim.Native.Nat.{_+_, _≤_, _-_}
 use native.Mathlib.Omega.{arith}
 use borrow.Author.Needs.{needs}

@@ -3,7 +3,7 @@ use Rattle.numbers.specs.Parts.{put-front, put-step, put-none, front, putAt}
 use Prim.Native.Nat.{_*_, _/_, ℕ, _+_, _≤_, _-_}
 use lib.ListN.{drop, length, set}
 use Rattle.script.specs.Hex.{bytesOf}
-use Rattle.script.proofs.Turns.{pair-turn, pair-end}
+use Rattle.script.proofs.WordTurns.{pair-turn, pair-end}
 use native.Mathlib.Omega.{arith}
 use borrow.Author.Needs.{needs}
 use Rattle.script.proofs.hex.put_bytes.Statement.{statement}

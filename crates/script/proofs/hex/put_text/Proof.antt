@@ -3,7 +3,7 @@ use Rattle.numbers.specs.Parts.{put-front, put-none, front, putAt}
 use Prim.Native.Nat.{_*_, _+_, _≤_, _-_}
 use lib.ListN.{drop, length, length-set}
 use Rattle.script.specs.Hex.{textOf}
-use Rattle.script.proofs.Turns.{text-turn, text-end, put-two}
+use Rattle.script.proofs.WordTurns.{text-turn, text-end, put-two}
 use native.Mathlib.Omega.{arith}
 use borrow.Author.Needs.{needs}
 use Rattle.script.proofs.hex.put_text.Statement.{statement}

@@ -5,7 +5,7 @@ use borrow.Author.Tests.{not-true, not-false}
 use Rattle.numbers.specs.Choice.{pick}
 use lib.ListN.{drop, length, getD}
 use Rattle.script.specs.Words.{isBlank, runOf}
-use Rattle.script.proofs.Turns.{run-turn, run-end}
+use Rattle.script.proofs.WordTurns.{run-turn, run-end}
 use native.Mathlib.Omega.{arith}
 use borrow.Author.Needs.{needs}
 use Rattle.script.proofs.words.run_end.Statement.{statement}

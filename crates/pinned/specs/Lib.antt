@@ -1,0 +1,17 @@
+-- bytes that say a number; an accepted answer
+pub mod Parts
+pub mod Answered
+-- "File bytes", and a batch: parsed exactly if the bytes are those of what was parsed
+pub mod Batch
+pub mod Label
+pub mod Trailer
+pub mod Object
+-- "Calls"
+pub mod TableCalls
+pub mod Read
+pub mod Claims
+pub mod Counts
+pub mod Reopening
+pub mod Write
+pub mod Shards
+pub mod Maintenance
