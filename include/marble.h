@@ -89,8 +89,9 @@ extern "C" {
 #define MARBLE_MAX_OBJECT_SIZE_MAX 1048576
 #define MARBLE_LABEL_BYTES 64
 
-/* ---- the column "Port's default": marble_settings s = MARBLE_DEFAULTS; */
-#define MARBLE_DEFAULTS {4096, 75, 2, 2048, 64, 1024}
+/* ---- the column "Port's default": marble_settings s = MARBLE_DEFAULTS; file_compaction_percent is 50 by request P10 of document 02, where
+   document 01 had 75. */
+#define MARBLE_DEFAULTS {4096, 50, 2, 2048, 64, 1024}
 
 /* ---- sizes. An argument is a number of things or of bytes; bodies are the bytes of all bodies together. */
 /* A buffer of so many bytes takes every batch of these puts and deletes: id 10 bytes at most, tag 1, length 3 at most, as every body that a

@@ -1,13 +1,17 @@
-/* Maintenance: lines P6 to P9, what it moves and leaves, and where it stops. */
+/* Maintenance: lines P6 to P9, the default percentage, what it moves and leaves, and where it stops. */
 #include "harness.h"
 
 /* one group is enough, and no file is small */
-static marble_settings alone(void) {
+static marble_settings alone_at(uint64_t percent) {
     marble_settings s = defaults();
+    s.file_compaction_percent = percent;
     s.min_compaction_files = 1;
     s.small_file_cleanup_threshold = 256;
     return s;
 }
+
+/* document 01's percentage, which its lines name themselves */
+static marble_settings alone(void) { return alone_at(75); }
 
 static void opened(marble_settings s, size_t slots, size_t table) {
     fresh(s, slots, table);
@@ -41,6 +45,28 @@ static void p6(void) {
     expect("line P6 the new file", w.state->records[2].live, 2);
     holds(1, 1, 'a');
     holds(2, 1, 'a');
+    holds(3, 1, 'b');
+}
+
+/* Request P10: at the default, 50, half live is no candidate, and nor are line P6's 2 of 3; 1 of 3 (33) is. */
+static void at_the_default(void) {
+    const marble_settings s = alone_at(defaults().file_compaction_percent);
+    opened(s, 8, 16);
+    of_which_replaced(2, 1);
+    expect("the default maintain", maintain(), MARBLE_OK);
+    expect("the default 1 of 2: none moved", out[1], 0);
+    opened(s, 8, 16);
+    of_which_replaced(3, 1);
+    expect("the default maintain", maintain(), MARBLE_OK);
+    expect("the default 2 of 3: none moved", out[1], 0);
+    expect("the default 2 of 3: stays", w.state->records[0].live, 2);
+    opened(s, 8, 16);
+    of_which_replaced(3, 2);
+    expect("the default maintain", maintain(), MARBLE_OK);
+    expect("the default 1 of 3: moved", out[1], 1);
+    expect("the default 1 of 3: pruned", w.state->records[0].lsn, 0);
+    holds(1, 1, 'a');
+    holds(2, 1, 'b');
     holds(3, 1, 'b');
 }
 
@@ -238,6 +264,7 @@ static void costs(void) {
 
 void maintenance(void) {
     p6();
+    at_the_default();
     p7(0, 1);
     p7(3, 3);
     p7(255, 3);

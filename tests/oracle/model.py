@@ -171,7 +171,7 @@ class Store:
     """what the host lends and keeps: settings it gives, heap, table, state, claims"""
 
     def __init__(self):
-        self.given = Settings((4096, 75, 2, 2048, 64, 1024))
+        self.given = Settings((4096, 50, 2, 2048, 64, 1024))
         self.heap = bytearray(16 * 4096)
         self.ids, self.locations = [0] * 1024, [0] * 1024
         self.settings, self.heap_len, self.table_len, self.next = Settings([0] * 6), 0, 0, 0

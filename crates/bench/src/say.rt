@@ -89,7 +89,7 @@ pub fn hex(part: &[u8]) {
 pub fn first_screen() {
     text(b"# Tumrezask bench: one command to a line, one answer to a command; help lists them.\n");
     text(
-        b"# Settings 4096 75 2 2048 64 1024, a heap of 65536 zeros (16 slots), a table of 1024, not reopened.\n",
+        b"# Settings 4096 50 2 2048 64 1024, a heap of 65536 zeros (16 slots), a table of 1024, not reopened.\n",
     );
     text(b"# At most: heap 1048576 bytes, table 65536 entries, line 131200 bytes.\n");
 }

@@ -21,13 +21,13 @@ ghost use Rattle.rules.specs.Condition1.{outOfRange, badRecord, conditionOne};
 ghost use Rattle.rules.specs.Layout.{table};
 ghost use Rattle.limits.specs.Settled.{stateOf, theStates, badFiles};
 
-// "Port's default"
+// "Port's default"; of the percentage, document 02, request P10: "The default of file_compaction_percent becomes 50."
 pub fn defaults() -> Settings
     ensures { λ s. ⌜ s ≡ defaults ⌝ }
 {
     Settings {
         slot_bytes: 4096,
-        file_compaction_percent: 75,
+        file_compaction_percent: 50,
         min_compaction_files: 2,
         target_file_size: 2048,
         small_file_cleanup_threshold: 64,

@@ -1,6 +1,6 @@
--- "Lines to hold, both sides": lines P1 to P10, one table and one proved statement.
+-- "Lines to hold, both sides": lines P1 to P10, and the default of request P10; one table and one proved statement.
 use Rattle.rules.specs.Base.{Bool, true, false, not, _&&_, List, [], _∷_, _++_, map, ℕ, _+_, _-_, _^_, length, replicate, eqb, any, zeros, keep, each, sum, greatest, padded}
-use Rattle.rules.specs.Types.{Entry, Record}
+use Rattle.rules.specs.Types.{Entry, Record, Settings}
 use mathlib.Core.Path.{_≡_, refl}
 use Rattle.numbers.specs.LittleEndian.{leBytes, leValue}
 use Rattle.numbers.specs.Groups.{groupsOf, readGroups, numberIn}
@@ -57,6 +57,21 @@ mapping id location = record { id = id; location = location }
 abbrev pub lived : ℕ → ℕ → Record
 lived live present = recorded (record { lsn = 1; «trailer_offset» = 0; «file_size» = 0; «present_objects» = present; generation = 0 }) live
 
+-- "at 75": the defaults but for the percentage, which a line of document 01 names itself
+abbrev pub atPercent : ℕ → Settings
+atPercent percent = record {
+  «slot_bytes» = defaults .«slot_bytes»;
+  «file_compaction_percent» = percent;
+  «min_compaction_files» = defaults .«min_compaction_files»;
+  «target_file_size» = defaults .«target_file_size»;
+  «small_file_cleanup_threshold» = defaults .«small_file_cleanup_threshold»;
+  «max_object_size» = defaults .«max_object_size»;
+}
+
+-- its live percentage, and whether these settings make it a candidate for that
+abbrev pub judged : Settings → Record → List ℕ
+judged s r = livePercent r ∷ bit (worthIt s 2 r) ∷ []
+
 -- a put of so many bytes
 abbrev pub object : ℕ → ℕ → Op
 object id size = record { id = id; content = put (replicate size 0) }
@@ -106,7 +121,7 @@ lines =
     }
     -- line P6 "3 live of 4 at 75: no candidate; 2 of 3 (66): a candidate"
     ∷ record {
-      ours = livePercent (lived 3 4) ∷ bit (worthIt defaults 2 (lived 3 4)) ∷ livePercent (lived 2 3) ∷ bit (worthIt defaults 2 (lived 2 3)) ∷ [];
+      ours = judged (atPercent 75) (lived 3 4) ++ judged (atPercent 75) (lived 2 3);
       paper = 75 ∷ 0 ∷ 66 ∷ 1 ∷ [];
     }
     -- line P7 "generations 0, 3, 255 give 1, 3, 3"
@@ -127,6 +142,11 @@ lines =
     ∷ record {
       ours = listing wrote;
       paper = 115 ∷ 108 ∷ 111 ∷ 116 ∷ 32 ∷ 108 ∷ 115 ∷ 110 ∷ 32 ∷ 103 ∷ 101 ∷ 110 ∷ 32 ∷ 112 ∷ 114 ∷ 101 ∷ 115 ∷ 101 ∷ 110 ∷ 116 ∷ 32 ∷ 108 ∷ 105 ∷ 118 ∷ 101 ∷ 32 ∷ 115 ∷ 105 ∷ 122 ∷ 101 ∷ 10 ∷ 48 ∷ 32 ∷ 52 ∷ 54 ∷ 49 ∷ 49 ∷ 54 ∷ 56 ∷ 54 ∷ 48 ∷ 49 ∷ 56 ∷ 52 ∷ 50 ∷ 55 ∷ 51 ∷ 56 ∷ 55 ∷ 57 ∷ 48 ∷ 53 ∷ 32 ∷ 48 ∷ 32 ∷ 50 ∷ 32 ∷ 50 ∷ 32 ∷ 54 ∷ 53 ∷ 10 ∷ 105 ∷ 100 ∷ 115 ∷ 32 ∷ 50 ∷ 10 ∷ [];
+    }
+    -- request P10 "The default of file_compaction_percent becomes 50": 1 live of 2 is no candidate, nor are line P6's 2 of 3 (66); 1 of 3 (33) is
+    ∷ record {
+      ours = judged defaults (lived 1 2) ++ (judged defaults (lived 2 3) ++ judged defaults (lived 1 3));
+      paper = 50 ∷ 0 ∷ 66 ∷ 0 ∷ 33 ∷ 1 ∷ [];
     }
     ∷ []
 
