@@ -23,8 +23,8 @@ use Rattle.rules.specs.Table.{lookup, insert, insertAll}
 use Rattle.rules.specs.Trailer.{listed, trailerBytes, trailerTests, entriesFrom, entriesIn, misplaced}
 use Rattle.rules.specs.World.{World}
 use Rattle.rules.specs.Write.{tooManyIds, writeTests, written, writeCall}
-use Rattle.theory.specs.History.{write, called}
-use Rattle.theory.specs.Writes.{nothing, bytes, got}
+use Rattle.history_theory.specs.History.{write, called}
+use Rattle.history_theory.specs.Writes.{nothing, bytes, got}
 use Rattle.numbers.specs.Parts.{front}
 use Rattle.theory.specs.Types.{Checksum}
 use Rattle.power_cuts.specs.Hidden.{withHeap}
