@@ -24,7 +24,7 @@ use Rattle.history_theory.specs.Quiet.{claim, release}
 use Rattle.history_theory.specs.History.{called as calling}
 use Rattle.history_theory.specs.Writes.{refused-unchanged}
 use Rattle.history_theory.specs.Writes.{Plain as PlainCall}
-use Rattle.salvage.specs.Salvage.{Salvaged, salvageCall}
+use Rattle.losses.specs.Salvage.{Salvaged, salvageCall}
 use Rattle.script.specs.declared.Keyword.the-variants as key
 use Rattle.desk.specs.Types.{Refusal, Limits, Answer, Done, Refused, Keyword, Bench, Check, Bytes, BadLine, Shown}
 use Rattle.desk.specs.Desk.{Desk, desk, Words, plain, found, moved, counted, located, compared, raised, emptied, Said, bad-line, gave, shows, Outcome, left, replied, done, badLine, looked, changed, worldOf, deskOf, answered, called, onTable, lentOf, putBack, onLent}

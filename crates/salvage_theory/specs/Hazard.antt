@@ -31,7 +31,7 @@ use Rattle.power_cuts.specs.Hidden.{withHeap}
 use Rattle.power_cuts.specs.Witness.{first, again}
 use Rattle.faults.specs.Faults.{walked, objectFaults, entryFaults, fileFaults, slotFaults, faultsFrom, closing, faultsOf}
 use Rattle.check_theory.specs.Accepting.{listOf}
-use Rattle.salvage.specs.Salvage.{loss, firstKind, theRest, placed, inOrder, givenUpBehind, secondKind, lossesIn, reportOf, emptyingOf, salvageCall}
+use Rattle.losses.specs.Salvage.{loss, firstKind, theRest, placed, inOrder, givenUpBehind, secondKind, lossesIn, reportOf, emptyingOf, salvageCall}
 use Rattle.salvage_theory.specs.Reopens.{rescued}
 
 -- slot 1 scratched: byte 21 of its file, the first of its trailer's checksum, is 0xff

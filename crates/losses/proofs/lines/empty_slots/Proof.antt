@@ -2,15 +2,15 @@ use mathlib.Core.Path.{refl, sym, _∙_, subst, _≡_}
 use Prim.Native.Nat.{zero-le, ℕ, _+_, _*_, _≤_, _-_}
 use native.Mathlib.Nat.{sub-zero}
 use Rattle.stores.specs.Runs.{made-then, made-none, made-length, Made}
-use Rattle.salvage.proofs.LossTurns.{told-step, told-end, made-one}
-use Rattle.salvage.specs.Lines.{slotsTold, LabelsIn}
+use Rattle.losses.proofs.LossTurns.{told-step, told-end, made-one}
+use Rattle.losses.specs.Lines.{slotsTold, LabelsIn}
 use Rattle.rules.specs.PruneLaws.{emptying}
 use native.Mathlib.Omega.{arith}
 use borrow.Author.Needs.{needs}
 use lib.ListN.{length, getD, drop}
 use mathlib.Core.List.{List}
-use Rattle.salvage.proofs.lines.empty_slots.Statement.{statement}
-use Rattle.salvage.proofs.lines.empty_slots.Tie as tie
+use Rattle.losses.proofs.lines.empty_slots.Statement.{statement}
+use Rattle.losses.proofs.lines.empty_slots.Tie as tie
 
 abbrev Inv-loop : tie.InvT-loop
 Inv-loop heap₀ slot-bytes report lines left rest₀ i₀ heap rest i =

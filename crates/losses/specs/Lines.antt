@@ -9,8 +9,8 @@ use Rattle.rules.specs.Base.{List, [], _∷_, _++_, map, ℕ, zero, suc, _+_, _
 use Rattle.rules.specs.BaseLaws.{All, each-append}
 use Rattle.rules.specs.SlotFile.{View, empty, damaged, holds}
 use Rattle.slot_file.specs.Slots.{shownBy}
-use Rattle.salvage.specs.Types.{SlotAnswer, Empty, Damaged, Holds, Loss}
-use Rattle.salvage.specs.Salvage.{loss, ownLoss, lossWords}
+use Rattle.losses.specs.Types.{SlotAnswer, Empty, Damaged, Holds, Loss}
+use Rattle.losses.specs.Salvage.{loss, ownLoss, lossWords}
 
 -- ---- definitions
 -- the line of a slot by what it shows

@@ -13,10 +13,10 @@ use Rattle.rules.specs.SlotFile.{View, empty, damaged, holds}
 use Rattle.rules.specs.Stores.{Store, made}
 use Rattle.rules.specs.PruneLaws.{emptying}
 use Rattle.faults.specs.Faults.{judgedIn}
-use Rattle.salvage.specs.Types.{Settings, Overlap, Loss}
-use Rattle.salvage.specs.Salvage.{loss, firstKind, Sound, theRest, startOf, endOf, placed, inOrder, givenUpBehind, secondKind, lossesIn, reportOf, emptyingOf}
-use Rattle.salvage.specs.Lines.{LabelsIn}
-use Rattle.salvage.specs.Starts.{rest-all, all-in-order, judged-length}
+use Rattle.losses.specs.Types.{Settings, Overlap, Loss}
+use Rattle.losses.specs.Salvage.{loss, firstKind, Sound, theRest, startOf, endOf, placed, inOrder, givenUpBehind, secondKind, lossesIn, reportOf, emptyingOf}
+use Rattle.losses.specs.Lines.{LabelsIn}
+use Rattle.losses.specs.Starts.{rest-all, all-in-order, judged-length}
 
 -- "First .. Then the rest"
 pub kinds-are : (vs : List View) → lossesIn vs ≡ firstKind 0 vs ++ secondKind (inOrder (theRest 0 vs))

@@ -1,6 +1,6 @@
 -- Request P9, "Rescue a damaged heap": the slots that a salvage gives up, in the order emptied, and the heap that it leaves.
 use Rattle.rules.specs.Base.{List, [], _∷_, _++_, map, ℕ, suc, _+_, length, leb, ltb, pick, each}
-use Rattle.salvage.specs.Types.{Settings, Label, Refusal, Limits, Overlap, Loss}
+use Rattle.losses.specs.Types.{Settings, Label, Refusal, Limits, Overlap, Loss}
 use Rattle.numbers.specs.Parts.{front}
 use Rattle.disk_location.specs.Locations.{maskedOf}
 use Rattle.rules.specs.Refusal.{numberOf, _gives_, decide, after}

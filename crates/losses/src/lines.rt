@@ -5,8 +5,8 @@ ghost use Prim.Native.Nat.{_+_, _*_, _≤_};
 ghost use lib.ListN.{length};
 ghost use Rattle.rules.specs.PruneLaws.{emptying};
 ghost use Rattle.stores.specs.Runs.{Made};
-ghost use Rattle.salvage.specs.Salvage.{loss};
-ghost use Rattle.salvage.specs.Lines.{Reports, slotsTold, LabelsIn};
+ghost use Rattle.losses.specs.Salvage.{loss};
+ghost use Rattle.losses.specs.Lines.{Reports, slotsTold, LabelsIn};
 
 // One more line, behind `count`.
 pub fn note(report: &mut [u64], count: u64, slot: u64, refusal: Refusal) -> u64

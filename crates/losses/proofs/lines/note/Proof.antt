@@ -1,13 +1,13 @@
 use mathlib.Core.Path.{refl, ap}
-use Rattle.salvage.specs.Salvage.{loss}
-use Rattle.salvage.specs.Lines.{reports-one}
+use Rattle.losses.specs.Salvage.{loss}
+use Rattle.losses.specs.Lines.{reports-one}
 use Prim.Native.Nat.{ℕ, _-_}
 use native.Mathlib.Omega.{arith}
 use borrow.Author.Needs.{needs}
 use lib.ListN.{length-set}
 use mathlib.Core.List.{[], _∷_}
-use Rattle.salvage.proofs.lines.note.Statement.{statement}
-use Rattle.salvage.proofs.lines.note.Tie as tie
+use Rattle.losses.proofs.lines.note.Statement.{statement}
+use Rattle.losses.proofs.lines.note.Tie as tie
 
 refusal-number-requires : tie.Need-refusal-number-requires
 refusal-number-requires c κs = search needs
