@@ -22,8 +22,9 @@ import sys
 ROOT = os.path.dirname(os.path.dirname(os.path.abspath(__file__)))
 # a page, and the crates whose names it gives without their crate
 PAGES = {
-    'docs/TRACE.md': ['rules', 'disk_location', 'checksum', 'numbers', 'theory', 'marble', 'pinned', 'orders'],
-    'docs/THEOREMS.md': ['theory', 'rules'],
+    'docs/TRACE.md': ['rules', 'disk_location', 'checksum', 'numbers', 'theory', 'history_theory', 'maintenance_theory', 'worked_out', 'marble', 'pinned',
+                      'orders'],
+    'docs/THEOREMS.md': ['theory', 'history_theory', 'maintenance_theory', 'worked_out', 'rules'],
 }
 WORDS = {'requires'}
 NAME = re.compile(r'[A-Za-z][\w·]*(?:(?:::|[-./])[\w*]+)*')

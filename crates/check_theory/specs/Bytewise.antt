@@ -32,9 +32,9 @@ use Rattle.rules.specs.Maintenance.{objectsFound, deletesFound, deletesOf, slot
 use Rattle.rules.specs.World.{World, recordsOf, mappings, accepted, maintainGiven, After, unchanged}
 use Rattle.theory.specs.Types.{Entry, Label, Refusal, Limits, Answer, Done, Refused, Stopped}
 use Rattle.theory.specs.Lists.{all-each, all-kept, all-set, all-replicate, every}
-use Rattle.theory.specs.Shards.{PartOf, sub-all, files-parts}
-use Rattle.theory.specs.Quiet.{undisturbed}
-use Rattle.theory.specs.History.{Call, write, maintain, prune, reopen, quiet, called, hears, Life, lived}
+use Rattle.history_theory.specs.Shards.{PartOf, sub-all, files-parts}
+use Rattle.history_theory.specs.Quiet.{undisturbed}
+use Rattle.history_theory.specs.History.{Call, write, maintain, prune, reopen, quiet, called, hears, Life, lived}
 use Rattle.power_cuts.specs.Runs.{run-made}
 use Rattle.check_theory.specs.Lists.{of-every}
 

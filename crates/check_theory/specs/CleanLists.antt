@@ -20,7 +20,7 @@ use Rattle.theory.specs.Places.{viewAt}
 use Rattle.theory.specs.Files.{any-file}
 use Rattle.theory.specs.Picture.{viewsOf}
 use Rattle.theory.specs.Sound.{WholeFile}
-use Rattle.theory.specs.Clean.{Clean}
+use Rattle.history_theory.specs.Clean.{Clean}
 use Rattle.check_theory.specs.Lists.{none-there}
 use Rattle.check_theory.specs.Passing.{list-whole, whole-list}
 use Rattle.check_theory.specs.Objects.{NoLine, Faultless, FaultlessFile, file-faultless, faultless-file}

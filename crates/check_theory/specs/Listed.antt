@@ -21,7 +21,7 @@ use Rattle.theory.specs.Types.{Settings, Entry, Refusal, TableRoom, Checksum, O
 use Rattle.theory.specs.Lists.{all-each}
 use Rattle.theory.specs.Places.{viewAt, Apart, not-empty, not-damaged, holds-lt}
 use Rattle.theory.specs.Sound.{StartsAt}
-use Rattle.theory.specs.Moving.{StandsIn, objects-stand}
+use Rattle.history_theory.specs.Moving.{StandsIn, objects-stand}
 use Rattle.faults.specs.Faults.{judged, judgedIn, line, lineIf, passes, walked, entered, objectFaults, entryFaults, fileFaults, meetsEarlier, slotFaults, faultsFrom, closing, faultsOf}
 use Rattle.faults.specs.Judging.{judged-at}
 use Rattle.check_theory.specs.Types.{Nowhere, Object, Fault}

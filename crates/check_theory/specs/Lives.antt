@@ -12,11 +12,11 @@ use Rattle.rules.specs.Condition1.{outOfRange}
 use Rattle.rules.specs.World.{World, After}
 use Rattle.theory.specs.Picture.{Said}
 use Rattle.theory.specs.SoundWorld.{SoundWorld}
-use Rattle.theory.specs.Writing.{engine}
-use Rattle.theory.specs.Again.{reopen-accepted}
-use Rattle.theory.specs.Fresh.{Blank}
-use Rattle.theory.specs.History.{Call, reopen, hears, Life, lived, Starts, sound-lived, born, born-starts}
-use Rattle.theory.specs.Clean.{Clean, resumed, clean-starts, sound-clean}
+use Rattle.history_theory.specs.Writing.{engine}
+use Rattle.history_theory.specs.Again.{reopen-accepted}
+use Rattle.history_theory.specs.Fresh.{Blank}
+use Rattle.history_theory.specs.History.{Call, reopen, hears, Life, lived, Starts, sound-lived, born, born-starts}
+use Rattle.history_theory.specs.Clean.{Clean, resumed, clean-starts, sound-clean}
 use Rattle.power_cuts.specs.Runs.{runOf, run-made}
 use Rattle.power_cuts.specs.Cuts.{Alike, CutAt, Event, livedOn, AllHappen}
 use Rattle.power_cuts.specs.Enduring.{StandsOn}

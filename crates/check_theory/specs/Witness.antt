@@ -18,7 +18,7 @@ use Rattle.rules.specs.Claims.{noClaims}
 use Rattle.rules.specs.Reopen.{filesIn, overlapping, notRising, latest, latestFrom, tableOf, reopenTests, givenUp, opened, reopenCall}
 use Rattle.rules.specs.World.{World, noState, accepted, refused}
 use Rattle.theory.specs.Types.{Entry, Label, TableRoom, LabelBytes, Checksum, Overlap, NotRising, CutShort, OtherId}
-use Rattle.theory.specs.Foreign.{foreign, foreign-clean}
+use Rattle.worked_out.specs.Foreign.{foreign, foreign-clean}
 use Rattle.faults.specs.Faults.{line, walked, objectFaults, entryFaults, fileFaults, slotFaults, faultsFrom, closing, faultsOf, listing, checkCall}
 use Rattle.check_theory.specs.Types.{Nowhere, Object, Fault}
 use Rattle.check_theory.specs.Accepting.{listOf}

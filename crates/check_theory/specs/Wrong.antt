@@ -21,7 +21,7 @@ use Rattle.theory.specs.Types.{Settings, Refusal}
 use Rattle.theory.specs.Places.{viewAt, Apart, holds-lt}
 use Rattle.theory.specs.Files.{any-file, no-file, undamaged, no-damage-tests, overlap-apart, no-overlap}
 use Rattle.theory.specs.Sound.{StartsAt}
-use Rattle.theory.specs.Moving.{StandsIn, objects-stand}
+use Rattle.history_theory.specs.Moving.{StandsIn, objects-stand}
 use Rattle.faults.specs.Faults.{faultsOf}
 use Rattle.check_theory.specs.Lists.{none-there}
 use Rattle.check_theory.specs.Passing.{slotViews, none-behind, Whole, list-whole, whole-list}

@@ -14,7 +14,7 @@ use Rattle.rules.specs.World.{World, Given, noState}
 use Rattle.rules.specs.Write.{writeCall}
 use Rattle.file_map.specs.Records.{labelled}
 use Rattle.numbers.specs.Parts.{putAt}
-use Rattle.salvage.specs.Salvage.{Salvaged, salvageCall}
+use Rattle.losses.specs.Salvage.{Salvaged, salvageCall}
 use Rattle.script.specs.declared.Keyword.the-variants as key
 use Rattle.desk.specs.Types.{Settings, Record, State, Claims, Keyword, Bench, Comment, Help, Listing, Dump, Check, Bytes, BadLine, Shown, Turn}
 use Rattle.desk.specs.Kinds.{number}

@@ -19,12 +19,12 @@ use Rattle.rules.specs.Table.{lookup, unmapped, mappedTo, full}
 use Rattle.rules.specs.TableCalls.{TableAfter, notForm, same, heldGiven, below, withStored, loadCall, storeCall, compareCall, greaterCall}
 use Rattle.rules.specs.World.{World, Given, accepted, refused, slotsOf, After}
 use Rattle.numbers.specs.Parts.{putAt}
-use Rattle.theory.specs.History.{Call, write, prune, quiet}
-use Rattle.theory.specs.Quiet.{claim, release}
-use Rattle.theory.specs.History.{called as calling}
-use Rattle.theory.specs.Writes.{refused-unchanged}
-use Rattle.theory.specs.Writes.{Plain as PlainCall}
-use Rattle.salvage.specs.Salvage.{Salvaged, salvageCall}
+use Rattle.history_theory.specs.History.{Call, write, prune, quiet}
+use Rattle.history_theory.specs.Quiet.{claim, release}
+use Rattle.history_theory.specs.History.{called as calling}
+use Rattle.history_theory.specs.Writes.{refused-unchanged}
+use Rattle.history_theory.specs.Writes.{Plain as PlainCall}
+use Rattle.losses.specs.Salvage.{Salvaged, salvageCall}
 use Rattle.script.specs.declared.Keyword.the-variants as key
 use Rattle.desk.specs.Types.{Refusal, Limits, Answer, Done, Refused, Keyword, Bench, Check, Bytes, BadLine, Shown}
 use Rattle.desk.specs.Desk.{Desk, desk, Words, plain, found, moved, counted, located, compared, raised, emptied, Said, bad-line, gave, shows, Outcome, left, replied, done, badLine, looked, changed, worldOf, deskOf, answered, called, onTable, lentOf, putBack, onLent}

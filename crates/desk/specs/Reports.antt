@@ -4,7 +4,7 @@ use Rattle.rules.specs.Base.{List, [], _∷_, ℕ, length}
 use Rattle.rules.specs.Refusal.{_gives_, decide, after}
 use Rattle.rules.specs.Condition1.{outOfRange}
 use Rattle.rules.specs.World.{Given, refused}
-use Rattle.salvage.specs.Salvage.{Salvaged, salvageCall}
+use Rattle.losses.specs.Salvage.{Salvaged, salvageCall}
 use Rattle.desk.specs.Types.{Refusal, Limits, Answer, Done, Refused}
 use Rattle.desk.specs.Desk.{Desk, worldOf}
 use Rattle.desk.specs.Commands.{salvageOn}

@@ -34,7 +34,7 @@ use Rattle.prune.proofs.prune.Reads as prune
 use Rattle.checker.specs.declared.CheckAnswer.{CheckAnswer}
 use Rattle.checker.proofs.check.Reads as check
 use Rattle.salvage.specs.declared.SalvageAnswer.{SalvageAnswer}
-use Rattle.salvage.specs.Salvage.{salvageCall}
+use Rattle.losses.specs.Salvage.{salvageCall}
 use Rattle.salvage.specs.Answers.{Salvages}
 use Rattle.salvage.proofs.salvage.Reads as salvage
 use Rattle.location_table.specs.Tables.{leaving as tableLeaving}

@@ -12,7 +12,7 @@ pub use Rattle.marble.specs.Lives.{life-kept, life-answers, life-reads, 
 -- clean are the heaps of which `check` lists nothing, those that a life left, and those whose slots all begin with byte 0: there nothing is heard at the
 -- start, and no object is large
 pub use Rattle.marble.specs.Starts.{checked-clean, clean-checked, life-clean, blank-begun, blank-small}
-pub use Rattle.theory.specs.Clean.{blank-clean}
+pub use Rattle.history_theory.specs.Clean.{blank-clean}
 -- a fresh heap opens, and a write in limits is accepted
-pub use Rattle.theory.specs.Fresh.{fresh-opens}
-pub use Rattle.theory.specs.Accepting.{fresh-write}
+pub use Rattle.history_theory.specs.Fresh.{fresh-opens}
+pub use Rattle.history_theory.specs.Accepting.{fresh-write}

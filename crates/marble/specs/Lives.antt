@@ -10,13 +10,13 @@ use Rattle.rules.specs.SettledLaws.{Last, silent, last, orEarlier, lastOn, last
 use Rattle.rules.specs.Read.{readOf, partOf}
 use Rattle.rules.specs.Write.{writeCall}
 use Rattle.rules.specs.World.{World, After, answerGiven}
-use Rattle.theory.specs.Writing.{heard}
-use Rattle.theory.specs.Reading.{Reads}
+use Rattle.history_theory.specs.Writing.{heard}
+use Rattle.history_theory.specs.Reading.{Reads}
 use Rattle.theory.specs.Reopened.{Opened, reopened-means}
-use Rattle.theory.specs.Quiet.{claim, release}
-use Rattle.theory.specs.History.{Call, write, maintain, prune, reopen, quiet, called, hears, Life, lived, Starts, Kept, sound-kept}
-use Rattle.theory.specs.Clean.{heardAt, resumed, clean-starts}
-use Rattle.theory.specs.Writes.{nothing, got, leftBy, got-last, write-means}
+use Rattle.history_theory.specs.Quiet.{claim, release}
+use Rattle.history_theory.specs.History.{Call, write, maintain, prune, reopen, quiet, called, hears, Life, lived, Starts, Kept, sound-kept}
+use Rattle.history_theory.specs.Clean.{heardAt, resumed, clean-starts}
+use Rattle.history_theory.specs.Writes.{nothing, got, leftBy, got-last, write-means}
 use Rattle.power_cuts.specs.Runs.{runOf}
 use Rattle.power_cuts.specs.Cuts.{CutAt, Survived, hearsCut, done, happened, livedOn}
 use Rattle.power_cuts.specs.Cuts as cuts

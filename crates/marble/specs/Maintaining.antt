@@ -10,11 +10,11 @@ use Rattle.rules.specs.Table.{lookup}
 use Rattle.rules.specs.Maintenance.{group}
 use Rattle.rules.specs.World.{World, After, mappings}
 use Rattle.theory.specs.SoundWorld.{SmallWorld}
-use Rattle.theory.specs.Stopping.{Spent, Refusable}
-use Rattle.theory.specs.History.{Life}
-use Rattle.theory.specs.Clean.{resumed, clean-starts}
-use Rattle.theory.specs.Finished.{liveOf, before, AnswersBut, Answers, maintain-answer, small-maintenance}
-use Rattle.theory.specs.Exactly.{Inside, rewritten, idsMoved, sound-moves}
+use Rattle.maintenance_theory.specs.Stopping.{Spent, Refusable}
+use Rattle.history_theory.specs.History.{Life}
+use Rattle.history_theory.specs.Clean.{resumed, clean-starts}
+use Rattle.maintenance_theory.specs.Finished.{liveOf, before, AnswersBut, Answers, maintain-answer, small-maintenance}
+use Rattle.maintenance_theory.specs.Exactly.{Inside, rewritten, idsMoved, sound-moves}
 use Rattle.gc.specs.declared.Maintained.{Maintained}
 use Rattle.marble.specs.Results.{Result, maintained, left, Admitted, gave, Lived, reached}
 use Rattle.marble.specs.Lives.{callsOf, results-called, life-sound}

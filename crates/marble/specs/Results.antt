@@ -10,9 +10,9 @@ use Rattle.rules.specs.Read.{readOf, partOf}
 use Rattle.rules.specs.Layout.{table}
 use Rattle.rules.specs.Reopen.{reopenCall}
 use Rattle.rules.specs.World.{World, world, leaving, answerGiven, countsGiven}
-use Rattle.theory.specs.Writing.{heard}
-use Rattle.theory.specs.History.{Call, Life}
-use Rattle.theory.specs.Clean.{Clean, heardAt}
+use Rattle.history_theory.specs.Writing.{heard}
+use Rattle.history_theory.specs.History.{Call, Life}
+use Rattle.history_theory.specs.Clean.{Clean, heardAt}
 use Rattle.power_cuts.specs.Cuts.{CutAt, hearsCut}
 use Rattle.recovery.specs.declared.Reopened.{Reopened}
 use Rattle.recovery.specs.Reopening.{leaves}

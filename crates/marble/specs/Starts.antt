@@ -12,9 +12,9 @@ use Rattle.rules.specs.World.{World, After}
 use Rattle.theory.specs.Places.{not-empty}
 use Rattle.theory.specs.SoundWorld.{SmallWorld}
 use Rattle.theory.specs.Reopened.{passed}
-use Rattle.theory.specs.Fresh.{Blank, views-blank, fresh-opens}
-use Rattle.theory.specs.Writing.{engine}
-use Rattle.theory.specs.Clean.{Clean, heardAt, sound-clean}
+use Rattle.history_theory.specs.Fresh.{Blank, views-blank, fresh-opens}
+use Rattle.history_theory.specs.Writing.{engine}
+use Rattle.history_theory.specs.Clean.{Clean, heardAt, sound-clean}
 use Rattle.recovery.specs.declared.Reopened.{Reopened}
 use Rattle.faults.specs.Faults.{Checked, checkCall}
 use Rattle.checker.specs.declared.CheckAnswer.{CheckAnswer}

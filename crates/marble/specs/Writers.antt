@@ -20,7 +20,7 @@ use Rattle.gc_files.specs.Places.{filedOps}
 use Rattle.gc_writer.specs.declared.PieceFile.{PieceFile}
 use Rattle.gc_writer.proofs.«write_piece».Reads as piece
 use Rattle.prune.proofs.«prune_stores».Reads as labels
-use Rattle.theory.specs.History.{Call, called}
+use Rattle.history_theory.specs.History.{Call, called}
 use Rattle.power_cuts.specs.Runs.{runOf, run-made}
 use Rattle.power_cuts.specs.Jobs.{Job, file, empties, jobRun, jobsRun, jobsOf, jobs-run}
 use Rattle.power_cuts.specs.Cuts.{Alike, CutAt, Survived}

@@ -2,7 +2,7 @@
 use mathlib.Core.Path.{_≡_, ap, _∙_}
 use Rattle.rules.specs.Base.{List, ℕ}
 use Rattle.rules.specs.World.{Given}
-use Rattle.salvage.specs.Salvage.{Salvaged}
+use Rattle.losses.specs.Salvage.{Salvaged}
 use Rattle.as_numbers.specs.Shown.{shown}
 
 -- number and out-parameter, the report's words, the heap

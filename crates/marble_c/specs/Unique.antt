@@ -14,7 +14,7 @@ use Rattle.rules.specs.TableCalls.{TableAfter, loadCall, storeCall, compareCall
 use Rattle.rules.specs.World.{Given, After, world, leaving}
 use Rattle.rules.specs.Write.{writeCall}
 use Rattle.faults.specs.Faults.{checkCall}
-use Rattle.salvage.specs.Salvage.{Salvaged, salvageCall}
+use Rattle.losses.specs.Salvage.{Salvaged, salvageCall}
 use Rattle.as_numbers.specs.ClaimWords.{claimsIn, claims-one}
 use Rattle.as_numbers.specs.Shown.{given, shown, stopAfter, shownTable}
 use Rattle.as_numbers.specs.StateLaws.{state-one}

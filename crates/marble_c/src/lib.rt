@@ -32,7 +32,7 @@ ghost use Rattle.rules.specs.Layout.{table};
 ghost use Rattle.location_table.specs.Tables.{leaving as tableLeaving};
 ghost use Rattle.faults.specs.Faults.{checkCall};
 ghost use Rattle.checker.specs.Answers.{checkGiven};
-ghost use Rattle.salvage.specs.Salvage.{salvageCall};
+ghost use Rattle.losses.specs.Salvage.{salvageCall};
 ghost use Rattle.salvage.specs.Answers.{salvageGiven};
 ghost use Rattle.as_numbers.specs.ClaimWords.{claimsIn};
 ghost use Rattle.as_numbers.specs.Numbered.{numbered};

@@ -12,7 +12,7 @@ use Rattle.rules.specs.Install.{newSlot, newLabel, newRecord, losing, recordsWi
 use Rattle.rules.specs.InstallLaws.{losing-length, losing-label}
 use Rattle.rules.specs.World.{World, recordsOf, mappings}
 -- "(0 and 0 with 1)"; "A refusal stops the call, keeps finished groups .. nothing is pruned": the world left is the one in which the refused group's turn came
-pub use Rattle.theory.specs.Halting.{limits-unchanged, KeepsFinished, stopped-keeps}
+pub use Rattle.maintenance_theory.specs.Halting.{limits-unchanged, KeepsFinished, stopped-keeps}
 -- which files are candidates, as facts
 pub use Rattle.rules.specs.MaintenanceLaws.{Candidate, candidate, is-candidate}
 

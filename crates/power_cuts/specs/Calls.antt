@@ -15,8 +15,8 @@ use Rattle.rules.specs.Write.{newFiles, writeTests, written, writeCall}
 use Rattle.rules.specs.WriteLaws.{opsIn, write-accepted}
 use Rattle.rules.specs.World.{World, accepted, unchanged}
 use Rattle.theory.specs.SoundWorld.{SoundWorld, sound-fine}
-use Rattle.theory.specs.Writing.{engine, fits-write, sound-write}
-use Rattle.theory.specs.History.{Call, write, maintain, prune, reopen, quiet, hears}
+use Rattle.history_theory.specs.Writing.{engine, fits-write, sound-write}
+use Rattle.history_theory.specs.History.{Call, write, maintain, prune, reopen, quiet, hears}
 use Rattle.power_cuts.specs.Runs.{filesRun, unlessRefused, writeRun, pruneRun, runOf, run-made}
 use Rattle.power_cuts.specs.Cuts.{Alike}
 use Rattle.power_cuts.specs.Enduring.{alike-self, StandsOn, endured-none}

@@ -9,8 +9,8 @@ use Rattle.rules.specs.Stores.{made}
 use Rattle.rules.specs.Write.{writeCall}
 use Rattle.rules.specs.Reopen.{reopenCall}
 use Rattle.rules.specs.World.{World, accepted}
-use Rattle.theory.specs.History.{Call, write, maintain, prune, reopen, quiet, called, hears, Life}
-use Rattle.theory.specs.Writes.{got}
+use Rattle.history_theory.specs.History.{Call, write, maintain, prune, reopen, quiet, called, hears, Life}
+use Rattle.history_theory.specs.Writes.{got}
 use Rattle.power_cuts.specs.Runs.{runOf}
 
 -- "the same settings and table size"

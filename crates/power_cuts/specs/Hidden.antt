@@ -23,7 +23,7 @@ use Rattle.theory.specs.Picture.{viewsOf, Said}
 use Rattle.theory.specs.Sound.{Sound}
 use Rattle.theory.specs.SoundWorld.{boundsOf, SoundWorld}
 use Rattle.theory.specs.Adding.{Fitting, free-slot}
-use Rattle.theory.specs.Fresh.{blank-view}
+use Rattle.history_theory.specs.Fresh.{blank-view}
 use Rattle.power_cuts.specs.FirstByte.{empty-first}
 use Rattle.power_cuts.specs.Enduring.{StandsOn}
 

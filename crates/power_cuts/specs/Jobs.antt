@@ -16,7 +16,7 @@ use Rattle.rules.specs.Prune.{isDead, pruneStores}
 use Rattle.rules.specs.PruneLaws.{emptying}
 use Rattle.rules.specs.Maintenance.{found, filesOf, Stop, going, stopped, Course, group, groupTests, onward, courseOf}
 use Rattle.rules.specs.World.{World, recordsOf}
-use Rattle.theory.specs.History.{Call, write, maintain, prune, reopen, quiet}
+use Rattle.history_theory.specs.History.{Call, write, maintain, prune, reopen, quiet}
 use Rattle.power_cuts.specs.Runs.{filesRun, unlessRefused, writeRun, pruneRun, groupRun, onwardRun, groupsRun, endRun, maintainRun, runOf}
 
 -- what a writer is given

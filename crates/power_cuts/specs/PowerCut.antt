@@ -13,10 +13,10 @@ use Rattle.rules.specs.Write.{writeCall}
 use Rattle.rules.specs.Reopen.{reopenCall}
 use Rattle.rules.specs.World.{World, accepted}
 use Rattle.theory.specs.SoundWorld.{SoundWorld}
-use Rattle.theory.specs.Writing.{engine}
-use Rattle.theory.specs.Fresh.{Blank}
-use Rattle.theory.specs.History.{Call, write, maintain, prune, reopen, quiet, called, hears, Life, lived, Kept, sound-kept, sound-called, Starts, sound-lived, born, born-starts}
-use Rattle.theory.specs.Writes.{got-last}
+use Rattle.history_theory.specs.Writing.{engine}
+use Rattle.history_theory.specs.Fresh.{Blank}
+use Rattle.history_theory.specs.History.{Call, write, maintain, prune, reopen, quiet, called, hears, Life, lived, Kept, sound-kept, sound-called, Starts, sound-lived, born, born-starts}
+use Rattle.history_theory.specs.Writes.{got-last}
 use Rattle.power_cuts.specs.Runs.{runOf}
 use Rattle.power_cuts.specs.Cuts.{CutAt, SameReads, ReadsAfterCut, Survived, hearsCut, Event, done, cut, Happens, happened, livedOn, AllHappen}
 use Rattle.power_cuts.specs.Reopening.{reopen-finds}

@@ -13,7 +13,7 @@ use Rattle.rules.specs.Reopen.{reopenTests, givenUp, opened, reopenCall}
 use Rattle.rules.specs.World.{World, noState, accepted, After}
 use Rattle.theory.specs.Picture.{viewsOf, Said}
 use Rattle.theory.specs.SoundWorld.{SoundWorld}
-use Rattle.theory.specs.Again.{again, reopen-accepted, sound-again}
+use Rattle.history_theory.specs.Again.{again, reopen-accepted, sound-again}
 use Rattle.power_cuts.specs.Cuts.{Alike}
 use Rattle.power_cuts.specs.Enduring.{StandsOn}
 

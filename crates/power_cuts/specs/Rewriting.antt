@@ -23,9 +23,9 @@ use Rattle.theory.specs.Picture.{Said, fileSays}
 use Rattle.theory.specs.Installed.{over}
 use Rattle.theory.specs.SoundWorld.{SoundWorld, sound-fine}
 use Rattle.theory.specs.Adding.{Fitting, sound-installed}
-use Rattle.theory.specs.Writing.{engine, sound-told}
-use Rattle.theory.specs.Rewriting.{Rewritable, one-fewer, still-said, fits-file, installed-numbers}
-use Rattle.theory.specs.Maintaining.{files-rewritable}
+use Rattle.history_theory.specs.Writing.{engine, sound-told}
+use Rattle.history_theory.specs.Rewriting.{Rewritable, one-fewer, still-said, fits-file, installed-numbers}
+use Rattle.history_theory.specs.Maintaining.{files-rewritable}
 use Rattle.power_cuts.specs.Runs.{filesRun, unlessRefused, groupRun, onwardRun, groupsRun, endRun, maintainRun}
 use Rattle.power_cuts.specs.Cuts.{Alike}
 use Rattle.power_cuts.specs.Enduring.{StandsOn, Endured, endured-none, endured-on}

@@ -15,8 +15,8 @@ use Rattle.rules.specs.Maintenance.{found, filesOf, Stop, going, stopped, Cours
 use Rattle.rules.specs.SlotFile.{View, viewsIn}
 use Rattle.rules.specs.Reopen.{reopenTests, givenUp, opened, reopenCall}
 use Rattle.rules.specs.World.{World, slotsOf, accepted, maintainGiven, After, unchanged}
-use Rattle.theory.specs.Quiet.{undisturbed}
-use Rattle.theory.specs.History.{Call, write, maintain, prune, reopen, quiet, called}
+use Rattle.history_theory.specs.Quiet.{undisturbed}
+use Rattle.history_theory.specs.History.{Call, write, maintain, prune, reopen, quiet, called}
 
 -- file by file: "file, then label bytes 2 to 64, then label byte 1" of each (`Stores.fileStores`)
 unfoldable pub filesRun : ℕ → ℕ → World → List (List Op) → List Store

@@ -29,8 +29,8 @@ use Rattle.rules.specs.Table.{lookup, insert, insertAll}
 use Rattle.rules.specs.Trailer.{listed, trailerBytes, trailerTests, entriesFrom, entriesIn, misplaced}
 use Rattle.rules.specs.World.{World, noState}
 use Rattle.rules.specs.Write.{tooManyIds, writeTests, written, writeCall}
-use Rattle.theory.specs.History.{Call, write, maintain, prune, called}
-use Rattle.theory.specs.Writes.{Got, bytes, got}
+use Rattle.history_theory.specs.History.{Call, write, maintain, prune, called}
+use Rattle.history_theory.specs.Writes.{Got, bytes, got}
 
 -- three slots of 128 bytes, of zeros
 abbrev pub tiny : World

@@ -9,7 +9,7 @@ use Rattle.rules.specs.Condition1.{outOfRange}
 use Rattle.rules.specs.Stores.{made}
 use Rattle.rules.specs.World.{Given, accepted, refused}
 use Rattle.salvage.specs.Types.{Settings, Limits, SalvageAnswer, GivenUp, SalvageRefused}
-use Rattle.salvage.specs.Salvage.{reportOf, emptyingOf, lossWords, Salvaged, salvageCall}
+use Rattle.losses.specs.Salvage.{reportOf, emptyingOf, lossWords, Salvaged, salvageCall}
 
 -- the number of lines; "Refusals: 1 only"
 abbrev pub salvageGiven : SalvageAnswer → Given

@@ -1,15 +1,15 @@
-use crate::lines::note;
 use disk_location::masked;
 use faults::own;
+use losses::lines::note;
 use slot_file::SlotAnswer;
 use slot_file::slot::slot_at;
 ghost use mathlib.Core.Path.{_≡_};
 ghost use mathlib.Core.List.{map};
 ghost use Prim.Native.Nat.{_+_, _*_, _^_, _≤_, _<_};
 ghost use lib.ListN.{length};
-ghost use Rattle.salvage.specs.Salvage.{firstKind};
-ghost use Rattle.salvage.specs.Lines.{Reports, lossShown};
-ghost use Rattle.salvage.specs.Starts.{startShown, endShown, startIn, endIn, slotsJudged};
+ghost use Rattle.losses.specs.Salvage.{firstKind};
+ghost use Rattle.losses.specs.Lines.{Reports, lossShown};
+ghost use Rattle.losses.specs.Starts.{startShown, endShown, startIn, endIn, slotsJudged};
 
 // The line of a slot with a fault of its own.
 fn own_line(report: &mut [u64], count: u64, slot: u64, shown: SlotAnswer) -> u64

@@ -1,14 +1,12 @@
 // Request P9 of document 02: a salvage empties the slots that make reopening refuse, and says which.
 
 pub mod first;
-pub mod lines;
-pub mod second;
 
 use crate::first::first_kind;
-use crate::lines::empty_slots;
-use crate::second::in_order;
-use crate::second::second_kind;
 use limits::out_of_range;
+use losses::lines::empty_slots;
+use losses::second::in_order;
+use losses::second::second_kind;
 use rules::RECORDS;
 use rules::Refusal;
 use rules::Settings;
@@ -20,16 +18,10 @@ ghost use Rattle.rules.specs.Base.{each};
 ghost use Rattle.rules.specs.Layout.{table};
 ghost use Rattle.rules.specs.SettingsLaws.{InRanges, HeapInRange};
 ghost use Rattle.rules.specs.Stores.{made};
-ghost use Rattle.salvage.specs.Salvage.{lossesIn, reportOf, emptyingOf, lossWords, salvageCall};
+ghost use Rattle.losses.specs.Salvage.{lossesIn, reportOf, emptyingOf, lossWords, salvageCall};
 ghost use Rattle.salvage.specs.Answers.{salvaged};
-ghost use Rattle.salvage.specs.Lines.{Reports};
-ghost use Rattle.salvage.specs.Starts.{slotsJudged};
-
-// A line of the report: "slot and refusal number".
-pub struct Loss {
-    pub slot: u64,
-    pub refusal: Refusal,
-}
+ghost use Rattle.losses.specs.Lines.{Reports};
+ghost use Rattle.losses.specs.Starts.{slotsJudged};
 
 // How many slots were given up; "Refusals: 1 only"
 pub enum SalvageAnswer {

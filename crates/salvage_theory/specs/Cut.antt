@@ -22,8 +22,8 @@ use Rattle.theory.specs.Types.{Settings, Refusal, Limits}
 use Rattle.theory.specs.Reopened.{refused-not}
 use Rattle.rules.specs.Answers.{refusalAt, known}
 use Rattle.faults.specs.Faults.{judged, judgedIn}
-use Rattle.salvage.specs.Salvage.{lossesIn, reportOf, emptyingOf, lossWords, Salvaged, salvageCall}
-use Rattle.salvage.specs.Few.{stores-many}
+use Rattle.losses.specs.Salvage.{lossesIn, reportOf, emptyingOf, lossWords, Salvaged, salvageCall}
+use Rattle.losses.specs.Few.{stores-many}
 use Rattle.salvage_theory.specs.Types.{Loss}
 use Rattle.salvage_theory.specs.Next.{next-loss}
 use Rattle.salvage_theory.specs.Lost.{Lost, all-lost, lost-lt}

@@ -17,7 +17,7 @@ use Rattle.rules.specs.Stores.{made}
 use Rattle.theory.specs.Types.{Settings}
 use Rattle.theory.specs.Places.{viewAt}
 use Rattle.check_theory.specs.Lists.{In}
-use Rattle.salvage.specs.Salvage.{reportOf, emptyingOf, Salvaged, salvageCall}
+use Rattle.losses.specs.Salvage.{reportOf, emptyingOf, Salvaged, salvageCall}
 use Rattle.salvage_theory.specs.Types.{Loss}
 use Rattle.salvage_theory.specs.Emptied.{other-byte, first-byte, bytes-stay}
 use Rattle.salvage_theory.specs.Cut.{salvage-limits, salvage-reports, salvage-length}

@@ -23,15 +23,15 @@ use Rattle.rules.specs.Table.{lookup, insert, insertAll}
 use Rattle.rules.specs.Trailer.{listed, trailerBytes, trailerTests, entriesFrom, entriesIn, misplaced}
 use Rattle.rules.specs.World.{World}
 use Rattle.rules.specs.Write.{tooManyIds, writeTests, written, writeCall}
-use Rattle.theory.specs.History.{write, called}
-use Rattle.theory.specs.Writes.{nothing, bytes, got}
+use Rattle.history_theory.specs.History.{write, called}
+use Rattle.history_theory.specs.Writes.{nothing, bytes, got}
 use Rattle.numbers.specs.Parts.{front}
 use Rattle.theory.specs.Types.{Checksum}
 use Rattle.power_cuts.specs.Hidden.{withHeap}
 use Rattle.power_cuts.specs.Witness.{first, again}
 use Rattle.faults.specs.Faults.{walked, objectFaults, entryFaults, fileFaults, slotFaults, faultsFrom, closing, faultsOf}
 use Rattle.check_theory.specs.Accepting.{listOf}
-use Rattle.salvage.specs.Salvage.{loss, firstKind, theRest, placed, inOrder, givenUpBehind, secondKind, lossesIn, reportOf, emptyingOf, salvageCall}
+use Rattle.losses.specs.Salvage.{loss, firstKind, theRest, placed, inOrder, givenUpBehind, secondKind, lossesIn, reportOf, emptyingOf, salvageCall}
 use Rattle.salvage_theory.specs.Reopens.{rescued}
 
 -- slot 1 scratched: byte 21 of its file, the first of its trailer's checksum, is 0xff

@@ -6,10 +6,10 @@ use native.Mathlib.Omega.{arith}
 use borrow.Author.Tests.{le-leb, leb-true, leb-false, eq-eqb, ne-eqb}
 use Rattle.rules.specs.Base.{Bool, true, false, List, [], _∷_, ℕ, suc, length, leb, eqb, pick}
 use Rattle.rules.specs.BaseLaws.{All, all-map, order, same?}
-use Rattle.salvage.specs.Salvage.{Sound, startOf, placed, inOrder}
-use Rattle.salvage.specs.Starts.{all-placed, all-in-order}
+use Rattle.losses.specs.Salvage.{Sound, startOf, placed, inOrder}
+use Rattle.losses.specs.Starts.{all-placed, all-in-order}
 -- LAW: as many
-pub use Rattle.salvage.specs.Few.{order-length}
+pub use Rattle.losses.specs.Few.{order-length}
 use Rattle.check_theory.specs.Lists.{In, in-self, all-in}
 
 -- "by ascending masked lsn, equal ones by ascending slot": x stands before y

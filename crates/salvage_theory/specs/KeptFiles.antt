@@ -16,7 +16,7 @@ use Rattle.theory.specs.Places.{viewAt, Apart}
 use Rattle.faults.specs.Faults.{judgedIn}
 use Rattle.check_theory.specs.Lists.{In, all-in}
 use Rattle.check_theory.specs.Own.{holds-not}
-use Rattle.salvage.specs.Salvage.{loss, firstKind, Sound, startOf, endOf, theRest, inOrder, givenUpBehind, secondKind, lossesIn, reportOf}
+use Rattle.losses.specs.Salvage.{loss, firstKind, Sound, startOf, endOf, theRest, inOrder, givenUpBehind, secondKind, lossesIn, reportOf}
 use Rattle.salvage_theory.specs.Types.{Loss}
 use Rattle.salvage_theory.specs.InOrder.{Before, Ordered, OneEach, before-start, in-order-rest, order-ascends, order-once}
 use Rattle.salvage_theory.specs.Kinds.{HoldsSound, rest-holds, rest-by-slot, OverlapOf, behind-lines}

@@ -8,7 +8,7 @@ use Rattle.rules.specs.BaseLaws.{All, all-map}
 use Rattle.rules.specs.SlotFile.{File, View, empty, damaged, holds}
 use Rattle.theory.specs.Types.{Refusal, Overlap}
 use Rattle.theory.specs.Places.{viewAt, holds-inj, not-empty, not-damaged}
-use Rattle.salvage.specs.Salvage.{loss, ownLoss, firstKind, Sound, startOf, endOf, theRest, inOrder, givenUpBehind, secondKind}
+use Rattle.losses.specs.Salvage.{loss, ownLoss, firstKind, Sound, startOf, endOf, theRest, inOrder, givenUpBehind, secondKind}
 use Rattle.check_theory.specs.Lists.{In, all-in}
 use Rattle.check_theory.specs.Own.{damaged-inj, empty-not, holds-not}
 use Rattle.salvage_theory.specs.Types.{Loss}

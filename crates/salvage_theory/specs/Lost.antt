@@ -11,9 +11,9 @@ use Rattle.theory.specs.Types.{Refusal, Overlap}
 use Rattle.theory.specs.Places.{viewAt, holds-lt, not-empty}
 use Rattle.check_theory.specs.Own.{empty-not}
 use Rattle.check_theory.specs.Listed.{damaged-lt}
-use Rattle.salvage.specs.Salvage.{firstKind, Sound, theRest, inOrder, secondKind, lossesIn}
+use Rattle.losses.specs.Salvage.{firstKind, Sound, theRest, inOrder, secondKind, lossesIn}
 use Rattle.salvage_theory.specs.Types.{Loss}
-use Rattle.salvage.specs.Starts.{all-in-order}
+use Rattle.losses.specs.Starts.{all-in-order}
 use Rattle.salvage_theory.specs.Kinds.{OwnLine, first-own, HoldsSound, rest-holds, OverlapOf, second-lines}
 
 -- "the first in that order or 14 for the second kind": the slot's own fault, or 14 of a slot with a sound file

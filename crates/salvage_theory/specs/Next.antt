@@ -7,7 +7,7 @@ use Rattle.rules.specs.Base.{Bool, true, false, List, [], _∷_, _++_, ℕ, zer
 use Rattle.rules.specs.BaseLaws.{All, all-map}
 use Rattle.rules.specs.SlotFile.{View, empty, damaged, holds}
 use Rattle.theory.specs.Types.{Overlap}
-use Rattle.salvage.specs.Salvage.{loss, firstKind, Sound, soundOf, startOf, endOf, theRest, inOrder, givenUpBehind, secondKind, lossesIn}
+use Rattle.losses.specs.Salvage.{loss, firstKind, Sound, soundOf, startOf, endOf, theRest, inOrder, givenUpBehind, secondKind, lossesIn}
 use Rattle.salvage_theory.specs.Types.{Loss}
 use Rattle.salvage_theory.specs.InOrder.{OneEach, order-once, without, without-here, without-other, without-none, order-without}
 use Rattle.salvage_theory.specs.Kinds.{OverlapOf, behind-lines, rest-from, rest-by-slot}

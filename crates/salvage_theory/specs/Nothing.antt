@@ -11,7 +11,7 @@ use Rattle.rules.specs.SlotFile.{File, View, empty, damaged, holds}
 use Rattle.theory.specs.Types.{Label, Refusal, Overlap}
 use Rattle.disk_location.specs.Locations.{maskedOf}
 use Rattle.theory.specs.Places.{viewAt, Apart}
-use Rattle.salvage.specs.Salvage.{loss, firstKind, Sound, startOf, endOf, theRest, inOrder, givenUpBehind, secondKind, lossesIn}
+use Rattle.losses.specs.Salvage.{loss, firstKind, Sound, startOf, endOf, theRest, inOrder, givenUpBehind, secondKind, lossesIn}
 use Rattle.check_theory.specs.Lists.{In, in-self, all-in}
 use Rattle.salvage_theory.specs.Types.{Loss}
 use Rattle.salvage_theory.specs.InOrder.{Before, Ordered, OneEach, before-start, rest-in-order, in-order-rest, order-ascends, order-once}

@@ -22,7 +22,7 @@ use Rattle.theory.specs.Reopened.{passed}
 use Rattle.power_cuts.specs.Hidden.{withHeap}
 use Rattle.faults.specs.Faults.{judged, judgedIn}
 use Rattle.check_theory.specs.Own.{views-early}
-use Rattle.salvage.specs.Salvage.{reportOf, emptyingOf, salvageCall}
+use Rattle.losses.specs.Salvage.{reportOf, emptyingOf, salvageCall}
 use Rattle.salvage_theory.specs.Types.{Loss}
 use Rattle.salvage_theory.specs.Nothing.{NothingToGiveUp, nothing-peaceful, peaceful-nothing}
 use Rattle.salvage_theory.specs.Cut.{gaveUp, salvage-reports, no-words, salvage-length, nothing-left}

@@ -22,10 +22,10 @@ use Rattle.faults.specs.Faults.{judged, judgedIn}
 use Rattle.faults.specs.Judging.{judged-at}
 use Rattle.check_theory.specs.Lists.{In, all-in, in-first, Different}
 use Rattle.check_theory.specs.Own.{damaged-inj, empty-not, holds-not, views-early}
-use Rattle.salvage.specs.Salvage.{loss, ownLoss, firstKind, Sound, startOf, endOf, soundOf, theRest, inOrder, givenUpBehind, secondKind, lossesIn, reportOf, lossWords, Salvaged, salvageCall}
+use Rattle.losses.specs.Salvage.{loss, ownLoss, firstKind, Sound, startOf, endOf, soundOf, theRest, inOrder, givenUpBehind, secondKind, lossesIn, reportOf, lossWords, Salvaged, salvageCall}
 use Rattle.salvage_theory.specs.Types.{Loss}
-use Rattle.salvage.specs.Lines.{words-length}
-use Rattle.salvage.specs.Few.{losses-few}
+use Rattle.losses.specs.Lines.{words-length}
+use Rattle.losses.specs.Few.{losses-few}
 use Rattle.salvage_theory.specs.Kinds.{own-first}
 use Rattle.salvage_theory.specs.Next.{next-loss}
 use Rattle.salvage_theory.specs.Lost.{Lost, all-lost, lost-lt, lost-some}

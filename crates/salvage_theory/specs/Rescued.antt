@@ -4,11 +4,11 @@ use Rattle.numbers.specs.LittleEndian.{Bytes}
 use Rattle.rules.specs.Base.{false, List, [], ℕ, length}
 use Rattle.rules.specs.Condition1.{outOfRange}
 use Rattle.rules.specs.World.{World}
-use Rattle.theory.specs.History.{Call, lived, Starts, Kept}
-use Rattle.theory.specs.Clean.{Clean, resumed, clean-starts, clean-history}
+use Rattle.history_theory.specs.History.{Call, lived, Starts, Kept}
+use Rattle.history_theory.specs.Clean.{Clean, resumed, clean-starts, clean-history}
 use Rattle.power_cuts.specs.Cuts.{CutAt, Event, livedOn, AllHappen, Survived}
 use Rattle.power_cuts.specs.PowerCut.{lived-cut, lived-on-kept, lived-on-cut}
-use Rattle.salvage.specs.Salvage.{salvageCall}
+use Rattle.losses.specs.Salvage.{salvageCall}
 use Rattle.check_theory.specs.Accepting.{listOf}
 use Rattle.check_theory.specs.CleanLists.{list-clean}
 use Rattle.check_theory.specs.Lives.{list-stays}

@@ -22,7 +22,7 @@ use Rattle.faults.specs.Faults.{line, walked, objectFaults, entryFaults, fileFa
 use Rattle.check_theory.specs.Types.{Object}
 use Rattle.check_theory.specs.Accepting.{listOf}
 use Rattle.check_theory.specs.Witness.{faulty}
-use Rattle.salvage.specs.Salvage.{loss, firstKind, Sound, theRest, placed, inOrder, givenUpBehind, secondKind, lossesIn, reportOf, emptyingOf, salvageCall}
+use Rattle.losses.specs.Salvage.{loss, firstKind, Sound, theRest, placed, inOrder, givenUpBehind, secondKind, lossesIn, reportOf, emptyingOf, salvageCall}
 use Rattle.salvage_theory.specs.Types.{Loss}
 use Rattle.salvage_theory.specs.Cut.{gaveUp, salvage-reports}
 use Rattle.salvage_theory.specs.Reopens.{rescued}

@@ -16,44 +16,8 @@ pub mod Installed
 pub mod Emptied
 -- G: what an accepted reopening means
 pub mod Reopened
--- the invariant in bytes, call by call
+-- the invariant in bytes, and a file added to them
 pub mod SoundWorld
 pub mod Told
 pub mod Adding
 pub mod Standing
-pub mod Writing
-pub mod Reading
-pub mod Again
-pub mod Pruning
-pub mod Quiet
-pub mod Fresh
-pub mod Moving
-pub mod Shards
-pub mod Rewriting
-pub mod Maintaining
-pub mod Small
--- demand 3, and that stores accept writes
-pub mod History
-pub mod Clean
-pub mod Ends
-pub mod Accepting
-pub mod Writes
--- C: which refusals and which count maintenance answers
-pub mod Checked
-pub mod Stopping
-pub mod Tally
-pub mod Moved
-pub mod Unmoved
-pub mod Finished
-pub mod Relocated
-pub mod Exactly
-pub mod Halting
-pub mod Sizes
-pub mod FirstRefused
-pub mod Covered
-pub mod Arrived
-pub mod Afterwards
-pub mod Sufficing
--- a life worked out, and a heap that another wrote
-pub mod Witness
-pub mod Foreign

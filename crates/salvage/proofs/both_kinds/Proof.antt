@@ -2,10 +2,10 @@ use mathlib.Core.Path.{sym}
 use native.Mathlib.Omega.{arith}
 use borrow.Author.Needs.{needs}
 use lib.ListN.{length}
-use Rattle.salvage.specs.Lines.{reports-as, reports-then}
-use Rattle.salvage.specs.Starts.{slotsJudged}
-use Rattle.salvage.specs.Few.{kinds-are}
-use Rattle.salvage.proofs.LossTurns.{ready}
+use Rattle.losses.specs.Lines.{reports-as, reports-then}
+use Rattle.losses.specs.Starts.{slotsJudged}
+use Rattle.losses.specs.Few.{kinds-are}
+use Rattle.losses.proofs.LossTurns.{ready}
 use Rattle.salvage.proofs.both_kinds.Statement.{statement}
 use Rattle.salvage.proofs.both_kinds.Tie as tie
 

@@ -8,9 +8,9 @@ use lib.ListN.{length, take}
 use Rattle.rules.specs.SettingsLaws.{heap-whole}
 use Rattle.rules.specs.Stores.{Store, made}
 use Rattle.rules.specs.PruneLaws.{emptying}
-use Rattle.salvage.specs.Salvage.{reportOf}
-use Rattle.salvage.specs.Lines.{LabelsIn, reports-front, reports-slots}
-use Rattle.salvage.specs.Few.{emptying-of, report-few, report-labels}
+use Rattle.losses.specs.Salvage.{reportOf}
+use Rattle.losses.specs.Lines.{LabelsIn, reports-front, reports-slots}
+use Rattle.losses.specs.Few.{emptying-of, report-few, report-labels}
 use Rattle.salvage.proofs.give_up.Statement.{statement}
 use Rattle.salvage.proofs.give_up.Tie as tie
 

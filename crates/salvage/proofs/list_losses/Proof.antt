@@ -2,10 +2,10 @@ use mathlib.Core.Path.{sym, ap}
 use Prim.Native.Nat.{ℕ}
 use borrow.Author.Needs.{needs}
 use lib.ListN.{length}
-use Rattle.salvage.specs.Salvage.{lossesIn}
-use Rattle.salvage.specs.Lines.{reports-as}
-use Rattle.salvage.specs.Starts.{slotsJudged}
-use Rattle.salvage.proofs.LossTurns.{part-long, lists-ready}
+use Rattle.losses.specs.Salvage.{lossesIn}
+use Rattle.losses.specs.Lines.{reports-as}
+use Rattle.losses.specs.Starts.{slotsJudged}
+use Rattle.losses.proofs.LossTurns.{part-long, lists-ready}
 use Rattle.salvage.proofs.list_losses.Statement.{statement}
 use Rattle.salvage.proofs.list_losses.Tie as tie
 

@@ -5,7 +5,7 @@ use lib.ListN.{length}
 use Rattle.rules.specs.Condition1Laws.{InLimits, in-limits}
 use Rattle.rules.specs.Layout.{table}
 use Rattle.salvage.specs.Answers.{salvage-refused, salvage-done}
-use Rattle.salvage.specs.Few.{all-emptied}
+use Rattle.losses.specs.Few.{all-emptied}
 use Rattle.salvage.proofs.salvage.Statement.{statement}
 use Rattle.salvage.proofs.salvage.Tie as tie
 

@@ -1,5 +1,5 @@
 use mathlib.Core.Path.{ap, ap₂, _∙_}
-use Rattle.salvage.specs.Salvage.{Salvaged}
+use Rattle.losses.specs.Salvage.{Salvaged}
 use Rattle.desk.specs.Desk.{desk}
 use Rattle.desk.specs.Commands.{rescued}
 use Rattle.desk.specs.Reports.{report-apart}

@@ -1,7 +1,7 @@
 use mathlib.Core.Path.{ap, subst}
 use Prim.Native.Nat.{_^_, _<_, _-_}
 use Rattle.salvage.specs.Types.{SlotAnswer}
-use Rattle.salvage.specs.Starts.{endShown}
+use Rattle.losses.specs.Starts.{endShown}
 use native.Mathlib.Omega.{arith}
 use borrow.Author.Needs.{needs}
 use Rattle.salvage.proofs.first.end.Statement.{statement}

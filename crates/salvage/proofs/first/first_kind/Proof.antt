@@ -5,10 +5,10 @@ use Rattle.rules.specs.SlotLaws.{slots-apart}
 use Rattle.slot_file.specs.Slots.{shownBy}
 use Rattle.faults.specs.Faults.{judged}
 use Rattle.salvage.specs.Types.{SlotAnswer}
-use Rattle.salvage.specs.Lines.{lossShown, own-shown, reports-as, going-start, going-as, going-on, going-end, Going}
-use Rattle.salvage.specs.Starts.{startShown, endShown, end-fits, judged-length, judged-view, slotsJudged, startIn, endIn}
-use Rattle.salvage.proofs.LossTurns.{first-next, first-none, shown-few, fill-start, fill-next, fill-end}
-use Rattle.salvage.specs.Salvage.{firstKind}
+use Rattle.losses.specs.Lines.{lossShown, own-shown, reports-as, going-start, going-as, going-on, going-end, Going}
+use Rattle.losses.specs.Starts.{startShown, endShown, end-fits, judged-length, judged-view, slotsJudged, startIn, endIn}
+use Rattle.losses.proofs.LossTurns.{first-next, first-none, shown-few, fill-start, fill-next, fill-end}
+use Rattle.losses.specs.Salvage.{firstKind}
 use Rattle.numbers.specs.Parts.{putAt}
 use native.Mathlib.Omega.{arith}
 use borrow.Author.Needs.{needs}

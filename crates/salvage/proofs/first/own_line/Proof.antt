@@ -1,5 +1,5 @@
 use mathlib.Core.Path.{sym, ap}
-use Rattle.salvage.specs.Lines.{lossShown, reports-none, reports-as}
+use Rattle.losses.specs.Lines.{lossShown, reports-none, reports-as}
 use Prim.Native.Nat.{_-_}
 use borrow.Author.Needs.{needs}
 use Rattle.salvage.proofs.first.own_line.Statement.{statement}

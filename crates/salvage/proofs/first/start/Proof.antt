@@ -1,5 +1,5 @@
 use mathlib.Core.Path.{sym, ap, _∙_}
-use Rattle.salvage.specs.Starts.{startShown}
+use Rattle.losses.specs.Starts.{startShown}
 use Prim.Native.Nat.{_-_}
 use borrow.Author.Needs.{needs}
 use Rattle.salvage.proofs.first.start.Statement.{statement}

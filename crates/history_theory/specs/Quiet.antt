@@ -1,0 +1,48 @@
+-- Calls that store nothing and bring no put and no delete: each is one clause of `quietly` and one of `undisturbed`.
+use mathlib.Core.Path.{_≡_, refl}
+use Rattle.rules.specs.Base.{not, _||_, [], _∷_, ℕ}
+use Rattle.theory.specs.Types.{Claims, Limits, Claim, Answer, Done, Refused}
+use Rattle.rules.specs.Refusal.{_gives_, decide, after}
+use Rattle.rules.specs.Condition1.{refused1}
+use Rattle.rules.specs.Claims.{isClaimed, notAFile, claimSet, claimCleared, withClaims, claimCall, releaseCall}
+use Rattle.rules.specs.World.{World, accepted, After, unchanged}
+use Rattle.theory.specs.Picture.{Said}
+use Rattle.theory.specs.SoundWorld.{SoundWorld}
+
+-- the calls
+pub data QuietCall : Type 0 where
+  claim : ℕ → QuietCall
+  release : ℕ → QuietCall
+
+-- document 01's call, accepted or refused
+abbrev pub quietly : World → QuietCall → After
+quietly w (claim slot) = claimCall w slot
+quietly w (release slot) = releaseCall w slot
+
+-- what such a call leaves
+pub record Undisturbed (w : World) (a : After) : Type 0 where
+  -- the heap is only read, and the settings stay
+  pub heap : a .world .heap ≡ w .heap
+  pub settings : a .world .settings ≡ w .settings
+  -- the invariant, with nothing else said of any id
+  pub sound : (told : ℕ → Said) → SoundWorld w told → SoundWorld (a .world) told
+  -- "A refusal changes no state or buffer"
+  pub refused : (a .answer ≡ accepted [] → ⊥) → a .world ≡ w
+
+-- a call that changes the claims alone
+by-claims : (w : World) (c : Claims) (a : Answer) → Undisturbed w (after a (unchanged w) (record { answer = accepted []; world = withClaims w c }))
+by-claims w c (Refused r) = record { heap = refl; settings = refl; sound = λ told s. s; refused = λ n. refl }
+by-claims w c Done = record {
+  heap = refl;
+  settings = refl;
+  sound = λ told s.
+      let t = s .tidy in
+      record { tidy = record { limits = t .limits; settings = t .settings; heap-len = t .heap-len; table-len = t .table-len; form = t .form }; sound = s .sound };
+  refused = λ n. absurd (n refl);
+}
+
+-- LAW: of any world, any quiet call, refused or not
+pub undisturbed : (w : World) (q : QuietCall) → Undisturbed w (quietly w q)
+unfolding claimCall releaseCall
+undisturbed w (claim slot) = by-claims w (claimSet (w .claims) slot) (decide (refused1 w gives Limits ∷ (notAFile w slot || isClaimed (w .claims) slot) gives Claim ∷ []))
+undisturbed w (release slot) = by-claims w (claimCleared (w .claims) slot) (decide (refused1 w gives Limits ∷ (notAFile w slot || not (isClaimed (w .claims) slot)) gives Claim ∷ []))

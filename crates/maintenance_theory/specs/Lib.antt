@@ -1,0 +1,16 @@
+-- C: which refusals and which count maintenance answers
+pub mod Checked
+pub mod Stopping
+pub mod Tally
+pub mod Moved
+pub mod Unmoved
+pub mod Finished
+pub mod Relocated
+pub mod Exactly
+pub mod Halting
+pub mod Sizes
+pub mod FirstRefused
+pub mod Covered
+pub mod Arrived
+pub mod Afterwards
+pub mod Sufficing
