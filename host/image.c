@@ -36,7 +36,7 @@ enum { CLEAN = 0, FAULTS = 1, USAGE = 2, UNSAVED = 3 }; /* of a rescue: nothing 
 static marble_settings s = MARBLE_DEFAULTS;
 static uint8_t *heap;
 static size_t heap_len, table_len = 1024;
-static uint64_t *ids, *locations;
+static uint64_t *table;
 static marble_state state;
 static marble_claims claims;
 static marble_fault *list;
@@ -108,7 +108,7 @@ static int image_fits(const char *path) {
 static uint64_t check_into(uint64_t room) {
     list = room_for(room, sizeof *list);
     if (list == NULL) return MARBLE_E_LIMITS;
-    return marble_check(s, heap, heap_len, ids, table_len, locations, table_len, (uint64_t *)list, 4 * room, &faults);
+    return marble_check(s, heap, heap_len, table, MARBLE_TABLE_WORDS(table_len), (uint64_t *)list, 4 * room, &faults);
 }
 
 /* 1: every fault is in list; else a message */
@@ -189,12 +189,12 @@ static uint64_t stored(size_t slot, uint64_t position) {
     return number;
 }
 
-static uint64_t reopened(void) { return marble_reopen(s, &state, &claims, heap, heap_len, ids, table_len, locations, table_len); }
+static uint64_t reopened(void) { return marble_reopen(s, &state, &claims, heap, heap_len, table, MARBLE_TABLE_WORDS(table_len)); }
 
 /* how many ids an accepted reopening found */
 static uint64_t ids_found(void) {
     size_t used = 0;
-    while (used < table_len && locations[used] != 0) used++;
+    while (used < table_len && MARBLE_TABLE_LOCATION(table, used) != 0) used++;
     return used;
 }
 
@@ -203,8 +203,8 @@ static void told_accepted(void) { printf("reopening: accepted, %llu ids in a tab
 /* live bytes of each file by the table that an accepted reopening made: objects and entries at their id's current location, and the head of
    the trailer that lists them */
 static void count_live(uint64_t *live) {
-    for (size_t k = 0; k < table_len && locations[k] != 0; k++) {
-        uint64_t position = MARBLE_LOCATION_POSITION(locations[k]), found = MARBLE_SLOTS_MAX;
+    for (size_t k = 0; k < table_len && MARBLE_TABLE_LOCATION(table, k) != 0; k++) {
+        uint64_t raw = MARBLE_TABLE_LOCATION(table, k), position = MARBLE_LOCATION_POSITION(raw), found = MARBLE_SLOTS_MAX;
         for (uint64_t slot = 0; slot < MARBLE_SLOTS_MAX; slot++) {
             uint64_t lsn = state.records[slot].lsn;
             if (lsn != 0 && lsn <= position && (found == MARBLE_SLOTS_MAX || lsn > state.records[found].lsn)) found = slot;
@@ -212,7 +212,7 @@ static void count_live(uint64_t *live) {
         if (found == MARBLE_SLOTS_MAX) continue;
         const marble_record *file = &state.records[found];
         live[found] += live[found] == 0 ? 12 + 16 : 16;
-        if (!MARBLE_LOCATION_IS_DELETE(locations[k])) {
+        if (!MARBLE_LOCATION_IS_DELETE(raw)) {
             uint64_t at = position - file->lsn, length = stored(found, at + 12), most = file->trailer_offset - at - 20;
             live[found] += 20 + (length < most ? length : most);
         }
@@ -359,12 +359,12 @@ static void told_id(const version *lost) {
     uint64_t raw, offset, size, position;
     const char *was = lost->deletes ? "deleted here" : "put here";
     printf("  id %llu: ", (word)lost->id);
-    if (marble_load(ids, table_len, locations, table_len, lost->id, &raw) != MARBLE_OK || raw == 0) {
+    if (marble_load(table, MARBLE_TABLE_WORDS(table_len), lost->id, &raw) != MARBLE_OK || raw == 0) {
         printf("%s, nothing reads now\n", was);
         return;
     }
     position = MARBLE_LOCATION_POSITION(raw) & ~BATCH_BIT;
-    uint64_t refusal = marble_read(s, &state, heap, heap_len, ids, table_len, locations, table_len, lost->id, &offset, &size);
+    uint64_t refusal = marble_read(s, &state, heap, heap_len, table, MARBLE_TABLE_WORDS(table_len), lost->id, &offset, &size);
     if (position > lost->position) printf("a newer version is kept\n");
     else if (position == lost->position) printf("kept in another slot, at the same position\n");
     else if (MARBLE_LOCATION_IS_DELETE(raw)) printf("%s, %san older delete counts now%s\n", was, YELLOW, PLAIN);
@@ -407,8 +407,8 @@ static int told_losses(const uint8_t *first, int accepted) {
 static int told_too_small(uint64_t refusal) {
     printf("reopening: %srefused with %llu%s, more distinct ids than a table of %llu takes\n", RED, (word)refusal, PLAIN, (word)table_len);
     table_len = MARBLE_TABLE_MAX;
-    ids = room_for(table_len, sizeof *ids), locations = room_for(table_len, sizeof *locations);
-    if (ids == NULL || locations == NULL) return 0;
+    table = room_for(MARBLE_TABLE_WORDS(table_len), sizeof *table);
+    if (table == NULL) return 0;
     int larger = reopened() == MARBLE_OK;
     if (larger) printf("table: one of %llu would do\n", (word)ids_found());
     else printf("table: none would do, %d entries are the most\n", MARBLE_TABLE_MAX);
@@ -436,7 +436,7 @@ static int told(void) {
 static int rescue(const char *path, const char *to) {
     static uint8_t first[MARBLE_SLOTS_MAX];
     for (size_t slot = 0; slot < heap_len / s.slot_bytes; slot++) first[slot] = heap[slot * s.slot_bytes];
-    uint64_t refusal = marble_salvage(s, heap, heap_len, ids, table_len, locations, table_len, report, &losses);
+    uint64_t refusal = marble_salvage(s, heap, heap_len, table, MARBLE_TABLE_WORDS(table_len), report, &losses);
     if (refusal != MARBLE_OK) {
         fprintf(stderr, "bench: the salvage was refused with %llu\n", (word)refusal);
         return USAGE;
@@ -470,7 +470,7 @@ static int look(const char *path, int draws) {
 }
 
 int main(int count, char **words) {
-    uint64_t table = table_len;
+    uint64_t entries = table_len;
     int draws = count > 1 && strcmp(words[1], "map") == 0, rescues = count > 1 && strcmp(words[1], "rescue") == 0;
     int sizes = rescues ? 4 : 3; /* where S stands */
     if (count < sizes || count > sizes + 2 || (!draws && !rescues && strcmp(words[1], "check") != 0)) {
@@ -478,15 +478,15 @@ int main(int count, char **words) {
         return USAGE;
     }
     if (count > sizes && !number("S", words[sizes], MARBLE_SLOT_BYTES_MIN, MARBLE_SLOT_BYTES_MAX, &s.slot_bytes)) return USAGE;
-    if (count > sizes + 1 && !number("TABLE", words[sizes + 1], MARBLE_TABLE_MIN, MARBLE_TABLE_MAX, &table)) return USAGE;
+    if (count > sizes + 1 && !number("TABLE", words[sizes + 1], MARBLE_TABLE_MIN, MARBLE_TABLE_MAX, &entries)) return USAGE;
     if (rescues && access(words[3], 0) == 0) {
         fprintf(stderr, "bench: %s is there already, and is not written over\n", words[3]);
         return USAGE;
     }
     if (!image_read(words[2]) || !image_fits(words[2])) return USAGE;
-    table_len = table;
-    ids = room_for(table_len, sizeof *ids), locations = room_for(table_len, sizeof *locations);
-    if (ids == NULL || locations == NULL) return USAGE;
+    table_len = entries;
+    table = room_for(MARBLE_TABLE_WORDS(table_len), sizeof *table);
+    if (table == NULL) return USAGE;
     on_a_terminal = isatty(1);
     return rescues ? rescue(words[2], words[3]) : look(words[2], draws);
 }

@@ -4,8 +4,9 @@
 
    #include "marble.h"
 
+   #define WORDS MARBLE_TABLE_WORDS(256)      // a table of 256 entries: 512 words
    static uint8_t heap[16 * 4096];            // 16 slots of 4,096 bytes; all zeros is a fresh store
-   static uint64_t ids[256], locations[256];  // the table, two equal lengths
+   static uint64_t table[WORDS];              // id and location by turns
    static marble_state state;                 // all zeros: not reopened yet
    static marble_claims claims;
 
@@ -16,13 +17,13 @@
        uint64_t offset, size;
        if (marble_version() != MARBLE_VERSION)
            return 1;                          // the archive is another than this header's
-       if (marble_reopen(s, &state, &claims, heap, sizeof heap, ids, 256, locations, 256) != MARBLE_OK)
+       if (marble_reopen(s, &state, &claims, heap, sizeof heap, table, WORDS) != MARBLE_OK)
            return 2;                          // do not write now: four steps below
        if (!marble_batch_put(batch, sizeof batch, &len, 7, "hello", 5) || !marble_batch_delete(batch, sizeof batch, &len, 9))
            return 3;                          // the batch is full
-       if (marble_write(s, &state, heap, sizeof heap, ids, 256, locations, 256, batch, len) != MARBLE_OK)
+       if (marble_write(s, &state, heap, sizeof heap, table, WORDS, batch, len) != MARBLE_OK)
            return 4;
-       if (marble_read(s, &state, heap, sizeof heap, ids, 256, locations, 256, 7, &offset, &size) != MARBLE_OK)
+       if (marble_read(s, &state, heap, sizeof heap, table, WORDS, 7, &offset, &size) != MARBLE_OK)
            return 5;
        return offset != 0 && size == 5 && heap[offset] == 'h' ? 0 : 6;
    }
@@ -34,9 +35,12 @@
 
    What the host must do:
    - Lend buffers that do not overlap, u64 buffers aligned for uint64_t; out-parameters and state are real places, never NULL.
-     A length counts elements: bytes of the heap and the batch, uint64_t of the table. ids and locations have the same length.
-     A batch does not lie in the heap either, not even behind its files: the file is written while the batch is read. A body that a
-     read found is put again through a batch buffer, into which marble_batch_put copies it.
+     A length counts elements: bytes of the heap and the batch, uint64_t of the table and of a listing.
+   - Lend the table as one buffer of words that alternate id and location: place k has its id at word 2k and its location at word 2k + 1.
+     Its entries are words / 2, 1 to 65,536. An odd number of words is refused with 1 by every call, nothing changes, and the last word,
+     which is in no place, is never looked at or changed. MARBLE_TABLE_WORDS, MARBLE_TABLE_ID and MARBLE_TABLE_LOCATION below.
+   - Keep a batch out of the heap, also behind its files: the file is written while the batch is read. A body that a read found is put
+     again through a batch buffer, into which marble_batch_put copies it.
    - Keep heap, table and state unchanged between calls (the four table calls are there for the table), and one caller at a time.
    - Give every call the settings and lengths of the accepted reopening. Others are refused with 1.
    - After power comes back, heap alone is enough: zero the rest and reopen.
@@ -46,7 +50,7 @@
      reopening is accepted, or refused with 6: then lend a larger table, and still do not write.
 
    When power fails. Promised, and proved of the rules (request P8 of document 02: docs/requests/P8.md): power gone after any number of the
-   single-byte stores of any call, a reopening with the same settings and table length is accepted and gives every read as before the
+   single-byte stores of any call, a reopening with the same settings and table entries is accepted and gives every read as before the
    call, or every read as after it. It is as after it only where all of a write's stores have landed; the last is the first byte of the
    label. Prune and maintenance change no read. Presumed: these calls alone have written the heap, since every slot of it began with a byte
    0; stores land in the order in which the calls make them, which a compiler, memcpy, a cache or a flash driver could change; a byte is
@@ -66,8 +70,8 @@ extern "C" {
 #endif
 
 /* ---- version: the header's. marble_version() is the archive's; a host stops where they differ. A new major number: a host must change. */
-#define MARBLE_VERSION_MAJOR 1
-#define MARBLE_VERSION_MINOR 2
+#define MARBLE_VERSION_MAJOR 2
+#define MARBLE_VERSION_MINOR 0
 #define MARBLE_VERSION (MARBLE_VERSION_MAJOR * 1000 + MARBLE_VERSION_MINOR)
 
 /* ---- limits: the column "Range" */
@@ -75,7 +79,7 @@ extern "C" {
 #define MARBLE_SLOT_BYTES_MAX 1048576
 #define MARBLE_SLOTS_MIN 1
 #define MARBLE_SLOTS_MAX 256
-#define MARBLE_TABLE_MIN 1
+#define MARBLE_TABLE_MIN 1 /* entries, of two words each */
 #define MARBLE_TABLE_MAX 65536
 #define MARBLE_FILE_COMPACTION_PERCENT_MIN 0
 #define MARBLE_FILE_COMPACTION_PERCENT_MAX 100
@@ -102,6 +106,11 @@ extern "C" {
 #define MARBLE_FILE_SIZE(puts, bodies, deletes) (12 + 36 * (uint64_t)(puts) + (uint64_t)(bodies) + 16 * (uint64_t)(deletes))
 /* What it takes of its slot, with the label. A write is refused with 4 where this is over slot_bytes. */
 #define MARBLE_SLOT_NEED(puts, bodies, deletes) (MARBLE_LABEL_BYTES + MARBLE_FILE_SIZE(puts, bodies, deletes))
+
+/* ---- the table: how many words so many entries take; the id and the location of place k, to be read. A location 0 is an unused place. */
+#define MARBLE_TABLE_WORDS(entries) (2 * (size_t)(entries))
+#define MARBLE_TABLE_ID(table, k) ((table)[2 * (size_t)(k)])
+#define MARBLE_TABLE_LOCATION(table, k) ((table)[2 * (size_t)(k) + 1])
 
 /* ---- a raw location: twice the position, plus 1 for a delete. Bit 62 of a position is the batch bit: set in a file that a write made,
    clear in a rewritten one. */
@@ -178,8 +187,8 @@ typedef struct marble_record {
 /* 12,360 bytes, the host's to keep and to read, the calls' to change. All zeros before the first reopening. */
 typedef struct marble_state {
     marble_settings settings;
-    uint64_t heap_len;
-    uint64_t table_len;
+    uint64_t heap_len;  /* bytes */
+    uint64_t table_len; /* entries, not words */
     marble_record records[MARBLE_SLOTS_MAX];
     uint64_t next_position;
 } marble_state;
@@ -236,67 +245,60 @@ uint64_t marble_version(void);
 
 /* ---- the store */
 /* "Reopen": records and table from the heap alone, which is only read; a file's live count is the ids mapped into it. 1, then 8 to 13
-   slot by slot, then 14, 15, 6. Refused with any number but 1: both table buffers zeroed, no records, no claims, next position 1. */
+   slot by slot, then 14, 15, 6. Refused with any number but 1: the table's buffer zeroed, no records, no claims, next position 1. */
 MARBLE_MUST_USE uint64_t marble_reopen(marble_settings settings, marble_state *state, marble_claims *claims, const uint8_t *heap,
-                                       size_t heap_len, uint64_t *ids, size_t ids_len, uint64_t *locations, size_t locations_len);
+                                       size_t heap_len, uint64_t *table, size_t words);
 
 /* "Write": a batch whole or not at all, decided 1 to 7 in order. Batch bytes: id in seven-bit groups, then 0 (delete) or 1 (put) with the
    length in groups and the body; the last operation on an id counts. An empty batch succeeds and changes nothing. marble_batch_put and
    marble_batch_delete make them. */
-MARBLE_MUST_USE uint64_t marble_write(marble_settings settings, marble_state *state, uint8_t *heap, size_t heap_len, uint64_t *ids,
-                                      size_t ids_len, uint64_t *locations, size_t locations_len, const uint8_t *batch, size_t batch_len);
+MARBLE_MUST_USE uint64_t marble_write(marble_settings settings, marble_state *state, uint8_t *heap, size_t heap_len, uint64_t *table,
+                                      size_t words, const uint8_t *batch, size_t batch_len);
 
 /* "Read": the object is size bytes from heap + offset on, until the next call that changes the heap. Unmapped or deleted: offset 0,
    which no object has. 1, 18, 16, 10, 17; refused: offset and size 0. */
 MARBLE_MUST_USE uint64_t marble_read(marble_settings settings, const marble_state *state, const uint8_t *heap, size_t heap_len,
-                                     const uint64_t *ids, size_t ids_len, const uint64_t *locations, size_t locations_len, uint64_t id,
-                                     uint64_t *offset, uint64_t *size);
+                                     const uint64_t *table, size_t words, uint64_t id, uint64_t *offset, uint64_t *size);
 
 /* "Claim": the slot's file is left alone by prune and maintenance. 21 for a slot out of range, an empty one or a claimed one. */
 MARBLE_MUST_USE uint64_t marble_claim(marble_settings settings, const marble_state *state, marble_claims *claims, const uint8_t *heap,
-                                      size_t heap_len, const uint64_t *ids, size_t ids_len, const uint64_t *locations,
-                                      size_t locations_len, uint64_t slot);
+                                      size_t heap_len, const uint64_t *table, size_t words, uint64_t slot);
 
 /* "Release": 21 for a slot out of range, an empty one or an unclaimed one. */
 MARBLE_MUST_USE uint64_t marble_release(marble_settings settings, const marble_state *state, marble_claims *claims, const uint8_t *heap,
-                                        size_t heap_len, const uint64_t *ids, size_t ids_len, const uint64_t *locations,
-                                        size_t locations_len, uint64_t slot);
+                                        size_t heap_len, const uint64_t *table, size_t words, uint64_t slot);
 
 /* "Prune": every unclaimed file with live 0: first label byte set to 0, record emptied. No other heap byte changes. 1. */
 MARBLE_MUST_USE uint64_t marble_prune(marble_settings settings, marble_state *state, const marble_claims *claims, uint8_t *heap,
-                                      size_t heap_len, const uint64_t *ids, size_t ids_len, const uint64_t *locations,
-                                      size_t locations_len);
+                                      size_t heap_len, const uint64_t *table, size_t words);
 
 /* "Maintenance": live objects and deletes of mostly dead or small files are gathered into new ones, group by group, then a prune. moved is
    the count of ids moved, generation 0. A refusal (3, 4, 5, 7, 9, 10, 11, 16, 18, 20) stops the call and keeps finished groups:
    generation is where, moved is the count so far, and nothing is pruned. 1: both 0. The claim record stays. 20 is a delete's position in
    a damaged trailer that is 2^63 or more with the file's lsn added; a reopening refuses such a file with 12. */
 MARBLE_MUST_USE uint64_t marble_maintain(marble_settings settings, marble_state *state, const marble_claims *claims, uint8_t *heap,
-                                         size_t heap_len, uint64_t *ids, size_t ids_len, uint64_t *locations, size_t locations_len,
-                                         uint64_t *generation, uint64_t *moved);
+                                         size_t heap_len, uint64_t *table, size_t words, uint64_t *generation, uint64_t *moved);
 
 /* "Counts": files, bytes, present, live, summed over files. Refused with 1: four zeros. */
 MARBLE_MUST_USE uint64_t marble_counts(marble_settings settings, const marble_state *state, const uint8_t *heap, size_t heap_len,
-                                       const uint64_t *ids, size_t ids_len, const uint64_t *locations, size_t locations_len,
-                                       marble_totals *counts);
+                                       const uint64_t *table, size_t words, marble_totals *counts);
 
 /* ---- the checker: for a heap that another hand made. It is lent what a reopening is, all of it only to be read; no state, no claims. */
 /* "Check": everything wrong with the heap, ascending by slot. The first of 8 to 13 and 15 is a slot's only line. A slot without one has its
    objects walked: 10 for a bad checksum, then 17 where no object entry has its id and position; one that passes trailer_offset has 16 alone
    and ends the walk. Then 17 for each object entry without its object, and 14 where its range meets that of an earlier such slot. At the
    end 6, with the number of slots as its slot, where those slots have more distinct ids than the table has entries: of the table only the
-   lengths count. listing takes four words to a line, as marble_fault has them: the lines that fit, in order, and every other word of it
-   stays as it was. faults is how many there are, also of those that do not fit; 0: nothing is wrong. A reopening is accepted exactly if
-   every line has a position. 1 only, as of a reopening; refused: listing stays, faults 0. */
-MARBLE_MUST_USE uint64_t marble_check(marble_settings settings, const uint8_t *heap, size_t heap_len, const uint64_t *ids, size_t ids_len,
-                                      const uint64_t *locations, size_t locations_len, uint64_t *listing, size_t listing_len,
-                                      uint64_t *faults);
+   number of words counts. listing takes four words to a line, as marble_fault has them: the lines that fit, in order, and every other word
+   of it stays as it was. faults is how many there are, also of those that do not fit; 0: nothing is wrong. A reopening is accepted exactly
+   if every line has a position. 1 only, as of a reopening; refused: listing stays, faults 0. */
+MARBLE_MUST_USE uint64_t marble_check(marble_settings settings, const uint8_t *heap, size_t heap_len, const uint64_t *table, size_t words,
+                                      uint64_t *listing, size_t listing_len, uint64_t *faults);
 
 /* The same with room for so many lines. The host's compiler compiles it; it is tested, not proved. */
 MARBLE_MUST_USE static inline uint64_t marble_check_lines(marble_settings settings, const uint8_t *heap, size_t heap_len,
-                                                          const uint64_t *ids, size_t ids_len, const uint64_t *locations,
-                                                          size_t locations_len, marble_fault *lines, size_t room, uint64_t *faults) {
-    return marble_check(settings, heap, heap_len, ids, ids_len, locations, locations_len, (uint64_t *)lines, 4 * room, faults);
+                                                          const uint64_t *table, size_t words, marble_fault *lines, size_t room,
+                                                          uint64_t *faults) {
+    return marble_check(settings, heap, heap_len, table, words, (uint64_t *)lines, 4 * room, faults);
 }
 
 /* ---- the rescue of a damaged heap. It is lent what the checker is, the heap to be changed; no state, no claims. */
@@ -309,28 +311,24 @@ MARBLE_MUST_USE static inline uint64_t marble_check_lines(marble_settings settin
    State, claims and table that the host has still name the emptied slots: nothing but a reopening makes sense now.
    Hazard: as soon as one slot is given up, any id may read as an older version than it had, and a delete may be undone.
    1 only, as of a reopening; refused: heap and report stay, lost 0. */
-MARBLE_MUST_USE uint64_t marble_salvage(marble_settings settings, uint8_t *heap, size_t heap_len, const uint64_t *ids, size_t ids_len,
-                                        const uint64_t *locations, size_t locations_len, marble_loss report[MARBLE_SLOTS_MAX],
-                                        uint64_t *lost);
+MARBLE_MUST_USE uint64_t marble_salvage(marble_settings settings, uint8_t *heap, size_t heap_len, const uint64_t *table, size_t words,
+                                        marble_loss report[MARBLE_SLOTS_MAX], uint64_t *lost);
 
 /* ---- the table alone: raw locations by id. A held location is never 0. Order: 1, 20 (a given raw 0), 18, 19, 6. */
 /* "Load": the location, or 0 for an unmapped id. 1; refused: location 0 too, so look at the number. */
-MARBLE_MUST_USE uint64_t marble_load(const uint64_t *ids, size_t ids_len, const uint64_t *locations, size_t locations_len, uint64_t id,
-                                     uint64_t *location);
+MARBLE_MUST_USE uint64_t marble_load(const uint64_t *table, size_t words, uint64_t id, uint64_t *location);
 
 /* "Store". 1, 20, 6. */
-MARBLE_MUST_USE uint64_t marble_store(uint64_t *ids, size_t ids_len, uint64_t *locations, size_t locations_len, uint64_t id,
-                                      uint64_t location);
+MARBLE_MUST_USE uint64_t marble_store(uint64_t *table, size_t words, uint64_t id, uint64_t location);
 
 /* "Compare-and-store": stored, and current 0; or it differs, nothing is stored, and current is the location held. 1, 20, 18; refused:
    current 0 too, and nothing is stored. */
-MARBLE_MUST_USE uint64_t marble_compare_and_store(uint64_t *ids, size_t ids_len, uint64_t *locations, size_t locations_len, uint64_t id,
-                                                  uint64_t old, uint64_t location, uint64_t *current);
+MARBLE_MUST_USE uint64_t marble_compare_and_store(uint64_t *table, size_t words, uint64_t id, uint64_t old, uint64_t location,
+                                                  uint64_t *current);
 
 /* "Store-if-greater": held is the location before or 0; a lower one is not stored. 1, 20, 19 (equal), 6; refused: held 0 too, and nothing
    is stored. */
-MARBLE_MUST_USE uint64_t marble_store_if_greater(uint64_t *ids, size_t ids_len, uint64_t *locations, size_t locations_len, uint64_t id,
-                                                 uint64_t location, uint64_t *held);
+MARBLE_MUST_USE uint64_t marble_store_if_greater(uint64_t *table, size_t words, uint64_t id, uint64_t location, uint64_t *held);
 
 /* ---- a batch made: operations put behind each other into a buffer of room bytes, of which *len are used, 0 at first. The host's compiler
    compiles these four; they are tested, not proved. */

@@ -59,7 +59,7 @@ def closing(path, faults):
 def lent(heap, slot_bytes, table):
     """an image in the model's hands"""
     s = Store()
-    s.given, s.heap, s.ids, s.locations = Settings((slot_bytes, *s.given[1:])), bytearray(heap), [0] * table, [0] * table
+    s.given, s.heap, s.words = Settings((slot_bytes, *s.given[1:])), bytearray(heap), [0] * (2 * table)
     return s
 
 

@@ -36,7 +36,7 @@ def groups(n):
 
 def fresh(table):
     """a fresh store"""
-    return [f'settings {SLOT} 75 2 2048 64 1024', f'heap {16 * SLOT}', f'table {table} {table}', 'reopen']
+    return [f'settings {SLOT} 75 2 2048 64 1024', f'heap {16 * SLOT}', f'table {2 * table}', 'reopen']
 
 
 def writes(ids, puts):

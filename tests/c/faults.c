@@ -34,8 +34,8 @@ static void clean(void) {
     expect("deleted", drop(1), MARBLE_OK);
     expect("pruned", prune(), MARBLE_OK);
     finds("a store of these calls", NULL, 0);
-    /* of the table only the lengths count, and it need not be in form */
-    w.ids[0] = 9, w.ids[1] = 3, w.locations[1] = 7;
+    /* of the table only the number of words counts, and it need not be in form */
+    MARBLE_TABLE_ID(w.table, 0) = 9, MARBLE_TABLE_ID(w.table, 1) = 3, MARBLE_TABLE_LOCATION(w.table, 1) = 7;
     finds("any table", NULL, 0);
 }
 
@@ -69,7 +69,7 @@ static void one_by_one(void) {
     file_in(0, two(bytes));
     file_in(1, two(bytes));
     FINDS("one file in two slots", {1, MARBLE_E_OVERLAP, 0, 0});
-    w.ids_len = w.locations_len = 1;
+    w.words = MARBLE_TABLE_WORDS(1);
     FINDS("and a table of one entry", {1, MARBLE_E_OVERLAP, 0, 0}, {2, MARBLE_E_TABLE_ROOM, 0, 0});
 }
 
@@ -88,13 +88,13 @@ static void room(void) {
     }
     marble_fault lines[3] = {{0, 0, 0, 0}, {0, 0, 0, 0}, {77, 77, 77, 77}};
     uint64_t found = 77;
-    uint64_t n = marble_check_lines(w.s, w.heap, w.heap_len, w.ids, w.ids_len, w.locations, w.locations_len, lines, 2, &found);
+    uint64_t n = marble_check_lines(w.s, w.heap, w.heap_len, w.table, w.words, lines, 2, &found);
     expect("by lines", n, MARBLE_OK);
     expect("the full number", found, 3);
     expect("the first", lines[0].slot == 0 && lines[0].number == MARBLE_E_CHECKSUM && lines[0].has_position == 1 && lines[0].position == 0, 1);
     expect("the second", lines[1].slot == 1 && lines[1].number == MARBLE_E_OVERLAP && lines[1].has_position == 0 && lines[1].position == 0, 1);
     expect("no third", lines[2].slot == 77 && lines[2].number == 77 && lines[2].has_position == 77 && lines[2].position == 77, 1);
-    n = marble_check_lines(w.s, w.heap, w.heap_len, w.ids, w.ids_len, w.locations, w.locations_len, NULL, 0, &found);
+    n = marble_check_lines(w.s, w.heap, w.heap_len, w.table, w.words, NULL, 0, &found);
     expect("no room", n == MARBLE_OK && found == 3, 1);
 }
 
@@ -108,9 +108,9 @@ static void many(void) {
         file_in(slot, sound(BATCH_BIT + 100 * (slot + 1), 0, bytes, object(bytes, slot + 1, &a, 1), &one, 1));
     }
     finds("256 ids in a table of as many", NULL, 0);
-    w.ids_len = w.locations_len = TABLE_MOST - 1;
+    w.words = MARBLE_TABLE_WORDS(TABLE_MOST - 1);
     FINDS("in one of 255", {MARBLE_SLOTS_MAX, MARBLE_E_TABLE_ROOM, 0, 0});
-    w.ids_len = w.locations_len = TABLE_MOST;
+    w.words = MARBLE_TABLE_WORDS(TABLE_MOST);
     w.heap[255 * 128 + MARBLE_LABEL_BYTES + 20] ^= 1;
     FINDS("a bit of the last body", {255, MARBLE_E_CHECKSUM, 1, 0});
 }
@@ -128,10 +128,10 @@ static void out_of_range(void) {
     w.heap = NULL, w.heap_len = 0;
     expect("no heap", check(LISTING_MOST), MARBLE_E_LIMITS);
     w = good;
-    w.ids_len -= 1;
-    expect("lengths that differ", check(LISTING_MOST), MARBLE_E_LIMITS);
+    w.words -= 1;
+    expect("an odd number of words", check(LISTING_MOST), MARBLE_E_LIMITS);
     w = good;
-    w.ids = w.locations = NULL, w.ids_len = w.locations_len = 0;
+    w.table = NULL, w.words = 0;
     expect("no table", check(LISTING_MOST), MARBLE_E_LIMITS);
     w = good;
     w.s.slot_bytes = UINT64_MAX;

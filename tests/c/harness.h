@@ -7,7 +7,7 @@ void *memset(void *, int, size_t);
 int memcmp(const void *, const void *, size_t);
 
 #define HEAP_MOST (256 * 1024)
-#define TABLE_MOST 256
+#define TABLE_MOST 256 /* entries */
 #define BATCH_MOST 4096
 #define BATCH_BIT (1ull << 62)
 #define LISTING_MOST (4 * 16)
@@ -24,15 +24,13 @@ typedef struct store {
     marble_claims *claims;
     uint8_t *heap;
     size_t heap_len;
-    uint64_t *ids;
-    size_t ids_len;
-    uint64_t *locations;
-    size_t locations_len;
+    uint64_t *table;
+    size_t words;
 } store;
 extern store w;
 
-/* zeros everywhere, these lengths, guards anew */
-void fresh(marble_settings s, size_t slots, size_t table);
+/* zeros everywhere, so many slots and table entries, guards anew */
+void fresh(marble_settings s, size_t slots, size_t entries);
 marble_settings defaults(void);
 marble_settings small(uint64_t slot_bytes);
 
@@ -100,6 +98,7 @@ uint64_t copies_made(void);
 void header(void);
 void lines(void);
 void life(void);
+void odd(void);
 void maintenance(void);
 void refusals(void);
 void faults(void);

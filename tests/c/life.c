@@ -46,8 +46,7 @@ static void whole_life(void) {
     /* power is lost: heap alone */
     uint64_t next = w.state->next_position;
     memset(w.state, 0, sizeof *w.state);
-    memset(w.ids, 0, 8 * w.ids_len);
-    memset(w.locations, 0, 8 * w.locations_len);
+    memset(w.table, 0, 8 * w.words);
     expect("reopen", reopen(), MARBLE_OK);
     expect("next not lower", w.state->next_position >= next, 1);
     holds(1, 1000, 'A');
@@ -64,7 +63,8 @@ static void table_calls(void) {
     expect("0", out[0], 0);
     expect("store", store_at(9, 30), MARBLE_OK);
     expect("store before it", store_at(4, 20), MARBLE_OK);
-    expect("ids rise", w.ids[0] == 4 && w.ids[1] == 9, 1);
+    expect("id and location by turns", w.table[0] == 4 && w.table[1] == 20 && w.table[2] == 9 && w.table[3] == 30, 1);
+    expect("the second place", MARBLE_TABLE_ID(w.table, 1) == 9 && MARBLE_TABLE_LOCATION(w.table, 1) == 30, 1);
     expect("compare that differs", compare_and_store(9, 31, 50), MARBLE_OK);
     expect("the current one", out[0], 30);
     expect("compare that holds", compare_and_store(9, 30, 50), MARBLE_OK);
@@ -79,7 +79,7 @@ static void table_calls(void) {
     expect("full", store_at(5, 40), MARBLE_E_TABLE_ROOM);
 }
 
-/* Every call with no buffers at all, lengths that differ, other settings, a table out of form: 1, and nothing changes. */
+/* Every call with no buffers at all, another length, other settings, a table out of form: 1, and nothing changes. */
 static void every_call(void) {
     expect("write", put(1, 1, 'x'), MARBLE_E_LIMITS);
     expect("read", read_id(1), MARBLE_E_LIMITS);
@@ -105,15 +105,13 @@ static void bad_hosts(void) {
     every_call();
     expect("no heap", reopen(), MARBLE_E_LIMITS);
     w = good;
-    w.ids = w.locations = NULL, w.ids_len = w.locations_len = 0;
+    w.table = NULL, w.words = 0;
     every_call();
     every_table_call();
     expect("no table", reopen(), MARBLE_E_LIMITS);
     w = good;
-    w.ids_len = 7;
+    w.words = MARBLE_TABLE_WORDS(7);
     every_call();
-    every_table_call();
-    expect("lengths that differ", reopen(), MARBLE_E_LIMITS);
     w = good;
     w.heap_len -= 1;
     every_call();
@@ -126,10 +124,10 @@ static void bad_hosts(void) {
     every_call();
     expect("settings out of range", reopen(), MARBLE_E_LIMITS);
     w = good;
-    w.locations[1] = 2;
+    MARBLE_TABLE_LOCATION(w.table, 1) = 2;
     every_call();
     every_table_call();
-    w.locations[1] = 0;
+    MARBLE_TABLE_LOCATION(w.table, 1) = 0;
     w.state->next_position = 0;
     every_call();
     w.state->next_position = 1;

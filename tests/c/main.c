@@ -4,6 +4,7 @@ int main(void) {
     header();
     lines();
     life();
+    odd();
     maintenance();
     refusals();
     faults();

@@ -39,8 +39,8 @@ static void clean(void) {
     gives_up("a store of these calls", NULL, 0, MARBLE_OK);
     holds_nothing(1);
     holds(2, 0, 'b');
-    /* of the table only the lengths count, and it need not be in form */
-    w.ids[0] = 9, w.ids[1] = 3, w.locations[1] = 7;
+    /* of the table only the number of words counts, and it need not be in form */
+    MARBLE_TABLE_ID(w.table, 0) = 9, MARBLE_TABLE_ID(w.table, 1) = 3, MARBLE_TABLE_LOCATION(w.table, 1) = 7;
     gives_up("any table", NULL, 0, MARBLE_OK);
     /* what a reopening does not look at is not touched */
     w.heap[MARBLE_LABEL_BYTES + 20] ^= 1;
@@ -133,7 +133,7 @@ static void many(void) {
     fresh(small(128), MARBLE_SLOTS_MAX, TABLE_MOST);
     for (uint64_t slot = 0; slot < MARBLE_SLOTS_MAX; slot++) put_one(slot, 100 * (MARBLE_SLOTS_MAX - slot), slot + 1);
     gives_up("256 files apart, the last first", NULL, 0, MARBLE_OK);
-    w.ids_len = w.locations_len = TABLE_MOST - 1;
+    w.words = MARBLE_TABLE_WORDS(TABLE_MOST - 1);
     gives_up("for a table of 255", NULL, 0, MARBLE_E_TABLE_ROOM);
     fresh(small(128), MARBLE_SLOTS_MAX, TABLE_MOST);
     for (uint64_t slot = 0; slot < MARBLE_SLOTS_MAX; slot++) put_one(slot, MARBLE_SLOTS_MAX - slot, slot + 1);
@@ -159,10 +159,10 @@ static void out_of_range(void) {
     w.heap = NULL, w.heap_len = 0;
     expect("no heap", salvage(), MARBLE_E_LIMITS);
     w = good;
-    w.ids_len -= 1;
-    expect("lengths that differ", salvage(), MARBLE_E_LIMITS);
+    w.words -= 1;
+    expect("an odd number of words", salvage(), MARBLE_E_LIMITS);
     w = good;
-    w.ids = w.locations = NULL, w.ids_len = w.locations_len = 0;
+    w.table = NULL, w.words = 0;
     expect("no table", salvage(), MARBLE_E_LIMITS);
     w = good;
     w.s.slot_bytes = UINT64_MAX;

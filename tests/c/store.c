@@ -18,8 +18,7 @@ uint64_t checks(void) { return done; }
 #define PAINT 0xA5
 #define GUARDED(name, most) static _Alignas(16) uint8_t name[GUARD + (most) + GUARD]
 GUARDED(heap_area, HEAP_MOST);
-GUARDED(ids_area, 8 * TABLE_MOST);
-GUARDED(locations_area, 8 * TABLE_MOST);
+GUARDED(table_area, 8 * MARBLE_TABLE_WORDS(TABLE_MOST));
 GUARDED(batch_area, BATCH_MOST);
 GUARDED(state_area, sizeof(marble_state));
 GUARDED(claims_area, sizeof(marble_claims));
@@ -28,7 +27,7 @@ GUARDED(totals_area, sizeof(marble_totals));
 GUARDED(listing_area, 8 * LISTING_MOST);
 GUARDED(report_area, MARBLE_SLOTS_MAX * sizeof(marble_loss));
 /* what stood there before a call */
-static uint8_t heap_was[HEAP_MOST], ids_was[8 * TABLE_MOST], locations_was[8 * TABLE_MOST], state_was[sizeof(marble_state)], claims_was[sizeof(marble_claims)];
+static uint8_t heap_was[HEAP_MOST], table_was[8 * MARBLE_TABLE_WORDS(TABLE_MOST)], state_was[sizeof(marble_state)], claims_was[sizeof(marble_claims)];
 
 store w;
 /* how much of the areas is the store's, whatever lengths a test then gives */
@@ -57,24 +56,21 @@ static void guard(const char *call, const char *name, const uint8_t *area, size_
     expect("bytes touched outside", touched, 0);
 }
 
-void fresh(marble_settings s, size_t slots, size_t table) {
+void fresh(marble_settings s, size_t slots, size_t entries) {
     w.s = s;
     w.state = (marble_state *)(state_area + GUARD);
     w.claims = (marble_claims *)(claims_area + GUARD);
     w.heap = heap_area + GUARD;
     w.heap_len = heap_room = slots * s.slot_bytes;
-    w.ids = (uint64_t *)(ids_area + GUARD);
-    w.locations = (uint64_t *)(locations_area + GUARD);
-    w.ids_len = w.locations_len = table;
-    table_room = 8 * table;
+    w.table = (uint64_t *)(table_area + GUARD);
+    w.words = MARBLE_TABLE_WORDS(entries);
+    table_room = 8 * w.words;
     memset(w.state, 0, sizeof *w.state);
     memset(w.claims, 0, sizeof *w.claims);
     memset(w.heap, 0, w.heap_len);
-    memset(w.ids, 0, 8 * table);
-    memset(w.locations, 0, 8 * table);
+    memset(w.table, 0, table_room);
     paint(heap_area, w.heap_len, sizeof heap_area);
-    paint(ids_area, 8 * table, sizeof ids_area);
-    paint(locations_area, 8 * table, sizeof locations_area);
+    paint(table_area, table_room, sizeof table_area);
     paint(state_area, sizeof *w.state, sizeof state_area);
     paint(claims_area, sizeof *w.claims, sizeof claims_area);
     paint(totals_area, sizeof totals, sizeof totals_area);
@@ -150,8 +146,7 @@ void costs_told(void) {
 /* ---- before and behind a call */
 static void before(void) {
     memcpy(heap_was, heap_area + GUARD, heap_room);
-    memcpy(ids_was, ids_area + GUARD, table_room);
-    memcpy(locations_was, locations_area + GUARD, table_room);
+    memcpy(table_was, table_area + GUARD, table_room);
     memcpy(state_was, w.state, sizeof *w.state);
     memcpy(claims_was, w.claims, sizeof *w.claims);
     *OUT(0) = *OUT(1) = 77;
@@ -168,16 +163,14 @@ enum { HEAP = 1, TABLE = 2, STATE = 4, CLAIMS = 8, ALL = 15 };
 static void behind(int call, unsigned kept) {
     const char *name = names[call];
     guard(name, "heap", heap_area, heap_room, sizeof heap_area);
-    guard(name, "ids", ids_area, table_room, sizeof ids_area);
-    guard(name, "locations", locations_area, table_room, sizeof locations_area);
+    guard(name, "table", table_area, table_room, sizeof table_area);
     guard(name, "state", state_area, sizeof *w.state, sizeof state_area);
     guard(name, "claims", claims_area, sizeof *w.claims, sizeof claims_area);
     guard(name, "totals", totals_area, sizeof totals, sizeof totals_area);
     guard(name, "first out-parameter", out_area, 8, 8 + 2 * GUARD);
     guard(name, "second out-parameter", out_area + 8 + GUARD, 8, 8 + 2 * GUARD);
     if (kept & HEAP) same(name, "heap", heap_area + GUARD, heap_was, heap_room);
-    if (kept & TABLE) same(name, "ids", ids_area + GUARD, ids_was, table_room);
-    if (kept & TABLE) same(name, "locations", locations_area + GUARD, locations_was, table_room);
+    if (kept & TABLE) same(name, "table", table_area + GUARD, table_was, table_room);
     if (kept & STATE) same(name, "state", w.state, state_was, sizeof *w.state);
     if (kept & CLAIMS) same(name, "claims", w.claims, claims_was, sizeof *w.claims);
     out[0] = *OUT(0);
@@ -188,7 +181,7 @@ static void behind(int call, unsigned kept) {
 uint64_t reopen(void) {
     before();
     stack_below(REOPEN, 1);
-    uint64_t n = marble_reopen(w.s, w.state, w.claims, w.heap, w.heap_len, w.ids, w.ids_len, w.locations, w.locations_len);
+    uint64_t n = marble_reopen(w.s, w.state, w.claims, w.heap, w.heap_len, w.table, w.words);
     stack_below(REOPEN, 0);
     behind(REOPEN, n == MARBLE_E_LIMITS ? ALL : HEAP);
     if (n != MARBLE_E_LIMITS) {
@@ -197,7 +190,7 @@ uint64_t reopen(void) {
     }
     if (n != MARBLE_E_LIMITS && n != MARBLE_OK) {
         uint64_t left = 0;
-        for (size_t i = 0; i < w.ids_len; i++) left |= w.ids[i] | w.locations[i];
+        for (size_t i = 0; i < w.words; i++) left |= w.table[i];
         for (size_t i = 0; i < MARBLE_SLOTS_MAX; i++) {
             const marble_record *r = &w.state->records[i];
             left |= r->lsn | r->trailer_offset | r->file_size | r->present_objects | r->generation | r->live;
@@ -213,7 +206,7 @@ uint64_t write_batch(const uint8_t *batch, size_t len) {
     if (len) memcpy(BATCH, batch, len);
     before();
     stack_below(WRITE, 1);
-    uint64_t n = marble_write(w.s, w.state, w.heap, w.heap_len, w.ids, w.ids_len, w.locations, w.locations_len, len ? BATCH : NULL, len);
+    uint64_t n = marble_write(w.s, w.state, w.heap, w.heap_len, w.table, w.words, len ? BATCH : NULL, len);
     stack_below(WRITE, 0);
     behind(WRITE, n == MARBLE_OK && len ? CLAIMS : ALL);
     guard("write", "batch", batch_area, len, sizeof batch_area);
@@ -224,7 +217,7 @@ uint64_t write_batch(const uint8_t *batch, size_t len) {
 uint64_t read_id(uint64_t id) {
     before();
     stack_below(READ, 1);
-    uint64_t n = marble_read(w.s, w.state, w.heap, w.heap_len, w.ids, w.ids_len, w.locations, w.locations_len, id, OUT(0), OUT(1));
+    uint64_t n = marble_read(w.s, w.state, w.heap, w.heap_len, w.table, w.words, id, OUT(0), OUT(1));
     stack_below(READ, 0);
     behind(READ, ALL);
     if (n != MARBLE_OK) expect("refused read: no part", out[0] | out[1], 0);
@@ -234,7 +227,7 @@ uint64_t read_id(uint64_t id) {
 uint64_t claim(uint64_t slot) {
     before();
     stack_below(CLAIM, 1);
-    uint64_t n = marble_claim(w.s, w.state, w.claims, w.heap, w.heap_len, w.ids, w.ids_len, w.locations, w.locations_len, slot);
+    uint64_t n = marble_claim(w.s, w.state, w.claims, w.heap, w.heap_len, w.table, w.words, slot);
     stack_below(CLAIM, 0);
     behind(CLAIM, n == MARBLE_OK ? HEAP | TABLE | STATE : ALL);
     return n;
@@ -243,7 +236,7 @@ uint64_t claim(uint64_t slot) {
 uint64_t release(uint64_t slot) {
     before();
     stack_below(RELEASE, 1);
-    uint64_t n = marble_release(w.s, w.state, w.claims, w.heap, w.heap_len, w.ids, w.ids_len, w.locations, w.locations_len, slot);
+    uint64_t n = marble_release(w.s, w.state, w.claims, w.heap, w.heap_len, w.table, w.words, slot);
     stack_below(RELEASE, 0);
     behind(RELEASE, n == MARBLE_OK ? HEAP | TABLE | STATE : ALL);
     return n;
@@ -252,7 +245,7 @@ uint64_t release(uint64_t slot) {
 uint64_t prune(void) {
     before();
     stack_below(PRUNE, 1);
-    uint64_t n = marble_prune(w.s, w.state, w.claims, w.heap, w.heap_len, w.ids, w.ids_len, w.locations, w.locations_len);
+    uint64_t n = marble_prune(w.s, w.state, w.claims, w.heap, w.heap_len, w.table, w.words);
     stack_below(PRUNE, 0);
     behind(PRUNE, n == MARBLE_OK ? TABLE | CLAIMS : ALL);
     return n;
@@ -261,7 +254,7 @@ uint64_t prune(void) {
 uint64_t maintain(void) {
     before();
     stack_below(MAINTAIN, 1);
-    uint64_t n = marble_maintain(w.s, w.state, w.claims, w.heap, w.heap_len, w.ids, w.ids_len, w.locations, w.locations_len, OUT(0), OUT(1));
+    uint64_t n = marble_maintain(w.s, w.state, w.claims, w.heap, w.heap_len, w.table, w.words, OUT(0), OUT(1));
     stack_below(MAINTAIN, 0);
     behind(MAINTAIN, n == MARBLE_E_LIMITS ? ALL : CLAIMS);
     return n;
@@ -270,7 +263,7 @@ uint64_t maintain(void) {
 uint64_t counts(void) {
     before();
     stack_below(COUNTS, 1);
-    uint64_t n = marble_counts(w.s, w.state, w.heap, w.heap_len, w.ids, w.ids_len, w.locations, w.locations_len, TOTALS);
+    uint64_t n = marble_counts(w.s, w.state, w.heap, w.heap_len, w.table, w.words, TOTALS);
     stack_below(COUNTS, 0);
     behind(COUNTS, ALL);
     totals = *TOTALS;
@@ -283,7 +276,7 @@ uint64_t check(size_t words) {
     memset(listing_area, PAINT, sizeof listing_area);
     before();
     stack_below(CHECK, 1);
-    uint64_t n = marble_check(w.s, w.heap, w.heap_len, w.ids, w.ids_len, w.locations, w.locations_len, words ? LISTING : NULL, words, OUT(0));
+    uint64_t n = marble_check(w.s, w.heap, w.heap_len, w.table, w.words, words ? LISTING : NULL, words, OUT(0));
     stack_below(CHECK, 0);
     behind(CHECK, ALL);
     if (n != MARBLE_OK) expect("refused check: no faults", out[0], 0);
@@ -296,7 +289,7 @@ uint64_t salvage(void) {
     memset(report_area, PAINT, sizeof report_area);
     before();
     stack_below(SALVAGE, 1);
-    uint64_t n = marble_salvage(w.s, w.heap, w.heap_len, w.ids, w.ids_len, w.locations, w.locations_len, REPORT, OUT(0));
+    uint64_t n = marble_salvage(w.s, w.heap, w.heap_len, w.table, w.words, REPORT, OUT(0));
     stack_below(SALVAGE, 0);
     behind(SALVAGE, TABLE | STATE | CLAIMS);
     if (n != MARBLE_OK) expect("refused salvage: nothing given up", out[0], 0);
@@ -309,7 +302,7 @@ uint64_t salvage(void) {
 uint64_t load(uint64_t id) {
     before();
     stack_below(LOAD, 1);
-    uint64_t n = marble_load(w.ids, w.ids_len, w.locations, w.locations_len, id, OUT(0));
+    uint64_t n = marble_load(w.table, w.words, id, OUT(0));
     stack_below(LOAD, 0);
     behind(LOAD, ALL);
     if (n != MARBLE_OK) expect("refused load: 0", out[0], 0);
@@ -319,7 +312,7 @@ uint64_t load(uint64_t id) {
 uint64_t store_at(uint64_t id, uint64_t location) {
     before();
     stack_below(STORE, 1);
-    uint64_t n = marble_store(w.ids, w.ids_len, w.locations, w.locations_len, id, location);
+    uint64_t n = marble_store(w.table, w.words, id, location);
     stack_below(STORE, 0);
     behind(STORE, n == MARBLE_OK ? HEAP | STATE | CLAIMS : ALL);
     return n;
@@ -328,7 +321,7 @@ uint64_t store_at(uint64_t id, uint64_t location) {
 uint64_t compare_and_store(uint64_t id, uint64_t old, uint64_t location) {
     before();
     stack_below(COMPARE, 1);
-    uint64_t n = marble_compare_and_store(w.ids, w.ids_len, w.locations, w.locations_len, id, old, location, OUT(0));
+    uint64_t n = marble_compare_and_store(w.table, w.words, id, old, location, OUT(0));
     stack_below(COMPARE, 0);
     behind(COMPARE, n == MARBLE_OK && *OUT(0) == 0 ? HEAP | STATE | CLAIMS : ALL);
     if (n != MARBLE_OK) expect("refused compare: 0", out[0], 0);
@@ -338,7 +331,7 @@ uint64_t compare_and_store(uint64_t id, uint64_t old, uint64_t location) {
 uint64_t store_if_greater(uint64_t id, uint64_t location) {
     before();
     stack_below(GREATER, 1);
-    uint64_t n = marble_store_if_greater(w.ids, w.ids_len, w.locations, w.locations_len, id, location, OUT(0));
+    uint64_t n = marble_store_if_greater(w.table, w.words, id, location, OUT(0));
     stack_below(GREATER, 0);
     behind(GREATER, n == MARBLE_OK && *OUT(0) < location ? HEAP | STATE | CLAIMS : ALL);
     if (n != MARBLE_OK) expect("refused store-if-greater: 0", out[0], 0);

@@ -97,9 +97,9 @@ IN_MODEL = {
     'six-before-four': [
         ('        self.check_room([entries])\n'
          '        table = self.table()\n'
-         '        refuse_if(len(table.keys() | {i for i, _ in entries}) > len(self.ids), 6)\n',
+         '        refuse_if(len(table.keys() | {i for i, _ in entries}) > self.entries(), 6)\n',
          '        table = self.table()\n'
-         '        refuse_if(len(table.keys() | {i for i, _ in entries}) > len(self.ids), 6)\n'
+         '        refuse_if(len(table.keys() | {i for i, _ in entries}) > self.entries(), 6)\n'
          '        self.check_room([entries])\n'),
     ],
     'two-before-one': [
@@ -111,8 +111,8 @@ IN_MODEL = {
          '        self.check_state()\n'),
     ],
     'full-table-not-written': [
-        ('{i for i, _ in entries}) > len(self.ids), 6)',
-         '{i for i, _ in entries}) >= len(self.ids), 6)'),
+        ('{i for i, _ in entries}) > self.entries(), 6)',
+         '{i for i, _ in entries}) >= self.entries(), 6)'),
     ],
     'empty-batch-a-file': [
         ('        if not operations:\n'
@@ -120,12 +120,12 @@ IN_MODEL = {
          ''),
     ],
     'batch-ids-alone': [
-        ('len(table.keys() | {i for i, _ in entries}) > len(self.ids), 6)',
-         'len(entries) > len(self.ids), 6)'),
+        ('len(table.keys() | {i for i, _ in entries}) > self.entries(), 6)',
+         'len(entries) > self.entries(), 6)'),
     ],
     'ids-counted-twice': [
-        ('len(table.keys() | {i for i, _ in entries}) > len(self.ids), 6)',
-         'len(table) + len(entries) > len(self.ids), 6)'),
+        ('len(table.keys() | {i for i, _ in entries}) > self.entries(), 6)',
+         'len(table) + len(entries) > self.entries(), 6)'),
     ],
     'written-without-bit': [
         ('self.install(entries, 0, BATCH_BIT)',
@@ -140,10 +140,10 @@ IN_MODEL = {
          'entries = list(operations)'),
     ],
     'seven-before-six': [
-        ('        refuse_if(len(table.keys() | {i for i, _ in entries}) > len(self.ids), 6)\n'
+        ('        refuse_if(len(table.keys() | {i for i, _ in entries}) > self.entries(), 6)\n'
          '        self.check_next([entries])\n',
          '        self.check_next([entries])\n'
-         '        refuse_if(len(table.keys() | {i for i, _ in entries}) > len(self.ids), 6)\n'),
+         '        refuse_if(len(table.keys() | {i for i, _ in entries}) > self.entries(), 6)\n'),
     ],
     'four-before-three': [
         ('        refuse_if(any(b is not None and len(b) >= self.given.max_object for _, b in operations), 3)\n'
@@ -702,9 +702,9 @@ IN_MODEL = {
          '        self.settings, self.heap_len',
          '        bad = not self.lengths_in_range()\n'
          '        if bad:\n'
-         '            self.settings, self.heap_len, self.table_len = self.given, len(self.heap), len(self.ids)\n'
+         '            self.settings, self.heap_len, self.table_len = self.given, len(self.heap), self.entries()\n'
          '            self.records, self.claims, self.next = [EMPTY] * MAX_RECORDS, 0, 1\n'
-         '            self.ids[:], self.locations[:] = [0] * len(self.ids), [0] * len(self.locations)\n'
+         '            self.set_table({})\n'
          '        refuse_if(bad, 1)\n'
          '        self.settings, self.heap_len'),
     ],
@@ -747,12 +747,12 @@ IN_MODEL = {
          '        refuse_if(self.not_rising([e for _, entries in found.values() for e in entries]), 15)\n'),
     ],
     'entries-counted-not-ids': [
-        ('refuse_if(len(best) > len(self.ids), 6)',
-         'refuse_if(sum(len(e) for _, e in found.values()) > len(self.ids), 6)'),
+        ('refuse_if(len(best) > self.entries(), 6)',
+         'refuse_if(sum(len(e) for _, e in found.values()) > self.entries(), 6)'),
     ],
     'reopened-table-one-left': [
-        ('refuse_if(len(best) > len(self.ids), 6)',
-         'refuse_if(len(best) >= len(self.ids), 6)'),
+        ('refuse_if(len(best) > self.entries(), 6)',
+         'refuse_if(len(best) >= self.entries(), 6)'),
     ],
     'reopened-relative-locations': [
         ('relative + 2 * numbers[0], slot)',
@@ -967,7 +967,7 @@ IN_MODEL = {
          '        refuse_if(raw == 0, 20)\n'
          '        self.put(ident, raw)\n',
          '        self.check_table()\n'
-         '        refuse_if(ident not in self.table() and len(self.table()) == len(self.ids), 6)\n'
+         '        refuse_if(ident not in self.table() and len(self.table()) == self.entries(), 6)\n'
          '        refuse_if(raw == 0, 20)\n'
          '        self.put(ident, raw)\n'),
     ],
@@ -1060,54 +1060,54 @@ IN_MODEL = {
          'refuse_if(len(table)'),
     ],
     'full-with-one-left': [
-        ('ident not in table and len(table) == len(self.ids), 6)',
-         'ident not in table and len(table) + 1 >= len(self.ids), 6)'),
+        ('ident not in table and len(table) == self.entries(), 6)',
+         'ident not in table and len(table) + 1 >= self.entries(), 6)'),
     ],
     'full-one-over': [
-        ('ident not in table and len(table) == len(self.ids), 6)',
-         'ident not in table and len(table) > len(self.ids), 6)'),
+        ('ident not in table and len(table) == self.entries(), 6)',
+         'ident not in table and len(table) > self.entries(), 6)'),
     ],
     'ids-rise-not-strictly': [
-        ('all(map(lt, self.ids[:used - 1], self.ids[1:used]))',
-         'all(a <= b for a, b in zip(self.ids[:used - 1], self.ids[1:used]))'),
+        ('all(map(lt, ids[:used - 1], ids[1:used]))',
+         'all(a <= b for a, b in zip(ids[:used - 1], ids[1:used]))'),
     ],
     'unused-ids-any': [
-        ('return rising and not any(self.ids[used:]) and not any(self.locations[used:])',
-         'return rising and not any(self.locations[used:])'),
+        ('return rising and not any(ids[used:]) and not any(locations[used:])',
+         'return rising and not any(locations[used:])'),
     ],
     'used-behind-unused': [
-        ('        used = self.locations.index(0) if 0 in self.locations else len(self.locations)\n'
-         '        rising = all(map(lt, self.ids[:used - 1], self.ids[1:used]))\n'
-         '        return rising and not any(self.ids[used:]) and not any(self.locations[used:])',
-         '        ids = [i for i, l in zip(self.ids, self.locations) if l]\n'
-         '        return all(map(lt, ids, ids[1:])) and not any(i for i, l in zip(self.ids, self.locations) if not l)'),
+        ('        used = locations.index(0) if 0 in locations else len(locations)\n'
+         '        rising = all(map(lt, ids[:used - 1], ids[1:used]))\n'
+         '        return rising and not any(ids[used:]) and not any(locations[used:])',
+         '        used = [i for i, l in zip(ids, locations) if l]\n'
+         '        return all(map(lt, used, used[1:])) and not any(i for i, l in zip(ids, locations) if not l)'),
     ],
     'table-of-no-entries': [
-        ('1 <= len(self.ids) <= 65536',
-         '0 <= len(self.ids) <= 65536'),
+        ('1 <= self.entries() <= 65536',
+         '0 <= self.entries() <= 65536'),
     ],
     'table-of-65535': [
-        ('1 <= len(self.ids) <= 65536',
-         '1 <= len(self.ids) <= 65535'),
+        ('1 <= self.entries() <= 65536',
+         '1 <= self.entries() <= 65535'),
     ],
-    'lengths-may-differ': [
-        ('len(self.ids) == len(self.locations) and 1',
+    'odd-length-taken': [
+        ('len(self.words) % 2 == 0 and 1',
          '1'),
     ],
     'id-0-refused': [
-        ('return rising and not any(self.ids[used:]) and not any(self.locations[used:])',
-         'return rising and not any(self.ids[used:]) and not any(self.locations[used:]) and not (used and self.ids[0] == 0)'),
+        ('return rising and not any(ids[used:]) and not any(locations[used:])',
+         'return rising and not any(ids[used:]) and not any(locations[used:]) and not (used and ids[0] == 0)'),
     ],
     'settings-not-compared': [
-        ('self.given != self.settings or len(self.heap) != self.heap_len or len(self.ids) != self.table_len, 1)',
-         'len(self.heap) != self.heap_len or len(self.ids) != self.table_len, 1)'),
+        ('self.given != self.settings or len(self.heap) != self.heap_len or self.entries() != self.table_len, 1)',
+         'len(self.heap) != self.heap_len or self.entries() != self.table_len, 1)'),
     ],
     'heap-length-not-compared': [
-        ('self.given != self.settings or len(self.heap) != self.heap_len or len(self.ids) != self.table_len, 1)',
-         'self.given != self.settings or len(self.ids) != self.table_len, 1)'),
+        ('self.given != self.settings or len(self.heap) != self.heap_len or self.entries() != self.table_len, 1)',
+         'self.given != self.settings or self.entries() != self.table_len, 1)'),
     ],
     'table-length-not-compared': [
-        ('self.given != self.settings or len(self.heap) != self.heap_len or len(self.ids) != self.table_len, 1)',
+        ('self.given != self.settings or len(self.heap) != self.heap_len or self.entries() != self.table_len, 1)',
          'self.given != self.settings or len(self.heap) != self.heap_len, 1)'),
     ],
     'form-not-asked': [
@@ -1120,42 +1120,42 @@ IN_MODEL = {
     ],
     'record-above-N-taken': [
         ('slot >= self.slots() or outside_bounds(self.given.slot_bytes, lsn, trailer_offset, file_size, generation)\n'
-         '                or present > file_size or live > len(self.ids)',
+         '                or present > file_size or live > self.entries()',
          'outside_bounds(self.given.slot_bytes, lsn, trailer_offset, file_size, generation)\n'
-         '                or present > file_size or live > len(self.ids)'),
+         '                or present > file_size or live > self.entries()'),
     ],
     'record-at-N-taken': [
         ('slot >= self.slots() or outside_bounds(self.given.slot_bytes, lsn, trailer_offset, file_size, generation)\n'
-         '                or present > file_size or live > len(self.ids)',
+         '                or present > file_size or live > self.entries()',
          'slot > self.slots() or outside_bounds(self.given.slot_bytes, lsn, trailer_offset, file_size, generation)\n'
-         '                or present > file_size or live > len(self.ids)'),
+         '                or present > file_size or live > self.entries()'),
     ],
     'record-bounds-not-asked': [
         ('slot >= self.slots() or outside_bounds(self.given.slot_bytes, lsn, trailer_offset, file_size, generation)\n'
-         '                or present > file_size or live > len(self.ids)',
-         'slot >= self.slots() or present > file_size or live > len(self.ids)'),
+         '                or present > file_size or live > self.entries()',
+         'slot >= self.slots() or present > file_size or live > self.entries()'),
     ],
     'present-not-asked': [
         ('slot >= self.slots() or outside_bounds(self.given.slot_bytes, lsn, trailer_offset, file_size, generation)\n'
-         '                or present > file_size or live > len(self.ids)',
+         '                or present > file_size or live > self.entries()',
          'slot >= self.slots() or outside_bounds(self.given.slot_bytes, lsn, trailer_offset, file_size, generation)\n'
-         '                or live > len(self.ids)'),
+         '                or live > self.entries()'),
     ],
     'present-of-file-size-refused': [
         ('slot >= self.slots() or outside_bounds(self.given.slot_bytes, lsn, trailer_offset, file_size, generation)\n'
-         '                or present > file_size or live > len(self.ids)',
+         '                or present > file_size or live > self.entries()',
          'slot >= self.slots() or outside_bounds(self.given.slot_bytes, lsn, trailer_offset, file_size, generation)\n'
-         '                or present >= file_size or live > len(self.ids)'),
+         '                or present >= file_size or live > self.entries()'),
     ],
     'live-of-table-refused': [
         ('slot >= self.slots() or outside_bounds(self.given.slot_bytes, lsn, trailer_offset, file_size, generation)\n'
-         '                or present > file_size or live > len(self.ids)',
+         '                or present > file_size or live > self.entries()',
          'slot >= self.slots() or outside_bounds(self.given.slot_bytes, lsn, trailer_offset, file_size, generation)\n'
-         '                or present > file_size or live >= len(self.ids)'),
+         '                or present > file_size or live >= self.entries()'),
     ],
     'live-over-present-refused': [
         ('slot >= self.slots() or outside_bounds(self.given.slot_bytes, lsn, trailer_offset, file_size, generation)\n'
-         '                or present > file_size or live > len(self.ids)',
+         '                or present > file_size or live > self.entries()',
          'slot >= self.slots() or outside_bounds(self.given.slot_bytes, lsn, trailer_offset, file_size, generation)\n'
          '                or present > file_size or live > present'),
     ],
@@ -1213,8 +1213,8 @@ IN_MODEL = {
          'self.given[:4] + self.given[5:] != self.settings[:4] + self.settings[5:] or'),
     ],
     'default-limit-2048': [
-        ('(4096, 75, 2, 2048, 64, 1024)',
-         '(4096, 75, 2, 2048, 64, 2048)'),
+        ('(4096, 50, 2, 2048, 64, 1024)',
+         '(4096, 50, 2, 2048, 64, 2048)'),
     ],
     'live-as-present': [
         ('sum(r[3] for r in files), sum(r[5] for r in files)',
@@ -1250,8 +1250,8 @@ IN_MODEL = {
          '{k} {masked(r[0])} {r[4]}'),
     ],
     'table-length-listed': [
-        ('used = (self.store.locations + [0]).index(0)',
-         'used = len(self.store.locations)'),
+        ('used = (self.store.locations() + [0]).index(0)',
+         'used = self.store.entries()'),
     ],
     'moved-before-generation': [
         ('{r.generation} {r.moved}',

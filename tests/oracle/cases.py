@@ -14,7 +14,7 @@ BIT = 1 << 62
 class Case:
     def __init__(self, heap=bytes(512), table=4):
         self.console = Console()
-        for line in (f'settings {SETTINGS}', f'heap {len(heap)}', f'poke 0 {heap.hex()}', f'table {table} {table}'):
+        for line in (f'settings {SETTINGS}', f'heap {len(heap)}', f'poke 0 {heap.hex()}', f'table {2 * table}'):
             self.ask(line)
 
     def ask(self, line):
@@ -24,7 +24,7 @@ class Case:
         """next position, files, table, checksum of the heap"""
         s = self.console.store
         files = ''.join(' file %d %d %d %d %d %d %d' % (slot, *record) for slot, record in s.files())
-        ids, locations = ' '.join(map(str, s.ids)), ' '.join(map(str, s.locations))
+        ids, locations = ' '.join(map(str, s.ids())), ' '.join(map(str, s.locations()))
         return f'next {s.next}{files} ids {ids} locations {locations} heap {zlib.crc32(s.heap)}'
 
     def reopen(self):

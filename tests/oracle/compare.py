@@ -54,7 +54,7 @@ class Step:
 
     def __init__(self, line, store, imported=False, rewrite=None, differs=None, mixed=False):
         self.line, self.imported, self.rewrite, self.differs, self.mixed = line, imported, rewrite, differs, mixed
-        self.given, self.heap_len, self.table_len = store.given, len(store.heap), len(store.ids)
+        self.given, self.heap_len, self.table_len = store.given, len(store.heap), store.entries()
         word = line.split()[0]
         self.heap_sum = zlib.crc32(store.heap) if word in CALLS else None
         self.heap = bytes(store.heap) if word in LOOKED_AT else None

@@ -150,7 +150,7 @@ class Maker:
         """the slots as some calls of the model leave them"""
         r, store = self.r, Store()
         store.given, store.heap = self.settings, bytearray(self.slots * self.slot_bytes)
-        store.ids, store.locations = [0] * 16, [0] * 16
+        store.words = [0] * 32
         store.reopen()
         for _ in range(r.choice([0, 2, 4, 6, 9])):
             try:
@@ -360,7 +360,7 @@ class Maker:
         """the table's length, the faults, and what was met"""
         r, store = self.r, Store()
         store.given, store.heap = self.settings, bytearray(b''.join(self.heap))
-        store.ids = store.locations = [0] * 65536
+        store.words = [0] * 131072
         sound, unsound, files = set(), set(), {}
         for fault in store.check():
             files.setdefault(fault.slot, []).append(fault)
@@ -378,7 +378,7 @@ class Maker:
         self.table = max(1, r.choice([near, near, near, near, near - 1, near + 1, near + 5, len(sound | unsound) - 1, r.randint(1, 10)]))
         if self.many:
             self.table = max(1, near + r.choice([-1, -1, 0, 0, 1]))
-        store.ids = store.locations = [0] * self.table
+        store.words = [0] * (2 * self.table)
         self.faults = store.check()
         self.tell(store, sound, unsound, bad, files)
 
@@ -478,7 +478,7 @@ class Maker:
 
     def script(self):
         r, size = self.r, self.slot_bytes
-        given, heap, table = list(self.settings), self.slots * size, [self.table] * 2
+        given, heap, words = list(self.settings), self.slots * size, 2 * self.table
         if self.chance(3):  # refused with 1
             k = r.randrange(8)
             if k < 6:
@@ -486,11 +486,11 @@ class Maker:
             elif k == 6:
                 heap += r.choice([-1, 1, -heap, 64])
             else:
-                table = r.choice([[0, 0], [self.table, self.table + 1], [self.table + 1, self.table]])
-        self.lines = RESET + [f'settings {" ".join(map(str, given))}', f'heap {heap}', 'table %d %d' % tuple(table)]
+                words = r.choice([0, 2 * self.table + 1, 2 * self.table - 1])
+        self.lines = RESET + [f'settings {" ".join(map(str, given))}', f'heap {heap}', f'table {words}']
         self.lines += [f'poke {k * size} {data.hex()}' for k, data in enumerate(self.heap) if any(data) and (k + 1) * size <= heap]
         if self.chance(10):  # neither table nor state matters
-            self.lines += [f'entry {r.randrange(self.table)} {self.edge()} {self.edge()}' for _ in range(3 if table == [self.table] * 2 else 0)]
+            self.lines += [f'entry {r.randrange(self.table)} {self.edge()} {self.edge()}' for _ in range(3 if words == 2 * self.table else 0)]
             self.lines += [f'record {r.randrange(256)}' + ''.join(f' {self.edge()}' for _ in range(6)), f'state{" 7" * 9}', 'claims 1 2 3 4']
             self.met.add('a table not in form')
         faults = len(self.faults)

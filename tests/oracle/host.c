@@ -17,10 +17,10 @@ static marble_settings s;
 static marble_state state;
 static marble_claims claims;
 static uint8_t *heap, *bytes;
-static uint64_t *ids, *locations;
-static size_t heap_len, table_len, bytes_len;
+static uint64_t *table;
+static size_t heap_len, words, bytes_len;
 
-#define TABLE ids, table_len, locations, table_len
+#define TABLE table, words
 #define LENT heap, heap_len, TABLE
 
 static uint64_t number(void) { return strtoull(strtok(0, " "), 0, 10); }
@@ -39,13 +39,13 @@ static void hex(void) {
 
 /* CRC-32 of the heap, a byte at a time */
 static uint32_t heap_sum(void) {
-    static uint32_t table[256];
+    static uint32_t sums[256];
     uint32_t sum = 0xffffffff;
-    for (uint32_t k = 0; table[255] == 0 && k < 256; k++) {
-        table[k] = k;
-        for (int bit = 0; bit < 8; bit++) table[k] = table[k] >> 1 ^ (table[k] & 1 ? 0xedb88320 : 0);
+    for (uint32_t k = 0; sums[255] == 0 && k < 256; k++) {
+        sums[k] = k;
+        for (int bit = 0; bit < 8; bit++) sums[k] = sums[k] >> 1 ^ (sums[k] & 1 ? 0xedb88320 : 0);
     }
-    for (size_t k = 0; k < heap_len; k++) sum = sum >> 8 ^ table[(sum ^ heap[k]) & 255];
+    for (size_t k = 0; k < heap_len; k++) sum = sum >> 8 ^ sums[(sum ^ heap[k]) & 255];
     return ~sum;
 }
 
@@ -60,8 +60,10 @@ static void dump(void) {
     }
     for (unsigned k = 0; k < 256; k++)
         if (claims.word[k / 64] >> k % 64 & 1) printf("claimed %u\n", k);
-    for (size_t k = 0; k < table_len; k++)
-        if (ids[k] | locations[k]) printf("entry %zu %llu %llu\n", k, (unsigned long long)ids[k], (unsigned long long)locations[k]);
+    for (size_t k = 0; k < words / 2; k++) {
+        uint64_t id = MARBLE_TABLE_ID(table, k), location = MARBLE_TABLE_LOCATION(table, k);
+        if (id | location) printf("entry %zu %llu %llu\n", k, (unsigned long long)id, (unsigned long long)location);
+    }
     printf("heap %u\nend\n", heap_sum());
 }
 
@@ -112,8 +114,8 @@ static void line(const char *word) {
         heap = calloc(heap_len = number(), 1);
         said(0);
     } else if (is(word, "table")) {
-        free(ids), free(locations);
-        ids = calloc(table_len = number(), 8), locations = calloc(table_len, 8);
+        free(table);
+        table = calloc(words = number(), 8);
         said(0);
     } else if (is(word, "poke")) {
         a = number(), hex();

@@ -35,7 +35,7 @@ FORMS = {word: re.compile(f'({form})$') for words, form in {
 DUMP = re.compile(f'(next {NUMBER}|record{f" {NUMBER}" * 7}|claimed {NUMBER}|entry{f" {NUMBER}" * 3}|heap {NUMBER}|end)$')
 LIST = re.compile(f'({NUMBER}{f" {NUMBER}" * 5}|ids {NUMBER})$')
 # scripts follow each other in one process: an accepted reopening empties map and claims, then the state is as before the first one
-RESET = ['settings 128 0 1 1 0 1', 'heap 128', 'table 1 1', 'reopen', f'state{" 0" * 9}']
+RESET = ['settings 128 0 1 1 0 1', 'heap 128', 'table 2', 'reopen', f'state{" 0" * 9}']
 STATE_CALLS = ('reopen', 'write', 'claim', 'release', 'prune', 'maintain', 'read', 'counts', 'list', 'load', 'store', 'cas', 'max')
 
 
@@ -65,8 +65,9 @@ class Maker:
         given = [self.rarely(n, self.edge(), 0.007) for n in self.settings]
         self.ids = sorted(r.sample(range(40), r.randint(1, self.room)) + ([] if r.random() < 0.8 else [2 ** 64 - 1]))
         self.heap_bytes = self.rarely(self.slots * self.slot_bytes, r.randrange(4000))
+        self.words = self.rarely(2 * self.room, r.choice([0, 1, 2 * self.room - 1, 2 * self.room + 1, 2 * self.room + 2, 131072]), 0.03)
         self.lines = RESET + [f'settings {" ".join(map(str, given))}', f'heap {self.heap_bytes}',
-                      f'table {self.room} {self.rarely(self.room, r.randrange(10))}']
+                      f'table {self.words}']
         self.by_hand()
         self.lines.append('dump')
         for _ in range(r.randint(1, 6)):
@@ -165,8 +166,8 @@ class Maker:
 
     def bad_line(self):
         big = 2 ** 64 + self.r.randrange(5)
-        return self.r.choice(['nonsense', '', ' \t', 'read', 'read x', f'read {big}', 'write 0', 'write xy', 'heap 1048577', 'table 65537 1', f'poke {self.heap_bytes} 00',
-                              f'entry {self.room} 1 1', 'record 256 1 1 1 1 1 1', 'claims 1 2 3', 'reopen now', 'settings 1 2 3 4 5', 'read -1'])
+        return self.r.choice(['nonsense', '', ' \t', 'read', 'read x', f'read {big}', 'write 0', 'write xy', 'heap 1048577', 'table 131073', 'table 2 2',
+                              'table', f'poke {self.heap_bytes} 00', f'entry {self.words // 2} 1 1', f'entry {2 ** 63} 1 1', 'record 256 1 1 1 1 1 1', 'claims 1 2 3', 'reopen now', 'settings 1 2 3 4 5', 'read -1'])
 
 
 # ---- what must hold ------------------------------------------------------------------------------

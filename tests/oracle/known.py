@@ -72,7 +72,7 @@ class Made:
     def __init__(self, *files, percent=100, least=1, target=2048, threshold=0, longest=64, slot=256, slots=4, table=4):
         self.slot = slot
         self.port = [f'settings {slot} {percent} {least} {target} {threshold} {longest}', 'claims 0 0 0 0', f'heap {slot * slots}',
-                     f'table {table} {table}']
+                     f'table {2 * table}']
         self.rust = ['wipe', f'set file_compaction_percent {percent}', f'set min_compaction_files {least}', f'set target_file_size {target}',
                      f'set small_file_cleanup_threshold {threshold}', f'set max_object_size {longest}']
         for slot, file in enumerate(files):

@@ -20,7 +20,7 @@ def settings(slot_bytes, percent=100, least=1, target=MIB, threshold=0, longest=
 
 
 def store(settings_line, slots, table):
-    return [settings_line, 'claims 0 0 0 0', f'heap {slots * int(settings_line.split()[1])}', f'table {table} {table}']
+    return [settings_line, 'claims 0 0 0 0', f'heap {slots * int(settings_line.split()[1])}', f'table {2 * table}']
 
 
 def put(*operations):

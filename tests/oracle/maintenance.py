@@ -23,7 +23,7 @@ class Case:
     def __init__(self, percent, least, target, threshold, slot=1024):
         self.settings = f'{slot} {percent} {least} {target} {threshold} 512'
         self.console = Console()
-        for line in (f'settings {self.settings}', f'heap {HEAP}', 'table 8 8', 'reopen'):
+        for line in (f'settings {self.settings}', f'heap {HEAP}', 'table 16', 'reopen'):
             self.ask(line)
 
     def ask(self, line):
@@ -33,7 +33,7 @@ class Case:
         """next position, files, table, checksum of the heap"""
         s = self.console.store
         files = ''.join(' file %d %d %d %d %d %d %d' % (slot, *record) for slot, record in s.files())
-        ids, locations = ' '.join(map(str, s.ids)), ' '.join(map(str, s.locations))
+        ids, locations = ' '.join(map(str, s.ids())), ' '.join(map(str, s.locations()))
         print(f'{word} next {s.next}{files} ids {ids} locations {locations} heap {zlib.crc32(s.heap)}')
 
     def reads(self):

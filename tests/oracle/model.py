@@ -173,7 +173,7 @@ class Store:
     def __init__(self):
         self.given = Settings((4096, 50, 2, 2048, 64, 1024))
         self.heap = bytearray(16 * 4096)
-        self.ids, self.locations = [0] * 1024, [0] * 1024
+        self.words = [0] * 2048  # the table's one buffer: id and location by turns
         self.settings, self.heap_len, self.table_len, self.next = Settings([0] * 6), 0, 0, 0
         self.records = [EMPTY] * MAX_RECORDS
         self.claims = 0
@@ -193,14 +193,21 @@ class Store:
         at = slot * self.given.slot_bytes + LABEL
         return bytes(self.heap[at + start:at + end])
 
+    def entries(self):
+        return len(self.words) // 2
+
+    def ids(self):
+        return self.words[:2 * self.entries():2]
+
+    def locations(self):
+        return self.words[1::2]
+
     def table(self):
-        return dict(filter(itemgetter(1), zip(self.ids, self.locations)))
+        return dict(filter(itemgetter(1), zip(self.ids(), self.locations())))
 
     def set_table(self, table):
-        pairs = sorted(table.items())
-        rest = [0] * (len(self.ids) - len(pairs))
-        self.ids[:] = [i for i, _ in pairs] + rest
-        self.locations[:] = [r for _, r in pairs] + rest
+        used = [word for pair in sorted(table.items()) for word in pair]
+        self.words[:] = used + [0] * (len(self.words) - len(used))
 
     def found(self, raw):
         """the slot with the greatest own raw location not above the one sought, the lowest of equals; or None"""
@@ -213,7 +220,7 @@ class Store:
     # -- refusal 1
 
     def table_lengths(self):
-        return len(self.ids) == len(self.locations) and 1 <= len(self.ids) <= 65536
+        return len(self.words) % 2 == 0 and 1 <= self.entries() <= 65536  # request P12
 
     def lengths_in_range(self):
         s = self.given
@@ -221,18 +228,19 @@ class Store:
                 and self.table_lengths())
 
     def table_in_form(self):
-        used = self.locations.index(0) if 0 in self.locations else len(self.locations)
-        rising = all(map(lt, self.ids[:used - 1], self.ids[1:used]))
-        return rising and not any(self.ids[used:]) and not any(self.locations[used:])
+        ids, locations = self.ids(), self.locations()
+        used = locations.index(0) if 0 in locations else len(locations)
+        rising = all(map(lt, ids[:used - 1], ids[1:used]))
+        return rising and not any(ids[used:]) and not any(locations[used:])
 
     def record_wrong(self, slot, record):
         lsn, trailer_offset, file_size, present, generation, live = record
         return (slot >= self.slots() or outside_bounds(self.given.slot_bytes, lsn, trailer_offset, file_size, generation)
-                or present > file_size or live > len(self.ids))
+                or present > file_size or live > self.entries())
 
     def check_state(self):
         refuse_if(not self.lengths_in_range(), 1)
-        refuse_if(self.given != self.settings or len(self.heap) != self.heap_len or len(self.ids) != self.table_len, 1)
+        refuse_if(self.given != self.settings or len(self.heap) != self.heap_len or self.entries() != self.table_len, 1)
         refuse_if(not self.table_in_form() or self.next == 0, 1)
         refuse_if(any(self.record_wrong(k, r) for k, r in self.files()), 1)
 
@@ -250,7 +258,7 @@ class Store:
         entries = sorted(dict(operations).items())
         self.check_room([entries])
         table = self.table()
-        refuse_if(len(table.keys() | {i for i, _ in entries}) > len(self.ids), 6)
+        refuse_if(len(table.keys() | {i for i, _ in entries}) > self.entries(), 6)
         self.check_next([entries])
         self.install(entries, 0, BATCH_BIT)
 
@@ -396,7 +404,7 @@ class Store:
 
     def reopen(self):
         refuse_if(not self.lengths_in_range(), 1)
-        self.settings, self.heap_len, self.table_len = self.given, len(self.heap), len(self.ids)
+        self.settings, self.heap_len, self.table_len = self.given, len(self.heap), self.entries()
         self.records, self.claims, self.next = [EMPTY] * MAX_RECORDS, 0, 1
         self.set_table({})
         records, table, next_position = self.rebuilt()  # D4: refused, the store stands empty
@@ -418,7 +426,7 @@ class Store:
             for ident, relative in entries:
                 here = (masked(numbers[0]) + relative // 2, relative + 2 * numbers[0], slot)
                 best[ident] = max(best.get(ident, here), here)
-        refuse_if(len(best) > len(self.ids), 6)
+        refuse_if(len(best) > self.entries(), 6)
         records, live = [EMPTY] * MAX_RECORDS, Counter(b[2] for b in best.values())
         for slot, (numbers, _) in found.items():
             records[slot] = numbers + (live[slot],)
@@ -475,7 +483,7 @@ class Store:
                 faults.append(Fault(slot, 14, None, 'a range'))
             ranges.append((start, end))
             distinct.update(ident for ident, _ in entries)
-        if len(distinct) > len(self.ids):
+        if len(distinct) > self.entries():
             faults.append(Fault(self.slots(), 6, None, 'the table'))
         return faults
 
@@ -522,7 +530,7 @@ class Store:
             self.heap[loss.slot * self.given.slot_bytes] = 0
         return report
 
-    # -- table calls (D3: the two buffers alone)
+    # -- table calls (D3: its buffer alone)
 
     def load(self, ident):
         self.check_table()
@@ -535,7 +543,7 @@ class Store:
 
     def put(self, ident, raw):
         table = self.table()
-        refuse_if(ident not in table and len(table) == len(self.ids), 6)
+        refuse_if(ident not in table and len(table) == self.entries(), 6)
         self.set_table({**table, ident: raw})
 
     def compare_and_store(self, ident, old, new):
@@ -582,7 +590,7 @@ def hex_bytes(word):
 
 class Console:
     """what the console answers; wide: with the room that host.c has"""
-    MAX_LINE, MAX_HEAP, MAX_TABLE, MAX_ROOM, MAX_BYTES = 131200, 1048576, 65536, 4096, 65536
+    MAX_LINE, MAX_HEAP, MAX_TABLE, MAX_ROOM, MAX_BYTES = 131200, 1048576, 131072, 4096, 65536
 
     def __init__(self, wide=False):
         self.store = Store()
@@ -619,9 +627,8 @@ class Console:
     def do_heap(self, size):
         self.store.heap = bytearray(number(size, self.MAX_HEAP + 1))
 
-    def do_table(self, ids, locations):
-        ids, locations = number(ids, self.MAX_TABLE + 1), number(locations, self.MAX_TABLE + 1)
-        self.store.ids, self.store.locations = [0] * ids, [0] * locations
+    def do_table(self, words):
+        self.store.words = [0] * number(words, self.MAX_TABLE + 1)
 
     def do_poke(self, offset, data):
         offset, data = number(offset), hex_bytes(data)
@@ -631,9 +638,9 @@ class Console:
 
     def do_entry(self, place, ident, raw):
         place, ident, raw = number(place), number(ident), number(raw)
-        if place >= min(len(self.store.ids), len(self.store.locations)):
+        if 2 * place + 1 >= len(self.store.words):
             raise BadLine
-        self.store.ids[place], self.store.locations[place] = ident, raw
+        self.store.words[2 * place:2 * place + 2] = ident, raw
 
     def do_state(self, *words):
         numbers = [number(w) for w in words]
@@ -716,7 +723,7 @@ class Console:
 
     def do_list(self):
         rows = [f'{k} {r[0]} {r[4]} {r[3]} {r[5]} {r[2]}' for k, r in self.store.files()]
-        used = (self.store.locations + [0]).index(0)  # used entries come first
+        used = (self.store.locations() + [0]).index(0)  # used entries come first
         return ['slot lsn gen present live size'] + rows + [f'ids {used}']
 
     def do_dump(self):
@@ -724,7 +731,7 @@ class Console:
         lines = [f'next {s.next}']
         lines += ['record %d %d %d %d %d %d %d' % (k, *r) for k, r in s.files()]
         lines += [f'claimed {k}' for k in range(MAX_RECORDS if s.claims else 0) if s.claimed(k)]
-        lines += [f'entry {k} {i} {r}' for k, (i, r) in enumerate(zip(s.ids, s.locations)) if (i, r) != (0, 0)]
+        lines += [f'entry {k} {i} {r}' for k, (i, r) in enumerate(zip(s.ids(), s.locations())) if (i, r) != (0, 0)]
         return lines + [f'heap {zlib.crc32(s.heap)}', 'end']
 
 

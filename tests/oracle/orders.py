@@ -47,8 +47,8 @@ def label_of(lsn, present, objects, trail):
 
 
 def lent(heap, table, given=SETTINGS):
-    """settings, heap and the two buffers of the table, which is a list of entries"""
-    lines = RESET + ['claims 0 0 0 0', f'settings {given}', f'heap {len(heap)}', f'poke 0 {heap.hex()}', f'table {len(table)} {len(table)}']
+    """settings, heap and the table, which is a list of entries"""
+    lines = RESET + ['claims 0 0 0 0', f'settings {given}', f'heap {len(heap)}', f'poke 0 {heap.hex()}', f'table {2 * len(table)}']
     return lines + [f'entry {k} {ident} {raw}' for k, (ident, raw) in enumerate(table)]
 
 
@@ -150,7 +150,7 @@ ROWS = [
     [(pair(trailer((1, 0), (9, 41)), trailer((2, 0)), BATCH_BIT), 'maintain'), (pair(trailer((1, 0)), trailer((2, 0)), BATCH_BIT), 'maintain'),
      (moving(b'', BATCH_BIT), 'maintain')],
     [(moving(bytes(128), BATCH_BIT - 20), 'maintain'), (moving(bytes(128), BATCH_BIT - 21), 'maintain')],
-    [(lent(trailing(BATCH_BIT, 1, bytes(19)), []) + ['table 1 0'], 'reopen')] + [(behind(trailing(*first)), 'reopen') for first in (
+    [(lent(trailing(BATCH_BIT, 1, bytes(19)), []) + ['table 3'], 'reopen')] + [(behind(trailing(*first)), 'reopen') for first in (
         (BATCH_BIT, 1, bytes([1]) * 19), (10, 2, mis_summed(COUNT_1 + bytes(7))), (10, 2, mis_summed(COUNT_1 + bytes(8))),
         (10, 2, summed(COUNT_1 + bytes(8))), (10, 2, trailer((5, 0))), (10, 2, trailer((5, 1))))],
     [(behind(deleting(10, 5)), 'reopen'), (closed(deleting(10, 5), TWICE, deleting(60, 4)), 'reopen'),

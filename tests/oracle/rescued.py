@@ -113,7 +113,7 @@ class Heap:
     def lent(self, slots):
         """the heap of these slots, with room for more ids than a damaged trailer may invent"""
         size, table = self.slot_bytes, len(self.ids) + 300
-        lines = [f'settings {size} {" ".join(map(str, self.settings))}', 'claims 0 0 0 0', f'heap {len(slots) * size}', f'table {table} {table}']
+        lines = [f'settings {size} {" ".join(map(str, self.settings))}', 'claims 0 0 0 0', f'heap {len(slots) * size}', f'table {2 * table}']
         return lines + [f'poke {k * size} {data.hex()}' for k, data in enumerate(slots)]
 
     def script(self):

@@ -125,7 +125,7 @@ class Maker(damaged.Maker):
         """the heap in the model's hands"""
         store = Store()
         store.given, store.heap = self.settings, bytearray(b''.join(self.heap) if heap is None else heap)
-        store.ids, store.locations = [0] * self.table, [0] * self.table
+        store.words = [0] * (2 * self.table)
         return store
 
     @staticmethod
@@ -255,7 +255,7 @@ class Maker(damaged.Maker):
         at = self.lines.index('dump')
         self.lines = self.lines[:at]
         given = self.lines[len(RESET):len(RESET) + 3]
-        refused = given != [f'settings {" ".join(map(str, self.settings))}', f'heap {self.slots * size}', f'table {self.table} {self.table}']
+        refused = given != [f'settings {" ".join(map(str, self.settings))}', f'heap {self.slots * size}', f'table {2 * self.table}']
         if 'a table not in form' not in self.met:
             self.lines.append('reopen')
         self.lines += ['dump', 'salvage', 'dump', 'salvage', 'dump', f'check {FULL}', 'reopen']

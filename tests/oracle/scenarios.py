@@ -54,7 +54,7 @@ class Maker:
         r = self.r
         slot_bytes, slots = r.choice([256, 300, 512] if self.small else [256, 300, 512, 1024, 4096]), r.choice([3, 8, 12, 20, 30, 40])
         table = r.choice([len(self.ids), len(self.ids), 64, max(1, len(self.ids) - 2)])
-        return slot_bytes, [self.settings(slot_bytes), 'claims 0 0 0 0', f'heap {slots * slot_bytes}', f'table {table} {table}']
+        return slot_bytes, [self.settings(slot_bytes), 'claims 0 0 0 0', f'heap {slots * slot_bytes}', f'table {2 * table}']
 
     def calls(self, slot_bytes, slots, settings, count):
         """a run of calls after a reopening"""
@@ -129,7 +129,7 @@ class Maker:
         slot_bytes = max(slot_bytes, 512)
         slots = r.randint(6, 24)
         settings = self.settings(slot_bytes)
-        lines = [settings, 'claims 0 0 0 0', f'heap {slots * slot_bytes}', f'table {len(self.ids)} {len(self.ids)}']
+        lines = [settings, 'claims 0 0 0 0', f'heap {slots * slot_bytes}', f'table {2 * len(self.ids)}']
         at, order = r.choice([1, 1, 77, 2 ** 40, BATCH_BIT - 2 ** 22, BATCH_BIT - 5000]), r.sample(range(slots), r.randint(1, min(6, slots)))
         for slot in order:
             data, trailer_offset, present = self.crafted_file(damaged)
@@ -171,7 +171,7 @@ def from_files(seed, number, files, settings, table):
     slots = min(MAX_RECORDS, max(4, len(files) + len(files) // 2))
     if not 0 < len(files) <= slots:
         return None
-    lines = [' '.join([words[0], str(slot_bytes)] + words[2:]), 'claims 0 0 0 0', f'heap {slots * slot_bytes}', f'table {table} {table}']
+    lines = [' '.join([words[0], str(slot_bytes)] + words[2:]), 'claims 0 0 0 0', f'heap {slots * slot_bytes}', f'table {2 * table}']
     for slot, (name, data) in zip(r.sample(range(slots), len(files)), files):
         lsn, trailer_offset, present, generation = (int(part, 16) for part in name.split('-'))
         label = label_bytes((lsn, trailer_offset, len(data), present, generation))

@@ -72,7 +72,7 @@ IN_THE_CHECKER = {
                     at = slot * self.given.slot_bytes
                     distinct.update(i for i, _ in self.labelled(slot, label_numbers(bytes(self.heap[at:at + LABEL])))[1])
 """),
-    'a full table is too small': ('if len(distinct) > len(self.ids):', 'if len(distinct) >= len(self.ids):'),
+    'a full table is too small': ('if len(distinct) > self.entries():', 'if len(distinct) >= self.entries():'),
     'the closing 6 with the last slot': ('Fault(self.slots(), 6, None', 'Fault(self.slots() - 1, 6, None'),
     'only what fits is counted': ("lines + [f'ok {len(faults)}']", "lines + [f'ok {len(lines)}']"),
 }

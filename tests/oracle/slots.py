@@ -64,7 +64,7 @@ def said(slot):
     if slot[0] == 0:
         return 'empty'
     console = Console()
-    lines = [f'settings {SIZE} 75 2 2048 64 1024', f'heap {SIZE}', 'table 64 64', f'poke 0 {slot.hex()}', 'reopen', 'dump']
+    lines = [f'settings {SIZE} 75 2 2048 64 1024', f'heap {SIZE}', 'table 128', f'poke 0 {slot.hex()}', 'reopen', 'dump']
     answers = [console.line(line) for line in lines]
     if answers[4][0] != 'ok' and int(answers[4][0].split()[1]) <= 13:
         return 'damaged ' + answers[4][0].split()[1]

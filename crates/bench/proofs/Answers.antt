@@ -18,11 +18,11 @@ pub waits : (room : ℕ) (whole long : Bool) (s : Reading) (line : List ℕ) (d 
 waits room true long s line d e = absurd (true≢false e)
 waits room false long s line d e = (refl, refl)
 
-pub too-long : (room : ℕ) (whole long : Bool) (s t : Reading) (line heap ids locations : List ℕ) → whole ≡ true → long ≡ true → t ≡ nextLine s (s .bench)
-    → Answered room whole long s line (desk (s .bench) heap ids locations) t (desk (t .bench) heap ids locations)
-too-long room false long s t line heap ids locations e f q = absurd (false≢true e)
-too-long room true false s t line heap ids locations e f q = absurd (false≢true f)
-too-long room true true s t line heap ids locations e f q = (q, ap (λ (x : Reading). desk (x .bench) heap ids locations) q)
+pub too-long : (room : ℕ) (whole long : Bool) (s t : Reading) (line heap table : List ℕ) → whole ≡ true → long ≡ true → t ≡ nextLine s (s .bench)
+    → Answered room whole long s line (desk (s .bench) heap table) t (desk (t .bench) heap table)
+too-long room false long s t line heap table e f q = absurd (false≢true e)
+too-long room true false s t line heap table e f q = absurd (false≢true f)
+too-long room true true s t line heap table e f q = (q, ap (λ (x : Reading). desk (x .bench) heap table) q)
 
 -- as much of the line as is held
 pub ran-held : (room held n : ℕ) (line : List ℕ) (before after : Desk) → n ≡ pick (ltb held (length line)) held (length line) → Ran room (take (n - 0) line) before after → Ran room (take held line) before after

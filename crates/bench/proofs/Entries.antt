@@ -1,6 +1,6 @@
 -- Counting the used entries, place by place.
 use mathlib.Core.Path.{_≡_, refl}
-use mathlib.Core.List.{List, [], _∷_}
+use mathlib.Core.List.{List}
 use Prim.Native.Nat.{ℕ, suc, _+_, _<_, _≤_}
 use native.Mathlib.Numerals.{add-one}
 use lib.ListN.{length, drop, getD, drop-of-length-le}
@@ -8,18 +8,10 @@ use lib.Seq.{drop-cons}
 use borrow.Author.Tests.{eq-eqb, ne-eqb}
 use Rattle.rules.specs.Layout.{usedIn}
 
-none : (is : List ℕ) → length (usedIn is []) ≡ 0
-unfolding usedIn
-none [] = refl
-none (i ∷ is) = refl
-
 module _ (is ls : List ℕ) (k : ℕ) where
-  pub ids-end : length is ≤ k → length (usedIn (drop k is) (drop k ls)) ≡ 0
+  pub used-end : length is ≤ k → length (usedIn (drop k is) (drop k ls)) ≡ 0
   unfolding usedIn
-  ids-end h = rw (drop-of-length-le is {i = k} h) refl
-
-  pub locations-end : length ls ≤ k → length (usedIn (drop k is) (drop k ls)) ≡ 0
-  locations-end h = rw (drop-of-length-le ls {i = k} h) (none (drop k is))
+  used-end h = rw (drop-of-length-le is {i = k} h) refl
 
   pub unused : k < length is → k < length ls → getD ls k 0 ≡ 0 → length (usedIn (drop k is) (drop k ls)) ≡ 0
   unfolding usedIn

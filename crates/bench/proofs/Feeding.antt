@@ -198,11 +198,11 @@ joined cap room a b text before s r line line′ mid after x y = record {
 }
 
 -- the input up to the end of its first line, or all, is read, and the line answered where it is whole
-pub turn : (cap room decoded : ℕ) (input text : List ℕ) (before : Desk) (s t r : Reading) (line line′ heap ids locations : List ℕ) (after : Desk)
-    → length line′ ≡ cap → decoded ≡ room → FedTo cap room (take (s .taken) input) text before s line (desk (s .bench) heap ids locations)
-    → ReadOn s input line t line′ → r .taken ≡ t .taken → Answered decoded (t .whole) (t .long) t (take (t .held) line′) (desk (t .bench) heap ids locations) r after
+pub turn : (cap room decoded : ℕ) (input text : List ℕ) (before : Desk) (s t r : Reading) (line line′ heap table : List ℕ) (after : Desk)
+    → length line′ ≡ cap → decoded ≡ room → FedTo cap room (take (s .taken) input) text before s line (desk (s .bench) heap table)
+    → ReadOn s input line t line′ → r .taken ≡ t .taken → Answered decoded (t .whole) (t .long) t (take (t .held) line′) (desk (t .bench) heap table) r after
     → FedTo cap room (take (r .taken) input) text before r line′ after
-turn cap room decoded input text before s t r line line′ heap ids locations after l m so read same answer =
+turn cap room decoded input text before s t r line line′ heap table after l m so read same answer =
     subst (λ (x : List ℕ). FedTo cap room x text before r line′ after) (sym (ap (λ (n : ℕ). take n input) (same ∙ read .taken) ∙ take-add (s .taken) (takenBy rest) input))
     (joined cap room (take (s .taken) input) (take (takenBy rest) rest) text before s r line line′ mid after so (go (ends rest) refl))
   where
@@ -210,7 +210,7 @@ turn cap room decoded input text before s t r line line′ heap ids locations af
     rest = drop (s .taken) input
 
     mid : Desk
-    mid = desk (s .bench) heap ids locations
+    mid = desk (s .bench) heap table
 
     was : List ℕ
     was = sinceEnd (take (s .taken) input) text
@@ -218,22 +218,22 @@ turn cap room decoded input text before s t r line line′ heap ids locations af
     held : Holds t line′ (was ++ lineIn rest)
     held = read .longer .holds was (so .holds)
 
-    kept : desk (t .bench) heap ids locations ≡ mid
-    kept = ap (λ (b : Bench). desk b heap ids locations) (read .longer .kept)
+    kept : desk (t .bench) heap table ≡ mid
+    kept = ap (λ (b : Bench). desk b heap table) (read .longer .kept)
 
-    answer′ : Answered room (t .whole) (t .long) t (take (t .held) line′) (desk (t .bench) heap ids locations) r after
-    answer′ = subst (λ (n : ℕ). Answered n (t .whole) (t .long) t (take (t .held) line′) (desk (t .bench) heap ids locations) r after) m answer
+    answer′ : Answered room (t .whole) (t .long) t (take (t .held) line′) (desk (t .bench) heap table) r after
+    answer′ = subst (λ (n : ℕ). Answered n (t .whole) (t .long) t (take (t .held) line′) (desk (t .bench) heap table) r after) m answer
 
     go : (u : Bool) → ends rest ≡ u → FedTo cap room (take (pick u (suc (indexOf 10 rest)) (length rest)) rest) was mid r line′ after
     go true q =
         let low : indexOf 10 rest < length rest = ltb-true (indexOf 10 rest) (length rest) q in
-        let w = answered-line (t .whole) (t .long) cap room t r (take (t .held) line′) (was ++ lineIn rest) (desk (t .bench) heap ids locations) after (read .whole ∙ q) (held .long ∙ ap (λ (n : ℕ). tooLong n (was ++ lineIn rest)) l) (held .front) answer′ in
+        let w = answered-line (t .whole) (t .long) cap room t r (take (t .held) line′) (was ++ lineIn rest) (desk (t .bench) heap table) after (read .whole ∙ q) (held .long ∙ ap (λ (n : ℕ). tooLong n (was ++ lineIn rest)) l) (held .front) answer′ in
         record {
           holds = subst⁻¹ (λ (x : List ℕ). Holds r line′ x) (since-whole rest was low) (holds-none r line′ (ap (λ (x : Reading). x .held) (w .0)) (ap (λ (x : Reading). x .long) (w .0)));
           done = w .1 ∙ ap (λ (d : Desk). lineDone cap room (was ++ lineIn rest) d) kept ∙ sym (fed-whole cap room rest was mid low);
         }
     go false q =
-        let w = answered-part room (t .whole) (t .long) t r (take (t .held) line′) (desk (t .bench) heap ids locations) after (read .whole ∙ q) answer′ in
+        let w = answered-part room (t .whole) (t .long) t r (take (t .held) line′) (desk (t .bench) heap table) after (read .whole ∙ q) answer′ in
         let high : length rest ≤ indexOf 10 rest = ltb-false (indexOf 10 rest) (length rest) q in
         let all : Holds t line′ (was ++ rest) = subst (λ (x : List ℕ). Holds t line′ (was ++ x)) (take-all (indexOf 10 rest) rest high) held in
         subst⁻¹ (λ (x : List ℕ). FedTo cap room x was mid r line′ after) (take-length rest)
@@ -243,12 +243,12 @@ turn cap room decoded input text before s t r line line′ heap ids locations af
         })
 
 -- the turns, from the first to the last
-pub turns : (cap room : ℕ) (input : List ℕ) (s first r : Reading) (line line′ heap ids locations : List ℕ) (after : Desk) → first ≡ takenTo s 0 false → length input ≤ r .taken
-    → ((text : List ℕ) → Holds first line text → FedTo cap room (take (r .taken) input) text (desk (first .bench) heap ids locations) r line′ after)
-    → (text : List ℕ) → Holds s line text → FedTo cap room input text (desk (s .bench) heap ids locations) r line′ after
-turns cap room input s first r line line′ heap ids locations after e all fed text h =
-    subst (λ (x : List ℕ). FedTo cap room x text (desk (s .bench) heap ids locations) r line′ after) (take-all (r .taken) input all)
-    (subst (λ (x : Reading). FedTo cap room (take (r .taken) input) text (desk (x .bench) heap ids locations) r line′ after) e (fed text (holds-taken s first line text 0 false e h)))
+pub turns : (cap room : ℕ) (input : List ℕ) (s first r : Reading) (line line′ heap table : List ℕ) (after : Desk) → first ≡ takenTo s 0 false → length input ≤ r .taken
+    → ((text : List ℕ) → Holds first line text → FedTo cap room (take (r .taken) input) text (desk (first .bench) heap table) r line′ after)
+    → (text : List ℕ) → Holds s line text → FedTo cap room input text (desk (s .bench) heap table) r line′ after
+turns cap room input s first r line line′ heap table after e all fed text h =
+    subst (λ (x : List ℕ). FedTo cap room x text (desk (s .bench) heap table) r line′ after) (take-all (r .taken) input all)
+    (subst (λ (x : Reading). FedTo cap room (take (r .taken) input) text (desk (x .bench) heap table) r line′ after) e (fed text (holds-taken s first line text 0 false e h)))
 
 -- ---- the input's end
 -- nothing is held, and nothing is done
@@ -257,15 +257,15 @@ last-none room s line [] d e f h = refl
 last-none room s line (b ∷ text) d e f h = absurd (let size : s .held ≡ suc (length text) = h .held f in omega arith)
 
 -- something is, and the line is done
-pub last-some : (room : ℕ) (s last r : Reading) (line text heap ids locations : List ℕ) (after : Desk) → (s .held ≡ 0 → s .long ≡ false → ⊥) → last ≡ takenTo s 0 true
-    → Answered room (last .whole) (last .long) last (take (last .held) line) (desk (last .bench) heap ids locations) r after
-    → Holds s line text → after ≡ lastDone (length line) room text (desk (s .bench) heap ids locations)
-last-some room s last r line [] heap ids locations after some e a h =
+pub last-some : (room : ℕ) (s last r : Reading) (line text heap table : List ℕ) (after : Desk) → (s .held ≡ 0 → s .long ≡ false → ⊥) → last ≡ takenTo s 0 true
+    → Answered room (last .whole) (last .long) last (take (last .held) line) (desk (last .bench) heap table) r after
+    → Holds s line text → after ≡ lastDone (length line) room text (desk (s .bench) heap table)
+last-some room s last r line [] heap table after some e a h =
     let short : s .long ≡ false = h .long ∙ le-ltb (length line) 0 (omega arith) in
     absurd (some (h .held short) short)
-last-some room s last r line (b ∷ text) heap ids locations after some e a h =
-    answered-line true (s .long) (length line) room (takenTo s 0 true) r (take (s .held) line) (b ∷ text) (desk (s .bench) heap ids locations) after refl (h .long) (h .front)
-    (subst (λ (x : Reading). Answered room (x .whole) (x .long) x (take (x .held) line) (desk (x .bench) heap ids locations) r after) e a)
+last-some room s last r line (b ∷ text) heap table after some e a h =
+    answered-line true (s .long) (length line) room (takenTo s 0 true) r (take (s .held) line) (b ∷ text) (desk (s .bench) heap table) after refl (h .long) (h .front)
+    (subst (λ (x : Reading). Answered room (x .whole) (x .long) x (take (x .held) line) (desk (x .bench) heap table) r after) e a)
     .1
 
 -- ---- the parts of standard input

@@ -17,26 +17,25 @@ ghost use Rattle.desk.specs.Desk.{desk};
 ghost use Rattle.bench.specs.Lines.{Ran};
 
 // ---- what is written for a reply: of that nothing is stated, since the kit's output states nothing
-fn body(b: Bench, heap: &[u8], ids: &[u64], locations: &[u64], id: u64) {
+fn body(b: Bench, heap: &[u8], table: &[u64], id: u64) {
     let settings = b.settings;
     let state = b.state;
-    let part = marble::read(settings, state, heap, ids, locations, id);
+    let part = marble::read(settings, state, heap, table, id);
     say::text(b"ok ");
     say::hex(part);
     say::end();
 }
 
 // The body is read again from the lent parts, which a read leaves alone.
-fn found(b: Bench, heap: &[u8], ids: &[u64], locations: &[u64], id: u64) {
+fn found(b: Bench, heap: &[u8], table: &[u64], id: u64) {
     let h = desk::least(b.heap_len, heap.len());
-    let i = desk::least(b.ids_len, ids.len());
-    let l = desk::least(b.locations_len, locations.len());
-    body(b, &heap[0..h], &ids[0..i], &locations[0..l], id);
+    let t = desk::least(b.table_words, table.len());
+    body(b, &heap[0..h], &table[0..t], id);
 }
 
-fn read(answer: ReadAnswer, b: Bench, heap: &[u8], ids: &[u64], locations: &[u64], id: u64) {
+fn read(answer: ReadAnswer, b: Bench, heap: &[u8], table: &[u64], id: u64) {
     match answer {
-        ReadAnswer::Found(_, _) => found(b, heap, ids, locations, id),
+        ReadAnswer::Found(_, _) => found(b, heap, table, id),
         ReadAnswer::Nothing => say::text(b"nothing\n"),
         ReadAnswer::ReadRefused(r) => say::refused(r),
     }
@@ -88,24 +87,21 @@ fn comment(line: &[u8]) {
     say::end();
 }
 
-fn listed(b: Bench, ids: &[u64], locations: &[u64]) {
-    let i = desk::least(b.ids_len, ids.len());
-    let l = desk::least(b.locations_len, locations.len());
-    show::list(b, &ids[0..i], &locations[0..l]);
+fn listed(b: Bench, table: &[u64]) {
+    let t = desk::least(b.table_words, table.len());
+    show::list(b, &table[0..t]);
 }
 
-fn dumped(b: Bench, heap: &[u8], ids: &[u64], locations: &[u64]) {
+fn dumped(b: Bench, heap: &[u8], table: &[u64]) {
     let h = desk::least(b.heap_len, heap.len());
-    let i = desk::least(b.ids_len, ids.len());
-    let l = desk::least(b.locations_len, locations.len());
-    show::dump(b, &heap[0..h], &ids[0..i], &locations[0..l]);
+    let t = desk::least(b.table_words, table.len());
+    show::dump(b, &heap[0..h], &table[0..t]);
 }
 
-fn checked(b: Bench, heap: &[u8], ids: &[u64], locations: &[u64], room: u64) {
+fn checked(b: Bench, heap: &[u8], table: &[u64], room: u64) {
     let h = desk::least(b.heap_len, heap.len());
-    let i = desk::least(b.ids_len, ids.len());
-    let l = desk::least(b.locations_len, locations.len());
-    show::check(b, &heap[0..h], &ids[0..i], &locations[0..l], room);
+    let t = desk::least(b.table_words, table.len());
+    show::check(b, &heap[0..h], &table[0..t], room);
 }
 
 fn bytes_shown(b: Bench, heap: &[u8], at: u64, count: u64) {
@@ -113,40 +109,32 @@ fn bytes_shown(b: Bench, heap: &[u8], at: u64, count: u64) {
     show::bytes(&heap[0..h], at, count);
 }
 
-fn shown(look: Look, b: Bench, line: &[u8], heap: &[u8], ids: &[u64], locations: &[u64]) {
+fn shown(look: Look, b: Bench, line: &[u8], heap: &[u8], table: &[u64]) {
     match look {
         Look::Comment => comment(line),
         Look::Help => say::help(),
-        Look::List => listed(b, ids, locations),
-        Look::Dump => dumped(b, heap, ids, locations),
-        Look::Check(room) => checked(b, heap, ids, locations, room),
+        Look::List => listed(b, table),
+        Look::Dump => dumped(b, heap, table),
+        Look::Check(room) => checked(b, heap, table, room),
         Look::Bytes(at, count) => bytes_shown(b, heap, at, count),
     }
 }
 
 // `id`: the first number of the order, the id that was read. `report`: a salvage's lines.
-fn written(
-    turn: Turn,
-    id: u64,
-    line: &[u8],
-    heap: &[u8],
-    ids: &[u64],
-    locations: &[u64],
-    report: &[u64; 512],
-) {
+fn written(turn: Turn, id: u64, line: &[u8], heap: &[u8], table: &[u64], report: &[u64; 512]) {
     let b = turn.bench;
     let reply = turn.reply;
     match reply {
         Reply::BadLine => say::bad_line(),
         Reply::Answered(answer) => say::answer(answer),
-        Reply::Read(answer) => read(answer, b, heap, ids, locations, id),
+        Reply::Read(answer) => read(answer, b, heap, table, id),
         Reply::Maintained(answer) => say::maintained(answer),
         Reply::Counted(answer) => counted(answer),
         Reply::Loaded(answer) => loaded(answer),
         Reply::Compared(answer) => compared(answer),
         Reply::Raised(answer) => raised(answer),
         Reply::Salvaged(answer) => show::salvaged(answer, report),
-        Reply::Shown(look) => shown(look, b, line, heap, ids, locations),
+        Reply::Shown(look) => shown(look, b, line, heap, table),
     }
 }
 
@@ -163,12 +151,11 @@ pub fn after_line(
     line: &[u8],
     decoded: &mut [u8],
     heap: &mut [u8],
-    ids: &mut [u64],
-    locations: &mut [u64],
+    table: &mut [u64],
 ) -> Bench
     ensures { λ r. ⌜ Ran (length (now (decoded .entry))) (now (line .entry))
-        (desk b (now (heap .entry)) (now (ids .entry)) (now (locations .entry)))
-        (desk r (now (heap .exit)) (now (ids .exit)) (now (locations .exit))) ⌝ }
+        (desk b (now (heap .entry)) (now (table .entry)))
+        (desk r (now (heap .exit)) (now (table .exit))) ⌝ }
     ensures { λ _. ⌜ now (decoded .exit)
         ≡ front (askedBy (length (now (decoded .entry))) (now (line .entry)) .bytes) (now (decoded .entry)) ⌝ }
 {
@@ -183,10 +170,9 @@ pub fn after_line(
         numbers,
         &decoded[0..count],
         heap,
-        ids,
-        locations,
+        table,
         &mut report,
     );
-    written(turn, numbers[0], line, heap, ids, locations, &report);
+    written(turn, numbers[0], line, heap, table, &report);
     turn.bench
 }

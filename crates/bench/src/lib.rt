@@ -13,10 +13,10 @@ fn heap_bytes() -> [u8; 1048576]
     [0u8; 1048576]
 }
 
-fn table_places() -> [u64; 65536]
-    ensures { λ r. ⌜ 65536 ≡ length r ⌝ }
+fn table_words() -> [u64; 131072]
+    ensures { λ r. ⌜ 131072 ≡ length r ⌝ }
 {
-    [0u64; 65536]
+    [0u64; 131072]
 }
 
 fn line_bytes() -> [u8; 131200]
@@ -35,17 +35,9 @@ fn decoded_bytes() -> [u8; 65600]
 // The script on standard input, to its end.
 pub fn run() {
     let mut heap = heap_bytes();
-    let mut ids = table_places();
-    let mut locations = table_places();
+    let mut table = table_words();
     let mut line = line_bytes();
     let mut decoded = decoded_bytes();
     let mut input = io::large_buffer();
-    lines::run_all(
-        &mut input,
-        &mut line,
-        &mut decoded,
-        &mut heap,
-        &mut ids,
-        &mut locations,
-    );
+    lines::run_all(&mut input, &mut line, &mut decoded, &mut heap, &mut table);
 }

@@ -88,13 +88,12 @@ fn answered(
     line: &[u8],
     decoded: &mut [u8],
     heap: &mut [u8],
-    ids: &mut [u64],
-    locations: &mut [u64],
+    table: &mut [u64],
 ) -> Reading
     ensures { λ r. ⌜ (r .taken ≡ s .taken)
         × Answered (length (now (decoded .entry))) (s .whole) (s .long) s (take (s .held) (now (line .entry)))
-        (desk (s .bench) (now (heap .entry)) (now (ids .entry)) (now (locations .entry))) r
-        (desk (r .bench) (now (heap .exit)) (now (ids .exit)) (now (locations .exit))) ⌝ }
+        (desk (s .bench) (now (heap .entry)) (now (table .entry))) r
+        (desk (r .bench) (now (heap .exit)) (now (table .exit))) ⌝ }
 {
     if !s.whole {
         return s;
@@ -106,7 +105,7 @@ fn answered(
     }
     let n = least(s.held, line.len());
     let was = s.bench;
-    let bench = crate::commands::after_line(was, &line[0..n], decoded, heap, ids, locations);
+    let bench = crate::commands::after_line(was, &line[0..n], decoded, heap, table);
     t.bench = bench;
     t
 }
@@ -118,20 +117,19 @@ fn lines_in(
     line: &mut [u8],
     decoded: &mut [u8],
     heap: &mut [u8],
-    ids: &mut [u64],
-    locations: &mut [u64],
+    table: &mut [u64],
 ) -> Reading
     ensures { λ r. ⌜ ((text : List ℕ)
         → Holds s (now (line .entry)) text
         → FedTo (length (now (line .entry))) (length (now (decoded .entry))) (now (input .entry)) text
-        (desk (s .bench) (now (heap .entry)) (now (ids .entry)) (now (locations .entry))) r
+        (desk (s .bench) (now (heap .entry)) (now (table .entry))) r
         (now (line .exit))
-        (desk (r .bench) (now (heap .exit)) (now (ids .exit)) (now (locations .exit)))) ⌝ }
+        (desk (r .bench) (now (heap .exit)) (now (table .exit)))) ⌝ }
 {
     let mut t = taken_to(s, 0, false);
     while t.taken < input.len() {
         t = read_on(t, input, line);
-        t = answered(t, line, decoded, heap, ids, locations);
+        t = answered(t, line, decoded, heap, table);
     }
     t
 }
@@ -150,20 +148,19 @@ fn finished(
     line: &[u8],
     decoded: &mut [u8],
     heap: &mut [u8],
-    ids: &mut [u64],
-    locations: &mut [u64],
+    table: &mut [u64],
 ) -> Bench
     ensures { λ r. ⌜ ((text : List ℕ)
         → Holds s (now (line .entry)) text
-        → desk r (now (heap .exit)) (now (ids .exit)) (now (locations .exit))
+        → desk r (now (heap .exit)) (now (table .exit))
         ≡ lastDone (length (now (line .entry))) (length (now (decoded .entry))) text
-        (desk (s .bench) (now (heap .entry)) (now (ids .entry)) (now (locations .entry)))) ⌝ }
+        (desk (s .bench) (now (heap .entry)) (now (table .entry)))) ⌝ }
 {
     if s.held == 0 && !s.long {
         return s.bench;
     }
     let last = taken_to(s, 0, true);
-    let t = answered(last, line, decoded, heap, ids, locations);
+    let t = answered(last, line, decoded, heap, table);
     t.bench
 }
 
@@ -182,13 +179,12 @@ pub fn run_all(
     line: &mut [u8],
     decoded: &mut [u8],
     heap: &mut [u8],
-    ids: &mut [u64],
-    locations: &mut [u64],
+    table: &mut [u64],
 ) -> Bench
     ensures { λ r. ⌜ ((bytes : List ℕ)
-        × (desk r (now (heap .exit)) (now (ids .exit)) (now (locations .exit))
+        × (desk r (now (heap .exit)) (now (table .exit))
         ≡ told (length (now (line .entry))) (length (now (decoded .entry))) bytes
-        (desk freshBench (now (heap .entry)) (now (ids .entry)) (now (locations .entry))))) ⌝ }
+        (desk freshBench (now (heap .entry)) (now (table .entry))))) ⌝ }
 {
     let mut s = Reading {
         bench: desk::start(),
@@ -200,8 +196,8 @@ pub fn run_all(
     let mut turns = u64::MAX;
     while turns > 0 {
         let n = read_some(input);
-        s = lines_in(s, &input[0..n], line, decoded, heap, ids, locations);
+        s = lines_in(s, &input[0..n], line, decoded, heap, table);
         turns = turns_left(turns, n);
     }
-    finished(s, line, decoded, heap, ids, locations)
+    finished(s, line, decoded, heap, table)
 }

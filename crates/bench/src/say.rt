@@ -89,9 +89,11 @@ pub fn hex(part: &[u8]) {
 pub fn first_screen() {
     text(b"# Tumrezask bench: one command to a line, one answer to a command; help lists them.\n");
     text(
-        b"# Settings 4096 50 2 2048 64 1024, a heap of 65536 zeros (16 slots), a table of 1024, not reopened.\n",
+        b"# Settings 4096 50 2 2048 64 1024, a heap of 65536 zeros (16 slots), a table of 1024 entries (2048 words), not reopened.\n",
     );
-    text(b"# At most: heap 1048576 bytes, table 65536 entries, line 131200 bytes.\n");
+    text(
+        b"# At most: heap 1048576 bytes, table 131072 words (65536 entries), line 131200 bytes.\n",
+    );
 }
 
 pub fn help() {
@@ -99,7 +101,9 @@ pub fn help() {
     text(
         b"# settings S PERCENT MINFILES TARGET THRESHOLD MAXOBJECT   what later calls are given\n",
     );
-    text(b"# heap BYTES            table IDS LOCATIONS                lends buffers of zeros\n");
+    text(
+        b"# heap BYTES            table WORDS                        lends buffers of zeros, two words to a table place\n",
+    );
     text(
         b"# poke OFFSET HEX       entry K ID RAW                     changes heap bytes, a table place\n",
     );

@@ -9,7 +9,7 @@ use rules::RECORDS;
 use rules::Record;
 ghost use mathlib.Core.Path.{_≡_};
 ghost use lib.ListN.{length};
-ghost use Rattle.rules.specs.Layout.{usedIn};
+ghost use Rattle.rules.specs.Layout.{usedEntries};
 
 // "slot lsn gen present live size"
 fn file_line(slot: u64, r: Record) {
@@ -35,15 +35,13 @@ fn file_lines(files: FileMap) {
 }
 
 // Entries up to the first location 0.
-fn used(ids: &[u64], locations: &[u64]) -> usize
-    ensures { λ r. ⌜ r ≡ length (usedIn (now (ids .entry)) (now (locations .entry))) ⌝ }
+fn used(table: &[u64]) -> usize
+    ensures { λ r. ⌜ r ≡ length (usedEntries (now (table .entry))) ⌝ }
 {
+    let n = location_table::capacity(table);
     let mut k: usize = 0;
-    while k < ids.len() {
-        if locations.len() <= k {
-            return k;
-        }
-        if location_table::location_at(locations, k) == 0 {
+    while k < n {
+        if location_table::location_at(table, k) == 0 {
             return k;
         }
         k += 1;
@@ -51,12 +49,12 @@ fn used(ids: &[u64], locations: &[u64]) -> usize
     k
 }
 
-pub fn list(b: Bench, ids: &[u64], locations: &[u64]) {
+pub fn list(b: Bench, table: &[u64]) {
     say::text(b"slot lsn gen present live size\n");
     let state = b.state;
     let files = state.files;
     file_lines(files);
-    say::named(b"ids", used(ids, locations) as u64);
+    say::named(b"ids", used(table) as u64);
 }
 
 fn record_line(slot: u64, r: Record) {
@@ -104,25 +102,25 @@ fn entry_line(k: u64, id: u64, location: u64) {
     say::end();
 }
 
-fn entry_lines(ids: &[u64], locations: &[u64]) {
-    let n = desk::least(ids.len(), locations.len());
+fn entry_lines(table: &[u64]) {
+    let n = location_table::capacity(table);
     let mut k: usize = 0;
     while k < n {
-        let id = location_table::id_at(ids, k);
-        let location = location_table::location_at(locations, k);
+        let id = location_table::id_at(table, k);
+        let location = location_table::location_at(table, k);
         entry_line(k as u64, id, location);
         k += 1;
     }
 }
 
-pub fn dump(b: Bench, heap: &[u8], ids: &[u64], locations: &[u64]) {
+pub fn dump(b: Bench, heap: &[u8], table: &[u64]) {
     let state = b.state;
     let files = state.files;
     let held = b.claims;
     say::named(b"next", state.next_position);
     record_lines(files);
     claimed_lines(held);
-    entry_lines(ids, locations);
+    entry_lines(table);
     say::named(b"heap", checksum::sum(heap) as u64);
     say::text(b"end\n");
 }
@@ -168,11 +166,11 @@ fn checked(answer: CheckAnswer, listing: &[u64]) {
 }
 
 // Of these words so many lines are lent.
-fn check_into(b: Bench, heap: &[u8], ids: &[u64], locations: &[u64], room: u64, words: &mut [u64]) {
+fn check_into(b: Bench, heap: &[u8], table: &[u64], room: u64, words: &mut [u64]) {
     let settings = b.settings;
     let lines = desk::least(room as usize, words.len() / 4);
     let end = lines * 4;
-    let answer = marble::check(settings, heap, ids, locations, &mut words[0..end]);
+    let answer = marble::check(settings, heap, table, &mut words[0..end]);
     checked(answer, &words[0..end]);
 }
 
@@ -183,9 +181,9 @@ fn listing_words() -> [u64; 16384]
     [0u64; 16384]
 }
 
-pub fn check(b: Bench, heap: &[u8], ids: &[u64], locations: &[u64], room: u64) {
+pub fn check(b: Bench, heap: &[u8], table: &[u64], room: u64) {
     let mut words = listing_words();
-    check_into(b, heap, ids, locations, room, &mut words);
+    check_into(b, heap, table, room, &mut words);
 }
 
 // "gave SLOT NUMBER"

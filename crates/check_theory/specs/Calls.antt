@@ -6,7 +6,7 @@ use Rattle.rules.specs.Base.{Bool, true, false, List, [], _∷_, ℕ, _/_, leng
 use Rattle.numbers.specs.Parts.{front}
 use Rattle.rules.specs.Refusal.{numberOf, _gives_, decide, after}
 use Rattle.rules.specs.Answers.{refusalAt, known}
-use Rattle.rules.specs.Layout.{Buffers}
+use Rattle.rules.specs.Layout.{Table}
 use Rattle.rules.specs.Condition1.{outOfRange}
 use Rattle.rules.specs.World.{World, Given, accepted, refused}
 use Rattle.theory.specs.Types.{Settings, Refusal, Limits}
@@ -45,7 +45,7 @@ checked-empty w buffer h = go (outOfRange (w .settings) (length (w .heap)) (w .t
     go true e = absurd (let z : _≡_ {A = ℕ} 1 0 = ap (λ (g : Given). g .number) e in omega arith)
     go false e = none-counted (listOf w) (ap (λ (g : Given). getD (g .values) 0 1) e)
 
-module _ (s : Settings) (heap : List ℕ) (table : Buffers) (buffer : List ℕ) where
+module _ (s : Settings) (heap : List ℕ) (table : Table) (buffer : List ℕ) where
   -- request P5: "also for 1": refused with 1 where a reopening is, and the listing stays
   pub check-limits : outOfRange s (length heap) table ≡ true → checkCall s heap table buffer ≡ record { answer = refused Limits; listing = buffer }
   unfolding checkCall decide

@@ -15,7 +15,7 @@ use Rattle.checksum.specs.Checksum.{objectSum}
 use Rattle.rules.specs.Object.{Stored, badChecksum, objectsIn}
 use Rattle.rules.specs.SlotFile.{File, View, empty, damaged, holds}
 use Rattle.rules.specs.TableLaws.{Has}
-use Rattle.rules.specs.Layout.{Buffers, capacityOf}
+use Rattle.rules.specs.Layout.{Table, capacityOf}
 use Rattle.rules.specs.Reopen.{fileOf, filesIn, meets, notRising}
 use Rattle.theory.specs.Types.{Settings, Entry, Refusal, TableRoom, Checksum, Overlap, NotRising, CutShort, OtherId}
 use Rattle.theory.specs.Lists.{all-each}
@@ -38,7 +38,7 @@ abbrev pub SoundAt : Settings → List ℕ → ℕ → File → Type 0
 SoundAt s heap k f = viewAt (judgedIn s heap) k ≡ holds f
 
 -- "everything wrong", sentence by sentence
-pub data IsWrong (s : Settings) (heap : List ℕ) (table : Buffers) : Fault → Type 0 where
+pub data IsWrong (s : Settings) (heap : List ℕ) (table : Table) : Fault → Type 0 where
   -- "In a slot the first failure of 8 to 13 and 15"
   own : (k : ℕ) (r : Refusal) → viewAt (judgedIn s heap) k ≡ damaged r → IsWrong s heap table (line k r Nowhere)
   -- "one whose header or body passes T gives 16"
@@ -137,7 +137,7 @@ has-in [] x l h = absurd h
 has-in (e ∷ es) x l (inl (a, b)) = inl (λ i. record { id = a i; location = b i })
 has-in (e ∷ es) x l (inr h) = inr (has-in es x l h)
 
-module _ (s : Settings) (heap : List ℕ) (table : Buffers) where
+module _ (s : Settings) (heap : List ℕ) (table : Table) where
   -- T, for a walked object
   cut-total : (k : ℕ) (f : File) (o : Stored) → SoundAt s heap k f → In (objectsIn (f .objects)) o → o .room < 20 + o .size → f .label .«trailer_offset» < o .position + (20 + o .size)
   cut-total k f o e i h =

@@ -4,7 +4,7 @@ use mathlib.Core.Logic.{_⊎_, inl, inr}
 use Prim.Native.Nat.{_<_, _≤_}
 use Rattle.numbers.specs.GroupLaws.{either-way}
 use Rattle.numbers.specs.LittleEndian.{Bytes}
-use Rattle.rules.specs.Base.{false, List, [], _++_, ℕ, length, take}
+use Rattle.rules.specs.Base.{false, List, [], _++_, ℕ, _/_, length, take}
 use Rattle.rules.specs.BaseLaws.{All}
 use Rattle.rules.specs.Ops.{Op}
 use Rattle.rules.specs.Stores.{made}
@@ -34,7 +34,7 @@ sound-list w told s = whole-empty w (ap (λ (a : After). a .answer) (reopen-acce
 -- LAW: the list goes by settings, heap and the table's size alone
 pub list-alike : (w v : World) → Alike w v → v .heap ≡ w .heap → listOf v ≡ listOf w
 unfolding faultsOf
-list-alike w v a h = λ i. faultsFrom 0 [] (judgedIn (a .settings i) (h i)) ++ closing (a .ids i) (judgedIn (a .settings i) (h i))
+list-alike w v a h = λ i. faultsFrom 0 [] (judgedIn (a .settings i) (h i)) ++ closing (a .table i / 2) (judgedIn (a .settings i) (h i))
 
 -- where a store stands on the heap
 stands-list : (w : World) (heap : List ℕ) (told : ℕ → Said) → StandsOn w heap told → (v : World) → Alike w v → v .heap ≡ heap → listOf v ≡ []
@@ -43,8 +43,7 @@ stands-list w heap told t v a h = list-alike (t .store) v found (h ∙ sym (t .b
     found : Alike (t .store) v
     found = record {
       settings = a .settings ∙ sym (t .alike .settings);
-      ids = a .ids ∙ sym (t .alike .ids);
-      locations = a .locations ∙ sym (t .alike .locations);
+      table = a .table ∙ sym (t .alike .table);
     }
 
 -- LAW: power is cut behind the first k stores of any call of a store of the invariant: nothing is listed

@@ -9,7 +9,7 @@ use Rattle.rules.specs.BaseLaws.{All, all-map, all-append}
 use Rattle.disk_location.specs.Locations.{positionOf, deleteOf}
 use Rattle.rules.specs.Object.{Stored, badChecksum, objectsIn}
 use Rattle.rules.specs.SlotFile.{File, View, empty, damaged, holds}
-use Rattle.rules.specs.Layout.{Buffers, capacityOf}
+use Rattle.rules.specs.Layout.{Table, capacityOf}
 use Rattle.rules.specs.Reopen.{fileOf, filesIn, tableOf}
 use Rattle.theory.specs.Types.{Settings, Entry, Refusal, TableRoom, Checksum, Overlap, CutShort, OtherId}
 use Rattle.theory.specs.Lists.{all-each}
@@ -74,7 +74,7 @@ from-ascends n earlier (v ∷ vs) tail a =
     (slot-first n (slotFaults n earlier v) (faultsFrom (suc n) on vs ++ tail) (slot-slot n earlier v) (from-lower n (suc n) (faultsFrom (suc n) on vs ++ tail) (omega arith) rest))
 
 -- request P5: "ascending by slot"
-pub list-ascends : (s : Settings) (heap : List ℕ) (table : Buffers) → Ascends 0 (faultsOf s heap table)
+pub list-ascends : (s : Settings) (heap : List ℕ) (table : Table) → Ascends 0 (faultsOf s heap table)
 unfolding faultsOf closing
 list-ascends s heap table =
     let vs = judgedIn s heap in
@@ -155,7 +155,7 @@ earlier-none n earlier (v ∷ vs) k h =
     (all-map (OfSlot n) (λ (x : Fault). x .slot ≡ k → ⊥) (slotFaults n earlier v) (λ x e q. omega arith) (slot-slot n earlier v))
     (earlier-none (suc n) (earlier ++ fileOf v) vs k (omega arith))
 
-module _ (s : Settings) (heap : List ℕ) (table : Buffers) where
+module _ (s : Settings) (heap : List ℕ) (table : Table) where
   last-ascends : (n : ℕ) → n ≤ length (judgedIn s heap) → Ascends n (closing (capacityOf table) (judgedIn s heap))
   unfolding closing
   last-ascends n h = go (ltb (capacityOf table) (length (tableOf (filesIn (judgedIn s heap)))))

@@ -8,7 +8,7 @@ use Rattle.rules.specs.BaseLaws.{All, all-map, all-both, all-append, or-false, 
 use Rattle.rules.specs.Settings.{slotsIn}
 use Rattle.rules.specs.Refusal.{NoneHolds}
 use Rattle.rules.specs.SlotFile.{File, View, empty, damaged, holds, viewsIn}
-use Rattle.rules.specs.Layout.{Buffers, capacityOf}
+use Rattle.rules.specs.Layout.{Table, capacityOf}
 use Rattle.rules.specs.Reopen.{viewTests, fileOf, filesIn, meets, overlapping, notRising, tableOf}
 use Rattle.theory.specs.Types.{Settings, Refusal, TableRoom, Overlap, NotRising}
 use Rattle.theory.specs.Places.{viewAt, holds-inj, not-empty}
@@ -172,11 +172,11 @@ judged-same (holds f ∷ vs) h =
     rw (w .0) (ap (λ (us : List View). holds f ∷ us) (judged-same vs (w .1)))
 
 -- what a list says all of whose lines are such: every slot passes, and there is room for the ids
-pub record Whole (P : Fault → Type 0) (s : Settings) (heap : List ℕ) (table : Buffers) : Type 0 where
+pub record Whole (P : Fault → Type 0) (s : Settings) (heap : List ℕ) (table : Table) : Type 0 where
   pub slots : Passing P 0 [] (slotViews s heap)
   pub room : ltb (capacityOf table) (length (tableOf (filesIn (slotViews s heap)))) ≡ false
 
-module _ (P : Fault → Type 0) (s : Settings) (heap : List ℕ) (table : Buffers) where
+module _ (P : Fault → Type 0) (s : Settings) (heap : List ℕ) (table : Table) where
   -- LAW: it says that
   pub list-whole : Placed P → All P (faultsOf s heap table) → Whole P s heap table
   unfolding faultsOf closing

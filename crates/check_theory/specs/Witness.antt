@@ -60,7 +60,7 @@ faulty = record {
   state = noState;
   claims = noClaims;
   heap = wrongLabel ++ (threeObjects ++ (earlierRange ++ (oneDelete ++ repeated)));
-  table = record { ids = replicate 3 0; locations = replicate 3 0 };
+  table = replicate 6 0;
 }
 
 -- LAW: its lines, and what reopening says of it
@@ -82,7 +82,7 @@ unfolding any zeros keep each padded outOfRange labelBytes fiveIn labelIn outOfB
 faulty-list = (refl, refl)
 
 -- LAW: a table of four has room for the ids of its sound slots, 3, 5, 7 and 9; 4 is in none of them
-pub faulty-fits : listOf faulty ≡ faultsOf (faulty .settings) (faulty .heap) (record { ids = replicate 4 0; locations = replicate 4 0 }) ++ (line 5 TableRoom Nowhere ∷ [])
+pub faulty-fits : listOf faulty ≡ faultsOf (faulty .settings) (faulty .heap) (replicate 8 0) ++ (line 5 TableRoom Nowhere ∷ [])
 unfolding any zeros keep each padded labelBytes fiveIn labelIn outOfBounds objectBytes storedAt objectsFrom objectsIn badChecksum decide filesIn overlapping notRising latest latestFrom tableOf slotTests viewIn viewsIn listed trailerBytes trailerTests entriesFrom entriesIn misplaced leBytes leValue groupsOf readGroups numberIn shiftBit shifts crcFrom crc32 objectSum maskedOf digitsIn walked objectFaults entryFaults fileFaults slotFaults faultsFrom closing faultsOf
 faulty-fits = refl
 

@@ -15,7 +15,7 @@ use Rattle.rules.specs.SlotFile.{File, damaged, holds, slotBytes, fileIn}
 use Rattle.rules.specs.SlotLaws.{views-length, views-at}
 use Rattle.rules.specs.SeenLaws.{seen}
 use Rattle.rules.specs.TableLaws.{Has}
-use Rattle.rules.specs.Layout.{Buffers, capacityOf}
+use Rattle.rules.specs.Layout.{Table, capacityOf}
 use Rattle.rules.specs.Reopen.{filesIn, notRising, tableOf}
 use Rattle.theory.specs.Types.{Settings, Refusal}
 use Rattle.theory.specs.Places.{viewAt, Apart, holds-lt}
@@ -29,7 +29,7 @@ use Rattle.check_theory.specs.Objects.{NoLine, Faultless, FaultlessFile,
 use Rattle.check_theory.specs.Ids.{IdsFit, ids-fit, fit-ids}
 
 -- none of request P5's conditions holds, sentence by sentence
-pub record NothingWrong (s : Settings) (heap : List ℕ) (table : Buffers) : Type 0 where
+pub record NothingWrong (s : Settings) (heap : List ℕ) (table : Table) : Type 0 where
   -- "In a slot the first failure of 8 to 13 ..": no slot fails one of these
   pub undamaged : (k : ℕ) (r : Refusal) → viewAt (slotViews s heap) k ≡ damaged r → ⊥
   -- ".. and 15": "A repeated id in one trailer needs strictly rising positions"
@@ -84,7 +84,7 @@ either-order j k f g n a b = go (order j k)
     go (inr (inl e)) = absurd (n e)
     go (inr (inr h)) = swap (b h)
 
-module _ (s : Settings) (heap : List ℕ) (table : Buffers) where
+module _ (s : Settings) (heap : List ℕ) (table : Table) where
   whole-right : Whole NoLine s heap table → NothingWrong s heap table
   whole-right w =
       let views = slotViews s heap in

@@ -5,7 +5,7 @@ use Rattle.rules.specs.Base.{List, [], _∷_, _++_, ℕ, length, map}
 use Rattle.rules.specs.Refusal.{decide-none, decide-first, decide-next, after}
 use Rattle.rules.specs.Settings.{slotsIn}
 use Rattle.rules.specs.SlotFile.{View, viewsIn}
-use Rattle.rules.specs.Layout.{Buffers, capacityOf}
+use Rattle.rules.specs.Layout.{Table, capacityOf}
 use Rattle.rules.specs.Condition1.{outOfRange}
 use Rattle.rules.specs.World.{Given, accepted, refused}
 use Rattle.faults.specs.Faults.{judged, faultsFrom, closing, faultsOf, listing, Checked, checkCall}
@@ -24,7 +24,7 @@ checked answer words = record { answer = checkGiven answer; listing = words }
 abbrev pub listOf : ℕ → List View → List Fault
 listOf room views = faultsFrom 0 [] views ++ closing room views
 
-module _ (s : Settings) (heap : List ℕ) (table : Buffers) (words : List ℕ) where
+module _ (s : Settings) (heap : List ℕ) (table : Table) (words : List ℕ) where
   -- 1
   pub check-refused : outOfRange s (length heap) table ≡ true → checked (CheckRefused Limits) words ≡ checkCall s heap table words
   unfolding checkCall

@@ -4,10 +4,10 @@ pub mod slots;
 
 use crate::slots::listed;
 use limits::out_of_range;
+use location_table::capacity;
 use rules::Refusal;
 use rules::Settings;
 ghost use mathlib.Core.Path.{_≡_};
-ghost use Rattle.rules.specs.Layout.{table};
 ghost use Rattle.faults.specs.Faults.{checkCall};
 ghost use Rattle.checker.specs.Answers.{checked};
 
@@ -18,20 +18,14 @@ pub enum CheckAnswer {
 }
 
 // Heap and table are lent to read only; of the table only the length matters. The lines that fit stand in the listing, four words each.
-pub fn check(
-    settings: Settings,
-    heap: &[u8],
-    ids: &[u64],
-    locations: &[u64],
-    listing: &mut [u64],
-) -> CheckAnswer
+pub fn check(settings: Settings, heap: &[u8], table: &[u64], listing: &mut [u64]) -> CheckAnswer
     ensures { λ r. ⌜ checked r (now (listing .exit))
-        ≡ checkCall settings (now (heap .entry)) (table (now (ids .entry)) (now (locations .entry))) (now (listing .entry)) ⌝ }
+        ≡ checkCall settings (now (heap .entry)) (now (table .entry)) (now (listing .entry)) ⌝ }
 {
-    if out_of_range(settings, heap.len() as u64, ids, locations) {
+    if out_of_range(settings, heap.len() as u64, table) {
         return CheckAnswer::CheckRefused(Refusal::Limits);
     }
     let size = settings.slot_bytes as usize;
     let n = heap.len() / size;
-    CheckAnswer::Faults(listed(listing, heap, size, n, ids.len() as u64))
+    CheckAnswer::Faults(listed(listing, heap, size, n, capacity(table) as u64))
 }

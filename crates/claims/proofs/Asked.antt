@@ -14,7 +14,6 @@ use Rattle.rules.specs.Condition1.{refused1}
 use Rattle.rules.specs.FileMap.{isEmpty, recordAt}
 use Rattle.rules.specs.Claims.{notAFile}
 use Rattle.rules.specs.World.{World, world, slotsOf}
-use Rattle.rules.specs.Layout.{table}
 
 -- 1, then 21 where `bars` holds
 abbrev pub answered : World → Bool → Answer
@@ -25,14 +24,14 @@ or-assoc true b c = refl
 or-assoc false b c = refl
 
 -- what is told of the parts and of the slot as read is so of the state and its claim
-pub whole : (s : Settings) (parts state : State) (claims : Claims) (heap ids locations : List ℕ) (slot : ℕ) (read claimed : Bool) (r : Answer)
-    → r ≡ answered (world s parts claims heap (table ids locations)) (leb (slotsOf (world s parts claims heap (table ids locations))) slot || read)
+pub whole : (s : Settings) (parts state : State) (claims : Claims) (heap table : List ℕ) (slot : ℕ) (read claimed : Bool) (r : Answer)
+    → r ≡ answered (world s parts claims heap table) (leb (slotsOf (world s parts claims heap table)) slot || read)
     → parts ≡ state
     → read ≡ (isEmpty (recordAt (state .files .records) slot) || claimed)
-    → answered (world s state claims heap (table ids locations)) (notAFile (world s state claims heap (table ids locations)) slot || claimed) ≡ r
-whole s parts state claims heap ids locations slot read claimed r told joined bar =
-    let w = world s state claims heap (table ids locations) in
+    → answered (world s state claims heap table) (notAFile (world s state claims heap table) slot || claimed) ≡ r
+whole s parts state claims heap table slot read claimed r told joined bar =
+    let w = world s state claims heap table in
     sym
     (told
-    ∙ ap₂ (λ (t : State) (b : Bool). let v = world s t claims heap (table ids locations) in answered v (leb (slotsOf v) slot || b)) joined bar
+    ∙ ap₂ (λ (t : State) (b : Bool). let v = world s t claims heap table in answered v (leb (slotsOf v) slot || b)) joined bar
     ∙ ap (answered w) (or-assoc (leb (slotsOf w) slot) (isEmpty (recordAt (state .files .records) slot)) claimed))

@@ -28,7 +28,6 @@ ghost use Rattle.rules.specs.World.{world, slotsOf, leaving, answerGiven, count
 ghost use Rattle.rules.specs.declared.Claims.{Claims};
 ghost use Rattle.rules.specs.declared.FileMap.{FileMap};
 ghost use Rattle.rules.specs.declared.Refusal.the-variants.{Limits, Claim};
-ghost use Rattle.rules.specs.Layout.{table};
 ghost use Rattle.limits.specs.Settled.{stateOf, badFiles};
 
 // ---- the bits
@@ -140,17 +139,16 @@ fn decided(
     rest: Rest,
     bad: bool,
     heap: &[u8],
-    ids: &[u64],
-    locations: &[u64],
+    table: &[u64],
     slot: u64,
     barred: bool,
 ) -> Answer
     ensures { λ r. ⌜ ((files : FileMap) (c : Claims)
-        → bad ≡ badFiles s (length (now (heap .entry))) (table (now (ids .entry)) (now (locations .entry))) (files .records)
-        → let w = world s (stateOf rest files) c (now (heap .entry)) (table (now (ids .entry)) (now (locations .entry))) in
+        → bad ≡ badFiles s (length (now (heap .entry))) (now (table .entry)) (files .records)
+        → let w = world s (stateOf rest files) c (now (heap .entry)) (now (table .entry)) in
         r ≡ decide (refused1 w gives Limits ∷ (leb (slotsOf w) slot || barred) gives Claim ∷ [])) ⌝ }
 {
-    if refused_apart(s, heap.len() as u64, ids, locations, rest, bad) {
+    if refused_apart(s, heap.len() as u64, table, rest, bad) {
         return Answer::Refused(Refusal::Limits);
     }
     if heap.len() as u64 / s.slot_bytes <= slot {
@@ -174,23 +172,21 @@ pub fn claim(
     state: State,
     claims: Claims,
     heap: &[u8],
-    ids: &[u64],
-    locations: &[u64],
+    table: &[u64],
     slot: u64,
 ) -> ClaimAnswer
     ensures { λ r. ⌜ leaving (answerGiven (r .answer))
-        (world s state (r .claims) (now (heap .entry)) (table (now (ids .entry)) (now (locations .entry))))
-        ≡ claimCall (world s state claims (now (heap .entry)) (table (now (ids .entry)) (now (locations .entry)))) slot ⌝ }
+        (world s state (r .claims) (now (heap .entry)) (now (table .entry)))
+        ≡ claimCall (world s state claims (now (heap .entry)) (now (table .entry))) slot ⌝ }
 {
     let files = state.files;
-    let bad = bad_files(s, heap.len() as u64, ids, locations, files);
+    let bad = bad_files(s, heap.len() as u64, table, files);
     match decided(
         s,
         rest_of(state),
         bad,
         heap,
-        ids,
-        locations,
+        table,
         slot,
         empty_at(files, slot) | is_claimed(claims, slot),
     ) {
@@ -214,23 +210,21 @@ pub fn release(
     state: State,
     claims: Claims,
     heap: &[u8],
-    ids: &[u64],
-    locations: &[u64],
+    table: &[u64],
     slot: u64,
 ) -> ClaimAnswer
     ensures { λ r. ⌜ leaving (answerGiven (r .answer))
-        (world s state (r .claims) (now (heap .entry)) (table (now (ids .entry)) (now (locations .entry))))
-        ≡ releaseCall (world s state claims (now (heap .entry)) (table (now (ids .entry)) (now (locations .entry)))) slot ⌝ }
+        (world s state (r .claims) (now (heap .entry)) (now (table .entry)))
+        ≡ releaseCall (world s state claims (now (heap .entry)) (now (table .entry))) slot ⌝ }
 {
     let files = state.files;
-    let bad = bad_files(s, heap.len() as u64, ids, locations, files);
+    let bad = bad_files(s, heap.len() as u64, table, files);
     match decided(
         s,
         rest_of(state),
         bad,
         heap,
-        ids,
-        locations,
+        table,
         slot,
         empty_at(files, slot) | !is_claimed(claims, slot),
     ) {
@@ -249,20 +243,14 @@ pub fn release(
 }
 
 // "Files, bytes, present, live, summed over files."
-pub fn counts(
-    s: Settings,
-    state: State,
-    heap: &[u8],
-    ids: &[u64],
-    locations: &[u64],
-) -> CountsAnswer
+pub fn counts(s: Settings, state: State, heap: &[u8], table: &[u64]) -> CountsAnswer
     ensures { λ r. ⌜ ((claims : Claims)
-        → leaving (countsGiven r) (world s state claims (now (heap .entry)) (table (now (ids .entry)) (now (locations .entry))))
-        ≡ countsCall (world s state claims (now (heap .entry)) (table (now (ids .entry)) (now (locations .entry))))) ⌝ }
+        → leaving (countsGiven r) (world s state claims (now (heap .entry)) (now (table .entry)))
+        ≡ countsCall (world s state claims (now (heap .entry)) (now (table .entry)))) ⌝ }
 {
     let files = state.files;
-    let bad = bad_files(s, heap.len() as u64, ids, locations, files);
-    if refused_apart(s, heap.len() as u64, ids, locations, rest_of(state), bad) {
+    let bad = bad_files(s, heap.len() as u64, table, files);
+    if refused_apart(s, heap.len() as u64, table, rest_of(state), bad) {
         return CountsAnswer::CountsRefused(Refusal::Limits);
     }
     CountsAnswer::Counted(file_map::counts(files))

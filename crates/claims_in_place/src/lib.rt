@@ -7,7 +7,6 @@ use rules::State;
 ghost use mathlib.Core.Path.{_≡_};
 ghost use Rattle.rules.specs.Claims.{claimCall, releaseCall};
 ghost use Rattle.rules.specs.World.{world, leaving};
-ghost use Rattle.rules.specs.Layout.{table};
 ghost use Rattle.as_numbers.specs.Numbered.{numbered};
 
 // ---- by value
@@ -23,15 +22,14 @@ fn claimed(
     s: Settings,
     state: State,
     heap: &[u8],
-    ids: &[u64],
-    locations: &[u64],
+    table: &[u64],
     slot: u64,
 ) -> Outcome
     ensures { λ r. ⌜ leaving (numbered (r .number))
-        (world s state (r .claims) (now (heap .entry)) (table (now (ids .entry)) (now (locations .entry))))
-        ≡ claimCall (world s state claims (now (heap .entry)) (table (now (ids .entry)) (now (locations .entry)))) slot ⌝ }
+        (world s state (r .claims) (now (heap .entry)) (now (table .entry)))
+        ≡ claimCall (world s state claims (now (heap .entry)) (now (table .entry))) slot ⌝ }
 {
-    let r = claims::claim(s, state, claims, heap, ids, locations, slot);
+    let r = claims::claim(s, state, claims, heap, table, slot);
     let answer = r.answer;
     let after = r.claims;
     Outcome {
@@ -46,15 +44,14 @@ fn released(
     s: Settings,
     state: State,
     heap: &[u8],
-    ids: &[u64],
-    locations: &[u64],
+    table: &[u64],
     slot: u64,
 ) -> Outcome
     ensures { λ r. ⌜ leaving (numbered (r .number))
-        (world s state (r .claims) (now (heap .entry)) (table (now (ids .entry)) (now (locations .entry))))
-        ≡ releaseCall (world s state claims (now (heap .entry)) (table (now (ids .entry)) (now (locations .entry)))) slot ⌝ }
+        (world s state (r .claims) (now (heap .entry)) (now (table .entry)))
+        ≡ releaseCall (world s state claims (now (heap .entry)) (now (table .entry))) slot ⌝ }
 {
-    let r = claims::release(s, state, claims, heap, ids, locations, slot);
+    let r = claims::release(s, state, claims, heap, table, slot);
     let answer = r.answer;
     let after = r.claims;
     Outcome {
@@ -70,16 +67,15 @@ pub fn claim(
     s: Settings,
     state: State,
     heap: &[u8],
-    ids: &[u64],
-    locations: &[u64],
+    table: &[u64],
     slot: u64,
 ) -> u64
     ensures { λ r. ⌜ leaving (numbered r)
-        (world s state (now (claims .exit)) (now (heap .entry)) (table (now (ids .entry)) (now (locations .entry))))
-        ≡ claimCall (world s state (now (claims .entry)) (now (heap .entry)) (table (now (ids .entry)) (now (locations .entry)))) slot ⌝ }
+        (world s state (now (claims .exit)) (now (heap .entry)) (now (table .entry)))
+        ≡ claimCall (world s state (now (claims .entry)) (now (heap .entry)) (now (table .entry))) slot ⌝ }
 {
     let was = *claims;
-    let next = claimed(was, s, state, heap, ids, locations, slot);
+    let next = claimed(was, s, state, heap, table, slot);
     *claims = next.claims;
     next.number
 }
@@ -90,16 +86,15 @@ pub fn release(
     s: Settings,
     state: State,
     heap: &[u8],
-    ids: &[u64],
-    locations: &[u64],
+    table: &[u64],
     slot: u64,
 ) -> u64
     ensures { λ r. ⌜ leaving (numbered r)
-        (world s state (now (claims .exit)) (now (heap .entry)) (table (now (ids .entry)) (now (locations .entry))))
-        ≡ releaseCall (world s state (now (claims .entry)) (now (heap .entry)) (table (now (ids .entry)) (now (locations .entry)))) slot ⌝ }
+        (world s state (now (claims .exit)) (now (heap .entry)) (now (table .entry)))
+        ≡ releaseCall (world s state (now (claims .entry)) (now (heap .entry)) (now (table .entry))) slot ⌝ }
 {
     let was = *claims;
-    let next = released(was, s, state, heap, ids, locations, slot);
+    let next = released(was, s, state, heap, table, slot);
     *claims = next.claims;
     next.number
 }

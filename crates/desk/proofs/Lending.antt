@@ -1,4 +1,4 @@
--- The lent parts of the three buffers: what goes out, and what comes back.
+-- The lent parts of the two buffers: what goes out, and what comes back.
 use mathlib.Core.Path.{_≡_, refl, sym, ap, _∙_}
 use Prim.Native.Nat.{_-_, _≤_}
 use native.Mathlib.Omega.{arith}
@@ -27,43 +27,34 @@ least-drop a xs r e =
     least-serves (λ (k : ℕ). drop k xs) a (length xs) r (λ h. drop-of-length-le xs {i = length xs} (omega arith) ∙ sym (drop-of-length-le xs {i = a} h)) e
 
 -- the lent parts, as `&s[0..h]` says them
-pub lent-parts : (b : Bench) (heap ids locations : List ℕ) (h i l : ℕ)
+pub lent-parts : (b : Bench) (heap table : List ℕ) (h w : ℕ)
     → h ≡ pick (ltb (b .«heap_len») (length heap)) (b .«heap_len») (length heap)
-    → i ≡ pick (ltb (b .«ids_len») (length ids)) (b .«ids_len») (length ids)
-    → l ≡ pick (ltb (b .«locations_len») (length locations)) (b .«locations_len») (length locations)
-    → desk b (take (h - 0) heap) (take (i - 0) ids) (take (l - 0) locations) ≡ lentOf (desk b heap ids locations)
-lent-parts b heap ids locations h i l eh ei el =
-    rw (
-      least-take (b .«heap_len») heap (h - 0) (sub-zero h ∙ eh),
-      least-take (b .«ids_len») ids (i - 0) (sub-zero i ∙ ei),
-      least-take (b .«locations_len») locations (l - 0) (sub-zero l ∙ el),
-    ) refl
+    → w ≡ pick (ltb (b .«table_words») (length table)) (b .«table_words») (length table)
+    → desk b (take (h - 0) heap) (take (w - 0) table) ≡ lentOf (desk b heap table)
+lent-parts b heap table h w eh ew =
+    rw (least-take (b .«heap_len») heap (h - 0) (sub-zero h ∙ eh), least-take (b .«table_words») table (w - 0) (sub-zero w ∙ ew)) refl
 
 -- a command on the lent parts, as `&mut s[0..h]` says them, which come back before what was not lent
-pub lending : (f : Desk → Outcome) (b : Bench) (heap ids locations : List ℕ) (h i l : ℕ) (t : Turn) (hs is ls : List ℕ)
+pub lending : (f : Desk → Outcome) (b : Bench) (heap table : List ℕ) (h w : ℕ) (t : Turn) (hs ws : List ℕ)
     → h ≡ pick (ltb (b .«heap_len») (length heap)) (b .«heap_len») (length heap)
-    → i ≡ pick (ltb (b .«ids_len») (length ids)) (b .«ids_len») (length ids)
-    → l ≡ pick (ltb (b .«locations_len») (length locations)) (b .«locations_len») (length locations)
-    → left t hs is ls ≡ f (desk b (take (h - 0) heap) (take (i - 0) ids) (take (l - 0) locations))
-    → left t (hs ++ drop (h - 0) heap) (is ++ drop (i - 0) ids) (ls ++ drop (l - 0) locations) ≡ onLent f (desk b heap ids locations)
-lending f b heap ids locations h i l t hs is ls eh ei el e =
-    let d = desk b heap ids locations in
+    → w ≡ pick (ltb (b .«table_words») (length table)) (b .«table_words») (length table)
+    → left t hs ws ≡ f (desk b (take (h - 0) heap) (take (w - 0) table))
+    → left t (hs ++ drop (h - 0) heap) (ws ++ drop (w - 0) table) ≡ onLent f (desk b heap table)
+lending f b heap table h w t hs ws eh ew e =
+    let d = desk b heap table in
     let h0 = sub-zero h ∙ eh in
-    let i0 = sub-zero i ∙ ei in
-    let l0 = sub-zero l ∙ el in
-    let out = lent-parts b heap ids locations h i l eh ei el in
-    rw (least-drop (b .«heap_len») heap (h - 0) h0, least-drop (b .«ids_len») ids (i - 0) i0, least-drop (b .«locations_len») locations (l - 0) l0)
-    (ap (putBack d) (e ∙ ap f out))
+    let w0 = sub-zero w ∙ ew in
+    let out = lent-parts b heap table h w eh ew in
+    rw (least-drop (b .«heap_len») heap (h - 0) h0, least-drop (b .«table_words») table (w - 0) w0) (ap (putBack d) (e ∙ ap f out))
 
--- the same, where the table's parts are lent to be read
-pub lending-heap : (f : Desk → Outcome) (b : Bench) (heap ids locations : List ℕ) (h i l : ℕ) (t : Turn) (hs : List ℕ)
+-- the same, where the table's part is lent to be read
+pub lending-heap : (f : Desk → Outcome) (b : Bench) (heap table : List ℕ) (h w : ℕ) (t : Turn) (hs : List ℕ)
     → h ≡ pick (ltb (b .«heap_len») (length heap)) (b .«heap_len») (length heap)
-    → i ≡ pick (ltb (b .«ids_len») (length ids)) (b .«ids_len») (length ids)
-    → l ≡ pick (ltb (b .«locations_len») (length locations)) (b .«locations_len») (length locations)
-    → left t hs (take (i - 0) ids) (take (l - 0) locations) ≡ f (desk b (take (h - 0) heap) (take (i - 0) ids) (take (l - 0) locations))
-    → left t (hs ++ drop (h - 0) heap) ids locations ≡ onLent f (desk b heap ids locations)
-lending-heap f b heap ids locations h i l t hs eh ei el e =
-    let both = lending f b heap ids locations h i l t hs (take (i - 0) ids) (take (l - 0) locations) eh ei el e in
-    let whole : left t (hs ++ drop (h - 0) heap) (take (i - 0) ids ++ drop (i - 0) ids) (take (l - 0) locations ++ drop (l - 0) locations) ≡ left t (hs ++ drop (h - 0) heap) ids locations =
-    rw (take-append-drop (i - 0) ids, take-append-drop (l - 0) locations) refl in
+    → w ≡ pick (ltb (b .«table_words») (length table)) (b .«table_words») (length table)
+    → left t hs (take (w - 0) table) ≡ f (desk b (take (h - 0) heap) (take (w - 0) table))
+    → left t (hs ++ drop (h - 0) heap) table ≡ onLent f (desk b heap table)
+lending-heap f b heap table h w t hs eh ew e =
+    let both = lending f b heap table h w t hs (take (w - 0) table) eh ew e in
+    let whole : left t (hs ++ drop (h - 0) heap) (take (w - 0) table ++ drop (w - 0) table) ≡ left t (hs ++ drop (h - 0) heap) table =
+    rw (take-append-drop (w - 0) table) refl in
     sym whole ∙ both

@@ -5,6 +5,6 @@ use Rattle.rules.specs.TableCalls.{TableAfter}
 use Rattle.desk.specs.Types.{Bench}
 use Rattle.desk.specs.Desk.{desk, Words, worldOf, answered, besides}
 
-pub tabled : (words : Words) (b : Bench) (heap ids locations : List ℕ) {t u : TableAfter} → t ≡ u
-    → answered words b (besides (worldOf (desk b heap ids locations)) t) ≡ answered words b (besides (worldOf (desk b heap ids locations)) u)
-tabled words b heap ids locations e = ap (λ (t : TableAfter). answered words b (besides (worldOf (desk b heap ids locations)) t)) e
+pub tabled : (words : Words) (b : Bench) (heap table : List ℕ) {t u : TableAfter} → t ≡ u
+    → answered words b (besides (worldOf (desk b heap table)) t) ≡ answered words b (besides (worldOf (desk b heap table)) u)
+tabled words b heap table e = ap (λ (t : TableAfter). answered words b (besides (worldOf (desk b heap table)) t)) e

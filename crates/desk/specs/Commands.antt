@@ -1,7 +1,7 @@
 -- What each command of the console does.
 use Rattle.rules.specs.Base.{_||_, List, [], ℕ, _+_, length, getD, set, replicate, leb, ltb, eqb, pick}
 use Rattle.rules.specs.FileMap.{recorded}
-use Rattle.rules.specs.Layout.{Buffers, table}
+use Rattle.rules.specs.Layout.{Table, capacityOf, cleared}
 use Rattle.rules.specs.Settings.{defaults}
 use Rattle.rules.specs.Claims.{noClaims, claimCall, releaseCall}
 use Rattle.rules.specs.Counts.{countsCall}
@@ -13,6 +13,7 @@ use Rattle.rules.specs.TableCalls.{loadCall, storeCall, compareCall, greaterCal
 use Rattle.rules.specs.World.{World, Given, noState}
 use Rattle.rules.specs.Write.{writeCall}
 use Rattle.file_map.specs.Records.{labelled}
+use Rattle.location_table.specs.Tables.{withPair}
 use Rattle.numbers.specs.Parts.{putAt}
 use Rattle.losses.specs.Salvage.{Salvaged, salvageCall}
 use Rattle.script.specs.declared.Keyword.the-variants as key
@@ -50,15 +51,15 @@ claimsFrom n = record { a = nth n 0; b = nth n 1; c = nth n 2; d = nth n 3 }
 
 -- all else the same
 abbrev pub withSettings : Bench → Settings → Bench
-withSettings b s = record { settings = s; state = b .state; claims = b .claims; «heap_len» = b .«heap_len»; «ids_len» = b .«ids_len»; «locations_len» = b .«locations_len» }
+withSettings b s = record { settings = s; state = b .state; claims = b .claims; «heap_len» = b .«heap_len»; «table_words» = b .«table_words» }
 
 -- all else the same
 abbrev pub withState : Bench → State → Bench
-withState b s = record { settings = b .settings; state = s; claims = b .claims; «heap_len» = b .«heap_len»; «ids_len» = b .«ids_len»; «locations_len» = b .«locations_len» }
+withState b s = record { settings = b .settings; state = s; claims = b .claims; «heap_len» = b .«heap_len»; «table_words» = b .«table_words» }
 
 -- all else the same
 abbrev pub withClaims : Bench → Claims → Bench
-withClaims b c = record { settings = b .settings; state = b .state; claims = c; «heap_len» = b .«heap_len»; «ids_len» = b .«ids_len»; «locations_len» = b .«locations_len» }
+withClaims b c = record { settings = b .settings; state = b .state; claims = c; «heap_len» = b .«heap_len»; «table_words» = b .«table_words» }
 
 -- a record put into its slot
 abbrev pub withRecord : State → ℕ → Record → State
@@ -71,32 +72,29 @@ recordBy n b = pick (leb 256 (nth n 0)) (replied BadLine b) (done (withState b (
 -- ---- buffers by hand
 -- another heap length lent
 abbrev pub lendingHeap : Bench → ℕ → Bench
-lendingHeap b bytes = record { settings = b .settings; state = b .state; claims = b .claims; «heap_len» = bytes; «ids_len» = b .«ids_len»; «locations_len» = b .«locations_len» }
+lendingHeap b bytes = record { settings = b .settings; state = b .state; claims = b .claims; «heap_len» = bytes; «table_words» = b .«table_words» }
 
--- other table lengths lent
-abbrev pub lendingTable : Bench → ℕ → ℕ → Bench
-lendingTable b ids locations = record { settings = b .settings; state = b .state; claims = b .claims; «heap_len» = b .«heap_len»; «ids_len» = ids; «locations_len» = locations }
+-- another table length lent
+abbrev pub lendingTable : Bench → ℕ → Bench
+lendingTable b words = record { settings = b .settings; state = b .state; claims = b .claims; «heap_len» = b .«heap_len»; «table_words» = words }
 
 -- `heap BYTES`: lends so many zeros
 abbrev pub heapBy : ℕ → Desk → Outcome
 heapBy bytes d =
     pick (ltb (length (d .heap)) bytes) (badLine d)
-    (changed (desk (lendingHeap (d .bench) bytes) (replicate (length (d .heap)) 0) (d .ids) (d .locations)))
+    (changed (desk (lendingHeap (d .bench) bytes) (replicate (length (d .heap)) 0) (d .table)))
 
--- `table IDS LOCATIONS`: lends so many zeros of each
-abbrev pub tableBy : ℕ → ℕ → Desk → Outcome
-tableBy ids locations d =
-    pick (ltb (length (d .ids)) ids || ltb (length (d .locations)) locations) (badLine d)
-    (changed (desk (lendingTable (d .bench) ids locations) (d .heap) (replicate (length (d .ids)) 0) (replicate (length (d .locations)) 0)))
+-- `table WORDS`: lends so many zeros
+abbrev pub tableBy : ℕ → Desk → Outcome
+tableBy words d = pick (ltb (length (d .table)) words) (badLine d) (changed (desk (lendingTable (d .bench) words) (d .heap) (cleared (d .table))))
 
 -- `poke OFFSET HEX`: within the lent heap
 abbrev pub pokeBy : ℕ → List ℕ → Desk → Outcome
-pokeBy at bytes d = pick (ltb (length (d .heap)) (at + length bytes)) (badLine d) (changed (desk (d .bench) (putAt (d .heap) at bytes) (d .ids) (d .locations)))
+pokeBy at bytes d = pick (ltb (length (d .heap)) (at + length bytes)) (badLine d) (changed (desk (d .bench) (putAt (d .heap) at bytes) (d .table)))
 
--- `entry K ID RAW`: a place below both lent lengths
+-- `entry K ID RAW`: a place of the lent table
 abbrev pub entryBy : ℕ → ℕ → ℕ → Desk → Outcome
-entryBy k id raw d =
-    pick (leb (length (d .ids)) k || leb (length (d .locations)) k) (badLine d) (changed (desk (d .bench) (d .heap) (set (d .ids) k id) (set (d .locations) k raw)))
+entryBy k id raw d = pick (leb (capacityOf (d .table)) k) (badLine d) (changed (desk (d .bench) (d .heap) (withPair (d .table) k id raw)))
 
 -- ---- looks
 -- `check ROOM`: room for so many lines, up to 4,096
@@ -110,11 +108,11 @@ bytesBy at count d = pick (ltb 65536 count || ltb (length (d .heap)) (at + count
 -- ---- salvage
 -- the call on a desk, with a report lent to it
 abbrev pub salvageOn : Desk → List ℕ → Salvaged
-salvageOn d report = salvageCall (d .bench .settings) (d .heap) (table (d .ids) (d .locations)) report
+salvageOn d report = salvageCall (d .bench .settings) (d .heap) (d .table) report
 
 -- the heap changes, and nothing else on the desk
 abbrev pub rescued : Desk → Given → List ℕ → Outcome
-rescued d answer heap = record { reply = gave emptied answer; desk = desk (d .bench) heap (d .ids) (d .locations) }
+rescued d answer heap = record { reply = gave emptied answer; desk = desk (d .bench) heap (d .table) }
 
 -- `salvage`: neither answer nor heap goes by what stood in the report
 abbrev pub salvageBy : Desk → Outcome
@@ -137,11 +135,11 @@ lentBy key.Maintain n bytes d = called moved maintainCall d
 lentBy key.Claim n bytes d = called plain (λ (w : World). claimCall w (nth n 0)) d
 lentBy key.Release n bytes d = called plain (λ (w : World). releaseCall w (nth n 0)) d
 lentBy key.Counts n bytes d = called counted countsCall d
-lentBy key.Load n bytes d = called located (onTable (λ (t : Buffers). loadCall t (nth n 0))) d
+lentBy key.Load n bytes d = called located (onTable (λ (t : Table). loadCall t (nth n 0))) d
 lentBy key.Bytes n bytes d = bytesBy (nth n 0) (nth n 1) d
-lentBy key.Store n bytes d = called plain (onTable (λ (t : Buffers). storeCall t (nth n 0) (nth n 1))) d
-lentBy key.Cas n bytes d = called compared (onTable (λ (t : Buffers). compareCall t (nth n 0) (nth n 1) (nth n 2))) d
-lentBy key.Max n bytes d = called raised (onTable (λ (t : Buffers). greaterCall t (nth n 0) (nth n 1))) d
+lentBy key.Store n bytes d = called plain (onTable (λ (t : Table). storeCall t (nth n 0) (nth n 1))) d
+lentBy key.Cas n bytes d = called compared (onTable (λ (t : Table). compareCall t (nth n 0) (nth n 1) (nth n 2))) d
+lentBy key.Max n bytes d = called raised (onTable (λ (t : Table). greaterCall t (nth n 0) (nth n 1))) d
 lentBy key.Blank n bytes d = badLine d
 lentBy key.Bad n bytes d = badLine d
 lentBy key.Settings n bytes d = badLine d
@@ -160,13 +158,13 @@ lentBy key.Help n bytes d = badLine d
 unfoldable pub doneBy : Keyword → List ℕ → List ℕ → Desk → Outcome
 doneBy key.Blank n bytes d = looked Comment d
 doneBy key.Bad n bytes d = badLine d
-doneBy key.Settings n bytes d = left (done (withSettings (d .bench) (settingsFrom n))) (d .heap) (d .ids) (d .locations)
-doneBy key.State n bytes d = left (done (withState (d .bench) (stateFrom n (d .bench .state)))) (d .heap) (d .ids) (d .locations)
-doneBy key.Record n bytes d = left (recordBy n (d .bench)) (d .heap) (d .ids) (d .locations)
-doneBy key.Claims n bytes d = left (done (withClaims (d .bench) (claimsFrom n))) (d .heap) (d .ids) (d .locations)
+doneBy key.Settings n bytes d = left (done (withSettings (d .bench) (settingsFrom n))) (d .heap) (d .table)
+doneBy key.State n bytes d = left (done (withState (d .bench) (stateFrom n (d .bench .state)))) (d .heap) (d .table)
+doneBy key.Record n bytes d = left (recordBy n (d .bench)) (d .heap) (d .table)
+doneBy key.Claims n bytes d = left (done (withClaims (d .bench) (claimsFrom n))) (d .heap) (d .table)
 doneBy key.Heap n bytes d = heapBy (nth n 0) d
-doneBy key.Table n bytes d = tableBy (nth n 0) (nth n 1) d
-doneBy key.Check n bytes d = left (checkBy (nth n 0) (d .bench)) (d .heap) (d .ids) (d .locations)
+doneBy key.Table n bytes d = tableBy (nth n 0) d
+doneBy key.Check n bytes d = left (checkBy (nth n 0) (d .bench)) (d .heap) (d .table)
 doneBy key.Salvage n bytes d = onLent salvageBy d
 doneBy key.List n bytes d = looked Listing d
 doneBy key.Dump n bytes d = looked Dump d
@@ -189,4 +187,4 @@ doneBy key.Max n bytes d = onLent (lentBy key.Max n bytes) d
 
 -- ---- before the first command
 abbrev pub freshBench : Bench
-freshBench = record { settings = defaults; state = noState; claims = noClaims; «heap_len» = 65536; «ids_len» = 1024; «locations_len» = 1024 }
+freshBench = record { settings = defaults; state = noState; claims = noClaims; «heap_len» = 65536; «table_words» = 2048 }

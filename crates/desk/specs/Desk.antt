@@ -1,21 +1,20 @@
 -- The desk: what the console's commands are given and change; what a command leaves.
 use Rattle.rules.specs.Base.{List, [], _++_, ℕ, take, drop}
-use Rattle.rules.specs.Layout.{Buffers, table}
+use Rattle.rules.specs.Layout.{Table}
 use Rattle.rules.specs.TableCalls.{TableAfter}
 use Rattle.rules.specs.World.{World, world, Given, accepted, answerGiven, readGiven, maintainGiven, countsGiven, loadGiven, compareGiven, After}
 use Rattle.salvage.specs.Answers.{salvageGiven}
 use Rattle.desk.specs.Types.{Done, Bench, Look, Reply, BadLine, Answered, Read, Maintained, Counted, Loaded, Compared, Raised, Salvaged, Shown, Turn}
 
--- settings, state, claims and how much of each buffer is lent; the three buffers, whole
+-- settings, state, claims and how much of each buffer is lent; the two buffers, whole
 pub record Desk : Type 0 where
   pub bench : Bench
   pub heap : List ℕ
-  pub ids : List ℕ
-  pub locations : List ℕ
+  pub table : Table
 
 -- the same, as a command's parameters give it
-abbrev pub desk : Bench → List ℕ → List ℕ → List ℕ → Desk
-desk bench heap ids locations = record { bench = bench; heap = heap; ids = ids; locations = locations }
+abbrev pub desk : Bench → List ℕ → Table → Desk
+desk bench heap table = record { bench = bench; heap = heap; table = table }
 
 -- ---- replies
 -- in which words an answer is written: `ok`; a body; a count of ids; four counts; a location; the one that differs; the one held before; a
@@ -55,8 +54,8 @@ pub record Outcome : Type 0 where
   pub desk : Desk
 
 -- the same, as a command's result and the buffers give it
-abbrev pub left : Turn → List ℕ → List ℕ → List ℕ → Outcome
-left turn heap ids locations = record { reply = said (turn .reply); desk = desk (turn .bench) heap ids locations }
+abbrev pub left : Turn → List ℕ → Table → Outcome
+left turn heap table = record { reply = said (turn .reply); desk = desk (turn .bench) heap table }
 
 -- a reply, the bench as it was
 abbrev pub replied : Reply → Bench → Turn
@@ -81,15 +80,14 @@ changed d = record { reply = gave plain (accepted []); desk = d }
 -- ---- a call
 -- what a call is given
 abbrev pub worldOf : Desk → World
-worldOf d = world (d .bench .settings) (d .bench .state) (d .bench .claims) (d .heap) (table (d .ids) (d .locations))
+worldOf d = world (d .bench .settings) (d .bench .state) (d .bench .claims) (d .heap) (d .table)
 
 -- a world on a desk that lends as much as before
 abbrev pub deskOf : Bench → World → Desk
 deskOf b w = record {
-  bench = record { settings = w .settings; state = w .state; claims = w .claims; «heap_len» = b .«heap_len»; «ids_len» = b .«ids_len»; «locations_len» = b .«locations_len» };
+  bench = record { settings = w .settings; state = w .state; claims = w .claims; «heap_len» = b .«heap_len»; «table_words» = b .«table_words» };
   heap = w .heap;
-  ids = w .table .ids;
-  locations = w .table .locations;
+  table = w .table;
 }
 
 -- its answer, and everything after it
@@ -101,27 +99,27 @@ abbrev pub called : Words → (World → After) → Desk → Outcome
 called words call d = answered words (d .bench) (call (worldOf d))
 
 -- a world with another table
-abbrev pub withTable : World → Buffers → World
+abbrev pub withTable : World → Table → World
 withTable w t = record { settings = w .settings; state = w .state; claims = w .claims; heap = w .heap; table = t }
 
 -- what a table call left, beside the rest of the world
 abbrev pub besides : World → TableAfter → After
 besides w t = record { answer = t .answer; world = withTable w (t .table) }
 
--- a table call goes by the two table buffers alone
-abbrev pub onTable : (Buffers → TableAfter) → World → After
+-- a table call goes by the table alone
+abbrev pub onTable : (Table → TableAfter) → World → After
 onTable call w = besides w (call (w .table))
 
 -- ---- the lent parts
 -- what a command on the lent parts is given
 abbrev pub lentOf : Desk → Desk
-lentOf d = desk (d .bench) (take (d .bench .«heap_len») (d .heap)) (take (d .bench .«ids_len») (d .ids)) (take (d .bench .«locations_len») (d .locations))
+lentOf d = desk (d .bench) (take (d .bench .«heap_len») (d .heap)) (take (d .bench .«table_words») (d .table))
 
 -- the parts come back; what was not lent stays
 abbrev pub putBack : Desk → Outcome → Outcome
 putBack d o = record {
   reply = o .reply;
-  desk = desk (o .desk .bench) (o .desk .heap ++ drop (d .bench .«heap_len») (d .heap)) (o .desk .ids ++ drop (d .bench .«ids_len») (d .ids)) (o .desk .locations ++ drop (d .bench .«locations_len») (d .locations));
+  desk = desk (o .desk .bench) (o .desk .heap ++ drop (d .bench .«heap_len») (d .heap)) (o .desk .table ++ drop (d .bench .«table_words») (d .table));
 }
 
 -- a command on the lent parts

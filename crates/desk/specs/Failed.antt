@@ -10,7 +10,7 @@ use Rattle.rules.specs.declared.Refusal.the-variants.{TableRoom, NotThere, Equa
 use Rattle.rules.specs.Refusal.{_gives_, decide, after}
 use Rattle.rules.specs.Condition1.{outOfRange, refused1}
 use Rattle.rules.specs.Counts.{countsCall}
-use Rattle.rules.specs.Layout.{Buffers, capacityOf, usedEntries}
+use Rattle.rules.specs.Layout.{Table, capacityOf, usedEntries, cleared}
 use Rattle.rules.specs.Maintenance.{maintainCall, courseOf, finished}
 use Rattle.rules.specs.Read.{readCall}
 use Rattle.rules.specs.Reopen.{reopenCall, reopenTests, givenUp}
@@ -18,6 +18,7 @@ use Rattle.rules.specs.SlotFile.{viewsIn}
 use Rattle.rules.specs.Table.{lookup, unmapped, mappedTo, full}
 use Rattle.rules.specs.TableCalls.{TableAfter, notForm, same, heldGiven, below, withStored, loadCall, storeCall, compareCall, greaterCall}
 use Rattle.rules.specs.World.{World, Given, accepted, refused, slotsOf, After}
+use Rattle.location_table.specs.Tables.{withPair}
 use Rattle.numbers.specs.Parts.{putAt}
 use Rattle.history_theory.specs.History.{Call, write, prune, quiet}
 use Rattle.history_theory.specs.Quiet.{claim, release}
@@ -77,31 +78,28 @@ bad-kept true d e h = refl
 bad-kept false d e h = absurd (false≢true h)
 
 heap-kept : (bytes : ℕ) (d : Desk) → failing (heapBy bytes d .reply) ≡ true → heapBy bytes d .desk ≡ d
-heap-kept bytes d h = bad-kept (ltb (length (d .heap)) bytes) d (desk (lendingHeap (d .bench) bytes) (replicate (length (d .heap)) 0) (d .ids) (d .locations)) h
+heap-kept bytes d h = bad-kept (ltb (length (d .heap)) bytes) d (desk (lendingHeap (d .bench) bytes) (replicate (length (d .heap)) 0) (d .table)) h
 
-lending-kept : (ids locations : ℕ) (d : Desk) → failing (tableBy ids locations d .reply) ≡ true → tableBy ids locations d .desk ≡ d
-lending-kept ids locations d h =
-    bad-kept (ltb (length (d .ids)) ids || ltb (length (d .locations)) locations) d
-    (desk (lendingTable (d .bench) ids locations) (d .heap) (replicate (length (d .ids)) 0) (replicate (length (d .locations)) 0)) h
+lending-kept : (words : ℕ) (d : Desk) → failing (tableBy words d .reply) ≡ true → tableBy words d .desk ≡ d
+lending-kept words d h = bad-kept (ltb (length (d .table)) words) d (desk (lendingTable (d .bench) words) (d .heap) (cleared (d .table))) h
 
 poke-kept : (at : ℕ) (bytes : List ℕ) (d : Desk) → failing (pokeBy at bytes d .reply) ≡ true → pokeBy at bytes d .desk ≡ d
-poke-kept at bytes d h = bad-kept (ltb (length (d .heap)) (at + length bytes)) d (desk (d .bench) (putAt (d .heap) at bytes) (d .ids) (d .locations)) h
+poke-kept at bytes d h = bad-kept (ltb (length (d .heap)) (at + length bytes)) d (desk (d .bench) (putAt (d .heap) at bytes) (d .table)) h
 
 entry-kept : (k id raw : ℕ) (d : Desk) → failing (entryBy k id raw d .reply) ≡ true → entryBy k id raw d .desk ≡ d
-entry-kept k id raw d h =
-    bad-kept (leb (length (d .ids)) k || leb (length (d .locations)) k) d (desk (d .bench) (d .heap) (set (d .ids) k id) (set (d .locations) k raw)) h
+entry-kept k id raw d h = bad-kept (leb (capacityOf (d .table)) k) d (desk (d .bench) (d .heap) (withPair (d .table) k id raw)) h
 
-record-kept : (t : Bool) (d : Desk) (b : Bench) → failing (left (pick t (replied BadLine (d .bench)) (done b)) (d .heap) (d .ids) (d .locations) .reply) ≡ true
-    → left (pick t (replied BadLine (d .bench)) (done b)) (d .heap) (d .ids) (d .locations) .desk ≡ d
+record-kept : (t : Bool) (d : Desk) (b : Bench) → failing (left (pick t (replied BadLine (d .bench)) (done b)) (d .heap) (d .table) .reply) ≡ true
+    → left (pick t (replied BadLine (d .bench)) (done b)) (d .heap) (d .table) .desk ≡ d
 record-kept true d b h = refl
 record-kept false d b h = absurd (false≢true h)
 
 -- ---- looks
 -- LAW: a check changes nothing, whatever is said
-pub check-unchanged : (room : ℕ) (d : Desk) → left (checkBy room (d .bench)) (d .heap) (d .ids) (d .locations) .desk ≡ d
+pub check-unchanged : (room : ℕ) (d : Desk) → left (checkBy room (d .bench)) (d .heap) (d .table) .desk ≡ d
 check-unchanged room d = go (ltb 4096 room)
   where
-    go : (t : Bool) → left (pick t (replied BadLine (d .bench)) (replied (Shown (Check room)) (d .bench))) (d .heap) (d .ids) (d .locations) .desk ≡ d
+    go : (t : Bool) → left (pick t (replied BadLine (d .bench)) (replied (Shown (Check room)) (d .bench))) (d .heap) (d .table) .desk ≡ d
     go true = refl
     go false = refl
 
@@ -123,7 +121,7 @@ salvage-kept d h = go (decide (outOfRange (d .bench .settings) (length (d .heap)
     gone r = record { answer = refused r; report = []; heap = d .heap }
 
     go : (a : Answer) (x : Salvaged) → x .answer .number ≡ 0 → not (eqb (after a gone x .answer .number) 0) ≡ true
-        → desk (d .bench) (after a gone x .heap) (d .ids) (d .locations) ≡ d
+        → desk (d .bench) (after a gone x .heap) (d .table) ≡ d
     go Done x z h = absurd (false≢true (sym (ap (λ (k : ℕ). not (eqb k 0)) z) ∙ h))
     go (Refused r) x z h = refl
 
@@ -132,7 +130,7 @@ salvage-kept d h = go (decide (outOfRange (d .bench .settings) (length (d .heap)
 pub back-same : (d : Desk) (o : Outcome) → o .desk ≡ lentOf d → putBack d o .desk ≡ d
 back-same d o e =
     ap (λ (l : Desk). putBack d (record { reply = o .reply; desk = l }) .desk) e
-    ∙ rw (take-append-drop (d .bench .«heap_len») (d .heap), take-append-drop (d .bench .«ids_len») (d .ids), take-append-drop (d .bench .«locations_len») (d .locations)) refl
+    ∙ rw (take-append-drop (d .bench .«heap_len») (d .heap), take-append-drop (d .bench .«table_words») (d .table)) refl
 
 -- ---- calls
 -- a call that leaves the world leaves the desk
@@ -144,7 +142,7 @@ call-kept : (c : Call) → PlainCall c → (d : Desk) → not (eqb (calling (wor
 call-kept c p d h = world-kept plain (λ (w : World). calling w c) d (refused-unchanged (worldOf d) c p (not-accepted (calling (worldOf d) c .answer) h))
 
 -- a refused table call, of those whose success has number 0
-table-kept : (b : Buffers) (a : Answer) (x : TableAfter) → x .answer .number ≡ 0
+table-kept : (b : Table) (a : Answer) (x : TableAfter) → x .answer .number ≡ 0
     → not (eqb (after a (λ (r : Refusal). same b (refused r)) x .answer .number) 0) ≡ true → after a (λ (r : Refusal). same b (refused r)) x .table ≡ b
 table-kept b Done x z h = absurd (false≢true (sym (ap (λ (k : ℕ). not (eqb k 0)) z) ∙ h))
 table-kept b (Refused r) x z h = refl
@@ -154,31 +152,31 @@ held-zero (Mapped l) = refl
 held-zero Unmapped = refl
 
 -- it leaves the desk too
-on-table : (words : Words) (call : Buffers → TableAfter) (d : Desk) → call (worldOf d .table) .table ≡ worldOf d .table → called words (onTable call) d .desk ≡ d
-on-table words call d e = ap (λ (t : Buffers). desk (d .bench) (d .heap) (t .ids) (t .locations)) e
+on-table : (words : Words) (call : Table → TableAfter) (d : Desk) → call (worldOf d .table) .table ≡ worldOf d .table → called words (onTable call) d .desk ≡ d
+on-table words call d e = ap (λ (t : Table). desk (d .bench) (d .heap) t) e
 
-load-kept : (b : Buffers) (id : ℕ) → loadCall b id .table ≡ b
+load-kept : (b : Table) (id : ℕ) → loadCall b id .table ≡ b
 unfolding loadCall
 load-kept b id = refl
 
-store-kept : (b : Buffers) (id raw : ℕ) → not (eqb (storeCall b id raw .answer .number) 0) ≡ true → storeCall b id raw .table ≡ b
+store-kept : (b : Table) (id raw : ℕ) → not (eqb (storeCall b id raw .answer .number) 0) ≡ true → storeCall b id raw .table ≡ b
 unfolding storeCall
 store-kept b id raw h =
     table-kept b (decide (notForm b gives Limits ∷ eqb raw 0 gives Location ∷ full (usedEntries b) (capacityOf b) id gives TableRoom ∷ []))
     (record { answer = accepted []; table = withStored b id raw }) refl h
 
-compare-kept : (b : Buffers) (id old raw : ℕ) → not (eqb (compareCall b id old raw .answer .number) 0) ≡ true → compareCall b id old raw .table ≡ b
+compare-kept : (b : Table) (id old raw : ℕ) → not (eqb (compareCall b id old raw .answer .number) 0) ≡ true → compareCall b id old raw .table ≡ b
 unfolding compareCall
 compare-kept b id old raw h =
     let held = lookup (usedEntries b) id in
     table-kept b (decide (notForm b gives Limits ∷ (eqb old 0 || eqb raw 0) gives Location ∷ unmapped held gives NotThere ∷ []))
     (pick (mappedTo held old) (record { answer = accepted []; table = withStored b id raw }) (same b (heldGiven held))) (either (mappedTo held old) held (withStored b id raw)) h
   where
-    either : (t : Bool) (held : Held) (y : Buffers) → pick t (record { answer = accepted []; table = y }) (same b (heldGiven held)) .answer .number ≡ 0
+    either : (t : Bool) (held : Held) (y : Table) → pick t (record { answer = accepted []; table = y }) (same b (heldGiven held)) .answer .number ≡ 0
     either true held y = refl
     either false held y = held-zero held
 
-greater-kept : (b : Buffers) (id raw : ℕ) → not (eqb (greaterCall b id raw .answer .number) 0) ≡ true → greaterCall b id raw .table ≡ b
+greater-kept : (b : Table) (id raw : ℕ) → not (eqb (greaterCall b id raw .answer .number) 0) ≡ true → greaterCall b id raw .table ≡ b
 unfolding greaterCall
 greater-kept b id raw h =
     let held = lookup (usedEntries b) id in
@@ -201,7 +199,7 @@ failed-unchanged key.Blank p n bytes d h = refl
 failed-unchanged key.Bad p n bytes d h = refl
 failed-unchanged key.Settings p n bytes d h = absurd (false≢true h)
 failed-unchanged key.Heap p n bytes d h = heap-kept (nth n 0) d h
-failed-unchanged key.Table p n bytes d h = lending-kept (nth n 0) (nth n 1) d h
+failed-unchanged key.Table p n bytes d h = lending-kept (nth n 0) d h
 failed-unchanged key.Poke p n bytes d h = back-same d (lentBy key.Poke n bytes (lentOf d)) (poke-kept (nth n 0) bytes (lentOf d) h)
 failed-unchanged key.Entry p n bytes d h = back-same d (lentBy key.Entry n bytes (lentOf d)) (entry-kept (nth n 0) (nth n 1) (nth n 2) (lentOf d) h)
 failed-unchanged key.State p n bytes d h = absurd (false≢true h)
@@ -217,17 +215,17 @@ failed-unchanged key.Read p n bytes d h =
 failed-unchanged key.Maintain p n bytes d h = absurd p
 failed-unchanged key.Counts p n bytes d h = back-same d (lentBy key.Counts n bytes (lentOf d)) (world-kept counted countsCall (lentOf d) (counts-kept (worldOf (lentOf d))))
 failed-unchanged key.Load p n bytes d h =
-    back-same d (lentBy key.Load n bytes (lentOf d)) (on-table located (λ (t : Buffers). loadCall t (nth n 0)) (lentOf d) (load-kept (worldOf (lentOf d) .table) (nth n 0)))
+    back-same d (lentBy key.Load n bytes (lentOf d)) (on-table located (λ (t : Table). loadCall t (nth n 0)) (lentOf d) (load-kept (worldOf (lentOf d) .table) (nth n 0)))
 failed-unchanged key.Bytes p n bytes d h = back-same d (lentBy key.Bytes n bytes (lentOf d)) (bytes-unchanged (nth n 0) (nth n 1) (lentOf d))
 failed-unchanged key.Store p n bytes d h =
     back-same d (lentBy key.Store n bytes (lentOf d))
-    (on-table plain (λ (t : Buffers). storeCall t (nth n 0) (nth n 1)) (lentOf d) (store-kept (worldOf (lentOf d) .table) (nth n 0) (nth n 1) h))
+    (on-table plain (λ (t : Table). storeCall t (nth n 0) (nth n 1)) (lentOf d) (store-kept (worldOf (lentOf d) .table) (nth n 0) (nth n 1) h))
 failed-unchanged key.Cas p n bytes d h =
     back-same d (lentBy key.Cas n bytes (lentOf d))
-    (on-table compared (λ (t : Buffers). compareCall t (nth n 0) (nth n 1) (nth n 2)) (lentOf d) (compare-kept (worldOf (lentOf d) .table) (nth n 0) (nth n 1) (nth n 2) h))
+    (on-table compared (λ (t : Table). compareCall t (nth n 0) (nth n 1) (nth n 2)) (lentOf d) (compare-kept (worldOf (lentOf d) .table) (nth n 0) (nth n 1) (nth n 2) h))
 failed-unchanged key.Max p n bytes d h =
     back-same d (lentBy key.Max n bytes (lentOf d))
-    (on-table raised (λ (t : Buffers). greaterCall t (nth n 0) (nth n 1)) (lentOf d) (greater-kept (worldOf (lentOf d) .table) (nth n 0) (nth n 1) h))
+    (on-table raised (λ (t : Table). greaterCall t (nth n 0) (nth n 1)) (lentOf d) (greater-kept (worldOf (lentOf d) .table) (nth n 0) (nth n 1) h))
 failed-unchanged key.Check p n bytes d h = check-unchanged (nth n 0) d
 failed-unchanged key.Salvage p n bytes d h = back-same d (salvageBy (lentOf d)) (salvage-kept (lentOf d) h)
 failed-unchanged key.List p n bytes d h = refl

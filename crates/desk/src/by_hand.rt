@@ -47,8 +47,8 @@ fn zero_bytes(s: &mut [u8])
 }
 
 pub fn heap(b: Bench, bytes: u64, heap: &mut [u8]) -> Turn
-    ensures { λ r. ⌜ ((ids locations : List ℕ)
-        → left r (now (heap .exit)) ids locations ≡ heapBy bytes (desk b (now (heap .entry)) ids locations)) ⌝ }
+    ensures { λ r. ⌜ ((table : List ℕ)
+        → left r (now (heap .exit)) table ≡ heapBy bytes (desk b (now (heap .entry)) table)) ⌝ }
 {
     let mut next = b;
     if (heap.len() as u64) < bytes {
@@ -59,32 +59,22 @@ pub fn heap(b: Bench, bytes: u64, heap: &mut [u8]) -> Turn
     done(next)
 }
 
-pub fn table(
-    b: Bench,
-    count: u64,
-    locations_count: u64,
-    ids: &mut [u64],
-    locations: &mut [u64],
-) -> Turn
-    ensures { λ r. ⌜ ((heap : List ℕ) → left r heap (now (ids .exit)) (now (locations .exit))
-        ≡ tableBy count «locations_count» (desk b heap (now (ids .entry)) (now (locations .entry)))) ⌝ }
+pub fn table(b: Bench, words: u64, table: &mut [u64]) -> Turn
+    ensures { λ r. ⌜ ((heap : List ℕ) → left r heap (now (table .exit))
+        ≡ tableBy words (desk b heap (now (table .entry)))) ⌝ }
 {
     let mut next = b;
-    if (ids.len() as u64) < count {
+    if (table.len() as u64) < words {
         return bad_line(b);
     }
-    if (locations.len() as u64) < locations_count {
-        return bad_line(b);
-    }
-    location_table::clear(ids, locations);
-    next.ids_len = count as usize;
-    next.locations_len = locations_count as usize;
+    location_table::clear(table);
+    next.table_words = words as usize;
     done(next)
 }
 
 pub fn poke(b: Bench, at: u64, bytes: &[u8], heap: &mut [u8]) -> Turn
-    ensures { λ r. ⌜ ((ids locations : List ℕ)
-        → left r (now (heap .exit)) ids locations ≡ pokeBy at (now (bytes .entry)) (desk b (now (heap .entry)) ids locations)) ⌝ }
+    ensures { λ r. ⌜ ((table : List ℕ)
+        → left r (now (heap .exit)) table ≡ pokeBy at (now (bytes .entry)) (desk b (now (heap .entry)) table)) ⌝ }
 {
     if heap.len() < bytes.len() {
         return bad_line(b);
@@ -97,25 +87,15 @@ pub fn poke(b: Bench, at: u64, bytes: &[u8], heap: &mut [u8]) -> Turn
     done(b)
 }
 
-pub fn entry(
-    b: Bench,
-    k: u64,
-    id: u64,
-    location: u64,
-    ids: &mut [u64],
-    locations: &mut [u64],
-) -> Turn
-    ensures { λ r. ⌜ ((heap : List ℕ) → left r heap (now (ids .exit)) (now (locations .exit))
-        ≡ entryBy k id location (desk b heap (now (ids .entry)) (now (locations .entry)))) ⌝ }
+pub fn entry(b: Bench, k: u64, id: u64, location: u64, table: &mut [u64]) -> Turn
+    ensures { λ r. ⌜ ((heap : List ℕ) → left r heap (now (table .exit))
+        ≡ entryBy k id location (desk b heap (now (table .entry)))) ⌝ }
 {
-    if (ids.len() as u64) <= k {
-        return bad_line(b);
-    }
-    if (locations.len() as u64) <= k {
+    if (location_table::capacity(table) as u64) <= k {
         return bad_line(b);
     }
     let at = k as usize;
-    location_table::set_pair(ids, locations, at, id, location);
+    location_table::set_pair(table, at, id, location);
     done(b)
 }
 

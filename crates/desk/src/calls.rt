@@ -15,61 +15,55 @@ ghost use Rattle.rules.specs.Read.{readCall};
 ghost use Rattle.rules.specs.Reopen.{reopenCall};
 ghost use Rattle.rules.specs.TableCalls.{loadCall, storeCall, compareCall, greaterCall};
 ghost use Rattle.rules.specs.World.{World};
-ghost use Rattle.rules.specs.Layout.{Buffers};
+ghost use Rattle.rules.specs.Layout.{Table};
 ghost use Rattle.rules.specs.Write.{writeCall};
 ghost use Rattle.desk.specs.Commands.{salvageOn, salvageBy};
 ghost use Rattle.desk.specs.Desk.{desk, left, plain, found, moved, counted, located, compared, raised, called, onTable};
 
-pub fn reopen(b: Bench, heap: &[u8], ids: &mut [u64], locations: &mut [u64]) -> Turn
-    ensures { λ r. ⌜ left r (now (heap .entry)) (now (ids .exit)) (now (locations .exit))
-        ≡ called plain reopenCall (desk b (now (heap .entry)) (now (ids .entry)) (now (locations .entry))) ⌝ }
+pub fn reopen(b: Bench, heap: &[u8], table: &mut [u64]) -> Turn
+    ensures { λ r. ⌜ left r (now (heap .entry)) (now (table .exit))
+        ≡ called plain reopenCall (desk b (now (heap .entry)) (now (table .entry))) ⌝ }
 {
-    let done = marble::reopen(b.settings, b.state, b.claims, heap, ids, locations);
+    let done = marble::reopen(b.settings, b.state, b.claims, heap, table);
     let answer = done.answer;
     answered(answer, with_claims(with_state(b, done.state), done.claims))
 }
 
-pub fn write(
-    b: Bench,
-    heap: &mut [u8],
-    ids: &mut [u64],
-    locations: &mut [u64],
-    batch: &[u8],
-) -> Turn
-    ensures { λ r. ⌜ left r (now (heap .exit)) (now (ids .exit)) (now (locations .exit))
+pub fn write(b: Bench, heap: &mut [u8], table: &mut [u64], batch: &[u8]) -> Turn
+    ensures { λ r. ⌜ left r (now (heap .exit)) (now (table .exit))
         ≡ called plain (λ (w : World). writeCall w (now (batch .entry)))
-        (desk b (now (heap .entry)) (now (ids .entry)) (now (locations .entry))) ⌝ }
+        (desk b (now (heap .entry)) (now (table .entry))) ⌝ }
 {
-    let done = marble::write(b.settings, b.state, heap, ids, locations, batch);
+    let done = marble::write(b.settings, b.state, heap, table, batch);
     let answer = done.answer;
     answered(answer, with_state(b, done.state))
 }
 
-pub fn read(b: Bench, heap: &[u8], ids: &[u64], locations: &[u64], id: u64) -> Turn
-    ensures { λ r. ⌜ left r (now (heap .entry)) (now (ids .entry)) (now (locations .entry))
-        ≡ called found (λ (w : World). readCall w id) (desk b (now (heap .entry)) (now (ids .entry)) (now (locations .entry))) ⌝ }
+pub fn read(b: Bench, heap: &[u8], table: &[u64], id: u64) -> Turn
+    ensures { λ r. ⌜ left r (now (heap .entry)) (now (table .entry))
+        ≡ called found (λ (w : World). readCall w id) (desk b (now (heap .entry)) (now (table .entry))) ⌝ }
 {
-    let answer = marble::read_answer(b.settings, b.state, heap, ids, locations, id);
+    let answer = marble::read_answer(b.settings, b.state, heap, table, id);
     Turn {
         reply: Reply::Read(answer),
         bench: b,
     }
 }
 
-pub fn prune(b: Bench, heap: &mut [u8], ids: &[u64], locations: &[u64]) -> Turn
-    ensures { λ r. ⌜ left r (now (heap .exit)) (now (ids .entry)) (now (locations .entry))
-        ≡ called plain pruneCall (desk b (now (heap .entry)) (now (ids .entry)) (now (locations .entry))) ⌝ }
+pub fn prune(b: Bench, heap: &mut [u8], table: &[u64]) -> Turn
+    ensures { λ r. ⌜ left r (now (heap .exit)) (now (table .entry))
+        ≡ called plain pruneCall (desk b (now (heap .entry)) (now (table .entry))) ⌝ }
 {
-    let done = marble::prune(b.settings, b.state, b.claims, heap, ids, locations);
+    let done = marble::prune(b.settings, b.state, b.claims, heap, table);
     let answer = done.answer;
     answered(answer, with_state(b, done.state))
 }
 
-pub fn maintain(b: Bench, heap: &mut [u8], ids: &mut [u64], locations: &mut [u64]) -> Turn
-    ensures { λ r. ⌜ left r (now (heap .exit)) (now (ids .exit)) (now (locations .exit))
-        ≡ called moved maintainCall (desk b (now (heap .entry)) (now (ids .entry)) (now (locations .entry))) ⌝ }
+pub fn maintain(b: Bench, heap: &mut [u8], table: &mut [u64]) -> Turn
+    ensures { λ r. ⌜ left r (now (heap .exit)) (now (table .exit))
+        ≡ called moved maintainCall (desk b (now (heap .entry)) (now (table .entry))) ⌝ }
 {
-    let done = marble::maintain(b.settings, b.state, b.claims, heap, ids, locations);
+    let done = marble::maintain(b.settings, b.state, b.claims, heap, table);
     let answer = done.answer;
     Turn {
         reply: Reply::Maintained(answer),
@@ -77,29 +71,29 @@ pub fn maintain(b: Bench, heap: &mut [u8], ids: &mut [u64], locations: &mut [u64
     }
 }
 
-pub fn claim(b: Bench, heap: &[u8], ids: &[u64], locations: &[u64], slot: u64) -> Turn
-    ensures { λ r. ⌜ left r (now (heap .entry)) (now (ids .entry)) (now (locations .entry))
-        ≡ called plain (λ (w : World). claimCall w slot) (desk b (now (heap .entry)) (now (ids .entry)) (now (locations .entry))) ⌝ }
+pub fn claim(b: Bench, heap: &[u8], table: &[u64], slot: u64) -> Turn
+    ensures { λ r. ⌜ left r (now (heap .entry)) (now (table .entry))
+        ≡ called plain (λ (w : World). claimCall w slot) (desk b (now (heap .entry)) (now (table .entry))) ⌝ }
 {
-    let done = marble::claim(b.settings, b.state, b.claims, heap, ids, locations, slot);
+    let done = marble::claim(b.settings, b.state, b.claims, heap, table, slot);
     let answer = done.answer;
     answered(answer, with_claims(b, done.claims))
 }
 
-pub fn release(b: Bench, heap: &[u8], ids: &[u64], locations: &[u64], slot: u64) -> Turn
-    ensures { λ r. ⌜ left r (now (heap .entry)) (now (ids .entry)) (now (locations .entry))
-        ≡ called plain (λ (w : World). releaseCall w slot) (desk b (now (heap .entry)) (now (ids .entry)) (now (locations .entry))) ⌝ }
+pub fn release(b: Bench, heap: &[u8], table: &[u64], slot: u64) -> Turn
+    ensures { λ r. ⌜ left r (now (heap .entry)) (now (table .entry))
+        ≡ called plain (λ (w : World). releaseCall w slot) (desk b (now (heap .entry)) (now (table .entry))) ⌝ }
 {
-    let done = marble::release(b.settings, b.state, b.claims, heap, ids, locations, slot);
+    let done = marble::release(b.settings, b.state, b.claims, heap, table, slot);
     let answer = done.answer;
     answered(answer, with_claims(b, done.claims))
 }
 
-pub fn counts(b: Bench, heap: &[u8], ids: &[u64], locations: &[u64]) -> Turn
-    ensures { λ r. ⌜ left r (now (heap .entry)) (now (ids .entry)) (now (locations .entry))
-        ≡ called counted countsCall (desk b (now (heap .entry)) (now (ids .entry)) (now (locations .entry))) ⌝ }
+pub fn counts(b: Bench, heap: &[u8], table: &[u64]) -> Turn
+    ensures { λ r. ⌜ left r (now (heap .entry)) (now (table .entry))
+        ≡ called counted countsCall (desk b (now (heap .entry)) (now (table .entry))) ⌝ }
 {
-    let answer = marble::counts(b.settings, b.state, heap, ids, locations);
+    let answer = marble::counts(b.settings, b.state, heap, table);
     Turn {
         reply: Reply::Counted(answer),
         bench: b,
@@ -107,64 +101,58 @@ pub fn counts(b: Bench, heap: &[u8], ids: &[u64], locations: &[u64]) -> Turn
 }
 
 // Two words to a line of the report: slot, number.
-pub fn salvage(
-    b: Bench,
-    heap: &mut [u8],
-    ids: &[u64],
-    locations: &[u64],
-    report: &mut [u64; 512],
-) -> Turn
+pub fn salvage(b: Bench, heap: &mut [u8], table: &[u64], report: &mut [u64; 512]) -> Turn
     ensures leaves { λ r. ⌜
-        left r (now (heap .exit)) (now (ids .entry)) (now (locations .entry))
-        ≡ salvageBy (desk b (now (heap .entry)) (now (ids .entry)) (now (locations .entry)))
+        left r (now (heap .exit)) (now (table .entry))
+        ≡ salvageBy (desk b (now (heap .entry)) (now (table .entry)))
         ⌝ }
     ensures reports { λ _. ⌜
         now (report .exit)
-        ≡ salvageOn (desk b (now (heap .entry)) (now (ids .entry)) (now (locations .entry))) (now (report .entry)) .report
+        ≡ salvageOn (desk b (now (heap .entry)) (now (table .entry))) (now (report .entry)) .report
         ⌝ }
 {
-    let answer = marble::salvage(b.settings, heap, ids, locations, report);
+    let answer = marble::salvage(b.settings, heap, table, report);
     Turn {
         reply: Reply::Salvaged(answer),
         bench: b,
     }
 }
 
-pub fn load(b: Bench, ids: &[u64], locations: &[u64], id: u64) -> Turn
-    ensures { λ r. ⌜ ((heap : List ℕ) → left r heap (now (ids .entry)) (now (locations .entry))
-        ≡ called located (onTable (λ (t : Buffers). loadCall t id)) (desk b heap (now (ids .entry)) (now (locations .entry)))) ⌝ }
+pub fn load(b: Bench, table: &[u64], id: u64) -> Turn
+    ensures { λ r. ⌜ ((heap : List ℕ) → left r heap (now (table .entry))
+        ≡ called located (onTable (λ (t : Table). loadCall t id)) (desk b heap (now (table .entry)))) ⌝ }
 {
-    let answer = marble::load(ids, locations, id);
+    let answer = marble::load(table, id);
     Turn {
         reply: Reply::Loaded(answer),
         bench: b,
     }
 }
 
-pub fn store(b: Bench, ids: &mut [u64], locations: &mut [u64], id: u64, raw: u64) -> Turn
-    ensures { λ r. ⌜ ((heap : List ℕ) → left r heap (now (ids .exit)) (now (locations .exit))
-        ≡ called plain (onTable (λ (t : Buffers). storeCall t id raw)) (desk b heap (now (ids .entry)) (now (locations .entry)))) ⌝ }
+pub fn store(b: Bench, table: &mut [u64], id: u64, raw: u64) -> Turn
+    ensures { λ r. ⌜ ((heap : List ℕ) → left r heap (now (table .exit))
+        ≡ called plain (onTable (λ (t : Table). storeCall t id raw)) (desk b heap (now (table .entry)))) ⌝ }
 {
-    answered(marble::store(ids, locations, id, raw), b)
+    answered(marble::store(table, id, raw), b)
 }
 
-pub fn cas(b: Bench, ids: &mut [u64], locations: &mut [u64], id: u64, old: u64, raw: u64) -> Turn
-    ensures { λ r. ⌜ ((heap : List ℕ) → left r heap (now (ids .exit)) (now (locations .exit))
-        ≡ called compared (onTable (λ (t : Buffers). compareCall t id old raw))
-        (desk b heap (now (ids .entry)) (now (locations .entry)))) ⌝ }
+pub fn cas(b: Bench, table: &mut [u64], id: u64, old: u64, raw: u64) -> Turn
+    ensures { λ r. ⌜ ((heap : List ℕ) → left r heap (now (table .exit))
+        ≡ called compared (onTable (λ (t : Table). compareCall t id old raw))
+        (desk b heap (now (table .entry)))) ⌝ }
 {
-    let answer = marble::compare_and_store(ids, locations, id, old, raw);
+    let answer = marble::compare_and_store(table, id, old, raw);
     Turn {
         reply: Reply::Compared(answer),
         bench: b,
     }
 }
 
-pub fn max(b: Bench, ids: &mut [u64], locations: &mut [u64], id: u64, raw: u64) -> Turn
-    ensures { λ r. ⌜ ((heap : List ℕ) → left r heap (now (ids .exit)) (now (locations .exit))
-        ≡ called raised (onTable (λ (t : Buffers). greaterCall t id raw)) (desk b heap (now (ids .entry)) (now (locations .entry)))) ⌝ }
+pub fn max(b: Bench, table: &mut [u64], id: u64, raw: u64) -> Turn
+    ensures { λ r. ⌜ ((heap : List ℕ) → left r heap (now (table .exit))
+        ≡ called raised (onTable (λ (t : Table). greaterCall t id raw)) (desk b heap (now (table .entry)))) ⌝ }
 {
-    let answer = marble::store_if_greater(ids, locations, id, raw);
+    let answer = marble::store_if_greater(table, id, raw);
     Turn {
         reply: Reply::Raised(answer),
         bench: b,

@@ -27,14 +27,13 @@ ghost use Rattle.desk.specs.Desk.{desk, left, lentOf, onLent};
 ghost use Rattle.desk.specs.Kinds.{Among, atBench, asking, tabling};
 ghost use Rattle.desk.specs.Commands.{freshBench, salvageOn, salvageBy, reportBy, lentBy, doneBy};
 
-// What lies beside the buffers, and how much of each buffer is lent.
+// What lies beside the buffers, and how much of each buffer is lent: bytes of the heap, words of the table.
 pub struct Bench {
     pub settings: Settings,
     pub state: State,
     pub claims: Claims,
     pub heap_len: usize,
-    pub ids_len: usize,
-    pub locations_len: usize,
+    pub table_words: usize,
 }
 
 // Lines that show something and change nothing. Check: with room for so many lines; Bytes: an offset and how many.
@@ -102,8 +101,7 @@ pub fn start() -> Bench
         state: no_state(),
         claims: claims::no_claims(),
         heap_len: 65536,
-        ids_len: 1024,
-        locations_len: 1024,
+        table_words: 2048,
     }
 }
 
@@ -116,8 +114,8 @@ pub fn least(a: usize, b: usize) -> usize
 // Commands that touch no buffer.
 fn at_bench(b: Bench, keyword: Keyword, n: [u64; 9]) -> Turn
     requires { ⌜ Among atBench keyword ⌝ }
-    ensures { λ r. ⌜ ((bytes heap ids locations : List ℕ)
-        → left r heap ids locations ≡ doneBy keyword n bytes (desk b heap ids locations)) ⌝ }
+    ensures { λ r. ⌜ ((bytes heap table : List ℕ)
+        → left r heap table ≡ doneBy keyword n bytes (desk b heap table)) ⌝ }
 {
     match keyword {
         Keyword::Blank => shown(Look::Comment, b),
@@ -134,43 +132,36 @@ fn at_bench(b: Bench, keyword: Keyword, n: [u64; 9]) -> Turn
 }
 
 // Commands that look at the buffers and change none.
-fn asked(
-    b: Bench,
-    keyword: Keyword,
-    n: [u64; 9],
-    heap: &[u8],
-    ids: &[u64],
-    locations: &[u64],
-) -> Turn
+fn asked(b: Bench, keyword: Keyword, n: [u64; 9], heap: &[u8], table: &[u64]) -> Turn
     requires { ⌜ Among asking keyword ⌝ }
-    ensures { λ r. ⌜ ((bytes : List ℕ) → left r (now (heap .entry)) (now (ids .entry)) (now (locations .entry))
-        ≡ lentBy keyword n bytes (desk b (now (heap .entry)) (now (ids .entry)) (now (locations .entry)))) ⌝ }
+    ensures { λ r. ⌜ ((bytes : List ℕ) → left r (now (heap .entry)) (now (table .entry))
+        ≡ lentBy keyword n bytes (desk b (now (heap .entry)) (now (table .entry)))) ⌝ }
 {
     let x = n[0];
     match keyword {
-        Keyword::Claim => calls::claim(b, heap, ids, locations, x),
-        Keyword::Release => calls::release(b, heap, ids, locations, x),
-        Keyword::Read => calls::read(b, heap, ids, locations, x),
-        Keyword::Counts => calls::counts(b, heap, ids, locations),
-        Keyword::Load => calls::load(b, ids, locations, x),
+        Keyword::Claim => calls::claim(b, heap, table, x),
+        Keyword::Release => calls::release(b, heap, table, x),
+        Keyword::Read => calls::read(b, heap, table, x),
+        Keyword::Counts => calls::counts(b, heap, table),
+        Keyword::Load => calls::load(b, table, x),
         _ => looks::bytes(b, x, n[1], heap),
     }
 }
 
 // Commands that change the table alone.
-fn on_table(b: Bench, keyword: Keyword, n: [u64; 9], ids: &mut [u64], locations: &mut [u64]) -> Turn
+fn on_table(b: Bench, keyword: Keyword, n: [u64; 9], table: &mut [u64]) -> Turn
     requires { ⌜ Among tabling keyword ⌝ }
-    ensures { λ r. ⌜ ((bytes heap : List ℕ) → left r heap (now (ids .exit)) (now (locations .exit))
-        ≡ lentBy keyword n bytes (desk b heap (now (ids .entry)) (now (locations .entry)))) ⌝ }
+    ensures { λ r. ⌜ ((bytes heap : List ℕ) → left r heap (now (table .exit))
+        ≡ lentBy keyword n bytes (desk b heap (now (table .entry)))) ⌝ }
 {
     let x = n[0];
     let y = n[1];
     let z = n[2];
     match keyword {
-        Keyword::Entry => by_hand::entry(b, x, y, z, ids, locations),
-        Keyword::Store => calls::store(b, ids, locations, x, y),
-        Keyword::Cas => calls::cas(b, ids, locations, x, y, z),
-        _ => calls::max(b, ids, locations, x, y),
+        Keyword::Entry => by_hand::entry(b, x, y, z, table),
+        Keyword::Store => calls::store(b, table, x, y),
+        Keyword::Cas => calls::cas(b, table, x, y, z),
+        _ => calls::max(b, table, x, y),
     }
 }
 
@@ -181,27 +172,26 @@ fn after_lent(
     n: [u64; 9],
     bytes: &[u8],
     heap: &mut [u8],
-    ids: &mut [u64],
-    locations: &mut [u64],
+    table: &mut [u64],
 ) -> Turn
-    ensures { λ r. ⌜ left r (now (heap .exit)) (now (ids .exit)) (now (locations .exit))
-        ≡ lentBy keyword n (now (bytes .entry)) (desk b (now (heap .entry)) (now (ids .entry)) (now (locations .entry))) ⌝ }
+    ensures { λ r. ⌜ left r (now (heap .exit)) (now (table .exit))
+        ≡ lentBy keyword n (now (bytes .entry)) (desk b (now (heap .entry)) (now (table .entry))) ⌝ }
 {
     match keyword {
         Keyword::Poke => by_hand::poke(b, n[0], bytes, heap),
-        Keyword::Reopen => calls::reopen(b, heap, ids, locations),
-        Keyword::Write => calls::write(b, heap, ids, locations, bytes),
-        Keyword::Prune => calls::prune(b, heap, ids, locations),
-        Keyword::Maintain => calls::maintain(b, heap, ids, locations),
+        Keyword::Reopen => calls::reopen(b, heap, table),
+        Keyword::Write => calls::write(b, heap, table, bytes),
+        Keyword::Prune => calls::prune(b, heap, table),
+        Keyword::Maintain => calls::maintain(b, heap, table),
         Keyword::Entry | Keyword::Store | Keyword::Cas | Keyword::Max => {
-            on_table(b, keyword, n, ids, locations)
+            on_table(b, keyword, n, table)
         }
         Keyword::Claim
         | Keyword::Release
         | Keyword::Read
         | Keyword::Counts
         | Keyword::Load
-        | Keyword::Bytes => asked(b, keyword, n, heap, ids, locations),
+        | Keyword::Bytes => asked(b, keyword, n, heap, table),
         _ => bad_line(b),
     }
 }
@@ -212,47 +202,30 @@ fn lent(
     n: [u64; 9],
     bytes: &[u8],
     heap: &mut [u8],
-    ids: &mut [u64],
-    locations: &mut [u64],
+    table: &mut [u64],
 ) -> Turn
-    ensures { λ r. ⌜ left r (now (heap .exit)) (now (ids .exit)) (now (locations .exit))
-        ≡ onLent (lentBy keyword n (now (bytes .entry))) (desk b (now (heap .entry)) (now (ids .entry)) (now (locations .entry))) ⌝ }
+    ensures { λ r. ⌜ left r (now (heap .exit)) (now (table .exit))
+        ≡ onLent (lentBy keyword n (now (bytes .entry))) (desk b (now (heap .entry)) (now (table .entry))) ⌝ }
 {
     let h = least(b.heap_len, heap.len());
-    let i = least(b.ids_len, ids.len());
-    let l = least(b.locations_len, locations.len());
-    after_lent(
-        b,
-        keyword,
-        n,
-        bytes,
-        &mut heap[0..h],
-        &mut ids[0..i],
-        &mut locations[0..l],
-    )
+    let t = least(b.table_words, table.len());
+    after_lent(b, keyword, n, bytes, &mut heap[0..h], &mut table[0..t])
 }
 
 // A salvage on the lent parts of the buffers.
-fn salvaged(
-    b: Bench,
-    heap: &mut [u8],
-    ids: &[u64],
-    locations: &[u64],
-    report: &mut [u64; 512],
-) -> Turn
+fn salvaged(b: Bench, heap: &mut [u8], table: &[u64], report: &mut [u64; 512]) -> Turn
     ensures leaves { λ r. ⌜
-        left r (now (heap .exit)) (now (ids .entry)) (now (locations .entry))
-        ≡ onLent salvageBy (desk b (now (heap .entry)) (now (ids .entry)) (now (locations .entry)))
+        left r (now (heap .exit)) (now (table .entry))
+        ≡ onLent salvageBy (desk b (now (heap .entry)) (now (table .entry)))
         ⌝ }
     ensures reports { λ _. ⌜
         now (report .exit)
-        ≡ salvageOn (lentOf (desk b (now (heap .entry)) (now (ids .entry)) (now (locations .entry)))) (now (report .entry)) .report
+        ≡ salvageOn (lentOf (desk b (now (heap .entry)) (now (table .entry)))) (now (report .entry)) .report
         ⌝ }
 {
     let h = least(b.heap_len, heap.len());
-    let i = least(b.ids_len, ids.len());
-    let l = least(b.locations_len, locations.len());
-    calls::salvage(b, &mut heap[0..h], &ids[0..i], &locations[0..l], report)
+    let t = least(b.table_words, table.len());
+    calls::salvage(b, &mut heap[0..h], &table[0..t], report)
 }
 
 // A command: its reply, and the desk after it. A salvage's lines come to stand in the report.
@@ -262,22 +235,21 @@ pub fn after_order(
     n: [u64; 9],
     bytes: &[u8],
     heap: &mut [u8],
-    ids: &mut [u64],
-    locations: &mut [u64],
+    table: &mut [u64],
     report: &mut [u64; 512],
 ) -> Turn
     ensures leaves { λ r. ⌜
-        left r (now (heap .exit)) (now (ids .exit)) (now (locations .exit))
-        ≡ doneBy keyword n (now (bytes .entry)) (desk b (now (heap .entry)) (now (ids .entry)) (now (locations .entry)))
+        left r (now (heap .exit)) (now (table .exit))
+        ≡ doneBy keyword n (now (bytes .entry)) (desk b (now (heap .entry)) (now (table .entry)))
         ⌝ }
     ensures reports { λ _. ⌜
         now (report .exit)
-        ≡ reportBy keyword (desk b (now (heap .entry)) (now (ids .entry)) (now (locations .entry))) (now (report .entry))
+        ≡ reportBy keyword (desk b (now (heap .entry)) (now (table .entry))) (now (report .entry))
         ⌝ }
 {
     match keyword {
         Keyword::Heap => by_hand::heap(b, n[0], heap),
-        Keyword::Table => by_hand::table(b, n[0], n[1], ids, locations),
+        Keyword::Table => by_hand::table(b, n[0], table),
         Keyword::Blank
         | Keyword::Bad
         | Keyword::Settings
@@ -288,7 +260,7 @@ pub fn after_order(
         | Keyword::List
         | Keyword::Dump
         | Keyword::Help => at_bench(b, keyword, n),
-        Keyword::Salvage => salvaged(b, heap, ids, locations, report),
-        _ => lent(b, keyword, n, bytes, heap, ids, locations),
+        Keyword::Salvage => salvaged(b, heap, table, report),
+        _ => lent(b, keyword, n, bytes, heap, table),
     }
 }

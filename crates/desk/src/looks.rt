@@ -20,8 +20,8 @@ pub fn check(b: Bench, n: [u64; 9]) -> Turn
 }
 
 pub fn bytes(b: Bench, at: u64, count: u64, heap: &[u8]) -> Turn
-    ensures { λ r. ⌜ ((ids locations : List ℕ)
-        → left r (now (heap .entry)) ids locations ≡ bytesBy at count (desk b (now (heap .entry)) ids locations)) ⌝ }
+    ensures { λ r. ⌜ ((table : List ℕ)
+        → left r (now (heap .entry)) table ≡ bytesBy at count (desk b (now (heap .entry)) table)) ⌝ }
 {
     let len = heap.len() as u64;
     if 65536 < count {

@@ -8,7 +8,7 @@ use Rattle.rules.specs.Settings.{slotsIn}
 use Rattle.rules.specs.Object.{Stored, badChecksum, objectsIn}
 use Rattle.rules.specs.SlotFile.{File, View, empty, damaged, holds, viewsIn}
 use Rattle.rules.specs.Reopen.{fileOf, filesIn, meets, notRising, tableOf}
-use Rattle.rules.specs.Layout.{Buffers, capacityOf}
+use Rattle.rules.specs.Layout.{Table, capacityOf}
 use Rattle.rules.specs.Condition1.{outOfRange}
 use Rattle.rules.specs.World.{Given, accepted, refused}
 
@@ -80,7 +80,7 @@ unfoldable pub closing : ℕ → List View → List Fault
 closing room views = lineIf (ltb room (length (tableOf (filesIn views)))) (line (length views) TableRoom Nowhere)
 
 -- "lists everything wrong"
-unfoldable pub faultsOf : Settings → List ℕ → Buffers → List Fault
+unfoldable pub faultsOf : Settings → List ℕ → Table → List Fault
 faultsOf s heap table = faultsFrom 0 [] (judgedIn s heap) ++ closing (capacityOf table) (judgedIn s heap)
 
 -- ---- the call
@@ -103,7 +103,7 @@ pub record Checked : Type 0 where
   pub listing : List ℕ
 
 -- "Like reopening, this call .. go[es] by labels and take[s] no state, also for 1. Refusals: 1 only."; "the full number of faults"
-unfoldable pub checkCall : Settings → List ℕ → Buffers → List ℕ → Checked
+unfoldable pub checkCall : Settings → List ℕ → Table → List ℕ → Checked
 checkCall s heap table buffer =
     after (decide (outOfRange s (length heap) table gives Limits ∷ [])) (λ (r : Refusal). record { answer = refused r; listing = buffer })
     (record { answer = accepted (length (faultsOf s heap table) ∷ []); listing = listing (faultsOf s heap table) buffer })

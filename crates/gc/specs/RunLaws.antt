@@ -13,7 +13,7 @@ use Rattle.rules.specs.declared.Answer.the-variants.{Done, Refused}
 use Rattle.rules.specs.declared.Refusal.the-variants.{Limits}
 use Rattle.rules.specs.declared.MaintainAnswer.the-variants.{Stopped}
 use Rattle.rules.specs.Refusal.{decide}
-use Rattle.rules.specs.Layout.{Buffers}
+use Rattle.rules.specs.Layout.{Table}
 use Rattle.rules.specs.FileMap.{isEmpty, recordAt}
 use Rattle.rules.specs.SettingsLaws.{slot-within}
 use Rattle.rules.specs.Condition1.{refused1}
@@ -31,18 +31,18 @@ use Rattle.gc.specs.Runs.{isGoing, stopOf, stopGiven, standing, answerOf
 
 -- ---- what is known from group to group
 -- as the call starts
-pub under-start : (s : Settings) (claims : Claims) (n : ℕ) (b : Buffers) (t : State) → Passed s n b t → length (t .files .records) ≡ 256
+pub under-start : (s : Settings) (claims : Claims) (n : ℕ) (b : Table) (t : State) → Passed s n b t → length (t .files .records) ≡ 256
     → Underway s n b t (planOf s claims (t .files .records))
 under-start s claims n b t w l =
     record { limits = w; slots = plan-length s claims (t .files .records) ∙ l; files = plan-files s claims (t .files .records) }
 
 -- after a group that leaves no file's record empty
-pub under-after : (s : Settings) (n : ℕ) (b : Buffers) (t : State) (plan : List ℕ) → Underway s n b t plan → (m : ℕ) (d : Buffers) (u : State) → Passed s m d u
+pub under-after : (s : Settings) (n : ℕ) (b : Table) (t : State) (plan : List ℕ) → Underway s n b t plan → (m : ℕ) (d : Table) (u : State) → Passed s m d u
     → ((k : ℕ) → isEmpty (recordAt (t .files .records) k) ≡ false → isEmpty (recordAt (u .files .records) k) ≡ false) → Underway s m d u plan
 under-after s n b t plan w m d u p stay = record { limits = p; slots = w .slots; files = λ k h. stay k (w .files k h) }
 
 -- a group's loops may run
-pub under-ready : (s : Settings) (n : ℕ) (b : Buffers) (t : State) (plan : List ℕ) (generation : ℕ) → Underway s n b t plan → 0 < generation
+pub under-ready : (s : Settings) (n : ℕ) (b : Table) (t : State) (plan : List ℕ) (generation : ℕ) → Underway s n b t plan → 0 < generation
     → Ready (s .«slot_bytes») n (t .files .records) plan generation
 under-ready s n b t plan generation w g = record {
   slots = w .slots;

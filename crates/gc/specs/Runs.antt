@@ -8,7 +8,7 @@ use Rattle.rules.specs.declared.Answer.{Answer}
 use Rattle.rules.specs.declared.Answer.the-variants.{Done, Refused}
 use Rattle.rules.specs.declared.MaintainAnswer.{MaintainAnswer}
 use Rattle.rules.specs.declared.MaintainAnswer.the-variants.{Moved, Stopped}
-use Rattle.rules.specs.Layout.{Buffers}
+use Rattle.rules.specs.Layout.{Table}
 use Rattle.rules.specs.FileMap.{isEmpty, recordAt}
 use Rattle.rules.specs.Condition1Laws.{Passed}
 use Rattle.rules.specs.Maintenance.{Stop, going, stopped, Course, onward}
@@ -51,7 +51,7 @@ abbrev pub byPlan : List ℕ → World → Course
 byPlan plan w = stepped plan 3 (stepped plan 2 (stepped plan 1 (record { stop = going; moved = 0; world = w })))
 
 -- between two groups: 1 would not refuse the call, and each slot of the plan has its file still
-pub record Underway (s : Settings) (heapLen : ℕ) (b : Buffers) (t : State) (plan : List ℕ) : Type 0 where
+pub record Underway (s : Settings) (heapLen : ℕ) (b : Table) (t : State) (plan : List ℕ) : Type 0 where
   pub limits : Passed s heapLen b t
   pub slots : length plan ≡ 256
   pub files : (k : ℕ) → 0 < getD plan k 0 → isEmpty (recordAt (t .files .records) k) ≡ false

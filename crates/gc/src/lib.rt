@@ -20,7 +20,6 @@ ghost use Rattle.rules.specs.declared.Claims.{Claims};
 ghost use Rattle.rules.specs.Condition1Laws.{Passed};
 ghost use Rattle.rules.specs.Maintenance.{rewriteGroup, courseOf, finished, maintainCall};
 ghost use Rattle.rules.specs.World.{world, leaving, maintainGiven};
-ghost use Rattle.rules.specs.Layout.{table};
 ghost use Rattle.prune.specs.Labels.{LabelsIn};
 ghost use Rattle.gc_candidates.specs.Plan.{planned};
 ghost use Rattle.gc.specs.Runs.{isGoing, stopOf, stopGiven, standing, answerOf, byPlan, Underway};
@@ -79,32 +78,22 @@ fn generation_step(
     settings: Settings,
     run: Run,
     heap: &mut [u8],
-    ids: &mut [u64],
-    locations: &mut [u64],
+    table: &mut [u64],
     plan: &[u64],
     generation: u64,
 ) -> Run
-    requires { ⌜ Underway settings (length (now heap)) (table (now ids) (now locations)) (run .state) (now plan) ⌝ }
+    requires { ⌜ Underway settings (length (now heap)) (now table) (run .state) (now plan) ⌝ }
     requires { ⌜ (0 < generation) × (generation ≤ 3) × (run .moved ≤ 2 ^ 32) ⌝ }
     ensures { λ r. ⌜ ((c : Claims)
-        → standing r (world settings (r .state) c (now (heap .exit)) (table (now (ids .exit)) (now (locations .exit))))
+        → standing r (world settings (r .state) c (now (heap .exit)) (now (table .exit)))
         ≡ rewriteGroup generation (planned (now (plan .entry)) generation) (run .moved)
-        (world settings (run .state) c (now (heap .entry)) (table (now (ids .entry)) (now (locations .entry))))) ⌝ }
-    ensures { λ r. ⌜ Underway settings (length (now (heap .exit))) (table (now (ids .exit)) (now (locations .exit)))
+        (world settings (run .state) c (now (heap .entry)) (now (table .entry)))) ⌝ }
+    ensures { λ r. ⌜ Underway settings (length (now (heap .exit))) (now (table .exit))
         (r .state) (now (plan .entry)) ⌝ }
     ensures { λ r. ⌜ r .moved ≤ run .moved + 65536 ⌝ }
 {
     let state = run.state;
-    let course = rewrite_group(
-        settings,
-        state,
-        heap,
-        ids,
-        locations,
-        plan,
-        generation,
-        run.moved,
-    );
+    let course = rewrite_group(settings, state, heap, table, plan, generation, run.moved);
     let answer = course.answer;
     let after = course.state;
     Run {
@@ -119,16 +108,15 @@ fn generations(
     settings: Settings,
     state: State,
     heap: &mut [u8],
-    ids: &mut [u64],
-    locations: &mut [u64],
+    table: &mut [u64],
     plan: &[u64],
 ) -> Run
-    requires { ⌜ Underway settings (length (now heap)) (table (now ids) (now locations)) state (now plan) ⌝ }
+    requires { ⌜ Underway settings (length (now heap)) (now table) state (now plan) ⌝ }
     ensures { λ r. ⌜ ((c : Claims)
-        → standing r (world settings (r .state) c (now (heap .exit)) (table (now (ids .exit)) (now (locations .exit))))
+        → standing r (world settings (r .state) c (now (heap .exit)) (now (table .exit)))
         ≡ byPlan (now (plan .entry))
-        (world settings state c (now (heap .entry)) (table (now (ids .entry)) (now (locations .entry))))) ⌝ }
-    ensures { λ r. ⌜ Underway settings (length (now (heap .exit))) (table (now (ids .exit)) (now (locations .exit)))
+        (world settings state c (now (heap .entry)) (now (table .entry)))) ⌝ }
+    ensures { λ r. ⌜ Underway settings (length (now (heap .exit))) (now (table .exit))
         (r .state) (now (plan .entry)) ⌝ }
 {
     let mut run = Run {
@@ -140,7 +128,7 @@ fn generations(
     while generation <= 3 {
         let halt = run.halt;
         if is_due(halt, plan, settings.min_compaction_files, generation) {
-            run = generation_step(settings, run, heap, ids, locations, plan, generation);
+            run = generation_step(settings, run, heap, table, plan, generation);
         }
         generation += 1;
     }
@@ -153,17 +141,16 @@ fn rewrite_groups(
     state: State,
     claims: Claims,
     heap: &mut [u8],
-    ids: &mut [u64],
-    locations: &mut [u64],
+    table: &mut [u64],
 ) -> Run
-    requires { ⌜ Passed settings (length (now heap)) (table (now ids) (now locations)) state ⌝ }
-    ensures { λ r. ⌜ standing r (world settings (r .state) claims (now (heap .exit)) (table (now (ids .exit)) (now (locations .exit))))
-        ≡ courseOf (world settings state claims (now (heap .entry)) (table (now (ids .entry)) (now (locations .entry)))) ⌝ }
+    requires { ⌜ Passed settings (length (now heap)) (now table) state ⌝ }
+    ensures { λ r. ⌜ standing r (world settings (r .state) claims (now (heap .exit)) (now (table .exit)))
+        ≡ courseOf (world settings state claims (now (heap .entry)) (now (table .entry))) ⌝ }
     ensures { λ r. ⌜ LabelsIn (settings .«slot_bytes») (r .state .files .records) (length (now (heap .exit))) ⌝ }
 {
     let files = state.files;
     let candidates = plan(settings, claims, files);
-    generations(settings, state, heap, ids, locations, &candidates)
+    generations(settings, state, heap, table, &candidates)
 }
 
 // "gives number, generation and ids moved so far"; "gives the count of ids moved"
@@ -179,9 +166,9 @@ fn answer_of(halt: Halt, moved: u64) -> MaintainAnswer
 // "nothing is pruned. Success prunes and gives the count of ids moved."
 fn finish(settings: Settings, run: Run, claims: Claims, heap: &mut [u8]) -> Maintained
     requires { ⌜ LabelsIn (settings .«slot_bytes») (run .state .files .records) (length (now heap)) ⌝ }
-    ensures { λ r. ⌜ ((ids locations : List ℕ)
-        → leaving (maintainGiven (r .answer)) (world settings (r .state) claims (now (heap .exit)) (table ids locations))
-        ≡ finished (standing run (world settings (run .state) claims (now (heap .entry)) (table ids locations)))) ⌝ }
+    ensures { λ r. ⌜ ((table : List ℕ)
+        → leaving (maintainGiven (r .answer)) (world settings (r .state) claims (now (heap .exit)) table)
+        ≡ finished (standing run (world settings (run .state) claims (now (heap .entry)) table))) ⌝ }
 {
     let end = run.halt;
     let state = run.state;
@@ -199,19 +186,18 @@ pub fn maintain(
     state: State,
     claims: Claims,
     heap: &mut [u8],
-    ids: &mut [u64],
-    locations: &mut [u64],
+    table: &mut [u64],
 ) -> Maintained
     ensures { λ r. ⌜ leaving (maintainGiven (r .answer))
-        (world settings (r .state) claims (now (heap .exit)) (table (now (ids .exit)) (now (locations .exit))))
-        ≡ maintainCall (world settings state claims (now (heap .entry)) (table (now (ids .entry)) (now (locations .entry)))) ⌝ }
+        (world settings (r .state) claims (now (heap .exit)) (now (table .exit)))
+        ≡ maintainCall (world settings state claims (now (heap .entry)) (now (table .entry))) ⌝ }
 {
-    if limits::refused(settings, heap.len() as u64, ids, locations, state) {
+    if limits::refused(settings, heap.len() as u64, table, state) {
         return Maintained {
             answer: MaintainAnswer::Stopped(Refusal::Limits, 0, 0),
             state: state,
         };
     }
-    let run = rewrite_groups(settings, state, claims, heap, ids, locations);
+    let run = rewrite_groups(settings, state, claims, heap, table);
     finish(settings, run, claims, heap)
 }

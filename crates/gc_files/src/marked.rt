@@ -27,23 +27,17 @@ fn place_of(location: u64, mark: u32, lsns: &[u64], slot_bytes: u64) -> u32
 }
 
 // Of every entry of the table.
-pub fn place_all(
-    locations: &[u64],
-    marks: &[u32],
-    lsns: &[u64],
-    slot_bytes: u64,
-    places: &mut [u32],
-)
+pub fn place_all(table: &[u64], marks: &[u32], lsns: &[u64], slot_bytes: u64, places: &mut [u32])
     requires { ⌜ «slot_bytes» ≤ 2 ^ 20 ⌝ }
-    requires { ⌜ Placeables (now lsns) (tableLocations (now locations)) (now marks) (now places) ⌝ }
+    requires { ⌜ Placeables (now lsns) (tableLocations (now table)) (now marks) (now places) ⌝ }
     ensures { λ _. ⌜ now (places .exit) ≡ front
-        (placesFor «slot_bytes» (now (lsns .entry)) (tableLocations (now (locations .entry))) (now (marks .entry)))
+        (placesFor «slot_bytes» (now (lsns .entry)) (tableLocations (now (table .entry))) (now (marks .entry)))
         (now (places .entry)) ⌝ }
 {
-    let n = capacity(locations);
+    let n = capacity(table);
     let mut i: usize = 0;
     while i < n {
-        let location = location_at(locations, i);
+        let location = location_at(table, i);
         places[i] = place_of(location, marks[i], lsns, slot_bytes);
         i += 1;
     }

@@ -56,7 +56,7 @@ fn split_entry(
 // Every entry of the table, ids ascending.
 pub fn split(
     heap: &[u8],
-    ids: &[u64],
+    table: &[u64],
     places: &[u32],
     shards: &mut [u64],
     cuts: &mut [u64],
@@ -64,23 +64,23 @@ pub fn split(
     totals: Totals,
     settings: Settings,
 ) -> Totals
-    requires { ⌜ Splitting (now heap) (tableIds (now ids)) (now places) (now pieces) (totals .entries) ⌝ }
+    requires { ⌜ Splitting (now heap) (tableIds (now table)) (now places) (now pieces) (totals .entries) ⌝ }
     requires { ⌜ Within (tally (now shards) (now cuts) totals) ⌝ }
     ensures { λ r. ⌜ tally (now (shards .exit)) (now (cuts .exit)) r
         ≡ tallyFrom (settings .«target_file_size») (settings .«slot_bytes»)
-        (placedOps (now (heap .entry)) (tableIds (now (ids .entry))) (now (places .entry)))
+        (placedOps (now (heap .entry)) (tableIds (now (table .entry))) (now (places .entry)))
         (tally (now (shards .entry)) (now (cuts .entry)) totals) ⌝ }
     ensures { λ r. ⌜ now (pieces .exit) ≡ piecesAlong (settings .«target_file_size») (settings .«slot_bytes»)
-        (now (heap .entry)) (tableIds (now (ids .entry))) (now (places .entry)) (now (pieces .entry))
+        (now (heap .entry)) (tableIds (now (table .entry))) (now (places .entry)) (now (pieces .entry))
         (tally (now (shards .entry)) (now (cuts .entry)) totals) ⌝ }
 {
     let mut t = totals;
-    let n = capacity(ids);
+    let n = capacity(table);
     let mut i: usize = 0;
     while i < n {
         let e = Placed {
             at: i,
-            id: id_at(ids, i),
+            id: id_at(table, i),
             place: places[i],
         };
         t = split_entry(heap, e, shards, cuts, pieces, t, settings);

@@ -14,7 +14,7 @@ use Rattle.rules.specs.declared.Record.{Record}
 use Rattle.rules.specs.declared.Settings.{Settings}
 use Rattle.rules.specs.declared.State.{State}
 use Rattle.rules.specs.declared.Claims.{Claims}
-use Rattle.rules.specs.Layout.{Buffers}
+use Rattle.rules.specs.Layout.{Table}
 use Rattle.rules.specs.SlotFile.{slotBytes, fileIn, objectPart}
 use Rattle.rules.specs.FileMap.{emptyLabel, recordAt}
 use Rattle.rules.specs.FileMapLaws.{empty-is, empty-or-not}
@@ -67,20 +67,20 @@ pub record Ready (size heapLen : ℕ) (records : List Record) (plan : List ℕ) 
   pub standing : (k : ℕ) → getD plan k 0 ≡ generation → k * size + size ≤ heapLen
 
 -- as the call starts
-pub passed-lie : (s : Settings) (heapLen : ℕ) (b : Buffers) (t : State) → Passed s heapLen b t → (k : ℕ) → Lies (s .«slot_bytes») (recordAt (t .files .records) k .label)
+pub passed-lie : (s : Settings) (heapLen : ℕ) (b : Table) (t : State) → Passed s heapLen b t → (k : ℕ) → Lies (s .«slot_bytes») (recordAt (t .files .records) k .label)
 passed-lie s heapLen b t w k = ⊎-elim
     (λ e. rw (empty-is (recordAt (t .files .records) k) e) (empty-lies (s .«slot_bytes»)))
     (λ e. bounds-lie (s .«slot_bytes») (recordAt (t .files .records) k .label) (w .records k e .bounds))
     (empty-or-not (recordAt (t .files .records) k))
 
 -- a planned slot is one of the heap's
-pub planned-within : (s : Settings) (claims : Claims) (heapLen : ℕ) (b : Buffers) (t : State) → Passed s heapLen b t
+pub planned-within : (s : Settings) (claims : Claims) (heapLen : ℕ) (b : Table) (t : State) → Passed s heapLen b t
     → (k : ℕ) → 0 < getD (planOf s claims (t .files .records)) k 0 → k * s .«slot_bytes» + s .«slot_bytes» ≤ heapLen
 planned-within s claims heapLen b t w k h =
     slot-within s heapLen k (w .limits .heap) (w .records k (plan-files s claims (t .files .records) k h) .place)
 
 -- records and plan of a call that 1 does not refuse are ready for each of its groups
-pub ready : (s : Settings) (claims : Claims) (heapLen : ℕ) (b : Buffers) (t : State) (generation : ℕ) → Passed s heapLen b t → length (t .files .records) ≡ 256 → 0 < generation
+pub ready : (s : Settings) (claims : Claims) (heapLen : ℕ) (b : Table) (t : State) (generation : ℕ) → Passed s heapLen b t → length (t .files .records) ≡ 256 → 0 < generation
     → Ready (s .«slot_bytes») heapLen (t .files .records) (planOf s claims (t .files .records)) generation
 ready s claims heapLen b t generation w n g = record {
   slots = plan-length s claims (t .files .records) ∙ n;

@@ -20,19 +20,18 @@ ghost use Rattle.rules.specs.Object.{storedAt, objectsIn};
 ghost use Rattle.rules.specs.Trailer.{countIn, entriesIn};
 ghost use Rattle.rules.specs.Table.{lookup, unmapped};
 ghost use Rattle.rules.specs.Maintenance.{movedTests, fileTests};
-ghost use Rattle.rules.specs.Layout.{table};
 ghost use Rattle.slot_file.specs.Objects.{Walked};
 ghost use Rattle.location_table.specs.Tables.{Formed};
-ghost use Rattle.location_table.specs.LayoutLaws.{used};
+ghost use Rattle.rules.specs.Layout.{usedEntries};
 ghost use Rattle.gc_group.specs.Source.{Lies};
 ghost use Rattle.gc_group.specs.Checks.{entryTests};
 
 // "id unmapped"
-fn unmapped(ids: &[u64], locations: &[u64], id: u64) -> bool
-    requires { ⌜ Formed (table (now ids) (now locations)) ⌝ }
-    ensures { λ r. ⌜ r ≡ unmapped (lookup (used (now (ids .entry)) (now (locations .entry))) id) ⌝ }
+fn unmapped(table: &[u64], id: u64) -> bool
+    requires { ⌜ Formed (now table) ⌝ }
+    ensures { λ r. ⌜ r ≡ unmapped (lookup (usedEntries (now (table .entry))) id) ⌝ }
 {
-    match load_in(ids, locations, id) {
+    match load_in(table, id) {
         Held::Mapped(_) => false,
         Held::Unmapped => true,
     }
@@ -40,23 +39,16 @@ fn unmapped(ids: &[u64], locations: &[u64], id: u64) -> bool
 
 // "header past T (16), length ≥ max_object_size (3), id unmapped (18), body past T (16), checksum (10)", for an object
 // whose header is whole.
-fn check_object(
-    objects: &[u8],
-    position: u64,
-    h: Header,
-    ids: &[u64],
-    locations: &[u64],
-    limit: u64,
-) -> Answer
+fn check_object(objects: &[u8], position: u64, h: Header, table: &[u64], limit: u64) -> Answer
     requires { ⌜ Walked (now objects) position h ⌝ }
-    requires { ⌜ Formed (table (now ids) (now locations)) ⌝ }
-    ensures { λ r. ⌜ r ≡ decide (movedTests limit (used (now (ids .entry)) (now (locations .entry)))
+    requires { ⌜ Formed (now table) ⌝ }
+    ensures { λ r. ⌜ r ≡ decide (movedTests limit (usedEntries (now (table .entry)))
         (storedAt position (drop position (now (objects .entry))))) ⌝ }
 {
     if limit <= h.size {
         return Answer::Refused(Refusal::ObjectSize);
     }
-    if unmapped(ids, locations, h.id) {
+    if unmapped(table, h.id) {
         return Answer::Refused(Refusal::NotThere);
     }
     if (h.room - OBJECT_HEADER as u64) < h.size {
@@ -69,10 +61,10 @@ fn check_object(
 }
 
 // "each object", walked by the stored lengths.
-fn check_objects(objects: &[u8], ids: &[u64], locations: &[u64], limit: u64) -> Answer
-    requires { ⌜ Formed (table (now ids) (now locations)) ⌝ }
+fn check_objects(objects: &[u8], table: &[u64], limit: u64) -> Answer
+    requires { ⌜ Formed (now table) ⌝ }
     ensures { λ r. ⌜ r
-        ≡ decide (each (movedTests limit (used (now (ids .entry)) (now (locations .entry)))) (objectsIn (now (objects .entry)))) ⌝ }
+        ≡ decide (each (movedTests limit (usedEntries (now (table .entry)))) (objectsIn (now (objects .entry)))) ⌝ }
 {
     let mut position: u64 = 0;
     loop {
@@ -80,7 +72,7 @@ fn check_objects(objects: &[u8], ids: &[u64], locations: &[u64], limit: u64) -> 
             Step::End => return Answer::Done,
             Step::HeaderCut => return Answer::Refused(Refusal::CutShort),
             Step::Here(h) => {
-                match check_object(objects, position, h, ids, locations, limit) {
+                match check_object(objects, position, h, table, limit) {
                     Answer::Refused(refusal) => return Answer::Refused(refusal),
                     Answer::Done => {}
                 }
@@ -91,9 +83,9 @@ fn check_objects(objects: &[u8], ids: &[u64], locations: &[u64], limit: u64) -> 
 }
 
 // "delete entries: sum too great (20), id unmapped (18)"; an object's entry is not looked at.
-fn check_entry(e: Entry, lsn: u64, ids: &[u64], locations: &[u64]) -> Answer
-    requires { ⌜ Formed (table (now ids) (now locations)) ⌝ }
-    ensures { λ r. ⌜ r ≡ decide (entryTests lsn (used (now (ids .entry)) (now (locations .entry))) e) ⌝ }
+fn check_entry(e: Entry, lsn: u64, table: &[u64]) -> Answer
+    requires { ⌜ Formed (now table) ⌝ }
+    ensures { λ r. ⌜ r ≡ decide (entryTests lsn (usedEntries (now (table .entry))) e) ⌝ }
 {
     let location = RelativeDiskLocation(e.location);
     if !location.is_delete() {
@@ -102,23 +94,23 @@ fn check_entry(e: Entry, lsn: u64, ids: &[u64], locations: &[u64]) -> Answer
     if location.to_absolute(lsn).number() != 0 {
         return Answer::Refused(Refusal::Location);
     }
-    if unmapped(ids, locations, e.id) {
+    if unmapped(table, e.id) {
         return Answer::Refused(Refusal::NotThere);
     }
     Answer::Done
 }
 
 // In entry order.
-fn check_deletes(trailer: &[u8], lsn: u64, ids: &[u64], locations: &[u64]) -> Answer
+fn check_deletes(trailer: &[u8], lsn: u64, table: &[u64]) -> Answer
     requires { ⌜ 12 + 16 * countIn (now trailer) ≤ length (now trailer) ⌝ }
-    requires { ⌜ Formed (table (now ids) (now locations)) ⌝ }
+    requires { ⌜ Formed (now table) ⌝ }
     ensures { λ r. ⌜ r
-        ≡ decide (each (entryTests lsn (used (now (ids .entry)) (now (locations .entry)))) (entriesIn (now (trailer .entry)))) ⌝ }
+        ≡ decide (each (entryTests lsn (usedEntries (now (table .entry)))) (entriesIn (now (trailer .entry)))) ⌝ }
 {
     let n = trailer::count(trailer);
     let mut k: u64 = 0;
     while k < n {
-        match check_entry(trailer::entry(trailer, k), lsn, ids, locations) {
+        match check_entry(trailer::entry(trailer, k), lsn, table) {
             Answer::Refused(refusal) => return Answer::Refused(refusal),
             Answer::Done => {}
         }
@@ -128,19 +120,19 @@ fn check_deletes(trailer: &[u8], lsn: u64, ids: &[u64], locations: &[u64]) -> An
 }
 
 // "trailer (9, 10, 11), then each object .. then delete entries"
-pub fn check_file(slot: &[u8], l: Label, ids: &[u64], locations: &[u64], limit: u64) -> Answer
+pub fn check_file(slot: &[u8], l: Label, table: &[u64], limit: u64) -> Answer
     requires { ⌜ Lies (length (now slot)) l ⌝ }
-    requires { ⌜ Formed (table (now ids) (now locations)) ⌝ }
-    ensures { λ a. ⌜ a ≡ decide (fileTests limit (used (now (ids .entry)) (now (locations .entry))) l (now (slot .entry))) ⌝ }
+    requires { ⌜ Formed (now table) ⌝ }
+    ensures { λ a. ⌜ a ≡ decide (fileTests limit (usedEntries (now (table .entry))) l (now (slot .entry))) ⌝ }
 {
     let trailer = trailer_part(slot, l);
     match trailer::check(trailer) {
         Answer::Refused(refusal) => return Answer::Refused(refusal),
         Answer::Done => {}
     }
-    match check_objects(object_part(slot, l), ids, locations, limit) {
+    match check_objects(object_part(slot, l), table, limit) {
         Answer::Refused(refusal) => return Answer::Refused(refusal),
         Answer::Done => {}
     }
-    check_deletes(trailer, l.lsn, ids, locations)
+    check_deletes(trailer, l.lsn, table)
 }

@@ -25,9 +25,8 @@ ghost use Rattle.rules.specs.declared.Answer.the-variants.{Done};
 ghost use Rattle.rules.specs.Refusal.{decide};
 ghost use Rattle.rules.specs.Object.{objectsIn};
 ghost use Rattle.rules.specs.Trailer.{countIn, entriesIn};
-ghost use Rattle.rules.specs.Layout.{table, tableIds};
+ghost use Rattle.rules.specs.Layout.{tableIds, usedEntries};
 ghost use Rattle.location_table.specs.Tables.{Formed};
-ghost use Rattle.location_table.specs.LayoutLaws.{used};
 ghost use Rattle.file_map.specs.Lists.{lsnsOf};
 ghost use Rattle.gc_candidates.specs.Plan.{planned};
 ghost use Rattle.gc_group.specs.Source.{Lies, source, Ready};
@@ -36,17 +35,17 @@ ghost use Rattle.gc_group.specs.Clear.{Inside, SumFits, Clear};
 ghost use Rattle.gc_group.specs.Marks.{foundFile, idsOf, current, objectId, deleteId, marked, marksOf};
 
 // The id's entry takes the mark where this is its current location.
-fn mark_id(ids: &[u64], locations: &[u64], marks: &mut [u32], id: u64, location: u64, mark: u32)
-    requires { ⌜ Formed (table (now ids) (now locations)) ⌝ }
-    requires { ⌜ length (tableIds (now ids)) ≤ length (now marks) ⌝ }
+fn mark_id(table: &[u64], marks: &mut [u32], id: u64, location: u64, mark: u32)
+    requires { ⌜ Formed (now table) ⌝ }
+    requires { ⌜ length (tableIds (now table)) ≤ length (now marks) ⌝ }
     ensures { λ _. ⌜ now (marks .exit) ≡ marked mark
-        (current (used (now (ids .entry)) (now (locations .entry))) id location)
-        (used (now (ids .entry)) (now (locations .entry)))
+        (current (usedEntries (now (table .entry))) id location)
+        (usedEntries (now (table .entry)))
         (now (marks .entry)) ⌝ }
 {
-    match find(ids, locations, id) {
+    match find(table, id) {
         Place::Found(i) => {
-            if location_at(locations, i) == location {
+            if location_at(table, i) == location {
                 marks[i] = mark;
             }
         }
@@ -55,21 +54,14 @@ fn mark_id(ids: &[u64], locations: &[u64], marks: &mut [u32], id: u64, location:
 }
 
 // "Objects .. at their id's current location"
-fn mark_objects(
-    objects: &[u8],
-    lsn: u64,
-    ids: &[u64],
-    locations: &[u64],
-    marks: &mut [u32],
-    mark: u32,
-)
+fn mark_objects(objects: &[u8], lsn: u64, table: &[u64], marks: &mut [u32], mark: u32)
     requires { ⌜ All Inside (objectsIn (now objects)) ⌝ }
     requires { ⌜ lsn + length (now objects) < 2 ^ 63 ⌝ }
-    requires { ⌜ Formed (table (now ids) (now locations)) ⌝ }
-    requires { ⌜ length (tableIds (now ids)) ≤ length (now marks) ⌝ }
+    requires { ⌜ Formed (now table) ⌝ }
+    requires { ⌜ length (tableIds (now table)) ≤ length (now marks) ⌝ }
     ensures { λ _. ⌜ now (marks .exit) ≡ marked mark
-        (each (objectId lsn (used (now (ids .entry)) (now (locations .entry)))) (objectsIn (now (objects .entry))))
-        (used (now (ids .entry)) (now (locations .entry)))
+        (each (objectId lsn (usedEntries (now (table .entry)))) (objectsIn (now (objects .entry))))
+        (usedEntries (now (table .entry)))
         (now (marks .entry)) ⌝ }
 {
     let mut position: u64 = 0;
@@ -79,7 +71,7 @@ fn mark_objects(
             Step::HeaderCut => return,
             Step::Here(h) => {
                 let location = DiskLocation::new(lsn + position, false);
-                mark_id(ids, locations, marks, h.id, location.raw(), mark);
+                mark_id(table, marks, h.id, location.raw(), mark);
                 position += OBJECT_HEADER as u64 + h.size;
             }
         }
@@ -87,74 +79,53 @@ fn mark_objects(
 }
 
 // A delete entry; an object's entry is not looked at.
-fn mark_delete(e: Entry, lsn: u64, ids: &[u64], locations: &[u64], marks: &mut [u32], mark: u32)
+fn mark_delete(e: Entry, lsn: u64, table: &[u64], marks: &mut [u32], mark: u32)
     requires { ⌜ SumFits lsn e ⌝ }
-    requires { ⌜ Formed (table (now ids) (now locations)) ⌝ }
-    requires { ⌜ length (tableIds (now ids)) ≤ length (now marks) ⌝ }
+    requires { ⌜ Formed (now table) ⌝ }
+    requires { ⌜ length (tableIds (now table)) ≤ length (now marks) ⌝ }
     ensures { λ _. ⌜ now (marks .exit) ≡ marked mark
-        (deleteId lsn (used (now (ids .entry)) (now (locations .entry))) e)
-        (used (now (ids .entry)) (now (locations .entry)))
+        (deleteId lsn (usedEntries (now (table .entry))) e)
+        (usedEntries (now (table .entry)))
         (now (marks .entry)) ⌝ }
 {
     let location = RelativeDiskLocation(e.location);
     if location.is_delete() {
-        mark_id(
-            ids,
-            locations,
-            marks,
-            e.id,
-            location.to_absolute(lsn).raw(),
-            mark,
-        );
+        mark_id(table, marks, e.id, location.to_absolute(lsn).raw(), mark);
     }
 }
 
 // ".. and deletes at their id's current location"
-fn mark_deletes(
-    trailer: &[u8],
-    lsn: u64,
-    ids: &[u64],
-    locations: &[u64],
-    marks: &mut [u32],
-    mark: u32,
-)
+fn mark_deletes(trailer: &[u8], lsn: u64, table: &[u64], marks: &mut [u32], mark: u32)
     requires { ⌜ 12 + 16 * countIn (now trailer) ≤ length (now trailer) ⌝ }
     requires { ⌜ All (SumFits lsn) (entriesIn (now trailer)) ⌝ }
-    requires { ⌜ Formed (table (now ids) (now locations)) ⌝ }
-    requires { ⌜ length (tableIds (now ids)) ≤ length (now marks) ⌝ }
+    requires { ⌜ Formed (now table) ⌝ }
+    requires { ⌜ length (tableIds (now table)) ≤ length (now marks) ⌝ }
     ensures { λ _. ⌜ now (marks .exit) ≡ marked mark
-        (each (deleteId lsn (used (now (ids .entry)) (now (locations .entry)))) (entriesIn (now (trailer .entry))))
-        (used (now (ids .entry)) (now (locations .entry)))
+        (each (deleteId lsn (usedEntries (now (table .entry)))) (entriesIn (now (trailer .entry))))
+        (usedEntries (now (table .entry)))
         (now (marks .entry)) ⌝ }
 {
     let n = trailer::count(trailer);
     let mut k: u64 = 0;
     while k < n {
-        mark_delete(trailer::entry(trailer, k), lsn, ids, locations, marks, mark);
+        mark_delete(trailer::entry(trailer, k), lsn, table, marks, mark);
         k += 1;
     }
 }
 
 // Everything that is found in one file of a group whose checks are clear.
-pub fn mark_file(
-    slot: &[u8],
-    l: Label,
-    ids: &[u64],
-    locations: &[u64],
-    marks: &mut [u32],
-    mark: u32,
-)
+pub fn mark_file(slot: &[u8], l: Label, table: &[u64], marks: &mut [u32], mark: u32)
     requires { ⌜ Lies (length (now slot)) l ⌝ }
     requires { ⌜ Clear l (now slot) ⌝ }
-    requires { ⌜ Formed (table (now ids) (now locations)) ⌝ }
-    requires { ⌜ length (tableIds (now ids)) ≤ length (now marks) ⌝ }
+    requires { ⌜ Formed (now table) ⌝ }
+    requires { ⌜ length (tableIds (now table)) ≤ length (now marks) ⌝ }
     ensures { λ _. ⌜ now (marks .exit) ≡ marked mark
-        (idsOf (foundFile (used (now (ids .entry)) (now (locations .entry))) l (now (slot .entry))))
-        (used (now (ids .entry)) (now (locations .entry)))
+        (idsOf (foundFile (usedEntries (now (table .entry))) l (now (slot .entry))))
+        (usedEntries (now (table .entry)))
         (now (marks .entry)) ⌝ }
 {
-    mark_objects(object_part(slot, l), l.lsn, ids, locations, marks, mark);
-    mark_deletes(trailer_part(slot, l), l.lsn, ids, locations, marks, mark);
+    mark_objects(object_part(slot, l), l.lsn, table, marks, mark);
+    mark_deletes(trailer_part(slot, l), l.lsn, table, marks, mark);
 }
 
 fn unmark(marks: &mut [u32])
@@ -175,19 +146,18 @@ pub fn mark_group(
     heap: &[u8],
     m: FileMap,
     plan: &[u64],
-    ids: &[u64],
-    locations: &[u64],
+    table: &[u64],
     marks: &mut [u32],
     lsns: &mut [u64],
 ) -> Answer
     requires { ⌜ Ready (group .settings .«slot_bytes») (length (now heap)) (m .records) (now plan) (group .generation) ⌝ }
-    requires { ⌜ Formed (table (now ids) (now locations)) ⌝ }
-    requires { ⌜ (length (tableIds (now ids)) ≤ length (now marks)) × (length (now lsns) ≡ 256) ⌝ }
+    requires { ⌜ Formed (now table) ⌝ }
+    requires { ⌜ (length (tableIds (now table)) ≤ length (now marks)) × (length (now lsns) ≡ 256) ⌝ }
     ensures { λ r. ⌜ r ≡ decide (groupChecks (group .settings .«max_object_size»)
-        (source (group .settings .«slot_bytes») (now (heap .entry)) (m .records) (used (now (ids .entry)) (now (locations .entry))))
+        (source (group .settings .«slot_bytes») (now (heap .entry)) (m .records) (usedEntries (now (table .entry))))
         (planned (now (plan .entry)) (group .generation))) ⌝ }
     ensures { λ r. ⌜ (r ≡ Done → now (marks .exit) ≡ marksOf
-        (source (group .settings .«slot_bytes») (now (heap .entry)) (m .records) (used (now (ids .entry)) (now (locations .entry))))
+        (source (group .settings .«slot_bytes») (now (heap .entry)) (m .records) (usedEntries (now (table .entry))))
         (length (now (marks .entry)))
         (planned (now (plan .entry)) (group .generation))) ⌝ }
     ensures { λ r. ⌜ (r ≡ Done → now (lsns .exit) ≡ lsnsOf (m .records)) ⌝ }
@@ -200,11 +170,11 @@ pub fn mark_group(
         lsns[i] = l.lsn;
         if plan[i] == group.generation {
             let slot = slot_at(heap, group.settings.slot_bytes as usize, i);
-            match check_file(slot, l, ids, locations, group.settings.max_object_size) {
+            match check_file(slot, l, table, group.settings.max_object_size) {
                 Answer::Refused(refusal) => return Answer::Refused(refusal),
                 Answer::Done => {}
             }
-            mark_file(slot, l, ids, locations, marks, i as u32 + 1);
+            mark_file(slot, l, table, marks, i as u32 + 1);
         }
         i += 1;
     }

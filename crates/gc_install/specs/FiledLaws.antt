@@ -10,7 +10,7 @@ use Rattle.rules.specs.declared.Entry.{Entry}
 use Rattle.rules.specs.Ops.{Op}
 use Rattle.rules.specs.OpsLaws.{IdsFit}
 use Rattle.rules.specs.FileMapLaws.{Among}
-use Rattle.rules.specs.Layout.{Buffers, usedIn, usedEntries}
+use Rattle.rules.specs.Layout.{Table, tableIds, tableLocations, usedIn, usedEntries}
 use Rattle.batch.specs.declared.Operation.{Operation}
 use Rattle.gc_files.specs.Places.{lengthAt, movingAt, opAt, filedOps}
 use Rattle.gc_install.specs.IdLaws.{idsIn, There}
@@ -76,16 +76,16 @@ used-among (x ∷ is) (l ∷ ls) i h = go (eqb l 0) i h (used-among is ls)
     go false (suc i) h ih = inr (ih i (omega arith))
 
 -- places are of used entries alone
-abbrev pub OfUsed : Buffers → List ℕ → Type 0
+abbrev pub OfUsed : Table → List ℕ → Type 0
 OfUsed b places = (i : ℕ) → 0 < getD places i 0 → i < length (usedEntries b)
 
 -- so each operation is on an id of the table
-pub filed-there : (piece : ℕ) (heap : List ℕ) (b : Buffers) (places pieces : List ℕ) → OfUsed b places
-    → There (idsIn (usedEntries b)) (filedOps piece heap (b .ids) places pieces)
+pub filed-there : (piece : ℕ) (heap : List ℕ) (b : Table) (places pieces : List ℕ) → OfUsed b places
+    → There (idsIn (usedEntries b)) (filedOps piece heap (tableIds b) places pieces)
 unfolding usedEntries
 filed-there piece heap b places pieces used =
-    filed-each (Among (idsIn (usedEntries b))) piece heap (b .ids) places pieces (λ i l m. used-among (b .ids) (b .locations) i (used i m))
+    filed-each (Among (idsIn (usedEntries b))) piece heap (tableIds b) places pieces (λ i l m. used-among (tableIds b) (tableLocations b) i (used i m))
 
 -- and has an id of 64 bits
-pub filed-fit : (piece : ℕ) (heap ids places pieces : List ℕ) → ((i : ℕ) → getD ids i 0 < 2 ^ 64) → IdsFit (filedOps piece heap ids places pieces)
-filed-fit piece heap ids places pieces fit = filed-each (λ (x : ℕ). x < 2 ^ 64) piece heap ids places pieces (λ i l m. fit i)
+pub filed-fit : (piece : ℕ) (heap ids places pieces : List ℕ) → ((i : ℕ) → i < length ids → getD ids i 0 < 2 ^ 64) → IdsFit (filedOps piece heap ids places pieces)
+filed-fit piece heap ids places pieces fit = filed-each (λ (x : ℕ). x < 2 ^ 64) piece heap ids places pieces (λ i l m. fit i l)

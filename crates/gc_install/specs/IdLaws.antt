@@ -10,8 +10,8 @@ use Rattle.rules.specs.declared.Entry.{Entry}
 use Rattle.rules.specs.Ops.{Op, sizeOf, entriesOf}
 use Rattle.rules.specs.Table.{insert, insertAll}
 use Rattle.rules.specs.TableLaws.{Rising, rise, rising-insert, rising-insert-all, insert-next, insert-here}
-use Rattle.rules.specs.Layout.{Buffers, inForm, capacityOf, usedEntries, laidOut}
-use Rattle.rules.specs.LayoutLaws.{Used, used-located, used-length, form-rising, laid-out-used, laid-out-locations, used-laid-out, form-laid-out}
+use Rattle.rules.specs.Layout.{Table, tableIds, inForm, capacityOf, usedEntries, laidOut}
+use Rattle.rules.specs.LayoutLaws.{Used, used-located, used-length, form-rising, laid-out-used, laid-out-ids, laid-out-length, used-laid-out, form-laid-out}
 use Rattle.rules.specs.FileMapLaws.{Among}
 use Rattle.location_table.specs.Tables.{Formed}
 use Rattle.location_table.specs.EntryLaws.{used-insert}
@@ -71,13 +71,13 @@ taken-there ids lsn q [] h = tt
 taken-there ids lsn q (o ∷ os) h = (h .0, taken-there ids lsn (q + sizeOf (o .content)) os (h .1))
 
 -- the same ids in the same places, and in form
-pub record SameIds (b after : Buffers) : Type 0 where
-  pub ids : after .ids ≡ b .ids
-  pub locations : length (after .locations) ≡ length (b .locations)
+pub record SameIds (b after : Table) : Type 0 where
+  pub ids : tableIds after ≡ tableIds b
+  pub words : length after ≡ length b
   pub form : inForm after ≡ true
   pub used : length (usedEntries after) ≡ length (usedEntries b)
 
-module _ (b : Buffers) (formed : Formed b) (lsn : ℕ) (ops : List Op) (there : There (idsIn (usedEntries b)) ops) where
+module _ (b : Table) (formed : Formed b) (lsn : ℕ) (ops : List Op) (there : There (idsIn (usedEntries b)) ops) where
   -- the entries of a file on ids that are there
   stored-ids : idsIn (insertAll (usedEntries b) (taken lsn (entriesOf 0 ops))) ≡ idsIn (usedEntries b)
   stored-ids = insert-all-ids (usedEntries b) (taken lsn (entriesOf 0 ops)) (form-rising b (formed .form)) (taken-there (idsIn (usedEntries b)) lsn 0 ops there)
@@ -92,15 +92,16 @@ module _ (b : Buffers) (formed : Formed b) (lsn : ℕ) (ops : List Op) (there : 
   pub stored-fits : length (insertAll (usedEntries b) (taken lsn (entriesOf 0 ops))) ≤ capacityOf b
   stored-fits = omega (arith, stored-length, used-length b)
 
-  -- and they leave the id buffer
+  -- and they leave the ids of the buffer
   pub ids-stay : 0 < lsn → SameIds b (laidOut (capacityOf b) (insertAll (usedEntries b) (taken lsn (entriesOf 0 ops))))
-  unfolding laidOut
   ids-stay some =
       let t = insertAll (usedEntries b) (taken lsn (entriesOf 0 ops)) in
       let used : Used t = used-insert-all (usedEntries b) (taken lsn (entriesOf 0 ops)) (used-located b) (taken-located lsn (entriesOf 0 ops) some) in
       record {
-        ids = ap (padded (capacityOf b)) stored-ids ∙ ap (λ (x : Buffers). x .ids) (laid-out-used b (formed .form) (formed .even));
-        locations = laid-out-locations (capacityOf b) t stored-fits ∙ formed .even;
+        ids =
+            laid-out-ids (capacityOf b) t ∙ ap (padded (capacityOf b)) stored-ids ∙ sym (laid-out-ids (capacityOf b) (usedEntries b))
+            ∙ ap tableIds (laid-out-used b (formed .form) (formed .even));
+        words = omega (arith, laid-out-length (capacityOf b) t stored-fits, formed .even);
         form = form-laid-out (capacityOf b) t used (rising-insert-all (usedEntries b) (taken lsn (entriesOf 0 ops)) (form-rising b (formed .form)));
         used = ap length (used-laid-out (capacityOf b) t used) ∙ stored-length;
       }

@@ -12,7 +12,8 @@ use Rattle.rules.specs.Settings.{slotsIn}
 use Rattle.rules.specs.SettingsLaws.{slot-within}
 use Rattle.rules.specs.Ops.{Op, objectsOf, fileBytes}
 use Rattle.rules.specs.Label.{labelBytes}
-use Rattle.rules.specs.Layout.{table, usedEntries}
+use Rattle.rules.specs.Layout.{Table, tableIds, usedEntries}
+use Rattle.rules.specs.LayoutLaws.{ids-count}
 use Rattle.rules.specs.FileMap.{isEmpty, recordAt, emptySlots, lowestEmpty}
 use Rattle.rules.specs.FileMapLaws.{Lowest, lowest-empty}
 use Rattle.rules.specs.Condition1Laws.{Passed}
@@ -31,17 +32,17 @@ use Rattle.gc_install.specs.FiledLaws.{filed-few, filed-there, filed-fit
 use Rattle.gc_install.specs.Rewriting.{Rewritten, passed-installed}
 
 -- refusal 1 does not hold; places are of used entries, and each object that is to be moved stands in a slot that has a file
-pub record Placing (s : Settings) (t : State) (heap ids locations places pieces : List ℕ) : Type 0 where
-  pub limits : Passed s (length heap) (table ids locations) t
-  pub wide : length ids ≤ length places
-  pub numbered : length ids ≤ length pieces
-  pub used : (i : ℕ) → 0 < getD places i 0 → i < length (usedEntries (table ids locations))
+pub record Placing (s : Settings) (t : State) (heap : List ℕ) (table : Table) (places pieces : List ℕ) : Type 0 where
+  pub limits : Passed s (length heap) table t
+  pub wide : length (tableIds table) ≤ length places
+  pub numbered : length (tableIds table) ≤ length pieces
+  pub used : (i : ℕ) → 0 < getD places i 0 → i < length (usedEntries table)
   pub kept : (i : ℕ) → 1 < getD places i 0 → Whole heap (getD places i 0)
       × ((k : ℕ) × (isEmpty (recordAt (t .files .records) k) ≡ false) × InSlot (s .«slot_bytes») heap k (getD places i 0))
 
 -- the sizes of a piece ask for no more
-pub placing-walking : (s : Settings) (t : State) (heap ids locations places pieces : List ℕ) → Placing s t heap ids locations places pieces → Walking heap ids places pieces
-placing-walking s t heap ids locations places pieces p = record { wide = p .wide; numbered = p .numbered; standing = λ i h. p .kept i h .0 }
+pub placing-walking : (s : Settings) (t : State) (heap : List ℕ) (table : Table) (places pieces : List ℕ) → Placing s t heap table places pieces → Walking heap (tableIds table) places pieces
+placing-walking s t heap table places pieces p = record { wide = p .wide; numbered = p .numbered; standing = λ i h. p .kept i h .0 }
 
 -- 4, 5 and 7 do not refuse the file of this piece
 pub record Fits (s : Settings) (t : State) (heap : List ℕ) (ops : List Op) (generation : ℕ) : Type 0 where
@@ -51,15 +52,15 @@ pub record Fits (s : Settings) (t : State) (heap : List ℕ) (ops : List Op) (ge
   pub last : t .«next_position» + (length (objectsOf ops) + 1) ≤ 2 ^ 62
 
 -- what is left after it was added
-pub record Left (s : Settings) (t : State) (heap ids places pieces : List ℕ) (ops : List Op) (r : State) (heap′ ids′ locations′ : List ℕ) : Type 0 where
-  pub placing : Placing s r heap′ ids′ locations′ places pieces
-  pub same : ids′ ≡ ids
-  pub filed : (q : ℕ) → filedOps q heap′ ids′ places pieces ≡ filedOps q heap ids places pieces
+pub record Left (s : Settings) (t : State) (heap : List ℕ) (table : Table) (places pieces : List ℕ) (ops : List Op) (r : State) (heap′ : List ℕ) (table′ : Table) : Type 0 where
+  pub placing : Placing s r heap′ table′ places pieces
+  pub same : tableIds table′ ≡ tableIds table
+  pub filed : (q : ℕ) → filedOps q heap′ (tableIds table′) places pieces ≡ filedOps q heap (tableIds table) places pieces
   pub frees : emptySlots (slotsIn s (length heap)) (t .files .records) ≡ lowestEmpty (slotsIn s (length heap)) (t .files .records) ∷ emptySlots (slotsIn s (length heap′)) (r .files .records)
   pub next : r .«next_position» ≡ t .«next_position» + (length (objectsOf ops) + 1)
 
-module _ (s : Settings) (t : State) (heap ids locations places pieces : List ℕ) (p : Placing s t heap ids locations places pieces) (piece generation : ℕ)
-    (f : Fits s t heap (filedOps piece heap ids places pieces) generation) where
+module _ (s : Settings) (t : State) (heap : List ℕ) (table : Table) (places pieces : List ℕ) (p : Placing s t heap table places pieces) (piece generation : ℕ)
+    (f : Fits s t heap (filedOps piece heap (tableIds table) places pieces) generation) where
   -- the slot that it takes
   lowest : Lowest (slotsIn s (length heap)) (t .files .records) (lowestEmpty (slotsIn s (length heap)) (t .files .records))
   lowest = lowest-empty (slotsIn s (length heap)) (t .files .records) (f .free)
@@ -76,13 +77,13 @@ module _ (s : Settings) (t : State) (heap ids locations places pieces : List ℕ
       (w .0, slots-off (s .«slot_bytes») heap (w .1 .0) slot (getD places i 0) (other (w .1 .0) (w .1 .1)) (w .1 .2))
 
   -- each operation is on an id of the table
-  there : There (idsIn (usedEntries (table ids locations))) (filedOps piece heap ids places pieces)
-  there = filed-there piece heap (table ids locations) places pieces (p .used)
+  there : There (idsIn (usedEntries table)) (filedOps piece heap (tableIds table) places pieces)
+  there = filed-there piece heap table places pieces (p .used)
 
   -- the file may be written there
   module _ (slot count total : ℕ) (is : slot ≡ lowestEmpty (slotsIn s (length heap)) (t .files .records))
-      (entries : count ≡ length (filedOps piece heap ids places pieces)) (objects : total ≡ length (objectsOf (filedOps piece heap ids places pieces))) where
-    pub piece-writing : Writing (slot * s .«slot_bytes») (s .«slot_bytes») heap ids places pieces piece count total
+      (entries : count ≡ length (filedOps piece heap (tableIds table) places pieces)) (objects : total ≡ length (objectsOf (filedOps piece heap (tableIds table) places pieces))) where
+    pub piece-writing : Writing (slot * s .«slot_bytes») (s .«slot_bytes») heap (tableIds table) places pieces piece count total
     piece-writing = record {
       wide = p .wide;
       numbered = p .numbered;
@@ -95,41 +96,41 @@ module _ (s : Settings) (t : State) (heap ids locations places pieces : List ℕ
     }
 
     -- and added
-    pub piece-addable : ((i : ℕ) → getD ids i 0 < 2 ^ 64) → Addable 0 (filedOps piece heap ids places pieces) s t heap (table ids locations) slot count total
+    pub piece-addable : ((i : ℕ) → i < length (tableIds table) → getD (tableIds table) i 0 < 2 ^ 64) → Addable 0 (filedOps piece heap (tableIds table) places pieces) s t heap table slot count total
     piece-addable fit = record {
       limits = p .limits;
       plain = omega arith;
-      ids = filed-fit piece heap ids places pieces fit;
+      ids = filed-fit piece heap (tableIds table) places pieces fit;
       entries = entries;
       objects = objects;
       fits = f .room;
       lowest = is;
       free = omega (arith, is, lowest .place);
-      room = λ lsn. stored-fits (table ids locations) (passed-formed s (length heap) (table ids locations) t (p .limits)) lsn (filedOps piece heap ids places pieces) there;
+      room = λ lsn. stored-fits table (passed-formed s (length heap) table t (p .limits)) lsn (filedOps piece heap (tableIds table) places pieces) there;
       last = omega (arith, objects, f .last);
     }
 
   -- what holds once it was added
-  module _ (r : State) (heap′ ids′ locations′ : List ℕ)
-      (e : world s r noClaims heap′ (table ids′ locations′) ≡ installed 0 generation (world s t noClaims heap (table ids locations)) (filedOps piece heap ids places pieces)) where
-    after : Rewritten (world s t noClaims heap (table ids locations)) (filedOps piece heap ids places pieces) (world s r noClaims heap′ (table ids′ locations′))
-    after = subst (Rewritten (world s t noClaims heap (table ids locations)) (filedOps piece heap ids places pieces)) (sym e)
-        (passed-installed generation (world s t noClaims heap (table ids locations)) (filedOps piece heap ids places pieces) (record {
+  module _ (r : State) (heap′ : List ℕ) (table′ : Table)
+      (e : world s r noClaims heap′ table′ ≡ installed 0 generation (world s t noClaims heap table) (filedOps piece heap (tableIds table) places pieces)) where
+    after : Rewritten (world s t noClaims heap table) (filedOps piece heap (tableIds table) places pieces) (world s r noClaims heap′ table′)
+    after = subst (Rewritten (world s t noClaims heap table) (filedOps piece heap (tableIds table) places pieces)) (sym e)
+        (passed-installed generation (world s t noClaims heap table) (filedOps piece heap (tableIds table) places pieces) (record {
           passed = p .limits;
           young = f .young;
           fits = f .room;
           free = f .free;
           last = f .last;
           there = there;
-          few = filed-few piece heap ids places pieces;
+          few = omega (arith, filed-few piece heap (tableIds table) places pieces, ids-count table);
         }))
 
     -- all else stands
     elsewhere : Elsewhere (lowestEmpty (slotsIn s (length heap)) (t .files .records) * s .«slot_bytes») (s .«slot_bytes») heap heap′
     unfolding installed storesFor
     elsewhere =
-        let ops = filedOps piece heap ids places pieces in
-        let new = newLabel (newLsn 0 (world s t noClaims heap (table ids locations))) generation ops in
+        let ops = filedOps piece heap (tableIds table) places pieces in
+        let new = newLabel (newLsn 0 (world s t noClaims heap table)) generation ops in
         let start = lowestEmpty (slotsIn s (length heap)) (t .files .records) * s .«slot_bytes» in
         let run = fileStores start (labelBytes new) (fileBytes ops) in
         let whole : Made (length run) run heap heap′ (length run - length run) =
@@ -137,7 +138,7 @@ module _ (s : Settings) (t : State) (heap ids locations places pieces : List ℕ
         file-elsewhere start (s .«slot_bytes») new (fileBytes ops) (f .room) whole
 
     -- LAW: the same holds again, and the other files' operations are as they were
-    pub piece-left : Left s t heap ids places pieces (filedOps piece heap ids places pieces) r heap′ ids′ locations′
+    pub piece-left : Left s t heap table places pieces (filedOps piece heap (tableIds table) places pieces) r heap′ table′
     piece-left =
         let same = after .ids in
         record {
@@ -153,7 +154,7 @@ module _ (s : Settings) (t : State) (heap ids locations places pieces : List ℕ
                 (v .0, (w .1 .0, after .files (w .1 .0) (w .1 .1), v .1));
           };
           same = same;
-          filed = λ q. ap (λ (xs : List ℕ). filedOps q heap′ xs places pieces) same ∙ filed-elsewhere elsewhere q ids places pieces apart;
+          filed = λ q. ap (λ (xs : List ℕ). filedOps q heap′ xs places pieces) same ∙ filed-elsewhere elsewhere q (tableIds table) places pieces apart;
           frees = after .empty;
           next = after .next;
         }

@@ -11,13 +11,13 @@ use Rattle.rules.specs.declared.Label.{Label}
 use Rattle.rules.specs.declared.Record.{Record}
 use Rattle.rules.specs.declared.Settings.{Settings}
 use Rattle.rules.specs.LabelLaws.{InBounds, lsn-some}
-use Rattle.rules.specs.Layout.{Buffers, capacityOf}
+use Rattle.rules.specs.Layout.{Table, capacityOf}
 use Rattle.rules.specs.FileMap.{emptyRecord, isEmpty, recordAt, withLive, slotsWhere, emptySlots, lowestEmpty}
 use Rattle.rules.specs.FileMapLaws.{empty-is, is-empty, not-empty, empty-or-not, lowest-empty}
 use Rattle.rules.specs.Condition1Laws.{GoodRecord}
 
 -- ---- a record that may lose live ones: still a file's, or still empty
-module _ (s : Settings) (heapLen : ℕ) (b after : Buffers) (same : capacityOf after ≡ capacityOf b) (slot : ℕ) (r q : Record)
+module _ (s : Settings) (heapLen : ℕ) (b after : Table) (same : capacityOf after ≡ capacityOf b) (slot : ℕ) (r q : Record)
     (kept : q ≡ withLive r (q .live)) (less : q .live ≤ r .live) (good : isEmpty r ≡ false → GoodRecord s heapLen b slot r) where
   label : q .label ≡ r .label
   label = ap (λ (x : Record). x .label) kept

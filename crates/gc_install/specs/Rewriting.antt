@@ -4,13 +4,13 @@ use mathlib.Core.Logic.{_⊎_, inl, inr}
 use Prim.Native.Nat.{_≤_, _<_}
 use native.Mathlib.Omega.{arith}
 use lib.Seq.{getD-set-same, getD-set-other}
-use Rattle.rules.specs.Base.{false, List, _∷_, ℕ, _+_, _^_, length, set}
+use Rattle.rules.specs.Base.{false, List, _∷_, ℕ, _+_, _/_, _^_, length, set}
 use Rattle.rules.specs.BaseLaws.{same?}
 use Rattle.rules.specs.declared.Record.{Record}
 use Rattle.rules.specs.Ops.{Op, objectsOf, fileBytes}
 use Rattle.rules.specs.OpsLaws.{file-length}
 use Rattle.rules.specs.Settings.{slotsIn}
-use Rattle.rules.specs.Layout.{capacityOf}
+use Rattle.rules.specs.Layout.{tableIds, capacityOf}
 use Rattle.rules.specs.FileMap.{emptyRecord, isEmpty, recordAt, emptySlots}
 use Rattle.rules.specs.FileMapLaws.{not-empty, Lowest, lowest-empty}
 use Rattle.rules.specs.Condition1Laws.{GoodRecord, Passed}
@@ -37,7 +37,7 @@ pub record Rewritable (generation : ℕ) (w : World) (ops : List Op) : Type 0 wh
 pub record Rewritten (w : World) (ops : List Op) (after : World) : Type 0 where
   pub passed : Passed (after .settings) (length (after .heap)) (after .table) (after .state)
   pub heap : length (after .heap) ≡ length (w .heap)
-  pub ids : after .table .ids ≡ w .table .ids
+  pub ids : tableIds (after .table) ≡ tableIds (w .table)
   pub used : length (mappings after) ≡ length (mappings w)
   pub files : (k : ℕ) → isEmpty (recordAt (recordsOf w) k) ≡ false → isEmpty (recordAt (recordsOf after) k) ≡ false
   pub empty : emptySlots (slotsOf w) (recordsOf w) ≡ newSlot w ∷ emptySlots (slotsOf after) (recordsOf after)
@@ -77,7 +77,7 @@ module _ (generation : ℕ) (w : World) (ops : List Op) (f : Rewritable generati
           generation = f .young;
         };
         present = omega arith;
-        live = omega (arith, f .few, ap length (same-ids .ids));
+        live = omega (arith, f .few, same-ids .words);
       }
 
   -- every other record is as empty as before
@@ -105,7 +105,7 @@ module _ (generation : ℕ) (w : World) (ops : List Op) (f : Rewritable generati
           rw (q, getD-set-same old (newSlot w) new emptyRecord room) new-good
       go (inr d) =
           let same = getD-set-other old (newSlot w) k new emptyRecord d in
-          rw same (still-good (w .settings) (length (w .heap)) (w .table) (tableWith (newLsn 0 w) w ops) (ap length (same-ids .ids)) k (recordAt (recordsOf w) k) (recordAt old k)
+          rw same (still-good (w .settings) (length (w .heap)) (w .table) (tableWith (newLsn 0 w) w ops) (ap (λ (n : ℕ). n / 2) (same-ids .words)) k (recordAt (recordsOf w) k) (recordAt old k)
           (losing-record (mappings w) ops (recordsOf w) k .same) (losing-record (mappings w) ops (recordsOf w) k .less) (f .passed .records k) (ap isEmpty (sym same) ∙ e))
 
   -- refusal 1 does not hold
@@ -115,16 +115,16 @@ module _ (generation : ℕ) (w : World) (ops : List Op) (f : Rewritable generati
   passed-with =
       let p = f .passed in
       let kept = same-ids in
-      let long : length (tableWith (newLsn 0 w) w ops .ids) ≡ length (w .table .ids) = ap length (kept .ids) in
+      let long = kept .words in
       record {
         limits = record {
           settings = p .limits .settings;
           heap = p .limits .heap;
-          table = record { equal = long ∙ p .limits .table .equal ∙ sym (kept .locations); some = omega (arith, p .limits .table .some); most = omega (arith, p .limits .table .most) };
+          table = record { even = omega (arith, p .limits .table .even); some = omega (arith, p .limits .table .some); most = omega (arith, p .limits .table .most) };
         };
         settings = p .settings;
         heap-len = p .heap-len;
-        table-len = long ∙ p .table-len;
+        table-len = ap (λ (n : ℕ). n / 2) long ∙ p .table-len;
         form = kept .form;
         next = omega (arith, p .next);
         records = records-good;

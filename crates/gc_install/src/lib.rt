@@ -17,7 +17,7 @@ ghost use Rattle.rules.specs.FileMap.{emptySlots, lowestEmpty};
 ghost use Rattle.rules.specs.Stores.{made, fileStores};
 ghost use Rattle.rules.specs.Install.{installed};
 ghost use Rattle.rules.specs.World.{world};
-ghost use Rattle.rules.specs.Layout.{table, tableIds};
+ghost use Rattle.rules.specs.Layout.{tableIds};
 ghost use Rattle.install.specs.Standing.{Addable};
 ghost use Rattle.gc_files.specs.Places.{filedOps};
 ghost use Rattle.gc_writer.specs.Writing.{Writing};
@@ -26,20 +26,21 @@ ghost use Rattle.gc_install.specs.Placing.{Placing};
 // The whole run of the file: it is no longer than the heap.
 fn put_piece(
     heap: &mut [u8],
-    ids: &[u64],
+    table: &[u64],
     places: &[u32],
     pieces: &[u32],
     file: PieceFile,
     new: Label,
 )
     requires { ⌜ Writing (file .start) (file .«slot_bytes»)
-        (now heap) (tableIds (now ids)) (now places) (now pieces) (file .piece) (file .count) (file .total) ⌝ }
+        (now heap) (tableIds (now table)) (now places) (now pieces) (file .piece) (file .count) (file .total) ⌝ }
     ensures { λ _. ⌜ now (heap .exit) ≡ made (fileStores (file .start) (labelBytes new)
-        (fileBytes (filedOps (file .piece) (now (heap .entry)) (tableIds (now (ids .entry))) (now (places .entry)) (now (pieces .entry)))))
+        (fileBytes (filedOps (file .piece)
+        (now (heap .entry)) (tableIds (now (table .entry))) (now (places .entry)) (now (pieces .entry)))))
         (now (heap .entry)) ⌝ }
 {
     let k = heap.len() as u64;
-    gc_writer::write_piece(heap, ids, places, pieces, file, new, k);
+    gc_writer::write_piece(heap, table, places, pieces, file, new, k);
 }
 
 // What a piece becomes: a file of a generation in a slot.
@@ -63,19 +64,18 @@ fn add_at(
     settings: Settings,
     state: State,
     heap: &mut [u8],
-    ids: &mut [u64],
-    locations: &mut [u64],
+    table: &mut [u64],
     places: &[u32],
     pieces: &[u32],
     file: SizedFile,
 ) -> State
-    requires { ⌜ Addable 0 (filedOps (file .piece) (now heap) (tableIds (now ids)) (now places) (now pieces))
-        settings state (now heap) (table (now ids) (now locations)) (file .slot) (file .count) (file .total) ⌝ }
+    requires { ⌜ Addable 0 (filedOps (file .piece) (now heap) (tableIds (now table)) (now places) (now pieces))
+        settings state (now heap) (now table) (file .slot) (file .count) (file .total) ⌝ }
     requires { ⌜ Writing (file .slot * settings .«slot_bytes») (settings .«slot_bytes»)
-        (now heap) (tableIds (now ids)) (now places) (now pieces) (file .piece) (file .count) (file .total) ⌝ }
-    ensures { λ r. ⌜ ((c : Claims) → world settings r c (now (heap .exit)) (table (now (ids .exit)) (now (locations .exit)))
-        ≡ installed 0 (file .generation) (world settings state c (now (heap .entry)) (table (now (ids .entry)) (now (locations .entry))))
-        (filedOps (file .piece) (now (heap .entry)) (tableIds (now (ids .entry))) (now (places .entry)) (now (pieces .entry)))) ⌝ }
+        (now heap) (tableIds (now table)) (now places) (now pieces) (file .piece) (file .count) (file .total) ⌝ }
+    ensures { λ r. ⌜ ((c : Claims) → world settings r c (now (heap .exit)) (now (table .exit))
+        ≡ installed 0 (file .generation) (world settings state c (now (heap .entry)) (now (table .entry)))
+        (filedOps (file .piece) (now (heap .entry)) (tableIds (now (table .entry))) (now (places .entry)) (now (pieces .entry)))) ⌝ }
 {
     // "lsn = base without the batch bit", the new generation
     let base = state.next_position;
@@ -89,7 +89,7 @@ fn add_at(
         count: file.count,
         total: file.total,
     };
-    put_piece(heap, ids, places, pieces, written, new);
+    put_piece(heap, table, places, pieces, written, new);
     let files = state.files;
     let lsns = file_map::lsns(files);
     let mut lives = file_map::lives(files);
@@ -99,7 +99,7 @@ fn add_at(
         total: file.total,
         lsn: new.lsn,
     };
-    install::install(&lsns, &mut lives, ids, locations, heap, stored);
+    install::install(&lsns, &mut lives, table, heap, stored);
     install::with_file(state, &lives, file.slot, new)
 }
 
@@ -110,37 +110,36 @@ pub fn add_piece(
     settings: Settings,
     state: State,
     heap: &mut [u8],
-    ids: &mut [u64],
-    locations: &mut [u64],
+    table: &mut [u64],
     places: &[u32],
     pieces: &[u32],
     file: NewFile,
 ) -> State
-    requires { ⌜ Placing settings state (now heap) (now ids) (now locations) (now places) (now pieces) ⌝ }
+    requires { ⌜ Placing settings state (now heap) (now table) (now places) (now pieces) ⌝ }
     requires { ⌜ file .generation ≤ 255 ⌝ }
-    requires { ⌜ 64 + length (fileBytes (filedOps (file .piece) (now heap) (tableIds (now ids)) (now places) (now pieces)))
+    requires { ⌜ 64 + length (fileBytes (filedOps (file .piece) (now heap) (tableIds (now table)) (now places) (now pieces)))
         ≤ settings .«slot_bytes» ⌝ }
     requires { ⌜ (0 < length (emptySlots (slotsIn settings (length (now heap))) (state .files .records)))
         × (file .slot ≡ lowestEmpty (slotsIn settings (length (now heap))) (state .files .records)) ⌝ }
     requires { ⌜ state .«next_position»
-        + (length (objectsOf (filedOps (file .piece) (now heap) (tableIds (now ids)) (now places) (now pieces))) + 1)
+        + (length (objectsOf (filedOps (file .piece) (now heap) (tableIds (now table)) (now places) (now pieces))) + 1)
         ≤ 2 ^ 62 ⌝ }
-    ensures { λ r. ⌜ ((c : Claims) → world settings r c (now (heap .exit)) (table (now (ids .exit)) (now (locations .exit)))
-        ≡ installed 0 (file .generation) (world settings state c (now (heap .entry)) (table (now (ids .entry)) (now (locations .entry))))
-        (filedOps (file .piece) (now (heap .entry)) (tableIds (now (ids .entry))) (now (places .entry)) (now (pieces .entry)))) ⌝ }
-    ensures { λ r. ⌜ Placing settings r (now (heap .exit)) (now (ids .exit)) (now (locations .exit))
+    ensures { λ r. ⌜ ((c : Claims) → world settings r c (now (heap .exit)) (now (table .exit))
+        ≡ installed 0 (file .generation) (world settings state c (now (heap .entry)) (now (table .entry)))
+        (filedOps (file .piece) (now (heap .entry)) (tableIds (now (table .entry))) (now (places .entry)) (now (pieces .entry)))) ⌝ }
+    ensures { λ r. ⌜ Placing settings r (now (heap .exit)) (now (table .exit))
         (now (places .entry)) (now (pieces .entry)) ⌝ }
-    ensures { λ _. ⌜ now (ids .exit) ≡ now (ids .entry) ⌝ }
-    ensures { λ _. ⌜ ((q : ℕ) → filedOps q (now (heap .exit)) (tableIds (now (ids .exit))) (now (places .entry)) (now (pieces .entry))
-        ≡ filedOps q (now (heap .entry)) (tableIds (now (ids .entry))) (now (places .entry)) (now (pieces .entry))) ⌝ }
+    ensures { λ _. ⌜ tableIds (now (table .exit)) ≡ tableIds (now (table .entry)) ⌝ }
+    ensures { λ _. ⌜ ((q : ℕ) → filedOps q (now (heap .exit)) (tableIds (now (table .exit))) (now (places .entry)) (now (pieces .entry))
+        ≡ filedOps q (now (heap .entry)) (tableIds (now (table .entry))) (now (places .entry)) (now (pieces .entry))) ⌝ }
     ensures { λ r. ⌜ emptySlots (slotsIn settings (length (now (heap .entry)))) (state .files .records)
         ≡ file .slot ∷ emptySlots (slotsIn settings (length (now (heap .exit)))) (r .files .records) ⌝ }
     ensures { λ r. ⌜ r .«next_position» ≡ state .«next_position»
         + (length (objectsOf
-        (filedOps (file .piece) (now (heap .entry)) (tableIds (now (ids .entry))) (now (places .entry)) (now (pieces .entry))))
+        (filedOps (file .piece) (now (heap .entry)) (tableIds (now (table .entry))) (now (places .entry)) (now (pieces .entry))))
         + 1) ⌝ }
 {
-    let sizes = gc_writer::sized(heap, ids, places, pieces, file.piece);
+    let sizes = gc_writer::sized(heap, table, places, pieces, file.piece);
     let sized = SizedFile {
         piece: file.piece,
         generation: file.generation,
@@ -148,5 +147,5 @@ pub fn add_piece(
         count: sizes.count,
         total: sizes.total,
     };
-    add_at(settings, state, heap, ids, locations, places, pieces, sized)
+    add_at(settings, state, heap, table, places, pieces, sized)
 }

@@ -5,26 +5,25 @@ use Rattle.rules.specs.Base.{List, ℕ, _^_, length, getD}
 use Rattle.rules.specs.declared.Record.{Record}
 use Rattle.rules.specs.declared.Answer.the-variants.{Done}
 use Rattle.rules.specs.Refusal.{decide}
-use Rattle.rules.specs.Layout.{table}
+use Rattle.rules.specs.Layout.{Table, tableIds, usedEntries}
 use Rattle.location_table.specs.Tables.{Formed}
-use Rattle.location_table.specs.LayoutLaws.{used}
 use Rattle.gc_candidates.specs.Plan.{planned}
 use Rattle.gc_group.specs.Source.{source, Ready}
 use Rattle.gc_group.specs.Checks.{groupChecks}
 use Rattle.gc_files.specs.Places.{Whole, InSlot}
 
 -- what is known of a group whose checks are clear, its files and its table, where there are n marks
-pub record Checked (limit size : ℕ) (heap : List ℕ) (records : List Record) (plan : List ℕ) (generation : ℕ) (is ls : List ℕ) (n : ℕ) : Type 0 where
+pub record Checked (limit size : ℕ) (heap : List ℕ) (records : List Record) (plan : List ℕ) (generation : ℕ) (table : Table) (n : ℕ) : Type 0 where
   pub low : 64 ≤ size
   pub high : size ≤ 2 ^ 20
   pub ready : Ready size (length heap) records plan generation
-  pub clear : decide (groupChecks limit (source size heap records (used is ls)) (planned plan generation)) ≡ Done
-  pub formed : Formed (table is ls)
-  pub wide : length is ≤ n
+  pub clear : decide (groupChecks limit (source size heap records (usedEntries table)) (planned plan generation)) ≡ Done
+  pub formed : Formed table
+  pub wide : length (tableIds table) ≤ n
 
 -- only used entries of the table are moved
-abbrev pub OfUsed : List ℕ → List ℕ → List ℕ → Type 0
-OfUsed ids locations places = (i : ℕ) → 0 < getD places i 0 → i < length (used ids locations)
+abbrev pub OfUsed : Table → List ℕ → Type 0
+OfUsed table places = (i : ℕ) → 0 < getD places i 0 → i < length (usedEntries table)
 
 -- an object lies whole in a slot of the group, behind its label
 abbrev pub Kept : ℕ → List ℕ → List ℕ → ℕ → ℕ → Type 0

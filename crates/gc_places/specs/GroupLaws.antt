@@ -25,9 +25,10 @@ use Rattle.rules.specs.FileMap.{emptyRecord, recordAt}
 use Rattle.rules.specs.Ops.{Op, settled}
 use Rattle.rules.specs.BaseLaws.{replicate-at}
 use Rattle.rules.specs.Table.{noEntry}
-use Rattle.rules.specs.Layout.{table}
+use Rattle.rules.specs.Layout.{Table, tableIds, tableLocations, usedEntries}
+use Rattle.rules.specs.LayoutLaws.{ids-count, locations-count, used-length}
 use Rattle.location_table.specs.Tables.{Formed}
-use Rattle.location_table.specs.LayoutLaws.{used, used-id, used-location, used-rising, used-fits}
+use Rattle.location_table.specs.LayoutLaws.{used-id, used-location, used-rising}
 use Rattle.file_map.specs.Lists.{lsnsOf}
 use Rattle.gc_candidates.specs.Plan.{planned, planned-all}
 use Rattle.gc_group.specs.Source.{Source, source, Ready, part-length}
@@ -40,11 +41,11 @@ use Rattle.gc_files.specs.MarkedLaws.{object-there, object-part-stands, place-d
 use Rattle.gc_places.specs.Group.{Checked, OfUsed, Kept, InGroup}
 
 -- settings in their ranges have slots of a fitting size
-pub group-checked : (s : Settings) (heap : List ℕ) (records : List Record) (plan : List ℕ) (generation : ℕ) (is ls : List ℕ) (n : ℕ) → InRanges s
+pub group-checked : (s : Settings) (heap : List ℕ) (records : List Record) (plan : List ℕ) (generation : ℕ) (table : Table) (n : ℕ) → InRanges s
     → Ready (s .«slot_bytes») (length heap) records plan generation
-    → decide (groupChecks (s .«max_object_size») (source (s .«slot_bytes») heap records (used is ls)) (planned plan generation)) ≡ Done
-    → Formed (table is ls) → length is ≤ n → Checked (s .«max_object_size») (s .«slot_bytes») heap records plan generation is ls n
-group-checked s heap records plan generation is ls n ranges ready clear formed wide =
+    → decide (groupChecks (s .«max_object_size») (source (s .«slot_bytes») heap records (usedEntries table)) (planned plan generation)) ≡ Done
+    → Formed table → length (tableIds table) ≤ n → Checked (s .«max_object_size») (s .«slot_bytes») heap records plan generation table n
+group-checked s heap records plan generation table n ranges ready clear formed wide =
     record { low = omega (arith, ranges .slot-low); high = ranges .slot-high; ready = ready; clear = clear; formed = formed; wide = wide }
 
 -- ---- places one by one
@@ -153,13 +154,23 @@ object-lies size heap r k p low high whole offset room =
       inside = record { behind = omega arith; inside = omega (arith, there .size, room, long, left) };
     }
 
-module _ (limit size : ℕ) (heap : List ℕ) (records : List Record) (plan : List ℕ) (generation : ℕ) (is ls : List ℕ) (n : ℕ) where
-  -- the group's source, the lsns of its files, its slots, and its marks
+module _ (limit size : ℕ) (heap : List ℕ) (records : List Record) (plan : List ℕ) (generation : ℕ) (table : Table) (n : ℕ) where
+  -- the group's source, the table's ids and locations, the lsns of its files, its slots, and its marks
   abbrev from : Source
-  from = source size heap records (used is ls)
+  from = source size heap records (usedEntries table)
+
+  abbrev is : List ℕ
+  is = tableIds table
+
+  abbrev ls : List ℕ
+  ls = tableLocations table
 
   abbrev lsns : List ℕ
   lsns = lsnsOf records
+
+  -- as many of the one as of the other
+  same-count : length ls ≡ length is
+  same-count = locations-count table ∙ sym (ids-count table)
 
   abbrev slots : List ℕ
   slots = planned plan generation
@@ -169,7 +180,7 @@ module _ (limit size : ℕ) (heap : List ℕ) (records : List Record) (plan : Li
 
   -- entry i of the table
   abbrev entryAt : ℕ → Entry
-  entryAt i = getD (used is ls) i noEntry
+  entryAt i = getD (usedEntries table) i noEntry
 
   -- its place in slot k
   abbrev place : ℕ → ℕ → ℕ
@@ -184,20 +195,20 @@ module _ (limit size : ℕ) (heap : List ℕ) (records : List Record) (plan : Li
     high : deleteOf (getD ls i 0) ≡ false → positionOf (getD ls i 0) - getD lsns k 0 ≤ 2 ^ 20
     kept : 1 < place i k → Kept size heap plan generation (place i k)
 
-  module _ (a : Checked limit size heap records plan generation is ls n) where
-    fits : length (used is ls) ≤ n
-    fits = omega (arith, used-fits is ls (a .formed), a .wide)
+  module _ (a : Checked limit size heap records plan generation table n) where
+    fits : length (usedEntries table) ≤ n
+    fits = omega (arith, used-length table, ids-count table, a .wide)
 
     -- a delete
-    stood-delete : (i k : ℕ) → i < length (used is ls) → k < 256 → deleteOf (getD ls i 0) ≡ true → Stood i k
+    stood-delete : (i k : ℕ) → i < length (usedEntries table) → k < 256 → deleteOf (getD ls i 0) ≡ true → Stood i k
     unfolding contentAt
     stood-delete i k h few d =
         let is-one = place-gone size lsns (getD ls i 0) k d in
         let next : suc k ≡ k + 1 = omega arith in
-        let gone : deleteOf (entryAt i .location) ≡ true = rw (← used-location is ls i h) d in
+        let gone : deleteOf (entryAt i .location) ≡ true = rw (← used-location table i h) d in
         record {
           some = omega (arith, is-one);
-          op = place-delete size heap lsns (getD ls i 0) k (suc k) next (getD is i 0) d ∙ rw (gone, used-id is ls i h) refl;
+          op = place-delete size heap lsns (getD ls i 0) k (suc k) next (getD is i 0) d ∙ rw (gone, used-id table i h) refl;
           slot = few;
           low = λ e. absurd (let z : true ≡ false = sym d ∙ e in let y : _≡_ {A = ℕ} 0 1 = cc in omega arith);
           high = λ e. absurd (let z : true ≡ false = sym d ∙ e in let y : _≡_ {A = ℕ} 0 1 = cc in omega arith);
@@ -205,13 +216,13 @@ module _ (limit size : ℕ) (heap : List ℕ) (records : List Record) (plan : Li
         }
 
     -- an object
-    stood-object : (i k : ℕ) → i < length (used is ls) → k < 256 → getD plan k 0 ≡ generation → deleteOf (getD ls i 0) ≡ false → Moves limit from (entryAt i) k → Stood i k
+    stood-object : (i k : ℕ) → i < length (usedEntries table) → k < 256 → getD plan k 0 ≡ generation → deleteOf (getD ls i 0) ≡ false → Moves limit from (entryAt i) k → Stood i k
     unfolding contentAt
     stood-object i k h few chosen d moves =
         let location = getD ls i 0 in
         let r = recordAt records k .label in
         let lsn : getD lsns k 0 ≡ r .lsn = List·getD-map (λ (q : Record). q .label .lsn) records k emptyRecord in
-        let at : location ≡ entryAt i .location = used-location is ls i h in
+        let at : location ≡ entryAt i .location = used-location table i h in
         let p = positionOf location - getD lsns k 0 in
         let same : positionOf (entryAt i .location) - r .lsn ≡ p = ap₂ (λ (l m : ℕ). positionOf l - m) (sym at) (sym lsn) in
         let part = objectPart r (slotBytes size heap k) in
@@ -225,7 +236,7 @@ module _ (limit size : ℕ) (heap : List ℕ) (records : List Record) (plan : Li
         let there : deleteOf (entryAt i .location) ≡ false = rw (← at) d in
         record {
           some = omega (arith, is-at);
-          op = stands .0 ∙ rw (there, same, used-id is ls i h) refl;
+          op = stands .0 ∙ rw (there, same, used-id table i h) refl;
           slot = few;
           low = λ e. omega (arith, lsn, ap positionOf at, moves .low);
           high = λ e. lies .high;
@@ -233,25 +244,25 @@ module _ (limit size : ℕ) (heap : List ℕ) (records : List Record) (plan : Li
         }
 
     -- every mark is of a slot where the entry stands
-    stood : (i k : ℕ) → i < length (used is ls) → getD marks i 0 ≡ suc k → Stood i k
+    stood : (i k : ℕ) → i < length (usedEntries table) → getD marks i 0 ≡ suc k → Stood i k
     stood i k h e =
-        let w = marks-backed limit from (λ (j : ℕ). (j < length plan) × (getD plan j 0 ≡ generation)) slots n (used-rising is ls (a .formed)) fits (a .clear) (planned-all plan generation) i k h e in
+        let w = marks-backed limit from (λ (j : ℕ). (j < length plan) × (getD plan j 0 ≡ generation)) slots n (used-rising table (a .formed)) fits (a .clear) (planned-all plan generation) i k h e in
         let few : k < 256 = omega (arith, w .0 .0, a .ready .slots) in
         go (deleteOf (getD ls i 0)) refl (w .0 .1) (w .1) few
       where
         go : (t : Bool) → deleteOf (getD ls i 0) ≡ t → getD plan k 0 ≡ generation → (deleteOf (entryAt i .location) ≡ false → Moves limit from (entryAt i) k) → k < 256 → Stood i k
         go true d chosen backed few = stood-delete i k h few d
-        go false d chosen backed few = stood-object i k h few chosen d (backed (rw (← used-location is ls i h) d))
+        go false d chosen backed few = stood-object i k h few chosen d (backed (rw (← used-location table i h) d))
 
     -- an entry behind the used ones has no mark
-    unmarked : (i k : ℕ) → length (used is ls) ≤ i → getD marks i 0 ≡ suc k → ⊥
+    unmarked : (i k : ℕ) → length (usedEntries table) ≤ i → getD marks i 0 ≡ suc k → ⊥
     unmarked i k past e = omega (arith, marks-behind from n slots i past, e)
 
     -- so every mark can be turned into a place
     placeable : length lsns ≡ 256 → (i : ℕ) → Placeable lsns (getD ls i 0) (getD marks i 0)
-    placeable all i = go (either-way i (length (used is ls))) (getD marks i 0) refl
+    placeable all i = go (either-way i (length (usedEntries table))) (getD marks i 0) refl
       where
-        go : (i < length (used is ls)) ⊎ (length (used is ls) ≤ i) → (m : ℕ) → getD marks i 0 ≡ m → Placeable lsns (getD ls i 0) m
+        go : (i < length (usedEntries table)) ⊎ (length (usedEntries table) ≤ i) → (m : ℕ) → getD marks i 0 ≡ m → Placeable lsns (getD ls i 0) m
         go w zero e = record { slots = all; slot = omega arith; low = λ some d. absurd (not-suc-le-zero some); high = λ some d. absurd (not-suc-le-zero some) }
         go (inr past) (suc k) e = absurd (unmarked i k past e)
         go (inl inside) (suc k) e =
@@ -262,8 +273,8 @@ module _ (limit size : ℕ) (heap : List ℕ) (records : List Record) (plan : Li
     -- by lists that are the lsns and the marks
     pub placeables : (ns ms old : List ℕ) → length ns ≡ 256 → ns ≡ lsns → ms ≡ marks → length is ≤ length old → Placeables ns ls ms old
     placeables ns ms old all e f room = record {
-      marks = omega (arith, a .formed .even, a .wide, marks-length from n slots, ap length f);
-      room = omega (arith, a .formed .even);
+      marks = omega (arith, same-count, a .wide, marks-length from n slots, ap length f);
+      room = omega (arith, same-count);
       each = λ i h. rw (e, f) (placeable (ap length (sym e) ∙ all) i);
     }
 
@@ -275,34 +286,34 @@ module _ (limit size : ℕ) (heap : List ℕ) (records : List Record) (plan : Li
       place-at : (i : ℕ) → i < length is → getD places i 0 ≡ placeFor size lsns (getD ls i 0) (getD marks i 0)
       place-at i h =
           front-zero (placesFor size lsns ls marks) m i
-          ∙ places-at size lsns ls marks i (omega (arith, a .formed .even)) (omega (arith, a .wide, marks-length from n slots))
+          ∙ places-at size lsns ls marks i (omega (arith, same-count)) (omega (arith, a .wide, marks-length from n slots))
 
       -- none behind the used entries
-      place-behind : (i : ℕ) → length (used is ls) ≤ i → getD places i 0 ≡ 0
+      place-behind : (i : ℕ) → length (usedEntries table) ≤ i → getD places i 0 ≡ 0
       place-behind i past = go (either-way i (length is))
         where
           go : (i < length is) ⊎ (length is ≤ i) → getD places i 0 ≡ 0
           go (inl h) = place-at i h ∙ ap (placeFor size lsns (getD ls i 0)) (marks-behind from n slots i past) ∙ place-none size lsns (getD ls i 0)
           go (inr h) =
               let few : length (placesFor size lsns ls marks) ≤ i =
-              omega (arith, places-length size lsns ls marks (omega (arith, a .formed .even, a .wide, marks-length from n slots)), a .formed .even) in
+              omega (arith, places-length size lsns ls marks (omega (arith, same-count, a .wide, marks-length from n slots)), same-count) in
               front-zero (placesFor size lsns ls marks) m i ∙ List·getD-eq-default (placesFor size lsns ls marks) 0 {n = i} few
 
-      pub places-used : OfUsed is ls places
-      places-used i some = go (either-way i (length (used is ls)))
+      pub places-used : OfUsed table places
+      places-used i some = go (either-way i (length (usedEntries table)))
         where
-          go : (i < length (used is ls)) ⊎ (length (used is ls) ≤ i) → i < length (used is ls)
+          go : (i < length (usedEntries table)) ⊎ (length (usedEntries table) ≤ i) → i < length (usedEntries table)
           go (inl h) = h
           go (inr past) = absurd (omega (arith, place-behind i past))
 
       -- the place of entry i, by its mark
-      marked-place : (i k : ℕ) → i < length (used is ls) → getD marks i 0 ≡ k → getD places i 0 ≡ placeFor size lsns (getD ls i 0) k
-      marked-place i k h e = place-at i (omega (arith, used-fits is ls (a .formed))) ∙ ap (placeFor size lsns (getD ls i 0)) e
+      marked-place : (i k : ℕ) → i < length (usedEntries table) → getD marks i 0 ≡ k → getD places i 0 ≡ placeFor size lsns (getD ls i 0) k
+      marked-place i k h e = place-at i (omega (arith, used-length table, ids-count table)) ∙ ap (placeFor size lsns (getD ls i 0)) e
 
       pub places-kept : InGroup size heap plan generation places
       places-kept i more = go (places-used i (omega arith)) (getD marks i 0) refl
         where
-          go : i < length (used is ls) → (k : ℕ) → getD marks i 0 ≡ k → Kept size heap plan generation (getD places i 0)
+          go : i < length (usedEntries table) → (k : ℕ) → getD marks i 0 ≡ k → Kept size heap plan generation (getD places i 0)
           go h zero e = absurd (omega (arith, marked-place i 0 h e, place-none size lsns (getD ls i 0)))
           go h (suc k) e =
               let at = marked-place i (suc k) h e in
@@ -313,54 +324,54 @@ module _ (limit size : ℕ) (heap : List ℕ) (records : List Record) (plan : Li
 
       wide-places : length is ≤ length places
       wide-places =
-          let few = places-length size lsns ls marks (omega (arith, a .formed .even, a .wide, marks-length from n slots)) in
+          let few = places-length size lsns ls marks (omega (arith, same-count, a .wide, marks-length from n slots)) in
           let zeros = length-replicate {A = ℕ} m 0 in
-          omega (arith, few, zeros, a .formed .even, front-length (replicate m 0) (placesFor size lsns ls marks) (omega (arith, few, zeros, a .formed .even)))
+          omega (arith, few, zeros, same-count, front-length (replicate m 0) (placesFor size lsns ls marks) (omega (arith, few, zeros, same-count)))
 
       -- the lists are as long as the used entries
-      of-ids : (i : ℕ) → i < length (used is ls) → i < length is
-      of-ids i h = omega (arith, used-fits is ls (a .formed))
+      of-ids : (i : ℕ) → i < length (usedEntries table) → i < length is
+      of-ids i h = omega (arith, used-length table, ids-count table)
 
-      of-places : (i : ℕ) → i < length (used is ls) → i < length places
-      of-places i h = omega (arith, used-fits is ls (a .formed), wide-places)
+      of-places : (i : ℕ) → i < length (usedEntries table) → i < length places
+      of-places i h = omega (arith, used-length table, ids-count table, wide-places)
 
-      of-marks : (i : ℕ) → i < length (used is ls) → i < length marks
+      of-marks : (i : ℕ) → i < length (usedEntries table) → i < length marks
       of-marks i h = omega (arith, fits, marks-length from n slots)
 
       -- nothing stands behind the used entries
-      placed-past : (i : ℕ) → length (used is ls) ≤ i → placedOps heap (drop i is) (drop i places) ≡ markedOps from (drop i (used is ls)) (drop i marks)
+      placed-past : (i : ℕ) → length (usedEntries table) ≤ i → placedOps heap (drop i is) (drop i places) ≡ markedOps from (drop i (usedEntries table)) (drop i marks)
       placed-past i past =
           placed-none heap (drop i is) (drop i places) (λ j. getD-drop i places j 0 ∙ place-behind (i + j) (omega arith))
-          ∙ sym (marked-end from (used is ls) marks i past)
+          ∙ sym (marked-end from (usedEntries table) marks i past)
 
       -- entry by entry, what stands at the places is what is marked
-      placed-from : (left i : ℕ) → length (used is ls) ≤ i + left → placedOps heap (drop i is) (drop i places) ≡ markedOps from (drop i (used is ls)) (drop i marks)
+      placed-from : (left i : ℕ) → length (usedEntries table) ≤ i + left → placedOps heap (drop i is) (drop i places) ≡ markedOps from (drop i (usedEntries table)) (drop i marks)
       placed-from zero i h = placed-past i (omega arith)
-      placed-from (suc left) i h = go (either-way i (length (used is ls))) (getD marks i 0) refl (placed-from left (i + 1) (omega arith))
+      placed-from (suc left) i h = go (either-way i (length (usedEntries table))) (getD marks i 0) refl (placed-from left (i + 1) (omega arith))
         where
           rest : Type 0
-          rest = placedOps heap (drop (i + 1) is) (drop (i + 1) places) ≡ markedOps from (drop (i + 1) (used is ls)) (drop (i + 1) marks)
+          rest = placedOps heap (drop (i + 1) is) (drop (i + 1) places) ≡ markedOps from (drop (i + 1) (usedEntries table)) (drop (i + 1) marks)
 
-          go : (i < length (used is ls)) ⊎ (length (used is ls) ≤ i) → (k : ℕ) → getD marks i 0 ≡ k → rest
-              → placedOps heap (drop i is) (drop i places) ≡ markedOps from (drop i (used is ls)) (drop i marks)
+          go : (i < length (usedEntries table)) ⊎ (length (usedEntries table) ≤ i) → (k : ℕ) → getD marks i 0 ≡ k → rest
+              → placedOps heap (drop i is) (drop i places) ≡ markedOps from (drop i (usedEntries table)) (drop i marks)
           go (inr past) k e ih = placed-past i past
           go (inl inside) zero e ih =
               let none = marked-place i 0 inside e ∙ place-none size lsns (getD ls i 0) in
-              placed-next heap is places i (of-ids i inside) (of-places i inside) none ∙ ih ∙ sym (marked-next from (used is ls) marks i inside (of-marks i inside) e)
+              placed-next heap is places i (of-ids i inside) (of-places i inside) none ∙ ih ∙ sym (marked-next from (usedEntries table) marks i inside (of-marks i inside) e)
           go (inl inside) (suc k) e ih =
               let at = marked-place i (suc k) inside e in
               let w = stood i k inside e in
               placed-here heap is places i (of-ids i inside) (of-places i inside) (omega (arith, at, w .some))
               ∙ ap₂ (λ (o : Op) (os : List Op). o ∷ os) (ap (opAt heap (getD is i 0)) at ∙ w .op) ih
-              ∙ sym (marked-here from (used is ls) marks i inside (of-marks i inside) k e)
+              ∙ sym (marked-here from (usedEntries table) marks i inside (of-marks i inside) k e)
 
       -- "one found twice only once, as last found"
       pub placed-found : placedOps heap is places ≡ settled (each (foundAt from) slots)
-      placed-found = placed-from (length (used is ls)) 0 (omega arith) ∙ marked-settled from slots n (used-rising is ls (a .formed)) fits
+      placed-found = placed-from (length (usedEntries table)) 0 (omega arith) ∙ marked-settled from slots n (used-rising table (a .formed)) fits
 
     -- ---- what is known of the places, once they are put into a list of zeros
     abbrev Told : List ℕ → Type 0
-    Told ps = (placedOps heap is ps ≡ settled (each (foundAt from) slots)) × (OfUsed is ls ps × (Standing heap ps × InGroup size heap plan generation ps))
+    Told ps = (placedOps heap is ps ≡ settled (each (foundAt from) slots)) × (OfUsed table ps × (Standing heap ps × InGroup size heap plan generation ps))
 
     pub places-told : (old ps : List ℕ) → length is ≤ length old → old ≡ replicate (length old) 0 → ps ≡ front (placesFor size lsns ls marks) old → Told ps
     places-told old ps room zeros e =

@@ -14,9 +14,8 @@ ghost use Rattle.rules.specs.declared.Answer.the-variants.{Done};
 ghost use Rattle.rules.specs.Refusal.{decide};
 ghost use Rattle.rules.specs.Ops.{settled};
 ghost use Rattle.rules.specs.SettingsLaws.{InRanges};
-ghost use Rattle.rules.specs.Layout.{table, tableIds};
+ghost use Rattle.rules.specs.Layout.{tableIds, usedEntries};
 ghost use Rattle.location_table.specs.Tables.{Formed};
-ghost use Rattle.location_table.specs.LayoutLaws.{used};
 ghost use Rattle.gc_candidates.specs.Plan.{planned};
 ghost use Rattle.gc_group.specs.Source.{source, Ready};
 ghost use Rattle.gc_group.specs.Checks.{groupChecks};
@@ -32,33 +31,32 @@ pub fn place_group(
     heap: &[u8],
     m: FileMap,
     plan: &[u64],
-    ids: &[u64],
-    locations: &[u64],
+    table: &[u64],
     marks: &mut [u32],
     places: &mut [u32],
 ) -> Answer
     requires { ⌜ InRanges (group .settings) ⌝ }
     requires { ⌜ Ready (group .settings .«slot_bytes») (length (now heap)) (m .records) (now plan) (group .generation) ⌝ }
-    requires { ⌜ Formed (table (now ids) (now locations)) ⌝ }
-    requires { ⌜ (length (tableIds (now ids)) ≤ length (now marks))
-        × (length (tableIds (now ids)) ≤ length (now places))
+    requires { ⌜ Formed (now table) ⌝ }
+    requires { ⌜ (length (tableIds (now table)) ≤ length (now marks))
+        × (length (tableIds (now table)) ≤ length (now places))
         × (now places ≡ replicate (length (now places)) 0) ⌝ }
     ensures { λ r. ⌜ r ≡ decide (groupChecks (group .settings .«max_object_size»)
-        (source (group .settings .«slot_bytes») (now (heap .entry)) (m .records) (used (now (ids .entry)) (now (locations .entry))))
+        (source (group .settings .«slot_bytes») (now (heap .entry)) (m .records) (usedEntries (now (table .entry))))
         (planned (now (plan .entry)) (group .generation))) ⌝ }
-    ensures { λ r. ⌜ (r ≡ Done → (placedOps (now (heap .entry)) (tableIds (now (ids .entry))) (now (places .exit))
+    ensures { λ r. ⌜ (r ≡ Done → (placedOps (now (heap .entry)) (tableIds (now (table .entry))) (now (places .exit))
         ≡ settled (each (foundAt
-        (source (group .settings .«slot_bytes») (now (heap .entry)) (m .records) (used (now (ids .entry)) (now (locations .entry)))))
+        (source (group .settings .«slot_bytes») (now (heap .entry)) (m .records) (usedEntries (now (table .entry)))))
         (planned (now (plan .entry)) (group .generation))))
-        × (OfUsed (now (ids .entry)) (now (locations .entry)) (now (places .exit))
+        × (OfUsed (now (table .entry)) (now (places .exit))
         × (Standing (now (heap .entry)) (now (places .exit))
         × InGroup (group .settings .«slot_bytes») (now (heap .entry)) (now (plan .entry)) (group .generation) (now (places .exit))))) ⌝ }
 {
     let mut lsns = [0u64; RECORDS];
-    match mark_group(group, heap, m, plan, ids, locations, marks, &mut lsns) {
+    match mark_group(group, heap, m, plan, table, marks, &mut lsns) {
         Answer::Refused(refusal) => return Answer::Refused(refusal),
         Answer::Done => {}
     }
-    place_all(locations, marks, &lsns, group.settings.slot_bytes, places);
+    place_all(table, marks, &lsns, group.settings.slot_bytes, places);
     Answer::Done
 }

@@ -16,8 +16,7 @@ use Rattle.rules.specs.FileMap.{isEmpty, recordAt}
 use Rattle.rules.specs.Condition1Laws.{Passed}
 use Rattle.rules.specs.Maintenance.{rewriteGroup}
 use Rattle.rules.specs.World.{world}
-use Rattle.rules.specs.Layout.{table}
-use Rattle.location_table.specs.LayoutLaws.{used}
+use Rattle.rules.specs.Layout.{tableIds, usedEntries}
 use Rattle.gc_candidates.specs.Plan.{planned}
 use Rattle.gc_group.specs.Source.{source, Ready}
 use Rattle.gc_group.specs.Checks.{groupChecks}
@@ -40,27 +39,27 @@ places-enough n h = rw (length-replicate {0} {A = ℕ} 65536 0) h
 pub places-blank : replicate {A = ℕ} 65536 0 ≡ replicate (length (replicate {A = ℕ} 65536 0)) 0
 places-blank = ap (λ (n : ℕ). replicate {A = ℕ} n 0) (sym (length-replicate {0} {A = ℕ} 65536 0))
 
-module _ (s : Settings) (t : State) (heap ids locations plan : List ℕ) (generation : ℕ) where
+module _ (s : Settings) (t : State) (heap table plan : List ℕ) (generation : ℕ) where
   -- none of the group's checks refuses
   pub record Checked : Type 0 where
-    pub limits : Passed s (length heap) (table ids locations) t
+    pub limits : Passed s (length heap) table t
     pub ready : Ready (s .«slot_bytes») (length heap) (t .files .records) plan generation
     pub filled : Filled t plan generation
-    pub clear : decide (groupChecks (s .«max_object_size») (source (s .«slot_bytes») heap (t .files .records) (used ids locations)) (planned plan generation)) ≡ Done
+    pub clear : decide (groupChecks (s .«max_object_size») (source (s .«slot_bytes») heap (t .files .records) (usedEntries table)) (planned plan generation)) ≡ Done
 
   -- what the group leaves
-  pub record Regrouped (moved : ℕ) (answer : Answer) (moved′ : ℕ) (r : State) (heap′ ids′ locations′ : List ℕ) : Type 0 where
-    pub course : (c : Claims) → courseGiven generation answer moved′ (world s r c heap′ (table ids′ locations′)) ≡ rewriteGroup generation (planned plan generation) moved (world s t c heap (table ids locations))
-    pub limits : Passed s (length heap′) (table ids′ locations′) r
+  pub record Regrouped (moved : ℕ) (answer : Answer) (moved′ : ℕ) (r : State) (heap′ table′ : List ℕ) : Type 0 where
+    pub course : (c : Claims) → courseGiven generation answer moved′ (world s r c heap′ table′) ≡ rewriteGroup generation (planned plan generation) moved (world s t c heap table)
+    pub limits : Passed s (length heap′) table′ r
     pub count : moved′ ≤ moved + 65536
     pub kept : Kept t r
 
   -- a check refuses: nothing is changed
-  pub group-stopped : (moved : ℕ) (r : Refusal) → Passed s (length heap) (table ids locations) t
-      → decide (groupChecks (s .«max_object_size») (source (s .«slot_bytes») heap (t .files .records) (used ids locations)) (planned plan generation)) ≡ Refused r
-      → Regrouped moved (Refused r) moved t heap ids locations
+  pub group-stopped : (moved : ℕ) (r : Refusal) → Passed s (length heap) table t
+      → decide (groupChecks (s .«max_object_size») (source (s .«slot_bytes») heap (t .files .records) (usedEntries table)) (planned plan generation)) ≡ Refused r
+      → Regrouped moved (Refused r) moved t heap table
   group-stopped moved r limits e = record {
-    course = λ c. group-refused generation (planned plan generation) moved (world s t c heap (table ids locations)) r e;
+    course = λ c. group-refused generation (planned plan generation) moved (world s t c heap table) r e;
     limits = limits;
     count = omega arith;
     kept = λ k some. some;
@@ -68,7 +67,7 @@ module _ (s : Settings) (t : State) (heap ids locations plan : List ℕ) (genera
 
   module _ (w : Checked) (places : List ℕ) where
     -- everything found stands at its place
-    pub group-moving : length ids ≤ length places → OfUsed ids locations places → InGroup (s .«slot_bytes») heap plan generation places → Moving s t heap ids locations places
+    pub group-moving : length (tableIds table) ≤ length places → OfUsed table places → InGroup (s .«slot_bytes») heap plan generation places → Moving s t heap table places
     group-moving wide found kept = record {
       limits = w .limits;
       wide = wide;
@@ -77,12 +76,12 @@ module _ (s : Settings) (t : State) (heap ids locations plan : List ℕ) (genera
     }
 
     -- and is rewritten
-    pub group-rewritten : (moved : ℕ) (answer : Answer) (moved′ : ℕ) (r : State) (heap′ ids′ locations′ : List ℕ)
-        → placedOps heap ids places ≡ settled (each (foundAt (source (s .«slot_bytes») heap (t .files .records) (used ids locations))) (planned plan generation))
-        → Rewritten s generation (placedOps heap ids places) moved t heap ids locations answer moved′ r heap′ ids′ locations′
-        → Regrouped moved answer moved′ r heap′ ids′ locations′
-    group-rewritten moved answer moved′ r heap′ ids′ locations′ found e = record {
-      course = λ c. e .course c ∙ group-clear generation (planned plan generation) moved (world s t c heap (table ids locations)) (w .clear) (placedOps heap ids places) found;
+    pub group-rewritten : (moved : ℕ) (answer : Answer) (moved′ : ℕ) (r : State) (heap′ table′ : List ℕ)
+        → placedOps heap (tableIds table) places ≡ settled (each (foundAt (source (s .«slot_bytes») heap (t .files .records) (usedEntries table))) (planned plan generation))
+        → Rewritten s generation (placedOps heap (tableIds table) places) moved t heap table answer moved′ r heap′ table′
+        → Regrouped moved answer moved′ r heap′ table′
+    group-rewritten moved answer moved′ r heap′ table′ found e = record {
+      course = λ c. e .course c ∙ group-clear generation (planned plan generation) moved (world s t c heap table) (w .clear) (placedOps heap (tableIds table) places) found;
       limits = e .limits;
       count = e .count;
       kept = e .kept;

@@ -14,6 +14,7 @@ use Rattle.rules.specs.declared.Claims.{Claims}
 use Rattle.rules.specs.Claims.{noClaims}
 use Rattle.rules.specs.Settings.{slotsIn}
 use Rattle.rules.specs.Ops.{Op, fileBytes}
+use Rattle.rules.specs.Layout.{tableIds}
 use Rattle.rules.specs.FileMap.{isEmpty, recordAt, emptySlots, lowestEmpty}
 use Rattle.rules.specs.Condition1Laws.{Passed}
 use Rattle.rules.specs.Install.{installed, installedAll}
@@ -21,7 +22,6 @@ use Rattle.rules.specs.World.{World, world, recordsOf}
 use Rattle.rules.specs.InstallLaws.{installed-lsn}
 use Rattle.rules.specs.LabelLaws.{lsn-some}
 use Rattle.rules.specs.FileMapLaws.{not-empty}
-use Rattle.rules.specs.Layout.{table}
 use Rattle.gc_files.specs.Places.{filedOps}
 use Rattle.gc_install.specs.Placing.{Placing}
 use Rattle.gc_rewrite.specs.Fitting.{Fitting, span, first-fits, first-room, first-positions, fitting-rest}
@@ -65,9 +65,9 @@ abbrev pub Words : List ℕ → Type 0
 Words ns = (k : ℕ) → getD ns k 0 < 2 ^ 32
 
 -- what adding the files with these numbers asks for
-pub record Puttable (s : Settings) (t : State) (heap ids locations places pieces order : List ℕ) : Type 0 where
-  pub placing : Placing s t heap ids locations places pieces
-  pub fitting : Fitting (s .«slot_bytes») (emptyIn s t heap) (t .«next_position») (filesIn heap ids places pieces order)
+pub record Puttable (s : Settings) (t : State) (heap table places pieces order : List ℕ) : Type 0 where
+  pub placing : Placing s t heap table places pieces
+  pub fitting : Fitting (s .«slot_bytes») (emptyIn s t heap) (t .«next_position») (filesIn heap (tableIds table) places pieces order)
   pub small : Words order
 
 -- a slot that had a file has one
@@ -75,57 +75,57 @@ abbrev pub Kept : State → State → Type 0
 Kept t r = (k : ℕ) → isEmpty (recordAt (t .files .records) k) ≡ false → isEmpty (recordAt (r .files .records) k) ≡ false
 
 -- what adding them leaves
-pub record PutAll (s : Settings) (generation : ℕ) (t : State) (heap ids locations : List ℕ) (files : List (List Op)) (r : State) (heap′ ids′ locations′ : List ℕ) : Type 0 where
-  pub worlds : (c : Claims) → world s r c heap′ (table ids′ locations′) ≡ installedAll 0 generation (world s t c heap (table ids locations)) files
-  pub limits : Passed s (length heap′) (table ids′ locations′) r
+pub record PutAll (s : Settings) (generation : ℕ) (t : State) (heap table : List ℕ) (files : List (List Op)) (r : State) (heap′ table′ : List ℕ) : Type 0 where
+  pub worlds : (c : Claims) → world s r c heap′ table′ ≡ installedAll 0 generation (world s t c heap table) files
+  pub limits : Passed s (length heap′) table′ r
   pub kept : Kept t r
 
 -- one of them was added
-pub record Added (s : Settings) (generation : ℕ) (places pieces : List ℕ) (t : State) (heap ids locations : List ℕ) (q : ℕ) (r : State) (heap′ ids′ locations′ : List ℕ) : Type 0 where
-  pub worlds : (c : Claims) → world s r c heap′ (table ids′ locations′) ≡ installed 0 generation (world s t c heap (table ids locations)) (filedOps q heap ids places pieces)
-  pub placing : Placing s r heap′ ids′ locations′ places pieces
-  pub filed : (p : ℕ) → filedOps p heap′ ids′ places pieces ≡ filedOps p heap ids places pieces
+pub record Added (s : Settings) (generation : ℕ) (places pieces : List ℕ) (t : State) (heap table : List ℕ) (q : ℕ) (r : State) (heap′ table′ : List ℕ) : Type 0 where
+  pub worlds : (c : Claims) → world s r c heap′ table′ ≡ installed 0 generation (world s t c heap table) (filedOps q heap (tableIds table) places pieces)
+  pub placing : Placing s r heap′ table′ places pieces
+  pub filed : (p : ℕ) → filedOps p heap′ (tableIds table′) places pieces ≡ filedOps p heap (tableIds table) places pieces
   pub slot : ℕ
   pub frees : emptiesIn s t heap ≡ slot ∷ emptiesIn s r heap′
-  pub next : r .«next_position» ≡ t .«next_position» + span (filedOps q heap ids places pieces)
+  pub next : r .«next_position» ≡ t .«next_position» + span (filedOps q heap (tableIds table) places pieces)
   pub sameHeap : length heap′ ≡ length heap
-  pub sameIds : ids′ ≡ ids
+  pub sameIds : tableIds table′ ≡ tableIds table
 
 -- ---- file by file
-module _ (s : Settings) (generation : ℕ) (places pieces order : List ℕ) (t : State) (heap ids locations : List ℕ) where
+module _ (s : Settings) (generation : ℕ) (places pieces order : List ℕ) (t : State) (heap table : List ℕ) where
   -- the files from f on are still to be added
-  pub record Put (f : ℕ) (r : State) (heap′ ids′ locations′ : List ℕ) : Type 0 where
+  pub record Put (f : ℕ) (r : State) (heap′ table′ : List ℕ) : Type 0 where
     pub low : f ≤ length order
-    pub placing : Placing s r heap′ ids′ locations′ places pieces
-    pub filed : (q : ℕ) → filedOps q heap′ ids′ places pieces ≡ filedOps q heap ids places pieces
-    pub fitting : Fitting (s .«slot_bytes») (emptyIn s r heap′) (r .«next_position») (filesIn heap ids places pieces (drop f order))
-    pub left : (c : Claims) → installedAll 0 generation (world s r c heap′ (table ids′ locations′)) (filesIn heap ids places pieces (drop f order))
-        ≡ installedAll 0 generation (world s t c heap (table ids locations)) (filesIn heap ids places pieces order)
+    pub placing : Placing s r heap′ table′ places pieces
+    pub filed : (q : ℕ) → filedOps q heap′ (tableIds table′) places pieces ≡ filedOps q heap (tableIds table) places pieces
+    pub fitting : Fitting (s .«slot_bytes») (emptyIn s r heap′) (r .«next_position») (filesIn heap (tableIds table) places pieces (drop f order))
+    pub left : (c : Claims) → installedAll 0 generation (world s r c heap′ table′) (filesIn heap (tableIds table) places pieces (drop f order))
+        ≡ installedAll 0 generation (world s t c heap table) (filesIn heap (tableIds table) places pieces order)
     pub frees : emptiesIn s r heap′ ≡ drop f (emptiesIn s t heap)
     pub kept : Kept t r
     pub sameHeap : length heap′ ≡ length heap
-    pub sameIds : ids′ ≡ ids
+    pub sameIds : tableIds table′ ≡ tableIds table
 
   -- before the first
-  pub put-start : Puttable s t heap ids locations places pieces order → Put 0 t heap ids locations
+  pub put-start : Puttable s t heap table places pieces order → Put 0 t heap table
   put-start w = record { low = omega arith; placing = w .placing; filed = λ q. refl; fitting = w .fitting; left = λ c. refl; frees = refl; kept = λ k some. some; sameHeap = refl; sameIds = refl }
 
-  module _ (f : ℕ) (r : State) (heap′ ids′ locations′ : List ℕ) (w : Put f r heap′ ids′ locations′) (h : f < length order) (p : ℕ) (is : p ≡ getD order f 0) where
+  module _ (f : ℕ) (r : State) (heap′ table′ : List ℕ) (w : Put f r heap′ table′) (h : f < length order) (p : ℕ) (is : p ≡ getD order f 0) where
     -- the files behind it
     rest : List (List Op)
-    rest = filesIn heap ids places pieces (drop (f + 1) order)
+    rest = filesIn heap (tableIds table) places pieces (drop (f + 1) order)
 
     -- the file with the number p comes first
-    step : filesIn heap ids places pieces (drop f order) ≡ filedOps p heap ids places pieces ∷ rest
+    step : filesIn heap (tableIds table) places pieces (drop f order) ≡ filedOps p heap (tableIds table) places pieces ∷ rest
     unfolding rest
-    step = ap (filesIn heap ids places pieces) (left-next order f 0 h) ∙ ap (λ (q : ℕ). filedOps q heap ids places pieces ∷ rest) (sym is)
+    step = ap (filesIn heap (tableIds table) places pieces) (left-next order f 0 h) ∙ ap (λ (q : ℕ). filedOps q heap (tableIds table) places pieces ∷ rest) (sym is)
 
     -- all of them fit
-    fits : Fitting (s .«slot_bytes») (emptyIn s r heap′) (r .«next_position») (filedOps p heap ids places pieces ∷ rest)
+    fits : Fitting (s .«slot_bytes») (emptyIn s r heap′) (r .«next_position») (filedOps p heap (tableIds table) places pieces ∷ rest)
     fits = subst (Fitting (s .«slot_bytes») (emptyIn s r heap′) (r .«next_position»)) step (w .fitting)
 
     -- what it asks for
-    pub put-asks : let ops = filedOps p heap′ ids′ places pieces in
+    pub put-asks : let ops = filedOps p heap′ (tableIds table′) places pieces in
         (64 + length (fileBytes ops) ≤ s .«slot_bytes») × (0 < emptyIn s r heap′) × (r .«next_position» + span ops ≤ 2 ^ 62)
     put-asks = rw (w .filed p) (first-fits _ _ _ _ _ fits, first-room _ _ _ _ _ fits, first-positions _ _ _ _ _ fits)
 
@@ -144,37 +144,37 @@ module _ (s : Settings) (generation : ℕ) (places pieces order : List ℕ) (t :
         (omega (arith, n .0, l .room), listed-at (emptiesIn s t heap) frees l f (n .0) ∙ sym (ap (λ (ks : List ℕ). getD ks 0 (slotsIn s (length heap′))) (n .1)))
 
     -- and what is left after it
-    pub put-turn : (q : State) (heap″ ids″ locations″ : List ℕ) → Added s generation places pieces r heap′ ids′ locations′ p q heap″ ids″ locations″
-        → Put (f + 1) q heap″ ids″ locations″
+    pub put-turn : (q : State) (heap″ table″ : List ℕ) → Added s generation places pieces r heap′ table′ p q heap″ table″
+        → Put (f + 1) q heap″ table″
     unfolding installedAll rest
-    put-turn q heap″ ids″ locations″ a = record {
+    put-turn q heap″ table″ a = record {
       low = omega arith;
       placing = a .placing;
       filed = λ n. a .filed n ∙ w .filed n;
       fitting = fitting-rest _ _ _ _ _ fits (emptyIn s q heap″) (q .«next_position») (omega (arith, ap length (a .frees))) (a .next ∙ ap (λ (ops : List Op). r .«next_position» + span ops) same);
       left = λ c.
-          ap (λ (v : World). installedAll 0 generation v rest) (a .worlds c ∙ ap (installed 0 generation (world s r c heap′ (table ids′ locations′))) same)
-          ∙ ap (installedAll 0 generation (world s r c heap′ (table ids′ locations′))) (sym step)
+          ap (λ (v : World). installedAll 0 generation v rest) (a .worlds c ∙ ap (installed 0 generation (world s r c heap′ table′)) same)
+          ∙ ap (installedAll 0 generation (world s r c heap′ table′)) (sym step)
           ∙ w .left c;
       frees = ap (drop 1) (sym (a .frees) ∙ next-free .1);
       kept = λ k some.
           ap (λ (v : World). isEmpty (recordAt (recordsOf v) k)) (a .worlds noClaims)
-          ∙ not-empty (recordAt (recordsOf (installed 0 generation (world s r noClaims heap′ (table ids′ locations′)) (filedOps p heap′ ids′ places pieces))) k)
-          (installed-lsn 0 generation (world s r noClaims heap′ (table ids′ locations′)) (filedOps p heap′ ids′ places pieces) (w .placing .limits .next) k
+          ∙ not-empty (recordAt (recordsOf (installed 0 generation (world s r noClaims heap′ table′) (filedOps p heap′ (tableIds table′) places pieces))) k)
+          (installed-lsn 0 generation (world s r noClaims heap′ table′) (filedOps p heap′ (tableIds table′) places pieces) (w .placing .limits .next) k
           (lsn-some (s .«slot_bytes») (recordAt (r .files .records) k .label) (w .placing .limits .records k (w .kept k some) .bounds)));
       sameHeap = a .sameHeap ∙ w .sameHeap;
       sameIds = a .sameIds ∙ w .sameIds;
     }
       where
-        same : filedOps p heap′ ids′ places pieces ≡ filedOps p heap ids places pieces
+        same : filedOps p heap′ (tableIds table′) places pieces ≡ filedOps p heap (tableIds table) places pieces
         same = w .filed p
 
   -- none is left
-  pub put-end : (f : ℕ) (r : State) (heap′ ids′ locations′ : List ℕ) → Put f r heap′ ids′ locations′ → length order ≤ f
-      → PutAll s generation t heap ids locations (filesIn heap ids places pieces order) r heap′ ids′ locations′
+  pub put-end : (f : ℕ) (r : State) (heap′ table′ : List ℕ) → Put f r heap′ table′ → length order ≤ f
+      → PutAll s generation t heap table (filesIn heap (tableIds table) places pieces order) r heap′ table′
   unfolding installedAll
-  put-end f r heap′ ids′ locations′ w past = record {
-    worlds = λ c. ap (λ (o : List ℕ). installedAll 0 generation (world s r c heap′ (table ids′ locations′)) (filesIn heap ids places pieces o)) (sym (left-none order f past)) ∙ w .left c;
+  put-end f r heap′ table′ w past = record {
+    worlds = λ c. ap (λ (o : List ℕ). installedAll 0 generation (world s r c heap′ table′) (filesIn heap (tableIds table) places pieces o)) (sym (left-none order f past)) ∙ w .left c;
     limits = w .placing .limits;
     kept = w .kept;
   }

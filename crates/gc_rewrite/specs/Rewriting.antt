@@ -13,7 +13,8 @@ use Rattle.rules.specs.declared.Answer.the-variants.{Done, Refused}
 use Rattle.rules.specs.Refusal.{decide}
 use Rattle.rules.specs.Settings.{slotsIn}
 use Rattle.rules.specs.Ops.{Op}
-use Rattle.rules.specs.Layout.{table, usedEntries}
+use Rattle.rules.specs.Layout.{tableIds, usedEntries}
+use Rattle.rules.specs.LayoutLaws.{ids-count}
 use Rattle.rules.specs.FileMap.{isEmpty, recordAt}
 use Rattle.rules.specs.Condition1Laws.{Passed}
 use Rattle.rules.specs.Install.{installedAll}
@@ -35,55 +36,55 @@ use Rattle.gc_rewrite.specs.Putting.{filesIn, emptyIn, orderIn, Puttable
 use Rattle.gc_rewrite.specs.Orders.{Tallied, placed-short, placed-count, tallied, order-small, InOrder, in-order}
 
 -- a group's operations stand at their places: those of used entries, each object in a slot that has a file
-pub record Moving (s : Settings) (t : State) (heap ids locations places : List ℕ) : Type 0 where
-  pub limits : Passed s (length heap) (table ids locations) t
-  pub wide : length ids ≤ length places
-  pub used : (i : ℕ) → 0 < getD places i 0 → i < length (usedEntries (table ids locations))
+pub record Moving (s : Settings) (t : State) (heap table places : List ℕ) : Type 0 where
+  pub limits : Passed s (length heap) table t
+  pub wide : length (tableIds table) ≤ length places
+  pub used : (i : ℕ) → 0 < getD places i 0 → i < length (usedEntries table)
   pub kept : (i : ℕ) → 1 < getD places i 0 → Whole heap (getD places i 0)
       × ((k : ℕ) × (isEmpty (recordAt (t .files .records) k) ≡ false) × InSlot (s .«slot_bytes») heap k (getD places i 0))
 
 -- what rewriting these operations leaves
-pub record Rewritten (s : Settings) (generation : ℕ) (ops : List Op) (moved : ℕ) (t : State) (heap ids locations : List ℕ) (answer : Answer) (moved′ : ℕ) (r : State) (heap′ ids′ locations′ : List ℕ) : Type 0 where
-  pub course : (c : Claims) → courseGiven generation answer moved′ (world s r c heap′ (table ids′ locations′)) ≡ rewritten generation ops moved (world s t c heap (table ids locations))
-  pub limits : Passed s (length heap′) (table ids′ locations′) r
+pub record Rewritten (s : Settings) (generation : ℕ) (ops : List Op) (moved : ℕ) (t : State) (heap table : List ℕ) (answer : Answer) (moved′ : ℕ) (r : State) (heap′ table′ : List ℕ) : Type 0 where
+  pub course : (c : Claims) → courseGiven generation answer moved′ (world s r c heap′ table′) ≡ rewritten generation ops moved (world s t c heap table)
+  pub limits : Passed s (length heap′) table′ r
   pub count : moved′ ≤ moved + 65536
   pub kept : Kept t r
 
 -- ---- the split
-module _ (s : Settings) (t : State) (heap ids locations places : List ℕ) where
+module _ (s : Settings) (t : State) (heap table places : List ℕ) where
   -- the operations, and their tally
   abbrev ops : List Op
-  ops = placedOps heap ids places
+  ops = placedOps heap (tableIds table) places
 
   abbrev whole : Tally
-  whole = tallyOf (s .«target_file_size») (s .«slot_bytes») (placedOps heap ids places)
+  whole = tallyOf (s .«target_file_size») (s .«slot_bytes») (placedOps heap (tableIds table) places)
 
   -- what the split left: each entry's piece, the tally's lists and all files' totals
   pub record SplitUp (pieces counts rounds cuts : List ℕ) (total : Totals) : Type 0 where
-    pub placing : Placing s t heap ids locations places pieces
+    pub placing : Placing s t heap table places pieces
     pub counted : counts ≡ whole .counts
     pub turned : rounds ≡ whole .rounds
     pub cut : cuts ≡ whole .cuts
     pub closed : total ≡ closedOf (s .«slot_bytes») whole
     pub bounds : Tallied whole
-    pub files : whole .totals .files ≤ 256 → filesOf (s .«target_file_size») ops ≡ filesIn heap ids places pieces (orderOf whole)
+    pub files : whole .totals .files ≤ 256 → filesOf (s .«target_file_size») ops ≡ filesIn heap (tableIds table) places pieces (orderOf whole)
 
-  module _ (m : Moving s t heap ids locations places) where
+  module _ (m : Moving s t heap table places) where
     -- no more entries than a table has
-    few : length ids ≤ 65536
-    few = m .limits .limits .table .most
+    few : length (tableIds table) ≤ 65536
+    few = omega (arith, m .limits .limits .table .most, ids-count table)
 
     -- each object lies in the heap
     standing : Standing heap places
     standing k some = m .kept k some .0
 
     -- what the split asks for
-    pub moving-splits : (pieces : List ℕ) → length ids ≤ length pieces → Splitting heap ids places pieces 0
+    pub moving-splits : (pieces : List ℕ) → length (tableIds table) ≤ length pieces → Splitting heap (tableIds table) places pieces 0
     moving-splits pieces wide = record { places = m .wide; pieces = wide; standing = standing; room = omega (arith, few) }
 
     -- their tally is within bounds
     pub moving-tallied : Tallied whole
-    moving-tallied = tallied (s .«target_file_size») (s .«slot_bytes») ops (placed-short heap ids places standing) (omega (arith, placed-count heap ids places, few))
+    moving-tallied = tallied (s .«target_file_size») (s .«slot_bytes») ops (placed-short heap (tableIds table) places standing) (omega (arith, placed-count heap (tableIds table) places, few))
 
     module _ (lent : Tally) (e : lent ≡ tallyFrom (s .«target_file_size») (s .«slot_bytes») ops emptyTally) where
       -- what the code lends is that tally
@@ -96,20 +97,20 @@ module _ (s : Settings) (t : State) (heap ids locations places : List ℕ) where
       split-closable = closable lent (subst Within (sym told) (moving-tallied .within))
 
       -- closed
-      pub split-up : (old pieces : List ℕ) (total : Totals) → length ids ≤ length old
-          → pieces ≡ piecesAlong (s .«target_file_size») (s .«slot_bytes») heap ids places old emptyTally
+      pub split-up : (old pieces : List ℕ) (total : Totals) → length (tableIds table) ≤ length old
+          → pieces ≡ piecesAlong (s .«target_file_size») (s .«slot_bytes») heap (tableIds table) places old emptyTally
           → total ≡ closingRests (s .«slot_bytes») (lent .counts) (lent .sizes) (lent .totals) → SplitUp pieces (lent .counts) (lent .rounds) (lent .cuts) total
       unfolding closedOf
       split-up old pieces total wide p q = record {
-        placing = record { limits = m .limits; wide = m .wide; numbered = omega (arith, ap length p, along-length (s .«target_file_size») (s .«slot_bytes») heap ids places old emptyTally); used = m .used; kept = m .kept };
+        placing = record { limits = m .limits; wide = m .wide; numbered = omega (arith, ap length p, along-length (s .«target_file_size») (s .«slot_bytes») heap (tableIds table) places old emptyTally); used = m .used; kept = m .kept };
         counted = ap (λ (u : Tally). u .counts) told;
         turned = ap (λ (u : Tally). u .rounds) told;
         cut = ap (λ (u : Tally). u .cuts) told;
         closed = q ∙ ap (λ (u : Tally). closingRests (s .«slot_bytes») (u .counts) (u .sizes) (u .totals)) told;
         bounds = moving-tallied;
         files = λ room.
-            files-filed (s .«target_file_size») (s .«slot_bytes») heap ids places old wide room
-            ∙ ap (λ (gs : List ℕ). filesIn heap ids places gs (orderOf whole)) (sym p);
+            files-filed (s .«target_file_size») (s .«slot_bytes») heap (tableIds table) places old wide room
+            ∙ ap (λ (gs : List ℕ). filesIn heap (tableIds table) places gs (orderOf whole)) (sym p);
       }
 
   -- ---- the files
@@ -121,14 +122,14 @@ module _ (s : Settings) (t : State) (heap ids locations places : List ℕ) where
     -- 4, 5 and 7 are decided by their totals
     module _ (moved generation : ℕ) where
       -- the totals are those of the definition
-      tests-are : (c : Claims) → decide (totalsTests total (emptyIn s t heap) (t .«next_position»)) ≡ decide (filesTests ops (world s t c heap (table ids locations)))
+      tests-are : (c : Claims) → decide (totalsTests total (emptyIn s t heap) (t .«next_position»)) ≡ decide (filesTests ops (world s t c heap table))
       tests-are c = ap (λ (u : Totals). decide (totalsTests u (emptyIn s t heap) (t .«next_position»))) (w .closed)
 
       -- one of them
       pub split-refused : (r : Refusal) → decide (totalsTests total (emptyIn s t heap) (t .«next_position»)) ≡ Refused r
-          → Rewritten s generation ops moved t heap ids locations (Refused r) moved t heap ids locations
+          → Rewritten s generation ops moved t heap table (Refused r) moved t heap table
       split-refused r e = record {
-        course = λ c. files-refused generation ops moved (world s t c heap (table ids locations)) r (sym (tests-are c) ∙ e);
+        course = λ c. files-refused generation ops moved (world s t c heap table) r (sym (tests-are c) ∙ e);
         limits = w .placing .limits;
         count = omega arith;
         kept = λ k some. some;
@@ -153,7 +154,7 @@ module _ (s : Settings) (t : State) (heap ids locations places : List ℕ) where
             )
 
         -- they are the pieces, in order
-        filed : filesOf (s .«target_file_size») ops ≡ filesIn heap ids places pieces (orderOf whole)
+        filed : filesOf (s .«target_file_size») ops ≡ filesIn heap (tableIds table) places pieces (orderOf whole)
         filed = w .files (omega (arith, most, fragments-among (s .«slot_bytes») whole))
 
         -- the ids moved, and how many files
@@ -161,7 +162,7 @@ module _ (s : Settings) (t : State) (heap ids locations places : List ℕ) where
         unfolding totalsFor
         split-count =
             let n : total .entries ≡ length ops = ap (λ (u : Totals). u .entries) (w .closed ∙ split-totals (s .«target_file_size») (s .«slot_bytes») ops) in
-            (n, omega (arith, n, placed-count heap ids places, w .placing .limits .limits .table .most), omega (arith, most, ap (λ (u : Totals). u .files) (w .closed)))
+            (n, omega (arith, n, placed-count heap (tableIds table) places, ids-count table, w .placing .limits .limits .table .most), omega (arith, most, ap (λ (u : Totals). u .files) (w .closed)))
 
         module _ (blank rests : List ℕ) (left : ℕ) (there : rests ≡ front (restsFrom 0 counts rounds) blank) (many : left ≡ length (restsFrom 0 counts rounds)) where
           -- the files' numbers in the two lists
@@ -173,7 +174,7 @@ module _ (s : Settings) (t : State) (heap ids locations places : List ℕ) where
           same-order = rw (w .closed, many, there, w .cut, w .counted, w .turned) (told-order .order)
 
           -- what adding the files asks for
-          pub split-puttable : Puttable s t heap ids locations places pieces (orderIn (total .files) left rests cuts)
+          pub split-puttable : Puttable s t heap table places pieces (orderIn (total .files) left rests cuts)
           split-puttable = rw same-order (record {
             placing = w .placing;
             fitting = subst (Fitting (s .«slot_bytes») (emptyIn s t heap) (t .«next_position»)) filed fitting;
@@ -185,13 +186,13 @@ module _ (s : Settings) (t : State) (heap ids locations places : List ℕ) where
           split-places = rw (w .closed, many, there, w .cut, w .counted, w .turned) (told-order .left, told-order .enough)
 
           -- and what it leaves
-          pub split-rewritten : (r : State) (heap′ ids′ locations′ : List ℕ)
-              → PutAll s generation t heap ids locations (filesIn heap ids places pieces (orderIn (total .files) left rests cuts)) r heap′ ids′ locations′
-              → Rewritten s generation ops moved t heap ids locations Done (moved + total .entries) r heap′ ids′ locations′
-          split-rewritten r heap′ ids′ locations′ p = record {
+          pub split-rewritten : (r : State) (heap′ table′ : List ℕ)
+              → PutAll s generation t heap table (filesIn heap (tableIds table) places pieces (orderIn (total .files) left rests cuts)) r heap′ table′
+              → Rewritten s generation ops moved t heap table Done (moved + total .entries) r heap′ table′
+          split-rewritten r heap′ table′ p = record {
             course = λ c.
-                files-added generation ops moved (world s t c heap (table ids locations)) (sym (tests-are c) ∙ e) (total .entries) (split-count .0) (world s r c heap′ (table ids′ locations′))
-                (p .worlds c ∙ ap (installedAll 0 generation (world s t c heap (table ids locations))) (ap (filesIn heap ids places pieces) same-order ∙ sym filed));
+                files-added generation ops moved (world s t c heap table) (sym (tests-are c) ∙ e) (total .entries) (split-count .0) (world s r c heap′ table′)
+                (p .worlds c ∙ ap (installedAll 0 generation (world s t c heap table)) (ap (filesIn heap (tableIds table) places pieces) same-order ∙ sym filed));
             limits = p .limits;
             count = omega (arith, split-count .1);
             kept = p .kept;

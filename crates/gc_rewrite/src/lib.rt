@@ -15,7 +15,6 @@ ghost use Rattle.rules.specs.declared.Claims.{Claims};
 ghost use Rattle.rules.specs.Condition1Laws.{Passed};
 ghost use Rattle.rules.specs.Maintenance.{rewriteGroup};
 ghost use Rattle.rules.specs.World.{world};
-ghost use Rattle.rules.specs.Layout.{table};
 ghost use Rattle.gc_candidates.specs.Plan.{planned};
 ghost use Rattle.gc_group.specs.Source.{Ready};
 ghost use Rattle.gc_rewrite.specs.Courses.{courseGiven};
@@ -35,21 +34,20 @@ pub fn rewrite_group(
     settings: Settings,
     state: State,
     heap: &mut [u8],
-    ids: &mut [u64],
-    locations: &mut [u64],
+    table: &mut [u64],
     plan: &[u64],
     generation: u64,
     moved: u64,
 ) -> Course
-    requires { ⌜ Passed settings (length (now heap)) (table (now ids) (now locations)) state ⌝ }
+    requires { ⌜ Passed settings (length (now heap)) (now table) state ⌝ }
     requires { ⌜ Ready (settings .«slot_bytes») (length (now heap)) (state .files .records) (now plan) generation ⌝ }
     requires { ⌜ Filled state (now plan) generation ⌝ }
     requires { ⌜ (0 < generation) × (generation ≤ 3) × (moved ≤ 2 ^ 40) ⌝ }
     ensures { λ r. ⌜ ((c : Claims) → courseGiven generation (r .answer) (r .moved)
-        (world settings (r .state) c (now (heap .exit)) (table (now (ids .exit)) (now (locations .exit))))
+        (world settings (r .state) c (now (heap .exit)) (now (table .exit)))
         ≡ rewriteGroup generation (planned (now (plan .entry)) generation) moved
-        (world settings state c (now (heap .entry)) (table (now (ids .entry)) (now (locations .entry))))) ⌝ }
-    ensures { λ r. ⌜ Passed settings (length (now (heap .exit))) (table (now (ids .exit)) (now (locations .exit))) (r .state) ⌝ }
+        (world settings state c (now (heap .entry)) (now (table .entry)))) ⌝ }
+    ensures { λ r. ⌜ Passed settings (length (now (heap .exit))) (now (table .exit)) (r .state) ⌝ }
     ensures { λ r. ⌜ (r .moved ≤ moved + 65536) × (length (now (heap .exit)) ≡ length (now (heap .entry))) ⌝ }
     ensures { λ r. ⌜ Kept state (r .state) ⌝ }
 {
@@ -60,16 +58,7 @@ pub fn rewrite_group(
         settings: settings,
         generation: generation,
     };
-    match place_group(
-        group,
-        heap,
-        files,
-        plan,
-        ids,
-        locations,
-        &mut pieces,
-        &mut places,
-    ) {
+    match place_group(group, heap, files, plan, table, &mut pieces, &mut places) {
         Answer::Refused(refusal) => {
             return Course {
                 answer: Answer::Refused(refusal),
@@ -79,14 +68,5 @@ pub fn rewrite_group(
         }
         Answer::Done => {}
     }
-    split_files(
-        group,
-        state,
-        heap,
-        ids,
-        locations,
-        &places,
-        &mut pieces,
-        moved,
-    )
+    split_files(group, state, heap, table, &places, &mut pieces, moved)
 }

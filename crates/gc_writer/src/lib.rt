@@ -53,11 +53,11 @@ fn filed(place: u32, number: u32, piece: u32) -> bool
 }
 
 // The first entry of a piece from `from` on; behind the last one where there is none.
-fn next_filed(ids: &[u64], places: &[u32], pieces: &[u32], piece: u32, from: usize) -> usize
-    requires { ⌜ (length (tableIds (now ids)) ≤ length (now places)) × (length (tableIds (now ids)) ≤ length (now pieces)) ⌝ }
-    ensures { λ r. ⌜ Next piece (tableIds (now (ids .entry))) (now (places .entry)) (now (pieces .entry)) from r ⌝ }
+fn next_filed(table: &[u64], places: &[u32], pieces: &[u32], piece: u32, from: usize) -> usize
+    requires { ⌜ (length (tableIds (now table)) ≤ length (now places)) × (length (tableIds (now table)) ≤ length (now pieces)) ⌝ }
+    ensures { λ r. ⌜ Next piece (tableIds (now (table .entry))) (now (places .entry)) (now (pieces .entry)) from r ⌝ }
 {
-    let n = capacity(ids);
+    let n = capacity(table);
     let mut i = from;
     while i < n {
         if filed(places[i], pieces[i], piece) {
@@ -69,16 +69,16 @@ fn next_filed(ids: &[u64], places: &[u32], pieces: &[u32], piece: u32, from: usi
 }
 
 // The operation of an entry of a piece, and where the walk goes on.
-fn turn_at(heap: &[u8], ids: &[u64], places: &[u32], pieces: &[u32], piece: u32, i: usize) -> Turn
-    requires { ⌜ Walking (now heap) (tableIds (now ids)) (now places) (now pieces) ⌝ }
-    requires { ⌜ (i < length (tableIds (now ids))) × (filedHere piece (getD (now places) i 0) (getD (now pieces) i 0) ≡ true) ⌝ }
-    ensures { λ r. ⌜ Turned piece (now (heap .entry)) (tableIds (now (ids .entry))) (now (places .entry)) (now (pieces .entry)) i
+fn turn_at(heap: &[u8], table: &[u64], places: &[u32], pieces: &[u32], piece: u32, i: usize) -> Turn
+    requires { ⌜ Walking (now heap) (tableIds (now table)) (now places) (now pieces) ⌝ }
+    requires { ⌜ (i < length (tableIds (now table))) × (filedHere piece (getD (now places) i 0) (getD (now pieces) i 0) ≡ true) ⌝ }
+    ensures { λ r. ⌜ Turned piece (now (heap .entry)) (tableIds (now (table .entry))) (now (places .entry)) (now (pieces .entry)) i
         (r .operation) (r .size) (r .next) ⌝ }
 {
-    let id = id_at(ids, i);
+    let id = id_at(table, i);
     let o = moving_at(heap, id, places[i]);
     let size = size_of(o);
-    let next = next_filed(ids, places, pieces, piece, i + 1);
+    let next = next_filed(table, places, pieces, piece, i + 1);
     Turn {
         operation: o,
         size: size,
@@ -87,20 +87,20 @@ fn turn_at(heap: &[u8], ids: &[u64], places: &[u32], pieces: &[u32], piece: u32,
 }
 
 // The sizes of a piece's file.
-pub fn sized(heap: &[u8], ids: &[u64], places: &[u32], pieces: &[u32], piece: u32) -> Sizes
-    requires { ⌜ Walking (now heap) (tableIds (now ids)) (now places) (now pieces) ⌝ }
-    requires { ⌜ length (tableIds (now ids)) ≤ 65536 ⌝ }
+pub fn sized(heap: &[u8], table: &[u64], places: &[u32], pieces: &[u32], piece: u32) -> Sizes
+    requires { ⌜ Walking (now heap) (tableIds (now table)) (now places) (now pieces) ⌝ }
+    requires { ⌜ length (tableIds (now table)) ≤ 65536 ⌝ }
     ensures { λ r. ⌜ (r .count ≡ length
-        (filedOps piece (now (heap .entry)) (tableIds (now (ids .entry))) (now (places .entry)) (now (pieces .entry))))
+        (filedOps piece (now (heap .entry)) (tableIds (now (table .entry))) (now (places .entry)) (now (pieces .entry))))
         × (r .total ≡ length (objectsOf
-        (filedOps piece (now (heap .entry)) (tableIds (now (ids .entry))) (now (places .entry)) (now (pieces .entry))))) ⌝ }
+        (filedOps piece (now (heap .entry)) (tableIds (now (table .entry))) (now (places .entry)) (now (pieces .entry))))) ⌝ }
 {
     let mut count: u64 = 0;
     let mut total: u64 = 0;
-    let n = capacity(ids);
-    let mut i = next_filed(ids, places, pieces, piece, 0);
+    let n = capacity(table);
+    let mut i = next_filed(table, places, pieces, piece, 0);
     while i < n {
-        let t = turn_at(heap, ids, places, pieces, piece, i);
+        let t = turn_at(heap, table, places, pieces, piece, i);
         count += 1;
         total += t.size;
         i = t.next;
@@ -112,19 +112,19 @@ pub fn sized(heap: &[u8], ids: &[u64], places: &[u32], pieces: &[u32], piece: u3
 }
 
 // "checksum 4, over all that follows it": the count and the entries.
-fn sum(heap: &[u8], ids: &[u64], places: &[u32], pieces: &[u32], piece: u32, count: u64) -> u32
-    requires { ⌜ Walking (now heap) (tableIds (now ids)) (now places) (now pieces) ⌝ }
-    requires { ⌜ count ≡ length (filedOps piece (now heap) (tableIds (now ids)) (now places) (now pieces)) ⌝ }
-    requires { ⌜ length (objectsOf (filedOps piece (now heap) (tableIds (now ids)) (now places) (now pieces))) < 2 ^ 62 ⌝ }
+fn sum(heap: &[u8], table: &[u64], places: &[u32], pieces: &[u32], piece: u32, count: u64) -> u32
+    requires { ⌜ Walking (now heap) (tableIds (now table)) (now places) (now pieces) ⌝ }
+    requires { ⌜ count ≡ length (filedOps piece (now heap) (tableIds (now table)) (now places) (now pieces)) ⌝ }
+    requires { ⌜ length (objectsOf (filedOps piece (now heap) (tableIds (now table)) (now places) (now pieces))) < 2 ^ 62 ⌝ }
     ensures { λ r. ⌜ r ≡ crc32 (listed (entriesOf 0
-        (filedOps piece (now (heap .entry)) (tableIds (now (ids .entry))) (now (places .entry)) (now (pieces .entry))))) ⌝ }
+        (filedOps piece (now (heap .entry)) (tableIds (now (table .entry))) (now (places .entry)) (now (pieces .entry))))) ⌝ }
 {
     let mut register = write::sum_count(count);
     let mut position: u64 = 0;
-    let n = capacity(ids);
-    let mut i = next_filed(ids, places, pieces, piece, 0);
+    let n = capacity(table);
+    let mut i = next_filed(table, places, pieces, piece, 0);
     while i < n {
-        let t = turn_at(heap, ids, places, pieces, piece, i);
+        let t = turn_at(heap, table, places, pieces, piece, i);
         let e = entry_of(t.operation, position);
         register = write::sum_entry(register, e);
         position += t.size;
@@ -151,24 +151,24 @@ fn put_content(heap: &mut [u8], at: usize, o: Operation, left: u64) -> u64
 fn put_objects(
     heap: &mut [u8],
     at: usize,
-    ids: &[u64],
+    table: &[u64],
     places: &[u32],
     pieces: &[u32],
     piece: u32,
     left: u64,
 ) -> u64
-    requires { ⌜ Free at (length (objectsOf (filedOps piece (now heap) (tableIds (now ids)) (now places) (now pieces))))
-        (now heap) (tableIds (now ids)) (now places) (now pieces) ⌝ }
+    requires { ⌜ Free at (length (objectsOf (filedOps piece (now heap) (tableIds (now table)) (now places) (now pieces))))
+        (now heap) (tableIds (now table)) (now places) (now pieces) ⌝ }
     ensures { λ r. ⌜ Made left (storesOf at
-        (objectsOf (filedOps piece (now (heap .entry)) (tableIds (now (ids .entry))) (now (places .entry)) (now (pieces .entry)))))
+        (objectsOf (filedOps piece (now (heap .entry)) (tableIds (now (table .entry))) (now (places .entry)) (now (pieces .entry)))))
         (now (heap .entry)) (now (heap .exit)) r ⌝ }
 {
     let mut rest = left;
     let mut to = at;
-    let n = capacity(ids);
-    let mut i = next_filed(ids, places, pieces, piece, 0);
+    let n = capacity(table);
+    let mut i = next_filed(table, places, pieces, piece, 0);
     while i < n {
-        let t = turn_at(heap, ids, places, pieces, piece, i);
+        let t = turn_at(heap, table, places, pieces, piece, i);
         rest = put_content(heap, to, t.operation, rest);
         to += t.size as usize;
         i = t.next;
@@ -180,26 +180,26 @@ fn put_objects(
 fn put_entries(
     heap: &mut [u8],
     at: usize,
-    ids: &[u64],
+    table: &[u64],
     places: &[u32],
     pieces: &[u32],
     piece: u32,
     left: u64,
 ) -> u64
-    requires { ⌜ Free at (16 * length (filedOps piece (now heap) (tableIds (now ids)) (now places) (now pieces)))
-        (now heap) (tableIds (now ids)) (now places) (now pieces) ⌝ }
-    requires { ⌜ length (objectsOf (filedOps piece (now heap) (tableIds (now ids)) (now places) (now pieces))) < 2 ^ 62 ⌝ }
+    requires { ⌜ Free at (16 * length (filedOps piece (now heap) (tableIds (now table)) (now places) (now pieces)))
+        (now heap) (tableIds (now table)) (now places) (now pieces) ⌝ }
+    requires { ⌜ length (objectsOf (filedOps piece (now heap) (tableIds (now table)) (now places) (now pieces))) < 2 ^ 62 ⌝ }
     ensures { λ r. ⌜ Made left (storesOf at (each entryBytes
-        (entriesOf 0 (filedOps piece (now (heap .entry)) (tableIds (now (ids .entry))) (now (places .entry)) (now (pieces .entry))))))
+        (entriesOf 0 (filedOps piece (now (heap .entry)) (tableIds (now (table .entry))) (now (places .entry)) (now (pieces .entry))))))
         (now (heap .entry)) (now (heap .exit)) r ⌝ }
 {
     let mut rest = left;
     let mut to = at;
     let mut position: u64 = 0;
-    let n = capacity(ids);
-    let mut i = next_filed(ids, places, pieces, piece, 0);
+    let n = capacity(table);
+    let mut i = next_filed(table, places, pieces, piece, 0);
     while i < n {
-        let t = turn_at(heap, ids, places, pieces, piece, i);
+        let t = turn_at(heap, table, places, pieces, piece, i);
         let e = entry_of(t.operation, position);
         rest = write::put_entry(heap, to, e, rest);
         to += TRAILER_ENTRY;
@@ -213,23 +213,23 @@ fn put_entries(
 fn put_trailer(
     heap: &mut [u8],
     at: usize,
-    ids: &[u64],
+    table: &[u64],
     places: &[u32],
     pieces: &[u32],
     piece: u32,
     count: u64,
     left: u64,
 ) -> u64
-    requires { ⌜ Free at (12 + 16 * count) (now heap) (tableIds (now ids)) (now places) (now pieces) ⌝ }
-    requires { ⌜ count ≡ length (filedOps piece (now heap) (tableIds (now ids)) (now places) (now pieces)) ⌝ }
-    requires { ⌜ length (objectsOf (filedOps piece (now heap) (tableIds (now ids)) (now places) (now pieces))) < 2 ^ 62 ⌝ }
+    requires { ⌜ Free at (12 + 16 * count) (now heap) (tableIds (now table)) (now places) (now pieces) ⌝ }
+    requires { ⌜ count ≡ length (filedOps piece (now heap) (tableIds (now table)) (now places) (now pieces)) ⌝ }
+    requires { ⌜ length (objectsOf (filedOps piece (now heap) (tableIds (now table)) (now places) (now pieces))) < 2 ^ 62 ⌝ }
     ensures { λ r. ⌜ Made left (storesOf at (trailerBytes (entriesOf 0
-        (filedOps piece (now (heap .entry)) (tableIds (now (ids .entry))) (now (places .entry)) (now (pieces .entry))))))
+        (filedOps piece (now (heap .entry)) (tableIds (now (table .entry))) (now (places .entry)) (now (pieces .entry))))))
         (now (heap .entry)) (now (heap .exit)) r ⌝ }
 {
-    let checksum = sum(heap, ids, places, pieces, piece, count);
+    let checksum = sum(heap, table, places, pieces, piece, count);
     let rest = write::put_head(heap, at, checksum, count, left);
-    put_entries(heap, at + TRAILER_HEAD, ids, places, pieces, piece, rest)
+    put_entries(heap, at + TRAILER_HEAD, table, places, pieces, piece, rest)
 }
 
 // The file of a piece: the piece's number, where its slot begins and how long that is, its count of entries and T.
@@ -244,7 +244,7 @@ pub struct PieceFile {
 // Such a file and its label into its slot, in the order of the file's run.
 pub fn write_piece(
     heap: &mut [u8],
-    ids: &[u64],
+    table: &[u64],
     places: &[u32],
     pieces: &[u32],
     file: PieceFile,
@@ -252,18 +252,19 @@ pub fn write_piece(
     k: u64,
 ) -> u64
     requires { ⌜ Writing (file .start) (file .«slot_bytes»)
-        (now heap) (tableIds (now ids)) (now places) (now pieces) (file .piece) (file .count) (file .total) ⌝ }
+        (now heap) (tableIds (now table)) (now places) (now pieces) (file .piece) (file .count) (file .total) ⌝ }
     ensures { λ r. ⌜ Made k (fileStores (file .start) (labelBytes new)
-        (fileBytes (filedOps (file .piece) (now (heap .entry)) (tableIds (now (ids .entry))) (now (places .entry)) (now (pieces .entry)))))
+        (fileBytes (filedOps (file .piece)
+        (now (heap .entry)) (tableIds (now (table .entry))) (now (places .entry)) (now (pieces .entry)))))
         (now (heap .entry)) (now (heap .exit)) r ⌝ }
 {
     let objects = file.start + LABEL_BYTES;
-    let behind_objects = put_objects(heap, objects, ids, places, pieces, file.piece, k);
+    let behind_objects = put_objects(heap, objects, table, places, pieces, file.piece, k);
     let trailer = objects + file.total as usize;
     let behind_trailer = put_trailer(
         heap,
         trailer,
-        ids,
+        table,
         places,
         pieces,
         file.piece,

@@ -14,7 +14,7 @@ use Rattle.rules.specs.Batch.{batchIn, isMalformed, opsOf, anyTooLarge}
 use Rattle.rules.specs.Table.{insertAll}
 use Rattle.rules.specs.TableLaws.{insert-all-length}
 use Rattle.rules.specs.Layout.{capacityOf, laidOut, usedEntries}
-use Rattle.rules.specs.LayoutLaws.{laid-out-ids, used-laid-out}
+use Rattle.rules.specs.LayoutLaws.{laid-out-capacity, used-laid-out}
 use Rattle.rules.specs.FileMap.{noFiles, slotsWhere, emptySlots}
 use Rattle.rules.specs.FileMapLaws.{is-empty}
 use Rattle.rules.specs.Install.{roomTests, emptyOf, positionTests}
@@ -89,7 +89,7 @@ fresh-write w range blank bytes parsed small slot ids =
     let l = in-limits (w .settings) (length (w .heap)) (w .table) range in
     let high = l .settings .slot-high in
     let n = file-length (opsIn bytes) in
-    let c = laid-out-ids (capacityOf (w .table)) [] zero-le in
+    let c = laid-out-capacity (capacityOf (w .table)) [] zero-le in
     let u : usedEntries (laidOut (capacityOf (w .table)) []) ≡ [] = used-laid-out (capacityOf (w .table)) [] (λ x l h. absurd h) in
     let e : length (usedEntries (laidOut (capacityOf (w .table)) [])) ≡ 0 = ap length u in
     ap (λ (a : After). writeCall (a .world) bytes .answer) (fresh-opens w range blank)

@@ -65,10 +65,10 @@ module _ (w : World) (told : ℕ → Said) (s : SoundWorld w told) where
           ∙ ap (recorded (f .label)) (sym (s .sound .counted k f e))
           ∙ sym (record-holds (viewsOf w) (recordsOf w) (s .sound .filed) k f e)
 
-  -- LAW: each id's location is found again, in the same buffers
+  -- LAW: each id's location is found again, in the same buffer
   table-again : laidOut (capacityOf (w .table)) (tableOf (filesIn (viewsOf w))) ≡ w .table
   table-again =
-      ap (laidOut (capacityOf (w .table))) (sym (s .sound .newest)) ∙ laid-out-used (w .table) (s .tidy .form) (s .tidy .limits .table .equal)
+      ap (laidOut (capacityOf (w .table))) (sym (s .sound .newest)) ∙ laid-out-used (w .table) (s .tidy .form) (s .tidy .limits .table .even)
 
   tests-clear : NoneHolds (reopenTests w (viewsOf w))
   unfolding reopenTests NoneHolds

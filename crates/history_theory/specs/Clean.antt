@@ -21,7 +21,7 @@ use Rattle.rules.specs.SlotFile.{slotBytes, File, View, holds}
 use Rattle.rules.specs.Table.{lookup, unmapped}
 use Rattle.rules.specs.TableLaws.{Has, lookup-here, lookup-next, has-lookup}
 use Rattle.rules.specs.Layout.{capacityOf, laidOut, usedEntries}
-use Rattle.rules.specs.LayoutLaws.{laid-out-ids, laid-out-locations, used-laid-out, form-laid-out}
+use Rattle.rules.specs.LayoutLaws.{laid-out-capacity, laid-out-even, used-laid-out, form-laid-out}
 use Rattle.rules.specs.Condition1.{outOfRange}
 use Rattle.rules.specs.FileMap.{recordAt, fileFor}
 use Rattle.rules.specs.Read.{objectTests, readOf, partOf}
@@ -186,8 +186,8 @@ module _ (w : World) (c : Clean w) (p : Passed w) where
   unfolding opened
   sound-opened =
       let t = tableOf (filesIn (viewsOf w)) in
-      let a = laid-out-ids (capacityOf (w .table)) t (p .room) in
-      let b = laid-out-locations (capacityOf (w .table)) t (p .room) in
+      let a = laid-out-capacity (capacityOf (w .table)) t (p .room) in
+      let b = laid-out-even (capacityOf (w .table)) t (p .room) in
       let lo = p .limits .table .some in
       let hi = p .limits .table .most in
       let made = shown-made (slotsOf w) (w .settings .«slot_bytes») (w .heap) in
@@ -195,7 +195,7 @@ module _ (w : World) (c : Clean w) (p : Passed w) where
       let most = p .limits .heap .most in
       record {
         tidy = record {
-          limits = record { settings = p .limits .settings; heap = p .limits .heap; table = record { equal = a ∙ sym b; some = omega arith; most = omega arith } };
+          limits = record { settings = p .limits .settings; heap = p .limits .heap; table = record { even = b; some = omega arith; most = omega arith } };
           settings = refl;
           heap-len = refl;
           table-len = a;

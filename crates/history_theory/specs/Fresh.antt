@@ -18,7 +18,7 @@ use Rattle.rules.specs.SettledLaws.{lastOn}
 use Rattle.rules.specs.Table.{lookup}
 use Rattle.rules.specs.TableLaws.{rise-end, Has}
 use Rattle.rules.specs.Layout.{capacityOf, laidOut, usedEntries}
-use Rattle.rules.specs.LayoutLaws.{laid-out-ids, laid-out-locations, used-laid-out, form-laid-out}
+use Rattle.rules.specs.LayoutLaws.{laid-out-capacity, laid-out-even, used-laid-out, form-laid-out}
 use Rattle.rules.specs.FileMap.{emptyRecord, noFiles}
 use Rattle.rules.specs.Claims.{noClaims}
 use Rattle.rules.specs.Reopen.{viewTests, filesIn, overlapping, notRising, latestFrom, tableOf, reopenTests, recordOf, recordsFrom, nextAfter, stateOf, opened, reopenCall}
@@ -127,14 +127,14 @@ module _ (w : World) (range : outOfRange (w .settings) (length (w .heap)) (w .ta
   pub sound-fresh : SoundWorld (fresh w) (engine [])
   unfolding lastOn pictureSays lookup noFiles
   sound-fresh =
-      let a = laid-out-ids (capacityOf (w .table)) [] zero-le in
-      let b = laid-out-locations (capacityOf (w .table)) [] zero-le in
+      let a = laid-out-capacity (capacityOf (w .table)) [] zero-le in
+      let b = laid-out-even (capacityOf (w .table)) [] zero-le in
       let lo = limits .table .some in
       let hi = limits .table .most in
       let no : (k : ℕ) (f : File) → viewAt (viewsOf w) k ≡ holds f → ⊥ = λ k f e. not-empty (sym (views-blank k) ∙ e) in
       record {
         tidy = record {
-          limits = record { settings = limits .settings; heap = limits .heap; table = record { equal = a ∙ sym b; some = omega arith; most = omega arith } };
+          limits = record { settings = limits .settings; heap = limits .heap; table = record { even = b; some = omega arith; most = omega arith } };
           settings = refl;
           heap-len = refl;
           table-len = a;

@@ -10,7 +10,7 @@ use Rattle.rules.specs.declared.Held.the-variants.{Mapped, Unmapped}
 use Rattle.rules.specs.Trailer.{absolute, countIn, entriesIn}
 use Rattle.rules.specs.Table.{lookup, insert, insertAll, full}
 use Rattle.rules.specs.TableLaws.{insert-all-length, insert-new, full-mapped, full-room}
-use Rattle.rules.specs.Layout.{Buffers, usedEntries, capacityOf}
+use Rattle.rules.specs.Layout.{Table, usedEntries, capacityOf}
 use Rattle.rules.specs.TurnLaws.{left-next, left-none}
 use Rattle.location_table.specs.Tables.{Formed}
 
@@ -27,7 +27,7 @@ abbrev pub trailerAt : List ℕ → ℕ → ℕ → ℕ → List ℕ
 trailerAt heap start count total = take (12 + 16 * count) (drop (start + 64 + total) heap)
 
 -- a file with this lsn that can be added by its trailer, to a file map with these lsns and live counts
-pub record Installable (lsns lives : List ℕ) (b : Buffers) (heap : List ℕ) (start count total lsn : ℕ) : Type 0 where
+pub record Installable (lsns lives : List ℕ) (b : Table) (heap : List ℕ) (start count total lsn : ℕ) : Type 0 where
   pub formed : Formed b
   pub even : length lsns ≤ length lives
   pub inside : start + 64 + total + (12 + 16 * count) ≤ length heap

@@ -22,26 +22,22 @@ use Rattle.rules.specs.LabelLaws.{label-length}
 use Rattle.rules.specs.Trailer.{countIn, entriesIn, trailerBytes}
 use Rattle.rules.specs.TrailerLaws.{trailer-length, trailer-back, count-back}
 use Rattle.rules.specs.Table.{insertAll}
-use Rattle.rules.specs.Layout.{Buffers, usedEntries, laidOut, capacityOf}
+use Rattle.rules.specs.Layout.{Table, usedEntries, laidOut, capacityOf}
 use Rattle.rules.specs.SettingsLaws.{slot-within}
 use Rattle.rules.specs.FileMap.{lowestEmpty}
 use Rattle.rules.specs.Condition1Laws.{Passed}
 use Rattle.rules.specs.Stores.{made, fileStores}
 use Rattle.rules.specs.StoreLaws.{made-length, file-made}
 use Rattle.rules.specs.Install.{newLabel, newRecord, installed, recordsWith, storesFor, tableWith, nextWith, newSlot}
-use Rattle.rules.specs.World.{World, stateWith}
+use Rattle.rules.specs.World.{world, stateWith}
 use Rattle.location_table.specs.Tables.{Formed}
 use Rattle.file_map.specs.Records.{labelled, fresh, new-label, new-record}
 use Rattle.file_map.specs.Lists.{lsnsOf, livesOf, withLives}
 use Rattle.install.specs.Losing.{losingBy, losingLives, losing-entries, losing-lives}
 use Rattle.install.specs.Adding.{taken, Placed, trailerAt, Installable}
 
--- `world` of a table in one piece
-abbrev pub worldOf : Settings → State → Claims → List ℕ → Buffers → World
-worldOf s t c heap b = record { settings = s; state = t; claims = c; heap = heap; table = b }
-
 -- a file of these operations that none of 1 and 4 to 7 refuses: its batch bit or 0, its slot, its count of entries and T
-pub record Addable (bit : ℕ) (ops : List Op) (s : Settings) (t : State) (heap : List ℕ) (b : Buffers) (slot count total : ℕ) : Type 0 where
+pub record Addable (bit : ℕ) (ops : List Op) (s : Settings) (t : State) (heap : List ℕ) (b : Table) (slot count total : ℕ) : Type 0 where
   pub limits : Passed s (length heap) b t
   pub plain : bit ≤ 2 ^ 62
   pub ids : IdsFit ops
@@ -63,7 +59,7 @@ position-within q (o ∷ os) (suc k) = omega (arith, position-within (q + sizeOf
 parts : (label objects trailer : List ℕ) → label ++ (objects ++ trailer) ≡ ((label ++ objects) ++ trailer) ++ []
 parts label objects trailer = sym (append-nil ((label ++ objects) ++ trailer) ∙ append-assoc label objects trailer)
 
-module _ {bit : ℕ} {ops : List Op} {s : Settings} {t : State} {heap : List ℕ} {b : Buffers} {slot count total : ℕ} (f : Addable bit ops s t heap b slot count total) where
+module _ {bit : ℕ} {ops : List Op} {s : Settings} {t : State} {heap : List ℕ} {b : Table} {slot count total : ℕ} (f : Addable bit ops s t heap b slot count total) where
   -- the file lies within the heap
   pub slot-inside : slot * s .«slot_bytes» + (64 + length (fileBytes ops)) ≤ length heap
   slot-inside = omega (arith, slot-within s (length heap) slot (f .limits .limits .heap) (f .free), f .fits)
@@ -141,11 +137,11 @@ module _ {bit : ℕ} {ops : List Op} {s : Settings} {t : State} {heap : List ℕ
           }
 
       -- LAW: what adding it leaves
-      pub added : {r : State} {b′ : Buffers} {left : List ℕ}
+      pub added : {r : State} {b′ : Table} {left : List ℕ}
           → (left ≡ losingLives lsns (usedEntries b) (entriesIn (trailerAt after (slot * s .«slot_bytes») count total)) lives)
           × (b′ ≡ laidOut (capacityOf b) (insertAll (usedEntries b) (taken (new .lsn) (entriesIn (trailerAt after (slot * s .«slot_bytes») count total)))))
           → r ≡ stateWith t (set (withLives (t .files .records) left) slot (fresh new)) (t .«next_position» + (new .«trailer_offset» + 1))
-          → (c : Claims) → worldOf s r c after b′ ≡ installed bit generation (worldOf s t c heap b) ops
+          → (c : Claims) → world s r c after b′ ≡ installed bit generation (world s t c heap b) ops
       unfolding installed recordsWith storesFor tableWith nextWith newLabel newRecord
       added {r} {b′} {left} z q c =
           let es = entriesOf 0 ops in
@@ -153,7 +149,7 @@ module _ {bit : ℕ} {ops : List Op} {s : Settings} {t : State} {heap : List ℕ
           let e = label-new in
           let lost : withLives (t .files .records) left ≡ losingBy (usedEntries b) es (t .files .records) =
           ap (withLives (t .files .records)) (z .0 ∙ rw (x, y, there) refl) ∙ losing-lives (usedEntries b) es (t .files .records) in
-          let w = worldOf s t c heap b in
+          let w = world s t c heap b in
           let n = newRecord (t .«next_position» + bit) generation ops in
           let state : r ≡ stateWith t (recordsWith n w ops) (nextWith w ops) =
           q
@@ -166,6 +162,6 @@ module _ {bit : ℕ} {ops : List Op} {s : Settings} {t : State} {heap : List ℕ
           z .1 ∙ ap₂ (λ (m : Label) (xs : List Entry). laidOut (capacityOf b) (insertAll (usedEntries b) (taken (m .lsn) xs))) e there in
           same-world state stores entries
         where
-          same-world : {r q : State} {h k : List ℕ} {x y : Buffers} → r ≡ q → h ≡ k → x ≡ y
-              → worldOf s r c h x ≡ worldOf s q c k y
+          same-world : {r q : State} {h k : List ℕ} {x y : Table} → r ≡ q → h ≡ k → x ≡ y
+              → world s r c h x ≡ world s q c k y
           same-world e f g = rw (e, f, g) refl

@@ -16,7 +16,7 @@ ghost use Rattle.disk_location.specs.Locations.{positionOf};
 ghost use Rattle.rules.specs.Trailer.{absolute, countIn, entriesIn};
 ghost use Rattle.rules.specs.Table.{lookup, insertAll, full};
 ghost use Rattle.rules.specs.TableCalls.{withStored};
-ghost use Rattle.rules.specs.Layout.{table, tableIds, usedEntries, laidOut};
+ghost use Rattle.rules.specs.Layout.{usedEntries, laidOut, capacityOf};
 ghost use Rattle.rules.specs.World.{stateWith};
 ghost use Rattle.location_table.specs.Tables.{Formed};
 ghost use Rattle.file_map.specs.Lists.{lessAt, withLives};
@@ -25,13 +25,13 @@ ghost use Rattle.file_map.specs.Records.{labelled, fresh};
 ghost use Rattle.install.specs.Adding.{taken, Placed, trailerAt, Installable};
 
 // "loses one live": the file of the location that the table has for the id.
-fn lose_one(lsns: &[u64], lives: &mut [u64], ids: &[u64], locations: &[u64], id: u64)
-    requires { ⌜ Formed (table (now ids) (now locations)) × (length (now lsns) ≤ length (now lives)) ⌝ }
+fn lose_one(lsns: &[u64], lives: &mut [u64], table: &[u64], id: u64)
+    requires { ⌜ Formed (now table) × (length (now lsns) ≤ length (now lives)) ⌝ }
     ensures { λ _. ⌜ now (lives .exit) ≡ lessAt
-        (slotHolding (now (lsns .entry)) (lookup (usedEntries (table (now (ids .entry)) (now (locations .entry)))) id))
+        (slotHolding (now (lsns .entry)) (lookup (usedEntries (now (table .entry))) id))
         (now (lives .entry)) ⌝ }
 {
-    match location_table::load_in(ids, locations, id) {
+    match location_table::load_in(table, id) {
         Held::Mapped(location) => {
             let slot = file_map::lsn_at(lsns, location);
             file_map::less_at(lives, slot);
@@ -41,12 +41,12 @@ fn lose_one(lsns: &[u64], lives: &mut [u64], ids: &[u64], locations: &[u64], id:
 }
 
 // "each replaced location's file, found before the new one is added, loses one live"
-fn lose(lsns: &[u64], lives: &mut [u64], ids: &[u64], locations: &[u64], trailer: &[u8])
-    requires { ⌜ Formed (table (now ids) (now locations))
+fn lose(lsns: &[u64], lives: &mut [u64], table: &[u64], trailer: &[u8])
+    requires { ⌜ Formed (now table)
         × (length (now lsns) ≤ length (now lives))
         × (12 + 16 * countIn (now trailer) ≤ length (now trailer)) ⌝ }
     ensures { λ _. ⌜ now (lives .exit) ≡ losingLives (now (lsns .entry))
-        (usedEntries (table (now (ids .entry)) (now (locations .entry))))
+        (usedEntries (now (table .entry)))
         (entriesIn (now (trailer .entry)))
         (now (lives .entry)) ⌝ }
 {
@@ -54,7 +54,7 @@ fn lose(lsns: &[u64], lives: &mut [u64], ids: &[u64], locations: &[u64], trailer
     let mut k: u64 = 0;
     while k < n {
         let e = trailer::entry(trailer, k);
-        lose_one(lsns, lives, ids, locations, e.id);
+        lose_one(lsns, lives, table, e.id);
         k += 1;
     }
 }
@@ -73,35 +73,35 @@ pub fn absolute(e: Entry, lsn: u64) -> Entry
 }
 
 // "Each id takes its new location", for one entry.
-fn store_one(ids: &mut [u64], locations: &mut [u64], e: Entry, lsn: u64)
-    requires { ⌜ Formed (table (now ids) (now locations))
+fn store_one(table: &mut [u64], e: Entry, lsn: u64)
+    requires { ⌜ Formed (now table)
         × (positionOf (e .location) + lsn < 2 ^ 63)
         × (0 < lsn)
-        × (full (usedEntries (table (now ids) (now locations))) (length (tableIds (now ids))) (e .id) ≡ false) ⌝ }
-    ensures { λ _. ⌜ table (now (ids .exit)) (now (locations .exit))
-        ≡ withStored (table (now (ids .entry)) (now (locations .entry))) (e .id) (absolute lsn e .location) ⌝ }
+        × (full (usedEntries (now table)) (capacityOf (now table)) (e .id) ≡ false) ⌝ }
+    ensures { λ _. ⌜ now (table .exit)
+        ≡ withStored (now (table .entry)) (e .id) (absolute lsn e .location) ⌝ }
 {
     let placed = absolute(e, lsn);
-    location_table::store_in(ids, locations, e.id, placed.location);
+    location_table::store_in(table, e.id, placed.location);
 }
 
 // "Each id takes its new location"
-fn store_all(ids: &mut [u64], locations: &mut [u64], trailer: &[u8], lsn: u64)
-    requires { ⌜ Formed (table (now ids) (now locations))
+fn store_all(table: &mut [u64], trailer: &[u8], lsn: u64)
+    requires { ⌜ Formed (now table)
         × (12 + 16 * countIn (now trailer) ≤ length (now trailer))
         × Placed lsn (entriesIn (now trailer))
         × (0 < lsn)
-        × (length (insertAll (usedEntries (table (now ids) (now locations))) (taken lsn (entriesIn (now trailer))))
-        ≤ length (tableIds (now ids))) ⌝ }
-    ensures { λ _. ⌜ table (now (ids .exit)) (now (locations .exit))
-        ≡ laidOut (length (tableIds (now (ids .entry))))
-        (insertAll (usedEntries (table (now (ids .entry)) (now (locations .entry)))) (taken lsn (entriesIn (now (trailer .entry))))) ⌝ }
+        × (length (insertAll (usedEntries (now table)) (taken lsn (entriesIn (now trailer))))
+        ≤ capacityOf (now table)) ⌝ }
+    ensures { λ _. ⌜ now (table .exit)
+        ≡ laidOut (capacityOf (now (table .entry)))
+        (insertAll (usedEntries (now (table .entry))) (taken lsn (entriesIn (now (trailer .entry))))) ⌝ }
 {
     let n = trailer::count(trailer);
     let mut k: u64 = 0;
     while k < n {
         let e = trailer::entry(trailer, k);
-        store_one(ids, locations, e, lsn);
+        store_one(table, e, lsn);
         k += 1;
     }
 }
@@ -143,32 +143,25 @@ pub fn new_label(lsn: u64, count: u64, total: u64, generation: u64) -> Label
 }
 
 // The entries of a trailer: live counts, then table.
-fn by_trailer(
-    lsns: &[u64],
-    lives: &mut [u64],
-    ids: &mut [u64],
-    locations: &mut [u64],
-    trailer: &[u8],
-    lsn: u64,
-)
-    requires { ⌜ Formed (table (now ids) (now locations))
+fn by_trailer(lsns: &[u64], lives: &mut [u64], table: &mut [u64], trailer: &[u8], lsn: u64)
+    requires { ⌜ Formed (now table)
         × (length (now lsns) ≤ length (now lives))
         × (12 + 16 * countIn (now trailer) ≤ length (now trailer))
         × Placed lsn (entriesIn (now trailer))
         × (0 < lsn)
-        × (length (insertAll (usedEntries (table (now ids) (now locations))) (taken lsn (entriesIn (now trailer))))
-        ≤ length (tableIds (now ids))) ⌝ }
+        × (length (insertAll (usedEntries (now table)) (taken lsn (entriesIn (now trailer))))
+        ≤ capacityOf (now table)) ⌝ }
     ensures { λ _. ⌜ (now (lives .exit) ≡ losingLives (now (lsns .entry))
-        (usedEntries (table (now (ids .entry)) (now (locations .entry))))
+        (usedEntries (now (table .entry)))
         (entriesIn (now (trailer .entry)))
         (now (lives .entry)))
-        × (table (now (ids .exit)) (now (locations .exit))
-        ≡ laidOut (length (tableIds (now (ids .entry))))
-        (insertAll (usedEntries (table (now (ids .entry)) (now (locations .entry))))
+        × (now (table .exit)
+        ≡ laidOut (capacityOf (now (table .entry)))
+        (insertAll (usedEntries (now (table .entry)))
         (taken lsn (entriesIn (now (trailer .entry)))))) ⌝ }
 {
-    lose(lsns, lives, ids, locations, trailer);
-    store_all(ids, locations, trailer, lsn);
+    lose(lsns, lives, table, trailer);
+    store_all(table, trailer, lsn);
 }
 
 // A file that stands in the heap: where its slot begins, its count of entries, T and its lsn.
@@ -180,28 +173,21 @@ pub struct StoredFile {
 }
 
 // The entries of such a file, by its trailer.
-pub fn install(
-    lsns: &[u64],
-    lives: &mut [u64],
-    ids: &mut [u64],
-    locations: &mut [u64],
-    heap: &[u8],
-    file: StoredFile,
-)
-    requires { ⌜ Installable (now lsns) (now lives) (table (now ids) (now locations))
+pub fn install(lsns: &[u64], lives: &mut [u64], table: &mut [u64], heap: &[u8], file: StoredFile)
+    requires { ⌜ Installable (now lsns) (now lives) (now table)
         (now heap) (file .start) (file .count) (file .total) (file .lsn) ⌝ }
     ensures { λ _. ⌜ (now (lives .exit) ≡ losingLives (now (lsns .entry))
-        (usedEntries (table (now (ids .entry)) (now (locations .entry))))
+        (usedEntries (now (table .entry)))
         (entriesIn (trailerAt (now (heap .entry)) (file .start) (file .count) (file .total)))
         (now (lives .entry)))
-        × (table (now (ids .exit)) (now (locations .exit))
-        ≡ laidOut (length (tableIds (now (ids .entry))))
-        (insertAll (usedEntries (table (now (ids .entry)) (now (locations .entry))))
+        × (now (table .exit)
+        ≡ laidOut (capacityOf (now (table .entry)))
+        (insertAll (usedEntries (now (table .entry)))
         (taken (file .lsn) (entriesIn (trailerAt (now (heap .entry)) (file .start) (file .count) (file .total)))))) ⌝ }
 {
     let from = file.start + LABEL_BYTES + file.total as usize;
     let end = from + (TRAILER_HEAD + TRAILER_ENTRY * file.count as usize);
-    by_trailer(lsns, lives, ids, locations, &heap[from..end], file.lsn);
+    by_trailer(lsns, lives, table, &heap[from..end], file.lsn);
 }
 
 // The state with the live counts that are left and the new file's record in its slot.

@@ -8,11 +8,11 @@ use lib.ListN.{length, drop, drop-of-length-le}
 use lib.Seq.{drop-cons}
 use Rattle.rules.specs.declared.Settings.{Settings}
 use Rattle.rules.specs.declared.Record.{Record}
-use Rattle.rules.specs.Layout.{Buffers}
+use Rattle.rules.specs.Layout.{Table}
 use Rattle.rules.specs.FileMap.{emptyRecord, recordAt}
 use Rattle.rules.specs.Condition1.{badRecord, badFrom}
 
-module _ (s : Settings) (heap : ℕ) (b : Buffers) (rs : List Record) (i : ℕ) where
+module _ (s : Settings) (heap : ℕ) (b : Table) (rs : List Record) (i : ℕ) where
   pub bad-here : i < length rs → badRecord s heap b i (recordAt rs i) ≡ true → badFrom s heap b i (drop i rs) ≡ true
   unfolding badFrom
   bad-here h e = rw (drop-cons rs i emptyRecord h, e) refl

@@ -10,7 +10,7 @@ use Rattle.rules.specs.declared.Record.{Record}
 use Rattle.rules.specs.declared.State.{State}
 use Rattle.rules.specs.declared.FileMap.{FileMap}
 use Rattle.rules.specs.Settings.{sameSettings}
-use Rattle.rules.specs.Layout.{Buffers, capacityOf}
+use Rattle.rules.specs.Layout.{Table, capacityOf}
 use Rattle.rules.specs.FileMap.{isEmpty, recordAt}
 use Rattle.rules.specs.FileMapLaws.{empty-is, empty-or-not}
 use Rattle.rules.specs.Condition1.{notTheStates, badFrom}
@@ -27,27 +27,27 @@ stateOf t files = record { settings = t .settings; «heap_len» = t .«heap_len�
 unfoldable pub theStates : Settings → ℕ → ℕ → Rest → Bool
 theStates s heapLen entries t = sameSettings s (t .settings) && eqb heapLen (t .«heap_len») && eqb entries (t .«table_len»)
 
-pub the-states : (s : Settings) (heapLen : ℕ) (b : Buffers) (t : Rest) (files : FileMap)
+pub the-states : (s : Settings) (heapLen : ℕ) (b : Table) (t : Rest) (files : FileMap)
     → notTheStates s heapLen b (stateOf t files) ≡ not (theStates s heapLen (capacityOf b) t)
 unfolding notTheStates theStates
 the-states s heapLen b t files = refl
 
 -- some record is bad, or S is out of its range
-unfoldable pub badFiles : Settings → ℕ → Buffers → List Record → Bool
+unfoldable pub badFiles : Settings → ℕ → Table → List Record → Bool
 badFiles s heapLen b rs = not (within 128 1048576 (s .«slot_bytes»)) || badFrom s heapLen b 0 rs
 
 -- where S is in its range, the records alone
-pub bad-files : (s : Settings) (heapLen : ℕ) (b : Buffers) (rs : List Record) → 128 ≤ s .«slot_bytes» → s .«slot_bytes» ≤ 1048576
+pub bad-files : (s : Settings) (heapLen : ℕ) (b : Table) (rs : List Record) → 128 ≤ s .«slot_bytes» → s .«slot_bytes» ≤ 1048576
     → badFiles s heapLen b rs ≡ badFrom s heapLen b 0 rs
 unfolding badFiles
 bad-files s heapLen b rs low high = rw (within-holds 128 1048576 (s .«slot_bytes») low high) refl
 
 -- the table is in form
-pub passed-formed : (s : Settings) (heapLen : ℕ) (b : Buffers) (t : State) → Passed s heapLen b t → Formed b
-passed-formed s heapLen b t w = record { even = w .limits .table .equal; form = w .form }
+pub passed-formed : (s : Settings) (heapLen : ℕ) (b : Table) (t : State) → Passed s heapLen b t → Formed b
+passed-formed s heapLen b t w = record { even = w .limits .table .even; form = w .form }
 
 -- each record's numbers are small enough for the sums
-pub passed-bounded : (s : Settings) (heapLen : ℕ) (b : Buffers) (t : State) → Passed s heapLen b t → Bounded (t .files .records)
+pub passed-bounded : (s : Settings) (heapLen : ℕ) (b : Table) (t : State) → Passed s heapLen b t → Bounded (t .files .records)
 passed-bounded s heapLen b t w k = ⊎-elim none some (empty-or-not (recordAt (t .files .records) k))
   where
     none : isEmpty (recordAt (t .files .records) k) ≡ true → Small (recordAt (t .files .records) k)

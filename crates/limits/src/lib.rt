@@ -18,7 +18,6 @@ ghost use Rattle.rules.specs.Settings.{defaults, inRanges, heapInRange, sameSet
 ghost use Rattle.rules.specs.SettingsLaws.{InRanges};
 ghost use Rattle.rules.specs.Condition1Laws.{InLimits};
 ghost use Rattle.rules.specs.Condition1.{outOfRange, badRecord, conditionOne};
-ghost use Rattle.rules.specs.Layout.{table};
 ghost use Rattle.limits.specs.Settled.{stateOf, theStates, badFiles};
 
 // "Port's default"; of the percentage, document 02, request P10: "The default of file_compaction_percent becomes 50."
@@ -59,8 +58,8 @@ fn heap_in_range(s: Settings, heap: u64) -> bool
 }
 
 // "settings or buffer lengths outside the ranges": all of 1 for a reopening. `heap` is the heap's length.
-pub fn out_of_range(s: Settings, heap: u64, ids: &[u64], locations: &[u64]) -> bool
-    ensures { λ r. ⌜ r ≡ outOfRange s heap (table (now (ids .entry)) (now (locations .entry))) ⌝ }
+pub fn out_of_range(s: Settings, heap: u64, table: &[u64]) -> bool
+    ensures { λ r. ⌜ r ≡ outOfRange s heap (now (table .entry)) ⌝ }
 {
     if !in_ranges(s) {
         return true;
@@ -68,7 +67,7 @@ pub fn out_of_range(s: Settings, heap: u64, ids: &[u64], locations: &[u64]) -> b
     if !heap_in_range(s, heap) {
         return true;
     }
-    !lengths_in_range(ids, locations)
+    !lengths_in_range(table)
 }
 
 fn same_settings(s: Settings, t: Settings) -> bool
@@ -111,9 +110,9 @@ fn the_states(s: Settings, heap: u64, entries: u64, rest: Rest) -> bool
 }
 
 // "a non-empty record at slot N or above, outside 8's bounds, or with present over file_size or live over the table's length"
-fn bad_record(s: Settings, heap: u64, ids: &[u64], locations: &[u64], slot: u64, r: Record) -> bool
+fn bad_record(s: Settings, heap: u64, table: &[u64], slot: u64, r: Record) -> bool
     requires { ⌜ (128 ≤ s .«slot_bytes») × (s .«slot_bytes» ≤ 1048576) ⌝ }
-    ensures { λ b. ⌜ b ≡ badRecord s heap (table (now (ids .entry)) (now (locations .entry))) slot r ⌝ }
+    ensures { λ b. ⌜ b ≡ badRecord s heap (now (table .entry)) slot r ⌝ }
 {
     if is_empty(r) {
         return false;
@@ -127,20 +126,20 @@ fn bad_record(s: Settings, heap: u64, ids: &[u64], locations: &[u64], slot: u64,
     if r.label.file_size < r.label.present_objects {
         return true;
     }
-    (capacity(ids) as u64) < r.live
+    (capacity(table) as u64) < r.live
 }
 
 // Some record is such, or S is out of its range. Every call asks this before its first branch: there, compiled, it reads the caller's
 // records where they stand; behind a branch it would copy them.
-pub fn bad_files(s: Settings, heap: u64, ids: &[u64], locations: &[u64], files: FileMap) -> bool
-    ensures { λ b. ⌜ b ≡ badFiles s heap (table (now (ids .entry)) (now (locations .entry))) (files .records) ⌝ }
+pub fn bad_files(s: Settings, heap: u64, table: &[u64], files: FileMap) -> bool
+    ensures { λ b. ⌜ b ≡ badFiles s heap (now (table .entry)) (files .records) ⌝ }
 {
     if !within(128, 1048576, s.slot_bytes) {
         return true;
     }
     let mut i: usize = 0;
     while i < RECORDS {
-        if bad_record(s, heap, ids, locations, i as u64, files.records[i]) {
+        if bad_record(s, heap, table, i as u64, files.records[i]) {
             return true;
         }
         i += 1;
@@ -149,26 +148,19 @@ pub fn bad_files(s: Settings, heap: u64, ids: &[u64], locations: &[u64], files: 
 }
 
 // All of 1 for every other call: `bad` is what was found of the state's records.
-pub fn refused_apart(
-    s: Settings,
-    heap: u64,
-    ids: &[u64],
-    locations: &[u64],
-    rest: Rest,
-    bad: bool,
-) -> bool
+pub fn refused_apart(s: Settings, heap: u64, table: &[u64], rest: Rest, bad: bool) -> bool
     ensures { λ r. ⌜ ((files : FileMap)
-        → bad ≡ badFiles s heap (table (now (ids .entry)) (now (locations .entry))) (files .records)
-        → r ≡ conditionOne s heap (table (now (ids .entry)) (now (locations .entry))) (stateOf rest files)) ⌝ }
-    ensures { λ r. ⌜ (r ≡ false → InLimits s heap (table (now (ids .entry)) (now (locations .entry)))) ⌝ }
+        → bad ≡ badFiles s heap (now (table .entry)) (files .records)
+        → r ≡ conditionOne s heap (now (table .entry)) (stateOf rest files)) ⌝ }
+    ensures { λ r. ⌜ (r ≡ false → InLimits s heap (now (table .entry))) ⌝ }
 {
-    if out_of_range(s, heap, ids, locations) {
+    if out_of_range(s, heap, table) {
         return true;
     }
-    if !the_states(s, heap, capacity(ids) as u64, rest) {
+    if !the_states(s, heap, capacity(table) as u64, rest) {
         return true;
     }
-    if !in_form(ids, locations) {
+    if !in_form(table) {
         return true;
     }
     if rest.next_position == 0 {
@@ -178,10 +170,10 @@ pub fn refused_apart(
 }
 
 // The same of a whole state.
-pub fn refused(s: Settings, heap: u64, ids: &[u64], locations: &[u64], state: State) -> bool
-    ensures { λ r. ⌜ r ≡ conditionOne s heap (table (now (ids .entry)) (now (locations .entry))) state ⌝ }
+pub fn refused(s: Settings, heap: u64, table: &[u64], state: State) -> bool
+    ensures { λ r. ⌜ r ≡ conditionOne s heap (now (table .entry)) state ⌝ }
 {
     let files = state.files;
-    let bad = bad_files(s, heap, ids, locations, files);
-    refused_apart(s, heap, ids, locations, rest_of(state), bad)
+    let bad = bad_files(s, heap, table, files);
+    refused_apart(s, heap, table, rest_of(state), bad)
 }

@@ -28,8 +28,7 @@ fn claim(claims: Claims, state: State, slot: u64) -> Claims {
         state,
         claims,
         &[0u8; 256],
-        &[3u64, 7],
-        &[10u64, 13],
+        &[3u64, 10, 7, 13],
         slot,
     ))
 }
@@ -42,8 +41,7 @@ fn release(claims: Claims, state: State, slot: u64) -> Claims {
         state,
         claims,
         &[0u8; 256],
-        &[3u64, 7],
-        &[10u64, 13],
+        &[3u64, 10, 7, 13],
         slot,
     ))
 }

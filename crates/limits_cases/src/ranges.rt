@@ -4,7 +4,7 @@ use test_host::text;
 
 // Whether settings, a heap of one slot and a table of one entry are outside the ranges.
 fn out(s: Settings) -> bool {
-    limits::out_of_range(s, s.slot_bytes, &[0u64], &[0u64])
+    limits::out_of_range(s, s.slot_bytes, &[0u64; 2])
 }
 
 // The four numbers at the ends of a range: below, lowest, highest, above.
@@ -55,7 +55,7 @@ fn with_object(n: u64) -> bool {
 
 // A heap of that many bytes, slots of 4,096.
 fn with_heap(n: u64) -> bool {
-    limits::out_of_range(limits::defaults(), n, &[0u64], &[0u64])
+    limits::out_of_range(limits::defaults(), n, &[0u64; 2])
 }
 
 // "settings or buffer lengths outside the ranges", at the ends of each range; a range that begins with 0 has its lowest twice.

@@ -41,7 +41,7 @@ pub fn store() -> State {
 // What counts answers for the store with this state.
 fn counts(word: &[u8], state: State) {
     text(word);
-    counted(claims::counts(settings(), state, &[0u8; 256], &[3u64, 7], &[10u64, 13]));
+    counted(claims::counts(settings(), state, &[0u8; 256], &[3u64, 10, 7, 13]));
 }
 
 // "lengths or settings not those of the state", and "next position 0"
@@ -65,15 +65,15 @@ fn not_the_states() {
 fn tables() {
     let heap = [0u8; 256];
     text(b"ids not rising:");
-    counted(claims::counts(settings(), store(), &heap, &[7u64, 7], &[10u64, 13]));
+    counted(claims::counts(settings(), store(), &heap, &[7u64, 10, 7, 13]));
     text(b"used behind unused:");
-    counted(claims::counts(settings(), store(), &heap, &[0u64, 7], &[0u64, 13]));
+    counted(claims::counts(settings(), store(), &heap, &[0u64, 0, 7, 13]));
     text(b"an id without a location:");
-    counted(claims::counts(settings(), store(), &heap, &[3u64, 7], &[10u64, 0]));
-    text(b"lengths not equal:");
-    counted(claims::counts(settings(), store(), &heap, &[3u64, 7], &[10u64]));
+    counted(claims::counts(settings(), store(), &heap, &[3u64, 10, 7, 0]));
+    text(b"odd length:");
+    counted(claims::counts(settings(), store(), &heap, &[3u64, 10, 7, 13, 0]));
     text(b"nothing used:");
-    counted(claims::counts(settings(), store(), &heap, &[0u64, 0], &[0u64, 0]));
+    counted(claims::counts(settings(), store(), &heap, &[0u64; 4]));
 }
 
 // "a non-empty record at slot N or above, outside 8's bounds, or with present over file_size or live over the table's length"

@@ -42,46 +42,26 @@ fn show(files: FileMap, used: u64) {
 }
 
 // A store that refusal 1 bars has no listing.
-fn list(settings: Settings, state: State, heap: &[u8], ids: &[u64], locations: &[u64]) {
-    if marble::refused(settings, heap.len() as u64, ids, locations, state) {
+fn list(settings: Settings, state: State, heap: &[u8], table: &[u64]) {
+    if marble::refused(settings, heap.len() as u64, table, state) {
         return;
     }
-    let used = location_table::used(ids, locations) as u64;
+    let used = location_table::used(table) as u64;
     let files = state.files;
     show(files, used);
 }
 
-fn written(
-    settings: Settings,
-    heap: &mut [u8],
-    ids: &mut [u64],
-    locations: &mut [u64],
-    batch: &[u8],
-) -> State {
-    let fresh = marble::reopen(
-        settings,
-        no_state(settings),
-        no_claims(),
-        heap,
-        ids,
-        locations,
-    );
+fn written(settings: Settings, heap: &mut [u8], table: &mut [u64], batch: &[u8]) -> State {
+    let fresh = marble::reopen(settings, no_state(settings), no_claims(), heap, table);
     let opened = fresh.state;
-    let after = marble::write(settings, opened, heap, ids, locations, batch);
+    let after = marble::write(settings, opened, heap, table, batch);
     after.state
 }
 
 fn main() {
     let mut heap = io::buffer();
-    let mut ids = [0u64; 4];
-    let mut locations = [0u64; 4];
+    let mut table = [0u64; 8];
     let settings = marble::defaults();
-    let state = written(
-        settings,
-        &mut heap,
-        &mut ids,
-        &mut locations,
-        b"\x07\x01\x01\x41\x09\x00",
-    );
-    list(settings, state, &heap, &ids, &locations);
+    let state = written(settings, &mut heap, &mut table, b"\x07\x01\x01\x41\x09\x00");
+    list(settings, state, &heap, &table);
 }

@@ -1,21 +1,65 @@
--- The two buffers and the used entries in them.
-use mathlib.Core.Path.{_≡_, sym, ap, _∙_}
+-- The words of the table, its places and the used entries in them.
+use mathlib.Core.Path.{_≡_, refl, sym, ap, ap₂, _∙_}
 use mathlib.Core.Logic.{_⊎_, inl, inr}
-use Rattle.rules.specs.Base.{true, _&&_, List, [], _∷_, _++_, map, ℕ, zero, suc, _-_, length, getD, replicate, padded}
+use Rattle.rules.specs.Base.{true, _&&_, List, [], _∷_, _++_, map, ℕ, zero, suc, _+_, _-_, _*_, length, getD, set, replicate, padded}
 use Prim.Native.Nat.{_<_, _≤_}
 use native.Mathlib.Nat.{le-of-suc-le-suc, not-suc-le-zero, sub-zero, suc-sub-suc}
 use native.Mathlib.Omega.{arith}
-use lib.ListN.{length-append, length-map, List·getD-eq-default}
+use lib.ListN.{length-append, length-map, length-set, List·getD-eq-default}
 use Rattle.rules.specs.BaseLaws.{order, and-true, zero-or-more, replicate-at}
 use Rattle.rules.specs.declared.Entry.{Entry}
-use Rattle.rules.specs.Layout.{Buffers, table, lengthsInRange, inForm, usedIn, usedEntries, laidOut}
+use Rattle.rules.specs.Layout.{Table, tableIds, tableLocations, capacityOf, lengthsInRange, inForm, usedIn, usedEntries, laidOut}
 use Rattle.rules.specs.TableLaws.{Rising}
-use Rattle.rules.specs.LayoutLaws.{Used, lengths-in-range, used-located, used-length, form-rising, laid-out-used, laid-out-ids, laid-out-locations, form-laid-out, used-more, used-stop}
+use Rattle.rules.specs.LayoutLaws.{Used, lengths-in-range, used-located, form-rising, laid-out-used, laid-out-even, laid-out-locations, form-laid-out, used-more, used-stop}
 use Rattle.rules.specs.Table.{noEntry}
-use Rattle.location_table.specs.Tables.{Formed}
+use Rattle.location_table.specs.Tables.{Formed, withPair}
 use Rattle.location_table.specs.EntryLaws.{has-at}
 
--- ---- the used entries are what stands in the buffers, form or not
+-- ---- a place's two words
+-- the id of place k is word 2k
+pub id-word : (b : Table) (k : ℕ) → k < capacityOf b → getD b (2 * k) 0 ≡ getD (tableIds b) k 0
+unfolding tableIds
+id-word [] k h = absurd (omega arith)
+id-word (i ∷ []) k h = absurd (omega arith)
+id-word (i ∷ l ∷ ws) zero h = refl
+id-word (i ∷ l ∷ ws) (suc k) h = let q : 2 * suc k ≡ suc (suc (2 * k)) = omega arith in ap (λ (n : ℕ). getD (i ∷ l ∷ ws) n 0) q ∙ id-word ws k (omega arith)
+
+-- its location word 2k + 1
+pub location-word : (b : Table) (k : ℕ) → k < capacityOf b → getD b (2 * k + 1) 0 ≡ getD (tableLocations b) k 0
+unfolding tableLocations
+location-word [] k h = absurd (omega arith)
+location-word (i ∷ []) k h = absurd (omega arith)
+location-word (i ∷ l ∷ ws) zero h = refl
+location-word (i ∷ l ∷ ws) (suc k) h =
+    let q : 2 * suc k + 1 ≡ suc (suc (2 * k + 1)) = omega arith in
+    ap (λ (n : ℕ). getD (i ∷ l ∷ ws) n 0) q ∙ location-word ws k (omega arith)
+
+-- an entry replaced: its id, its location, and the length
+module _ (id location : ℕ) where
+  pub pair-ids : (b : Table) (k : ℕ) → k < capacityOf b → tableIds (withPair b k id location) ≡ set (tableIds b) k id
+  unfolding tableIds
+  pair-ids [] k h = absurd (omega arith)
+  pair-ids (i ∷ []) k h = absurd (omega arith)
+  pair-ids (i ∷ l ∷ ws) zero h = refl
+  pair-ids (i ∷ l ∷ ws) (suc k) h =
+      let q : 2 * suc k ≡ suc (suc (2 * k)) = omega arith in
+      let r : 2 * suc k + 1 ≡ suc (suc (2 * k + 1)) = omega arith in
+      ap₂ (λ (m n : ℕ). tableIds (set (set (i ∷ l ∷ ws) m id) n location)) q r ∙ ap (λ (xs : List ℕ). i ∷ xs) (pair-ids ws k (omega arith))
+
+  pub pair-locations : (b : Table) (k : ℕ) → k < capacityOf b → tableLocations (withPair b k id location) ≡ set (tableLocations b) k location
+  unfolding tableLocations
+  pair-locations [] k h = absurd (omega arith)
+  pair-locations (i ∷ []) k h = absurd (omega arith)
+  pair-locations (i ∷ l ∷ ws) zero h = refl
+  pair-locations (i ∷ l ∷ ws) (suc k) h =
+      let q : 2 * suc k ≡ suc (suc (2 * k)) = omega arith in
+      let r : 2 * suc k + 1 ≡ suc (suc (2 * k + 1)) = omega arith in
+      ap₂ (λ (m n : ℕ). tableLocations (set (set (i ∷ l ∷ ws) m id) n location)) q r ∙ ap (λ (xs : List ℕ). l ∷ xs) (pair-locations ws k (omega arith))
+
+  pub pair-length : (b : Table) (k : ℕ) → length (withPair b k id location) ≡ length b
+  pair-length b k = length-set (set b (2 * k) id) (2 * k + 1) location ∙ length-set b (2 * k) id
+
+-- ---- the used entries are what stands in its places, form or not
 at-id : (is ls : List ℕ) (k : ℕ) → k < length (usedIn is ls) → getD is k 0 ≡ getD (usedIn is ls) k noEntry .id
 unfolding usedIn
 at-id [] ls k h = absurd (not-suc-le-zero h)
@@ -66,62 +110,57 @@ padded-past (n ∷ ns) zero (suc k) h = over n ns k (le-of-suc-le-suc h)
         rw z (List·getD-eq-default ((n ∷ ns) ++ []) 0 {n = suc k} (simp length-append (omega arith)))
 
 -- ---- of the table
-abbrev pub used : List ℕ → List ℕ → List Entry
-used is ls = usedEntries (table is ls)
-
-module _ (is ls : List ℕ) where
-  pub used-id : (k : ℕ) → k < length (used is ls) → getD is k 0 ≡ getD (used is ls) k noEntry .id
+module _ (b : Table) where
+  pub used-id : (k : ℕ) → k < length (usedEntries b) → getD (tableIds b) k 0 ≡ getD (usedEntries b) k noEntry .id
   unfolding usedEntries
-  used-id k h = at-id is ls k h
+  used-id k h = at-id (tableIds b) (tableLocations b) k h
 
-  pub used-location : (k : ℕ) → k < length (used is ls) → getD ls k 0 ≡ getD (used is ls) k noEntry .location
+  pub used-location : (k : ℕ) → k < length (usedEntries b) → getD (tableLocations b) k 0 ≡ getD (usedEntries b) k noEntry .location
   unfolding usedEntries
-  used-location k h = at-location is ls k h
+  used-location k h = at-location (tableIds b) (tableLocations b) k h
 
-  module _ (formed : Formed (table is ls)) where
-    pub used-rising : Rising 0 (used is ls)
-    used-rising = form-rising (table is ls) (formed .form)
+  module _ (formed : Formed b) where
+    pub used-rising : Rising 0 (usedEntries b)
+    used-rising = form-rising b (formed .form)
 
-    pub used-fits : length (used is ls) ≤ length is
-    used-fits = used-length (table is ls)
-
-    -- the buffers are their used entries, laid out
-    pub laid-out : table is ls ≡ laidOut (length is) (used is ls)
-    laid-out = sym (laid-out-used (table is ls) (formed .form) (formed .even))
+    -- the buffer is its used entries, laid out
+    pub laid-out : b ≡ laidOut (capacityOf b) (usedEntries b)
+    laid-out = sym (laid-out-used b (formed .form) (formed .even))
 
     -- a used place has a location
-    pub zero-unused : (k : ℕ) → getD ls k 0 ≡ 0 → length (used is ls) ≤ k
-    zero-unused k z = go (order k (length (used is ls)))
+    pub zero-unused : (k : ℕ) → getD (tableLocations b) k 0 ≡ 0 → length (usedEntries b) ≤ k
+    zero-unused k z = go (order k (length (usedEntries b)))
       where
-        go : (k < length (used is ls)) ⊎ ((k ≡ length (used is ls)) ⊎ (length (used is ls) < k)) → length (used is ls) ≤ k
+        go : (k < length (usedEntries b)) ⊎ ((k ≡ length (usedEntries b)) ⊎ (length (usedEntries b) < k)) → length (usedEntries b) ≤ k
         go (inl q) =
-            let p = used-located (table is ls) _ _ (has-at (used is ls) k q) in
+            let p = used-located b _ _ (has-at (usedEntries b) k q) in
             let e = used-location k q in
             omega arith
         go (inr (inl q)) = omega arith
         go (inr (inr q)) = omega arith
 
     -- and a place with a location is used
-    pub not-zero-used : (k : ℕ) → (getD ls k 0 ≡ 0 → ⊥) → k < length (used is ls)
-    unfolding laidOut
-    not-zero-used k z = go (order k (length (used is ls)))
+    pub not-zero-used : (k : ℕ) → (getD (tableLocations b) k 0 ≡ 0 → ⊥) → k < length (usedEntries b)
+    not-zero-used k z = go (order k (length (usedEntries b)))
       where
-        past : length (used is ls) ≤ k → getD ls k 0 ≡ 0
+        past : length (usedEntries b) ≤ k → getD (tableLocations b) k 0 ≡ 0
         past q =
-            let m : length (map (λ (e : Entry). e .location) (used is ls)) ≤ k = rw (length-map (used is ls) (λ (e : Entry). e .location)) q in
-            ap (λ (b : Buffers). getD (b .locations) k 0) laid-out ∙ padded-past (map (λ (e : Entry). e .location) (used is ls)) (length is) k m
+            let m : length (map (λ (e : Entry). e .location) (usedEntries b)) ≤ k = rw (length-map (usedEntries b) (λ (e : Entry). e .location)) q in
+            ap (λ (t : Table). getD (tableLocations t) k 0) laid-out
+            ∙ ap (λ (ls : List ℕ). getD ls k 0) (laid-out-locations (capacityOf b) (usedEntries b))
+            ∙ padded-past (map (λ (e : Entry). e .location) (usedEntries b)) (capacityOf b) k m
 
-        go : (k < length (used is ls)) ⊎ ((k ≡ length (used is ls)) ⊎ (length (used is ls) < k)) → k < length (used is ls)
+        go : (k < length (usedEntries b)) ⊎ ((k ≡ length (usedEntries b)) ⊎ (length (usedEntries b) < k)) → k < length (usedEntries b)
         go (inl q) = q
         go (inr (inl q)) = absurd (z (past (omega arith)))
         go (inr (inr q)) = absurd (z (past (omega arith)))
 
 -- used entries that rise, laid out, are in form
 pub laid-out-formed : (m : ℕ) (es : List Entry) → Used es → Rising 0 es → length es ≤ m → Formed (laidOut m es)
-laid-out-formed m es u r h = record { even = laid-out-ids m es h ∙ sym (laid-out-locations m es h); form = form-laid-out m es u r }
+laid-out-formed m es u r h = record { even = laid-out-even m es h; form = form-laid-out m es u r }
 
 -- a table that passed refusal 1
-pub formed-of : (b : Buffers) → (lengthsInRange b && inForm b) ≡ true → Formed b
+pub formed-of : (b : Table) → (lengthsInRange b && inForm b) ≡ true → Formed b
 formed-of b h =
     let t = and-true (lengthsInRange b) (inForm b) h in
-    record { even = lengths-in-range b (t .0) .equal; form = t .1 }
+    record { even = lengths-in-range b (t .0) .even; form = t .1 }

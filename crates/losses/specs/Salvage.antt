@@ -7,7 +7,7 @@ use Rattle.rules.specs.Refusal.{numberOf, _gives_, decide, after}
 use Rattle.rules.specs.Stores.{Store, made}
 use Rattle.rules.specs.PruneLaws.{emptying}
 use Rattle.rules.specs.SlotFile.{View, empty, damaged, holds}
-use Rattle.rules.specs.Layout.{Buffers}
+use Rattle.rules.specs.Layout.{Table}
 use Rattle.rules.specs.Condition1.{outOfRange}
 use Rattle.rules.specs.World.{Given, accepted, refused}
 use Rattle.faults.specs.Faults.{judgedIn}
@@ -97,7 +97,7 @@ pub record Salvaged : Type 0 where
   pub heap : List ℕ
 
 -- "Refusals: 1 only": reopening's; the number of lines; what of the report's words no line needs stays
-unfoldable pub salvageCall : Settings → List ℕ → Buffers → List ℕ → Salvaged
+unfoldable pub salvageCall : Settings → List ℕ → Table → List ℕ → Salvaged
 salvageCall s heap table words =
     after (decide (outOfRange s (length heap) table gives Limits ∷ [])) (λ (r : Refusal). record { answer = refused r; report = words; heap = heap })
     (record {

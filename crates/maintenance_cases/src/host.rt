@@ -51,8 +51,8 @@ fn claim_words(first: u64) -> Claims {
     claims
 }
 
-pub fn reopened(s: Settings, heap: &[u8], ids: &mut [u64], locations: &mut [u64]) -> State {
-    let r = marble::reopen(s, no_state(s), no_claims(), heap, ids, locations);
+pub fn reopened(s: Settings, heap: &[u8], table: &mut [u64]) -> State {
+    let r = marble::reopen(s, no_state(s), no_claims(), heap, table);
     let state = r.state;
     state
 }
@@ -61,13 +61,12 @@ pub fn write(
     s: Settings,
     state: State,
     heap: &mut [u8],
-    ids: &mut [u64],
-    locations: &mut [u64],
+    table: &mut [u64],
     pairs: &[u64],
 ) -> State {
     let mut batch = [0u8; 2048];
     let end = batches::make(&mut batch, pairs);
-    let w = marble::write(s, state, heap, ids, locations, &batch[0..end]);
+    let w = marble::write(s, state, heap, table, &batch[0..end]);
     let after = w.state;
     after
 }
@@ -149,19 +148,18 @@ pub fn maintain(
     state: State,
     hand: ByHand,
     heap: &mut [u8],
-    ids: &mut [u64],
-    locations: &mut [u64],
+    table: &mut [u64],
 ) -> State {
-    let m = marble::maintain(s, state, claim_words(hand.claimed), heap, ids, locations);
+    let m = marble::maintain(s, state, claim_words(hand.claimed), heap, table);
     let answer = m.answer;
     let after = m.state;
     show::maintained(answer);
-    test_host::store(after, heap, ids, locations);
-    show::counted(marble::counts(s, after, heap, ids, locations));
+    test_host::store(after, heap, table);
+    show::counted(marble::counts(s, after, heap, table));
     after
 }
 
-pub fn read(s: Settings, state: State, heap: &[u8], ids: &[u64], locations: &[u64], id: u64) {
-    let body = marble::read(s, state, heap, ids, locations, id);
+pub fn read(s: Settings, state: State, heap: &[u8], table: &[u64], id: u64) {
+    let body = marble::read(s, state, heap, table, id);
     show::body(id, body);
 }

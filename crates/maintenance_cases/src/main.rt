@@ -12,11 +12,11 @@ use rules::Settings;
 use rules::State;
 
 // All ids of a case are below 8.
-fn reads(s: Settings, state: State, heap: &[u8], ids: &[u64], locations: &[u64]) {
+fn reads(s: Settings, state: State, heap: &[u8], table: &[u64]) {
     test_host::text(b"reads");
     let mut id: u64 = 1;
     while id < 8 {
-        host::read(s, state, heap, ids, locations, id);
+        host::read(s, state, heap, table, id);
         id += 1;
     }
     test_host::text(b"\n");
@@ -25,24 +25,23 @@ fn reads(s: Settings, state: State, heap: &[u8], ids: &[u64], locations: &[u64])
 // Four batches on a fresh store, what is done by hand, the maintenance, then a reopening: what each left, and every read before and after.
 fn case(s: Settings, hand: ByHand, a: &[u64], b: &[u64], c: &[u64], d: &[u64]) {
     let mut heap = [0u8; 8192];
-    let mut ids = [0u64; 8];
-    let mut locations = [0u64; 8];
-    let mut state = host::reopened(s, &heap, &mut ids, &mut locations);
-    state = host::write(s, state, &mut heap, &mut ids, &mut locations, a);
-    state = host::write(s, state, &mut heap, &mut ids, &mut locations, b);
-    state = host::write(s, state, &mut heap, &mut ids, &mut locations, c);
-    state = host::write(s, state, &mut heap, &mut ids, &mut locations, d);
+    let mut table = [0u64; 16];
+    let mut state = host::reopened(s, &heap, &mut table);
+    state = host::write(s, state, &mut heap, &mut table, a);
+    state = host::write(s, state, &mut heap, &mut table, b);
+    state = host::write(s, state, &mut heap, &mut table, c);
+    state = host::write(s, state, &mut heap, &mut table, d);
     host::heap_by_hand(&mut heap, hand);
     state = host::state_by_hand(state, hand);
     test_host::text(b"before");
-    test_host::store(state, &heap, &ids, &locations);
-    reads(s, state, &heap, &ids, &locations);
-    state = host::maintain(s, state, hand, &mut heap, &mut ids, &mut locations);
-    reads(s, state, &heap, &ids, &locations);
-    state = host::reopened(s, &heap, &mut ids, &mut locations);
+    test_host::store(state, &heap, &table);
+    reads(s, state, &heap, &table);
+    state = host::maintain(s, state, hand, &mut heap, &mut table);
+    reads(s, state, &heap, &table);
+    state = host::reopened(s, &heap, &mut table);
     test_host::text(b"reopened");
-    test_host::store(state, &heap, &ids, &locations);
-    reads(s, state, &heap, &ids, &locations);
+    test_host::store(state, &heap, &table);
+    reads(s, state, &heap, &table);
 }
 
 // "3 live of 4 at 75: no candidate; 2 of 3 (66): a candidate."

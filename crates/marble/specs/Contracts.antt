@@ -12,7 +12,6 @@ use Rattle.rules.specs.declared.ReadAnswer.{ReadAnswer}
 use Rattle.rules.specs.declared.CountsAnswer.{CountsAnswer}
 use Rattle.rules.specs.declared.LoadAnswer.{LoadAnswer}
 use Rattle.rules.specs.declared.CompareAnswer.{CompareAnswer}
-use Rattle.rules.specs.Layout.{table}
 use Rattle.rules.specs.TableCalls.{loadCall, storeCall, compareCall, greaterCall}
 use Rattle.rules.specs.Read.{readOf}
 use Rattle.rules.specs.World.{world, answerGiven, loadGiven, compareGiven}
@@ -49,87 +48,87 @@ abbrev pub Lent : Type 0
 Lent = RefT (List ℕ)
 
 -- ---- the calls on a store: settings, state, claims and buffers before; result and buffers after
-module _ (settings : Settings) (state : State) (heap ids locations : Lent) where
-  pub write-contract : (κs : Lfts 4) (batch : Lent) (r : Written) (heap′ ids′ locations′ : Lent)
-      → write.Learnt κs (settings, (state, (heap, (ids, (locations, (batch, tt)))))) r (settings, (state, (heap′, (ids′, (locations′, (batch, tt))))))
-      ≡ ((c : Claims) → Admitted (world settings state c (now heap) (table (now ids) (now locations))) (wrote (now batch) r (now heap′) (now ids′) (now locations′)))
-  write-contract κs batch r heap′ ids′ locations′ = refl
+module _ (settings : Settings) (state : State) (heap table : Lent) where
+  pub write-contract : (κs : Lfts 3) (batch : Lent) (r : Written) (heap′ table′ : Lent)
+      → write.Learnt κs (settings, (state, (heap, (table, (batch, tt))))) r (settings, (state, (heap′, (table′, (batch, tt)))))
+      ≡ ((c : Claims) → Admitted (world settings state c (now heap) (now table)) (wrote (now batch) r (now heap′) (now table′)))
+  write-contract κs batch r heap′ table′ = refl
 
-  pub read-answer-contract : (κs : Lfts 3) (id : ℕ) (r : ReadAnswer)
-      → answer.Learnt κs (settings, (state, (heap, (ids, (locations, (id, tt)))))) r (settings, (state, (heap, (ids, (locations, (id, tt))))))
-      ≡ ((c : Claims) → Admitted (world settings state c (now heap) (table (now ids) (now locations))) (answered id r))
+  pub read-answer-contract : (κs : Lfts 2) (id : ℕ) (r : ReadAnswer)
+      → answer.Learnt κs (settings, (state, (heap, (table, (id, tt))))) r (settings, (state, (heap, (table, (id, tt)))))
+      ≡ ((c : Claims) → Admitted (world settings state c (now heap) (now table)) (answered id r))
   read-answer-contract κs id r = refl
 
-  pub read-contract : (κs : Lfts 3) (id : ℕ) (part : Lent)
-      → reading.Learnt κs (settings, (state, (heap, (ids, (locations, (id, tt)))))) part (settings, (state, (heap, (ids, (locations, (id, tt))))))
-      ≡ (((c : Claims) → Admitted (world settings state c (now heap) (table (now ids) (now locations))) (read id (now part)))
-      × ((c : Claims) → part .ptr ≡ placeOf (readOf (world settings state c (now heap) (table (now ids) (now locations))) id) (heap .ptr)))
+  pub read-contract : (κs : Lfts 2) (id : ℕ) (part : Lent)
+      → reading.Learnt κs (settings, (state, (heap, (table, (id, tt))))) part (settings, (state, (heap, (table, (id, tt)))))
+      ≡ (((c : Claims) → Admitted (world settings state c (now heap) (now table)) (read id (now part)))
+      × ((c : Claims) → part .ptr ≡ placeOf (readOf (world settings state c (now heap) (now table)) id) (heap .ptr)))
   read-contract κs id part = refl
 
-  pub counts-contract : (κs : Lfts 3) (r : CountsAnswer)
-      → counts.Learnt κs (settings, (state, (heap, (ids, (locations, tt))))) r (settings, (state, (heap, (ids, (locations, tt)))))
-      ≡ ((c : Claims) → Admitted (world settings state c (now heap) (table (now ids) (now locations))) (counted r))
+  pub counts-contract : (κs : Lfts 2) (r : CountsAnswer)
+      → counts.Learnt κs (settings, (state, (heap, (table, tt)))) r (settings, (state, (heap, (table, tt))))
+      ≡ ((c : Claims) → Admitted (world settings state c (now heap) (now table)) (counted r))
   counts-contract κs r = refl
 
-  module _ (claims : Claims) (κs : Lfts 3) where
-    pub reopen-contract : (r : Reopened) (ids′ locations′ : Lent)
-        → reopen.Learnt κs (settings, (state, (claims, (heap, (ids, (locations, tt)))))) r (settings, (state, (claims, (heap, (ids′, (locations′, tt))))))
-        ≡ Admitted (world settings state claims (now heap) (table (now ids) (now locations))) (reopened r (now ids′) (now locations′))
-    reopen-contract r ids′ locations′ = refl
+  module _ (claims : Claims) (κs : Lfts 2) where
+    pub reopen-contract : (r : Reopened) (table′ : Lent)
+        → reopen.Learnt κs (settings, (state, (claims, (heap, (table, tt))))) r (settings, (state, (claims, (heap, (table′, tt)))))
+        ≡ Admitted (world settings state claims (now heap) (now table)) (reopened r (now table′))
+    reopen-contract r table′ = refl
 
-    pub maintain-contract : (r : Maintained) (heap′ ids′ locations′ : Lent)
-        → maintain.Learnt κs (settings, (state, (claims, (heap, (ids, (locations, tt)))))) r (settings, (state, (claims, (heap′, (ids′, (locations′, tt))))))
-        ≡ Admitted (world settings state claims (now heap) (table (now ids) (now locations))) (maintained r (now heap′) (now ids′) (now locations′))
-    maintain-contract r heap′ ids′ locations′ = refl
+    pub maintain-contract : (r : Maintained) (heap′ table′ : Lent)
+        → maintain.Learnt κs (settings, (state, (claims, (heap, (table, tt))))) r (settings, (state, (claims, (heap′, (table′, tt)))))
+        ≡ Admitted (world settings state claims (now heap) (now table)) (maintained r (now heap′) (now table′))
+    maintain-contract r heap′ table′ = refl
 
     pub prune-contract : (r : PruneAnswer) (heap′ : Lent)
-        → prune.Learnt κs (settings, (state, (claims, (heap, (ids, (locations, tt)))))) r (settings, (state, (claims, (heap′, (ids, (locations, tt))))))
-        ≡ Admitted (world settings state claims (now heap) (table (now ids) (now locations))) (pruned r (now heap′))
+        → prune.Learnt κs (settings, (state, (claims, (heap, (table, tt))))) r (settings, (state, (claims, (heap′, (table, tt)))))
+        ≡ Admitted (world settings state claims (now heap) (now table)) (pruned r (now heap′))
     prune-contract r heap′ = refl
 
     pub claim-contract : (slot : ℕ) (r : ClaimAnswer)
-        → claim.Learnt κs (settings, (state, (claims, (heap, (ids, (locations, (slot, tt))))))) r (settings, (state, (claims, (heap, (ids, (locations, (slot, tt)))))))
-        ≡ Admitted (world settings state claims (now heap) (table (now ids) (now locations))) (claimed slot r)
+        → claim.Learnt κs (settings, (state, (claims, (heap, (table, (slot, tt)))))) r (settings, (state, (claims, (heap, (table, (slot, tt))))))
+        ≡ Admitted (world settings state claims (now heap) (now table)) (claimed slot r)
     claim-contract slot r = refl
 
     pub release-contract : (slot : ℕ) (r : ClaimAnswer)
-        → release.Learnt κs (settings, (state, (claims, (heap, (ids, (locations, (slot, tt))))))) r (settings, (state, (claims, (heap, (ids, (locations, (slot, tt)))))))
-        ≡ Admitted (world settings state claims (now heap) (table (now ids) (now locations))) (released slot r)
+        → release.Learnt κs (settings, (state, (claims, (heap, (table, (slot, tt)))))) r (settings, (state, (claims, (heap, (table, (slot, tt))))))
+        ≡ Admitted (world settings state claims (now heap) (now table)) (released slot r)
     release-contract slot r = refl
 
 -- ---- check: settings, heap and table, and the listing before and after; whatever state and claims the host has
-module _ (settings : Settings) (heap ids locations listing : Lent) where
-  pub check-contract : (κs : Lfts 4) (r : CheckAnswer) (listing′ : Lent) (state : State) (claims : Claims)
-      → check.Learnt κs (settings, (heap, (ids, (locations, (listing, tt))))) r (settings, (heap, (ids, (locations, (listing′, tt)))))
-      ≡ Admitted (world settings state claims (now heap) (table (now ids) (now locations))) (checked (now listing) r (now listing′))
+module _ (settings : Settings) (heap table listing : Lent) where
+  pub check-contract : (κs : Lfts 3) (r : CheckAnswer) (listing′ : Lent) (state : State) (claims : Claims)
+      → check.Learnt κs (settings, (heap, (table, (listing, tt)))) r (settings, (heap, (table, (listing′, tt))))
+      ≡ Admitted (world settings state claims (now heap) (now table)) (checked (now listing) r (now listing′))
   check-contract κs r listing′ state claims = refl
 
 -- ---- salvage: settings, heap and table, and the report; heap and report after
-module _ (settings : Settings) (heap ids locations report : Lent) where
-  pub salvage-contract : (κs : Lfts 4) (r : SalvageAnswer) (heap′ report′ : Lent)
-      → salvage.Learnt κs (settings, (heap, (ids, (locations, (report, tt))))) r (settings, (heap′, (ids, (locations, (report′, tt)))))
-      ≡ Salvages (salvageCall settings (now heap) (table (now ids) (now locations)) (now report)) r (now report′) (now heap′)
+module _ (settings : Settings) (heap table report : Lent) where
+  pub salvage-contract : (κs : Lfts 3) (r : SalvageAnswer) (heap′ report′ : Lent)
+      → salvage.Learnt κs (settings, (heap, (table, (report, tt)))) r (settings, (heap′, (table, (report′, tt))))
+      ≡ Salvages (salvageCall settings (now heap) (now table) (now report)) r (now report′) (now heap′)
   salvage-contract κs r heap′ report′ = refl
 
--- ---- the table's calls: both buffers before and after
-module _ (κs : Lfts 2) (ids locations : Lent) (id : ℕ) where
+-- ---- the table's calls: the buffer before and after
+module _ (κs : Lfts 1) (table : Lent) (id : ℕ) where
   pub load-contract : (r : LoadAnswer)
-      → load.Learnt κs (ids, (locations, (id, tt))) r (ids, (locations, (id, tt)))
-      ≡ (tableLeaving (loadGiven r) (table (now ids) (now locations)) ≡ loadCall (table (now ids) (now locations)) id)
+      → load.Learnt κs (table, (id, tt)) r (table, (id, tt))
+      ≡ (tableLeaving (loadGiven r) (now table) ≡ loadCall (now table) id)
   load-contract r = refl
 
-  module _ (location : ℕ) (ids′ locations′ : Lent) where
+  module _ (location : ℕ) (table′ : Lent) where
     pub store-contract : (r : Answer)
-        → store.Learnt κs (ids, (locations, (id, (location, tt)))) r (ids′, (locations′, (id, (location, tt))))
-        ≡ (tableLeaving (answerGiven r) (table (now ids′) (now locations′)) ≡ storeCall (table (now ids) (now locations)) id location)
+        → store.Learnt κs (table, (id, (location, tt))) r (table′, (id, (location, tt)))
+        ≡ (tableLeaving (answerGiven r) (now table′) ≡ storeCall (now table) id location)
     store-contract r = refl
 
     pub compare-contract : (old : ℕ) (r : CompareAnswer)
-        → compare.Learnt κs (ids, (locations, (id, (old, (location, tt))))) r (ids′, (locations′, (id, (old, (location, tt)))))
-        ≡ (tableLeaving (compareGiven r) (table (now ids′) (now locations′)) ≡ compareCall (table (now ids) (now locations)) id old location)
+        → compare.Learnt κs (table, (id, (old, (location, tt)))) r (table′, (id, (old, (location, tt))))
+        ≡ (tableLeaving (compareGiven r) (now table′) ≡ compareCall (now table) id old location)
     compare-contract old r = refl
 
     pub greater-contract : (r : LoadAnswer)
-        → greater.Learnt κs (ids, (locations, (id, (location, tt)))) r (ids′, (locations′, (id, (location, tt))))
-        ≡ (tableLeaving (loadGiven r) (table (now ids′) (now locations′)) ≡ greaterCall (table (now ids) (now locations)) id location)
+        → greater.Learnt κs (table, (id, (location, tt))) r (table′, (id, (location, tt)))
+        ≡ (tableLeaving (loadGiven r) (now table′) ≡ greaterCall (now table) id location)
     greater-contract r = refl

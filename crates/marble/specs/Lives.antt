@@ -34,17 +34,17 @@ bodyLast (last (put body)) = body
 -- ---- lives of results are those of the definitions
 -- the calls of the results, each made to its end, and the cuts; a call that is only lent the store is none of them
 abbrev theCalls : Event → List cuts.Event → List cuts.Event
-theCalls (gave (wrote batch r heap ids locations)) es = done (write batch) ∷ es
-theCalls (gave (maintained r heap ids locations)) es = done maintain ∷ es
+theCalls (gave (wrote batch r heap table)) es = done (write batch) ∷ es
+theCalls (gave (maintained r heap table)) es = done maintain ∷ es
 theCalls (gave (pruned r heap)) es = done prune ∷ es
 theCalls (gave (claimed slot r)) es = done (quiet (claim slot)) ∷ es
 theCalls (gave (released slot r)) es = done (quiet (release slot)) ∷ es
-theCalls (gave (reopened r ids locations)) es = done reopen ∷ es
+theCalls (gave (reopened r table)) es = done reopen ∷ es
 theCalls (gave (answered id r)) es = es
 theCalls (gave (read id part)) es = es
 theCalls (gave (counted r)) es = es
 theCalls (gave (checked before r after)) es = es
-theCalls (cut k c v r ids locations) es = cuts.cut k c v ∷ es
+theCalls (cut k c v r table) es = cuts.cut k c v ∷ es
 
 unfoldable calls : List Event → List cuts.Event
 calls [] = []
@@ -52,12 +52,12 @@ calls (e ∷ es) = theCalls e (calls es)
 
 -- of results alone, the calls alone
 abbrev theCall : Result → List Call → List Call
-theCall (wrote batch r heap ids locations) cs = write batch ∷ cs
-theCall (maintained r heap ids locations) cs = maintain ∷ cs
+theCall (wrote batch r heap table) cs = write batch ∷ cs
+theCall (maintained r heap table) cs = maintain ∷ cs
 theCall (pruned r heap) cs = prune ∷ cs
 theCall (claimed slot r) cs = quiet (claim slot) ∷ cs
 theCall (released slot r) cs = quiet (release slot) ∷ cs
-theCall (reopened r ids locations) cs = reopen ∷ cs
+theCall (reopened r table) cs = reopen ∷ cs
 theCall (answered id r) cs = cs
 theCall (read id part) cs = cs
 theCall (counted r) cs = cs
@@ -95,36 +95,36 @@ alike l [] h = record { happen = tt; same = refl }
 alike l (e ∷ es) h = go e (h .0) (alike (next l e) es (h .1))
   where
     go : (e : Event) → Happens (l .world) e → AllAlike (next l e) es (calls es) → AllAlike l (e ∷ es) (theCalls e (calls es))
-    go (gave (wrote batch r heap ids locations)) a b =
-        alike-then l (gave (wrote batch r heap ids locations)) (done (write batch)) es (calls es)
-        (alike-left l (wrote batch r heap ids locations) (write batch) (ap (λ (x : After). x .world) a) (ap (λ (x : After). heard (l .history) batch (x .answer)) a)) b
-    go (gave (maintained r heap ids locations)) a b =
-        alike-then l (gave (maintained r heap ids locations)) (done maintain) es (calls es) (alike-left l (maintained r heap ids locations) maintain (ap (λ (x : After). x .world) a) refl) b
+    go (gave (wrote batch r heap table)) a b =
+        alike-then l (gave (wrote batch r heap table)) (done (write batch)) es (calls es)
+        (alike-left l (wrote batch r heap table) (write batch) (ap (λ (x : After). x .world) a) (ap (λ (x : After). heard (l .history) batch (x .answer)) a)) b
+    go (gave (maintained r heap table)) a b =
+        alike-then l (gave (maintained r heap table)) (done maintain) es (calls es) (alike-left l (maintained r heap table) maintain (ap (λ (x : After). x .world) a) refl) b
     go (gave (pruned r heap)) a b = alike-then l (gave (pruned r heap)) (done prune) es (calls es) (alike-left l (pruned r heap) prune (ap (λ (x : After). x .world) a) refl) b
     go (gave (claimed slot r)) a b =
         alike-then l (gave (claimed slot r)) (done (quiet (claim slot))) es (calls es) (alike-left l (claimed slot r) (quiet (claim slot)) (ap (λ (x : After). x .world) a) refl) b
     go (gave (released slot r)) a b =
         alike-then l (gave (released slot r)) (done (quiet (release slot))) es (calls es) (alike-left l (released slot r) (quiet (release slot)) (ap (λ (x : After). x .world) a) refl) b
-    go (gave (reopened r ids locations)) a b =
-        alike-then l (gave (reopened r ids locations)) (done reopen) es (calls es) (alike-left l (reopened r ids locations) reopen (ap (λ (x : After). x .world) a) refl) b
+    go (gave (reopened r table)) a b =
+        alike-then l (gave (reopened r table)) (done reopen) es (calls es) (alike-left l (reopened r table) reopen (ap (λ (x : After). x .world) a) refl) b
     go (gave (answered id r)) a b = record { happen = b .happen; same = b .same }
     go (gave (read id part)) a b = record { happen = b .happen; same = b .same }
     go (gave (counted r)) a b = record { happen = b .happen; same = b .same }
     go (gave (checked before r after)) a b = record { happen = b .happen; same = b .same }
-    go (cut k c v r ids locations) a b =
-        alike-then l (cut k c v r ids locations) (cuts.cut k c v) es (calls es)
+    go (cut k c v r table) a b =
+        alike-then l (cut k c v r table) (cuts.cut k c v) es (calls es)
         (record { happens = a .0; same = λ i. record { world = a .1 i .world; history = hearsCut k (l .world) (l .history) c } }) b
 
 -- without a cut they are a life of calls made to their ends
 uncut : (l : Life) (rs : List Result) → livedOn l (calls (map gave rs)) ≡ lived l (callsOf rs)
 unfolding calls callsOf livedOn lived
 uncut l [] = refl
-uncut l (wrote batch r heap ids locations ∷ rs) = uncut (happened l (done (write batch))) rs
-uncut l (maintained r heap ids locations ∷ rs) = uncut (happened l (done maintain)) rs
+uncut l (wrote batch r heap table ∷ rs) = uncut (happened l (done (write batch))) rs
+uncut l (maintained r heap table ∷ rs) = uncut (happened l (done maintain)) rs
 uncut l (pruned r heap ∷ rs) = uncut (happened l (done prune)) rs
 uncut l (claimed slot r ∷ rs) = uncut (happened l (done (quiet (claim slot)))) rs
 uncut l (released slot r ∷ rs) = uncut (happened l (done (quiet (release slot)))) rs
-uncut l (reopened r ids locations ∷ rs) = uncut (happened l (done reopen)) rs
+uncut l (reopened r table ∷ rs) = uncut (happened l (done reopen)) rs
 uncut l (answered id r ∷ rs) = uncut l rs
 uncut l (read id part ∷ rs) = uncut l rs
 uncut l (counted r ∷ rs) = uncut l rs
@@ -136,12 +136,12 @@ batch-behind h ops true = refl
 batch-behind h ops false = sym (append-nil h)
 
 hearing-behind : (h : List Op) (r : Result) → hearing h r ≡ h ++ hearing [] r
-hearing-behind h (wrote batch r heap ids locations) = batch-behind h (opsOf (batchIn batch)) (eqb (answerGiven (r .answer) .number) 0)
-hearing-behind h (maintained r heap ids locations) = sym (append-nil h)
+hearing-behind h (wrote batch r heap table) = batch-behind h (opsOf (batchIn batch)) (eqb (answerGiven (r .answer) .number) 0)
+hearing-behind h (maintained r heap table) = sym (append-nil h)
 hearing-behind h (pruned r heap) = sym (append-nil h)
 hearing-behind h (claimed slot r) = sym (append-nil h)
 hearing-behind h (released slot r) = sym (append-nil h)
-hearing-behind h (reopened r ids locations) = sym (append-nil h)
+hearing-behind h (reopened r table) = sym (append-nil h)
 hearing-behind h (answered id r) = sym (append-nil h)
 hearing-behind h (read id part) = sym (append-nil h)
 hearing-behind h (counted r) = sym (append-nil h)
@@ -174,16 +174,16 @@ lives-behind : (es : List Event) → HeardBehind es
 unfolding lives
 lives-behind [] w h = sym (append-nil h)
 lives-behind (gave r ∷ es) w h = further es (lives-behind es) (left w r) h (hearing h r) (hearing [] r) (hearing-behind h r)
-lives-behind (cut k c v r ids locations ∷ es) w h =
-    further es (lives-behind es) (left v (reopened r ids locations)) h (hearsCut k w h c) (hearsCut k w [] c) (cut-behind (leb (length (runOf w c)) k) w h c)
+lives-behind (cut k c v r table ∷ es) w h =
+    further es (lives-behind es) (left v (reopened r table)) h (hearsCut k w h c) (hearsCut k w [] c) (cut-behind (leb (length (runOf w c)) k) w h c)
 
 -- ---- the demands, of every store by its life
 module _ (l : Lived) where
-  resumed-as : begun (l .start) (l .opening) (l .ids) (l .locations) ≡ resumed (l .start)
+  resumed-as : begun (l .start) (l .opening) (l .table) ≡ resumed (l .start)
   resumed-as = λ i. record { world = l .first i .world; history = heardAt (l .first i .world) }
 
   as-called : AllAlike (resumed (l .start)) (l .events) (calls (l .events))
-  as-called = subst (λ (b : Life). AllAlike b (l .events) (calls (l .events))) resumed-as (alike (begun (l .start) (l .opening) (l .ids) (l .locations)) (l .events) (l .happen))
+  as-called = subst (λ (b : Life). AllAlike b (l .events) (calls (l .events))) resumed-as (alike (begun (l .start) (l .opening) (l .table)) (l .events) (l .happen))
 
   reached-as : livedOn (resumed (l .start)) (calls (l .events)) ≡ reached l
   reached-as = sym (as-called .same) ∙ sym (ap (λ (b : Life). lives b (l .events)) resumed-as)
@@ -214,7 +214,7 @@ module _ (l : Lived) where
       go a (last (put body)) e = e .2
 
   -- DEMAND 3, in a host's words: an id reads as its last operation heard since the first reopening says; where there was none, as that reopening left it
-  pub life-resumes : (id : ℕ) → got (reached l .world) id ≡ leftBy (lastOn (since l) id) (got (left (l .start) (reopened (l .opening) (l .ids) (l .locations))) id)
+  pub life-resumes : (id : ℕ) → got (reached l .world) id ≡ leftBy (lastOn (since l) id) (got (left (l .start) (reopened (l .opening) (l .table))) id)
   life-resumes id =
       got-last (reached l .world) (reached l .history) life-sound id
       ∙ ap (λ (h : List Op). leftBy (lastOn h id) nothing) (lives-behind (l .events) first (heardAt first))
@@ -222,7 +222,7 @@ module _ (l : Lived) where
       ∙ go (lastOn (since l) id)
     where
       first : World
-      first = left (l .start) (reopened (l .opening) (l .ids) (l .locations))
+      first = left (l .start) (reopened (l .opening) (l .table))
 
       go : (t : Last) → leftBy (orEarlier t (lastOn (heardAt first) id)) nothing ≡ leftBy t (got first id)
       go silent = sym (got-last first (heardAt first) (subst Starts (sym resumed-as) (clean-starts (l .start) (l .clean))) id)
@@ -234,15 +234,15 @@ module _ (l : Lived) where
   life-survives c k v = cut-survived (reached l .world) (reached l .history) life-sound k v c
 
   -- DEMAND 2, write: where the result says `Done`, ids of the batch read as its last operation on them says, and every other as before
-  pub life-wrote : (batch : List ℕ) (r : Written) (heap ids locations : List ℕ) → Admitted (reached l .world) (wrote batch r heap ids locations) → r .answer ≡ Done
-      → (id : ℕ) → got (left (reached l .world) (wrote batch r heap ids locations)) id ≡ leftBy (lastOn (opsOf (batchIn batch)) id) (got (reached l .world) id)
-  life-wrote batch r heap ids locations a d id =
+  pub life-wrote : (batch : List ℕ) (r : Written) (heap table : List ℕ) → Admitted (reached l .world) (wrote batch r heap table) → r .answer ≡ Done
+      → (id : ℕ) → got (left (reached l .world) (wrote batch r heap table)) id ≡ leftBy (lastOn (opsOf (batchIn batch)) id) (got (reached l .world) id)
+  life-wrote batch r heap table a d id =
       ap (λ (x : After). got (x .world) id) a
       ∙ write-means (reached l .world) (reached l .history) life-sound batch (sym (ap (λ (x : After). x .answer) a) ∙ ap answerGiven d) .reads id
 
 -- DEMAND 2, reopen: of any heap, whoever wrote it, where the result says `Done`
-pub reopened-opens : (w : World) (r : Reopened) (ids locations : List ℕ) → Admitted w (reopened r ids locations) → r .answer ≡ Done
-    → Opened w (left w (reopened r ids locations))
-reopened-opens w r ids locations a d =
+pub reopened-opens : (w : World) (r : Reopened) (table : List ℕ) → Admitted w (reopened r table) → r .answer ≡ Done
+    → Opened w (left w (reopened r table))
+reopened-opens w r table a d =
     subst (λ (v : World). Opened w v) (sym (ap (λ (x : After). x .world) a))
     (reopened-means w (sym (ap (λ (x : After). x .answer) a) ∙ ap answerGiven d))

@@ -25,7 +25,7 @@ GivesBut refuses w r =
     (r .answer ≡ Moved (sum (liveOf w) (1 ∷ 2 ∷ 3 ∷ [])))
     ⊎ ((q : Refusal) × (g : ℕ) × (r .answer ≡ Stopped q g (sum (liveOf w) (before g))) × refuses q g)
 
-module _ (l : Lived) (r : Maintained) (heap ids locations : List ℕ) (m : Admitted (reached l .world) (maintained r heap ids locations)) where
+module _ (l : Lived) (r : Maintained) (heap table : List ℕ) (m : Admitted (reached l .world) (maintained r heap table)) where
   -- what its definition answers
   as-answered : (refuses : Refusal → ℕ → Type 0) → AnswersBut refuses (reached l .world) → GivesBut refuses (reached l .world) r
   as-answered refuses (inl e) = inl (maintain-one (r .answer) _ (ap (λ (a : After). a .answer) m ∙ e))
@@ -52,6 +52,6 @@ module _ (l : Lived) (r : Maintained) (heap ids locations : List ℕ) (m : Admit
 
   -- every other id has the location that it had
   pub maintain-leaves : (x : ℕ) → All (λ (g : ℕ). rewritten (reached l .world) g ≡ true → Inside (reached l .world) (group (reached l .world) g) x → ⊥) (1 ∷ 2 ∷ 3 ∷ [])
-      → lookup (mappings (left (reached l .world) (maintained r heap ids locations))) x ≡ lookup (mappings (reached l .world)) x
+      → lookup (mappings (left (reached l .world) (maintained r heap table))) x ≡ lookup (mappings (reached l .world)) x
   maintain-leaves x n =
       ap (λ (a : After). lookup (mappings (a .world)) x) m ∙ sound-moves (reached l .history) (reached l .world) (life-sound l) .others x n

@@ -7,7 +7,6 @@ use Rattle.rules.specs.Ops.{Op}
 use Rattle.rules.specs.Claims.{withClaims, claimCall, releaseCall}
 use Rattle.rules.specs.Counts.{countsCall}
 use Rattle.rules.specs.Read.{readOf, partOf}
-use Rattle.rules.specs.Layout.{table}
 use Rattle.rules.specs.Reopen.{reopenCall}
 use Rattle.rules.specs.World.{World, world, leaving, answerGiven, countsGiven}
 use Rattle.history_theory.specs.Writing.{heard}
@@ -29,17 +28,17 @@ use Rattle.marble.specs.Unique.{Claims-leaves, Checks}
 
 -- a call and what it gave: what was asked, what it returned, and the buffers that it may change, as it left them
 pub data Result : Type 0 where
-  -- batch; heap, ids, locations
-  wrote : List ℕ → Written → List ℕ → List ℕ → List ℕ → Result
-  -- heap, ids, locations
-  maintained : Maintained → List ℕ → List ℕ → List ℕ → Result
+  -- batch; heap, table
+  wrote : List ℕ → Written → List ℕ → List ℕ → Result
+  -- heap, table
+  maintained : Maintained → List ℕ → List ℕ → Result
   -- heap
   pruned : PruneAnswer → List ℕ → Result
   -- slot
   claimed : ℕ → ClaimAnswer → Result
   released : ℕ → ClaimAnswer → Result
-  -- ids, locations
-  reopened : Reopened → List ℕ → List ℕ → Result
+  -- table
+  reopened : Reopened → List ℕ → Result
   -- id, by `read_answer` and by `read`
   answered : ℕ → ReadAnswer → Result
   read : ℕ → List ℕ → Result
@@ -49,12 +48,12 @@ pub data Result : Type 0 where
 
 -- what the host has after it
 abbrev pub left : World → Result → World
-left w (wrote batch r heap ids locations) = world (w .settings) (r .state) (w .claims) heap (table ids locations)
-left w (maintained r heap ids locations) = world (w .settings) (r .state) (w .claims) heap (table ids locations)
+left w (wrote batch r heap table) = world (w .settings) (r .state) (w .claims) heap table
+left w (maintained r heap table) = world (w .settings) (r .state) (w .claims) heap table
 left w (pruned r heap) = world (w .settings) (r .state) (w .claims) heap (w .table)
 left w (claimed slot r) = withClaims w (r .claims)
 left w (released slot r) = withClaims w (r .claims)
-left w (reopened r ids locations) = world (w .settings) (r .state) (r .claims) (w .heap) (table ids locations)
+left w (reopened r table) = world (w .settings) (r .state) (r .claims) (w .heap) table
 left w (answered id r) = w
 left w (read id part) = w
 left w (counted r) = w
@@ -62,12 +61,12 @@ left w (checked before r after) = w
 
 -- the contract of its call admits it, where the host had w and handed it on
 abbrev pub Admitted : World → Result → Type 0
-Admitted w (wrote batch r heap ids locations) = Writes (w .settings) w batch (w .claims) r heap ids locations
-Admitted w (maintained r heap ids locations) = Maintains (w .settings) (w .claims) w r heap ids locations
-Admitted w (pruned r heap) = Prunes (w .settings) (w .state) (w .claims) (w .heap) (w .table .ids) (w .table .locations) r heap
-Admitted w (claimed slot r) = Claims-leaves (w .settings) (w .state) (w .heap) (w .table .ids) (w .table .locations) (claimCall w slot) r
-Admitted w (released slot r) = Claims-leaves (w .settings) (w .state) (w .heap) (w .table .ids) (w .table .locations) (releaseCall w slot) r
-Admitted w (reopened r ids locations) = leaves (w .settings) r (w .heap) ids locations ≡ reopenCall w
+Admitted w (wrote batch r heap table) = Writes (w .settings) w batch (w .claims) r heap table
+Admitted w (maintained r heap table) = Maintains (w .settings) (w .claims) w r heap table
+Admitted w (pruned r heap) = Prunes (w .settings) (w .state) (w .claims) (w .heap) (w .table) r heap
+Admitted w (claimed slot r) = Claims-leaves (w .settings) (w .state) (w .heap) (w .table) (claimCall w slot) r
+Admitted w (released slot r) = Claims-leaves (w .settings) (w .state) (w .heap) (w .table) (releaseCall w slot) r
+Admitted w (reopened r table) = leaves (w .settings) r (w .heap) table ≡ reopenCall w
 Admitted w (answered id r) = r ≡ readOf w id
 Admitted w (read id part) = part ≡ partOf (readOf w id) (w .heap)
 Admitted w (counted r) = leaving (countsGiven r) w ≡ countsCall w
@@ -75,12 +74,12 @@ Admitted w (checked before r after) = Checks (checkCall (w .settings) (w .heap) 
 
 -- the plain engine hears the operations of a write whose result says `Done`, and nothing else
 abbrev pub hearing : List Op → Result → List Op
-hearing history (wrote batch r heap ids locations) = heard history batch (answerGiven (r .answer))
-hearing history (maintained r heap ids locations) = history
+hearing history (wrote batch r heap table) = heard history batch (answerGiven (r .answer))
+hearing history (maintained r heap table) = history
 hearing history (pruned r heap) = history
 hearing history (claimed slot r) = history
 hearing history (released slot r) = history
-hearing history (reopened r ids locations) = history
+hearing history (reopened r table) = history
 hearing history (answered id r) = history
 hearing history (read id part) = history
 hearing history (counted r) = history
@@ -90,17 +89,17 @@ hearing history (checked before r after) = history
 -- a call gave a result; or power was cut behind the first k stores of a call, the robot then has v, and reopening that gave a result
 pub data Event : Type 0 where
   gave : Result → Event
-  cut : ℕ → Call → World → Reopened → List ℕ → List ℕ → Event
+  cut : ℕ → Call → World → Reopened → List ℕ → Event
 
 -- it can happen where the host has w
 abbrev pub Happens : World → Event → Type 0
 Happens w (gave r) = Admitted w r
-Happens w (cut k c v r ids locations) = CutAt k w c v × Admitted v (reopened r ids locations)
+Happens w (cut k c v r table) = CutAt k w c v × Admitted v (reopened r table)
 
 -- the store and the engine after it
 abbrev pub next : Life → Event → Life
 next l (gave r) = record { world = left (l .world) r; history = hearing (l .history) r }
-next l (cut k c v r ids locations) = record { world = left v (reopened r ids locations); history = hearsCut k (l .world) (l .history) c }
+next l (cut k c v r table) = record { world = left v (reopened r table); history = hearsCut k (l .world) (l .history) c }
 
 -- event by event
 unfoldable pub lives : Life → List Event → Life
@@ -113,8 +112,8 @@ AllHappen l [] = Unit {0}
 AllHappen l (e ∷ es) = Happens (l .world) e × AllHappen (next l e) es
 
 -- "Demand 3 then starts afresh from what that reopening found": heard is, for each mapped id, a put of what its read then gives, or a delete
-abbrev pub begun : World → Reopened → List ℕ → List ℕ → Life
-begun w r ids locations = record { world = left w (reopened r ids locations); history = heardAt (left w (reopened r ids locations)) }
+abbrev pub begun : World → Reopened → List ℕ → Life
+begun w r table = record { world = left w (reopened r table); history = heardAt (left w (reopened r table)) }
 
 -- a store of demand 3, by its life
 pub record Lived : Type 0 where
@@ -123,17 +122,16 @@ pub record Lived : Type 0 where
   pub clean : Clean start
   -- the first reopening
   pub opening : Reopened
-  pub ids : List ℕ
-  pub locations : List ℕ
-  pub first : Admitted start (reopened opening ids locations)
+  pub table : List ℕ
+  pub first : Admitted start (reopened opening table)
   -- and all that happened since
   pub events : List Event
-  pub happen : AllHappen (begun start opening ids locations) events
+  pub happen : AllHappen (begun start opening table) events
 
 -- the store that is left, and what the engine has heard
 abbrev pub reached : Lived → Life
-reached l = lives (begun (l .start) (l .opening) (l .ids) (l .locations)) (l .events)
+reached l = lives (begun (l .start) (l .opening) (l .table)) (l .events)
 
 -- what of it was heard since the first reopening
 abbrev pub since : Lived → List Op
-since l = lives (record { world = begun (l .start) (l .opening) (l .ids) (l .locations) .world; history = [] }) (l .events) .history
+since l = lives (record { world = begun (l .start) (l .opening) (l .table) .world; history = [] }) (l .events) .history

@@ -49,10 +49,10 @@ life-clean l = sound-clean (reached l .world) (engine (reached l .history)) (lif
 -- ---- a heap whose slots all begin with byte 0 is clean (`blank-clean`)
 module _ (w : World) (range : outOfRange (w .settings) (length (w .heap)) (w .table) ≡ false) (blank : Blank w) where
   -- a life begins with nothing heard
-  pub blank-begun : (r : Reopened) (ids locations : List ℕ) → Admitted w (reopened r ids locations)
-      → begun w r ids locations ≡ record { world = left w (reopened r ids locations); history = [] }
-  blank-begun r ids locations a =
-      ap (λ (h : List Op). record { world = left w (reopened r ids locations); history = h })
+  pub blank-begun : (r : Reopened) (table : List ℕ) → Admitted w (reopened r table)
+      → begun w r table ≡ record { world = left w (reopened r table); history = [] }
+  blank-begun r table a =
+      ap (λ (h : List Op). record { world = left w (reopened r table); history = h })
       (ap (λ (x : After). heardAt (x .world)) (a ∙ fresh-opens w range blank)
       ∙ ap (map _) (used-laid-out (capacityOf (w .table)) [] (λ x l h. absurd h)))
 

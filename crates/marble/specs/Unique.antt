@@ -12,7 +12,6 @@ use Rattle.rules.specs.Answers.{inverse-one, known, byNumber, valueAt, answer-o
 use Rattle.rules.specs.Counts.{countsCall}
 use Rattle.rules.specs.World.{World, Given, After, world, leaving, answerGiven, countsGiven, loadGiven, compareGiven}
 use Rattle.rules.specs.TableCalls.{TableAfter}
-use Rattle.rules.specs.Layout.{table}
 use Rattle.location_table.specs.Tables.{leaving as tableLeaving}
 use Rattle.claims.specs.declared.ClaimAnswer.{ClaimAnswer}
 use Rattle.faults.specs.Faults.{Checked}
@@ -28,13 +27,13 @@ pub use Rattle.prune.specs.CallLaws.{prune-one}
 pub use Rattle.salvage.specs.Answers.{salvage-one}
 
 -- ---- claim and release: what their contracts say of a result, for the call's definition
-abbrev pub Claims-leaves : Settings → State → List ℕ → List ℕ → List ℕ → After → ClaimAnswer → Type 0
-Claims-leaves s state heap ids locations after r = leaving (answerGiven (r .answer)) (world s state (r .claims) heap (table ids locations)) ≡ after
+abbrev pub Claims-leaves : Settings → State → List ℕ → List ℕ → After → ClaimAnswer → Type 0
+Claims-leaves s state heap table after r = leaving (answerGiven (r .answer)) (world s state (r .claims) heap table) ≡ after
 
 -- any two are equal
-pub claim-one : (s : Settings) (state : State) (heap ids locations : List ℕ) (after : After) (a b : ClaimAnswer)
-    → Claims-leaves s state heap ids locations after a → Claims-leaves s state heap ids locations after b → a ≡ b
-claim-one s state heap ids locations after a b p q =
+pub claim-one : (s : Settings) (state : State) (heap table : List ℕ) (after : After) (a b : ClaimAnswer)
+    → Claims-leaves s state heap table after a → Claims-leaves s state heap table after b → a ≡ b
+claim-one s state heap table after a b p q =
     let e = p ∙ sym q in
     ap₂ (λ (x : Answer) (y : Claims). record { answer = x; claims = y })
     (answer-one (a .answer) (b .answer) (ap (λ (x : After). x .answer) e)) (ap (λ (x : After). x .world .claims) e)
@@ -61,27 +60,24 @@ check-one c a b xs ys p q =
     let e = p ∙ sym q in
     (check-answer-one a b (ap (λ (x : Checked). x .answer) e), ap (λ (x : Checked). x .listing) e)
 
--- ---- the four table calls: answer and both buffers, for the call's definition
+-- ---- the four table calls: answer and buffer, for the call's definition
 -- one answer type after the other, by the law that number and values settle it
 module _ {A : Type 0} (given : A → Given) (one : (a b : A) → given a ≡ given b → a ≡ b) where
-  pub table-call-one : (after : TableAfter) (a b : A) (ids is locations ls : List ℕ) → tableLeaving (given a) (table ids locations) ≡ after
-      → tableLeaving (given b) (table is ls) ≡ after → (a ≡ b) × (ids ≡ is) × (locations ≡ ls)
-  table-call-one after a b ids is locations ls p q =
-      let e = p ∙ sym q in (
-        one a b (ap (λ (x : TableAfter). x .answer) e),
-        ap (λ (x : TableAfter). x .table .ids) e,
-        ap (λ (x : TableAfter). x .table .locations) e,
-      )
+  pub table-call-one : (after : TableAfter) (a b : A) (t u : List ℕ) → tableLeaving (given a) t ≡ after
+      → tableLeaving (given b) u ≡ after → (a ≡ b) × (t ≡ u)
+  table-call-one after a b t u p q =
+      let e = p ∙ sym q in
+      (one a b (ap (λ (x : TableAfter). x .answer) e), ap (λ (x : TableAfter). x .table) e)
 
 -- load and store-if-greater, store, compare-and-store
-pub load-call-one : (after : TableAfter) (a b : LoadAnswer) (ids is locations ls : List ℕ) → tableLeaving (loadGiven a) (table ids locations) ≡ after
-    → tableLeaving (loadGiven b) (table is ls) ≡ after → (a ≡ b) × (ids ≡ is) × (locations ≡ ls)
+pub load-call-one : (after : TableAfter) (a b : LoadAnswer) (t u : List ℕ) → tableLeaving (loadGiven a) t ≡ after
+    → tableLeaving (loadGiven b) u ≡ after → (a ≡ b) × (t ≡ u)
 load-call-one = table-call-one loadGiven load-one
 
-pub store-call-one : (after : TableAfter) (a b : Answer) (ids is locations ls : List ℕ) → tableLeaving (answerGiven a) (table ids locations) ≡ after
-    → tableLeaving (answerGiven b) (table is ls) ≡ after → (a ≡ b) × (ids ≡ is) × (locations ≡ ls)
+pub store-call-one : (after : TableAfter) (a b : Answer) (t u : List ℕ) → tableLeaving (answerGiven a) t ≡ after
+    → tableLeaving (answerGiven b) u ≡ after → (a ≡ b) × (t ≡ u)
 store-call-one = table-call-one answerGiven answer-one
 
-pub compare-call-one : (after : TableAfter) (a b : CompareAnswer) (ids is locations ls : List ℕ) → tableLeaving (compareGiven a) (table ids locations) ≡ after
-    → tableLeaving (compareGiven b) (table is ls) ≡ after → (a ≡ b) × (ids ≡ is) × (locations ≡ ls)
+pub compare-call-one : (after : TableAfter) (a b : CompareAnswer) (t u : List ℕ) → tableLeaving (compareGiven a) t ≡ after
+    → tableLeaving (compareGiven b) u ≡ after → (a ≡ b) × (t ≡ u)
 compare-call-one = table-call-one compareGiven compare-one

@@ -36,10 +36,10 @@ pub write-file-contract : (κs : Lfts 2) (heap batch : Lent) (start : ℕ) (new 
 write-file-contract κs heap batch start new count total k rest heap′ = refl
 
 -- `gc_writer::write_piece`: a file that maintenance rewrites, its operations where their objects stand in the heap
-pub write-piece-contract : (κs : Lfts 4) (heap ids places pieces : Lent) (f : PieceFile) (new : Label) (k rest : ℕ) (heap′ : Lent)
-    → piece.Learnt κs (heap, (ids, (places, (pieces, (f, (new, (k, tt))))))) rest (heap′, (ids, (places, (pieces, (f, (new, (k, tt)))))))
-    ≡ Made k (jobRun (file (f .start) new (filedOps (f .piece) (now heap) (tableIds (now ids)) (now places) (now pieces)))) (now heap) (now heap′) rest
-write-piece-contract κs heap ids places pieces f new k rest heap′ = refl
+pub write-piece-contract : (κs : Lfts 4) (heap table places pieces : Lent) (f : PieceFile) (new : Label) (k rest : ℕ) (heap′ : Lent)
+    → piece.Learnt κs (heap, (table, (places, (pieces, (f, (new, (k, tt))))))) rest (heap′, (table, (places, (pieces, (f, (new, (k, tt)))))))
+    ≡ Made k (jobRun (file (f .start) new (filedOps (f .piece) (now heap) (tableIds (now table)) (now places) (now pieces)))) (now heap) (now heap′) rest
+write-piece-contract κs heap table places pieces f new k rest heap′ = refl
 
 -- `prune::prune_stores`, where it is due: it gives the records in the place of what is left
 pub prune-stores-contract : (κs : Lfts 1) (heap : Lent) (size : ℕ) (claims : Claims) (files : FileMap) (k : ℕ) (after : FileMap) (heap′ : Lent)

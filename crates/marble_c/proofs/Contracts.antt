@@ -5,7 +5,6 @@ use Prim.Native.Nat.{ℕ}
 use contract.Lifetimes.{Lfts}
 use denote.Ref.{RefT, now}
 use Rattle.rules.specs.declared.Settings.{Settings}
-use Rattle.rules.specs.Layout.{table}
 use Rattle.location_table.specs.Tables.{leaving as tableLeaving}
 use Rattle.as_numbers.specs.Shown.{given}
 use Rattle.marble_c.specs.Salvages.{rescue}
@@ -33,85 +32,85 @@ abbrev pub Place : Type 0
 Place = RefT ℕ
 
 -- ---- calls on a store; a name with ′ is what stands there after
-module _ (settings : Settings) (state claims heap ids locations : Lent) (r : ℕ) (state′ claims′ heap′ ids′ locations′ : Lent) where
-  pub reopen-contract : (κs : Lfts 5)
-      → reopen.Learnt κs (settings, (state, (claims, (heap, (ids, (locations, tt)))))) r (settings, (state′, (claims′, (heap, (ids′, (locations′, tt))))))
-      ≡ Reopens settings (now state) (now claims) (now heap) (now ids) (now locations)
-      (record { number = r; values = []; state = now state′; claims = now claims′; heap = now heap; ids = now ids′; locations = now locations′ })
+module _ (settings : Settings) (state claims heap table : Lent) (r : ℕ) (state′ claims′ heap′ table′ : Lent) where
+  pub reopen-contract : (κs : Lfts 4)
+      → reopen.Learnt κs (settings, (state, (claims, (heap, (table, tt))))) r (settings, (state′, (claims′, (heap, (table′, tt)))))
+      ≡ Reopens settings (now state) (now claims) (now heap) (now table)
+      (record { number = r; values = []; state = now state′; claims = now claims′; heap = now heap; table = now table′ })
   reopen-contract κs = refl
 
-  pub write-contract : (κs : Lfts 5) (batch : Lent)
-      → write.Learnt κs (settings, (state, (heap, (ids, (locations, (batch, tt)))))) r (settings, (state′, (heap′, (ids′, (locations′, (batch, tt))))))
-      ≡ Writes settings (now state) (now heap) (now ids) (now locations) (now batch) r (now state′) (now heap′) (now ids′) (now locations′)
+  pub write-contract : (κs : Lfts 4) (batch : Lent)
+      → write.Learnt κs (settings, (state, (heap, (table, (batch, tt))))) r (settings, (state′, (heap′, (table′, (batch, tt)))))
+      ≡ Writes settings (now state) (now heap) (now table) (now batch) r (now state′) (now heap′) (now table′)
   write-contract κs batch = refl
 
-  pub read-contract : (κs : Lfts 6) (id : ℕ) (offset size offset′ size′ : Place)
-      → read.Learnt κs (settings, (state, (heap, (ids, (locations, (id, (offset, (size, tt)))))))) r (settings, (state, (heap, (ids, (locations, (id, (offset′, (size′, tt))))))))
-      ≡ ReadsOut settings (now state) (now heap) (now ids) (now locations) id r (now offset′ ∷ now size′ ∷ [])
+  pub read-contract : (κs : Lfts 5) (id : ℕ) (offset size offset′ size′ : Place)
+      → read.Learnt κs (settings, (state, (heap, (table, (id, (offset, (size, tt))))))) r (settings, (state, (heap, (table, (id, (offset′, (size′, tt)))))))
+      ≡ ReadsOut settings (now state) (now heap) (now table) id r (now offset′ ∷ now size′ ∷ [])
   read-contract κs id offset size offset′ size′ = refl
 
-  pub claim-contract : (κs : Lfts 5) (slot : ℕ)
-      → claim.Learnt κs (settings, (state, (claims, (heap, (ids, (locations, (slot, tt))))))) r (settings, (state, (claims′, (heap, (ids, (locations, (slot, tt)))))))
-      ≡ ClaimsSlot settings (now state) (now claims) (now heap) (now ids) (now locations) slot
-      (record { number = r; values = []; state = now state; claims = now claims′; heap = now heap; ids = now ids; locations = now locations })
+  pub claim-contract : (κs : Lfts 4) (slot : ℕ)
+      → claim.Learnt κs (settings, (state, (claims, (heap, (table, (slot, tt)))))) r (settings, (state, (claims′, (heap, (table, (slot, tt))))))
+      ≡ ClaimsSlot settings (now state) (now claims) (now heap) (now table) slot
+      (record { number = r; values = []; state = now state; claims = now claims′; heap = now heap; table = now table })
   claim-contract κs slot = refl
 
-  pub release-contract : (κs : Lfts 5) (slot : ℕ)
-      → release.Learnt κs (settings, (state, (claims, (heap, (ids, (locations, (slot, tt))))))) r (settings, (state, (claims′, (heap, (ids, (locations, (slot, tt)))))))
-      ≡ Releases settings (now state) (now claims) (now heap) (now ids) (now locations) slot
-      (record { number = r; values = []; state = now state; claims = now claims′; heap = now heap; ids = now ids; locations = now locations })
+  pub release-contract : (κs : Lfts 4) (slot : ℕ)
+      → release.Learnt κs (settings, (state, (claims, (heap, (table, (slot, tt)))))) r (settings, (state, (claims′, (heap, (table, (slot, tt))))))
+      ≡ Releases settings (now state) (now claims) (now heap) (now table) slot
+      (record { number = r; values = []; state = now state; claims = now claims′; heap = now heap; table = now table })
   release-contract κs slot = refl
 
-  pub prune-contract : (κs : Lfts 5)
-      → prune.Learnt κs (settings, (state, (claims, (heap, (ids, (locations, tt)))))) r (settings, (state′, (claims, (heap′, (ids, (locations, tt))))))
-      ≡ Prunes settings (now state) (now claims) (now heap) (now ids) (now locations)
-      (record { number = r; values = []; state = now state′; claims = now claims; heap = now heap′; ids = now ids; locations = now locations })
+  pub prune-contract : (κs : Lfts 4)
+      → prune.Learnt κs (settings, (state, (claims, (heap, (table, tt))))) r (settings, (state′, (claims, (heap′, (table, tt)))))
+      ≡ Prunes settings (now state) (now claims) (now heap) (now table)
+      (record { number = r; values = []; state = now state′; claims = now claims; heap = now heap′; table = now table })
   prune-contract κs = refl
 
-  pub maintain-contract : (κs : Lfts 7) (generation moved generation′ moved′ : Place)
-      → maintain.Learnt κs (settings, (state, (claims, (heap, (ids, (locations, (generation, (moved, tt)))))))) r
-      (settings, (state′, (claims, (heap′, (ids′, (locations′, (generation′, (moved′, tt))))))))
-      ≡ Maintains settings (now state) (now claims) (now heap) (now ids) (now locations)
-      (record { number = r; values = now generation′ ∷ now moved′ ∷ []; state = now state′; claims = now claims; heap = now heap′; ids = now ids′; locations = now locations′ })
+  pub maintain-contract : (κs : Lfts 6) (generation moved generation′ moved′ : Place)
+      → maintain.Learnt κs (settings, (state, (claims, (heap, (table, (generation, (moved, tt))))))) r
+      (settings, (state′, (claims, (heap′, (table′, (generation′, (moved′, tt)))))))
+      ≡ Maintains settings (now state) (now claims) (now heap) (now table)
+      (record { number = r; values = now generation′ ∷ now moved′ ∷ []; state = now state′; claims = now claims; heap = now heap′; table = now table′ })
   maintain-contract κs generation moved generation′ moved′ = refl
 
-  pub counts-contract : (κs : Lfts 5) (four four′ : Lent)
-      → counts.Learnt κs (settings, (state, (heap, (ids, (locations, (four, tt)))))) r (settings, (state, (heap, (ids, (locations, (four′, tt))))))
-      ≡ CountsOut settings (now state) (now heap) (now ids) (now locations) r (now four′)
+  pub counts-contract : (κs : Lfts 4) (four four′ : Lent)
+      → counts.Learnt κs (settings, (state, (heap, (table, (four, tt))))) r (settings, (state, (heap, (table, (four′, tt)))))
+      ≡ CountsOut settings (now state) (now heap) (now table) r (now four′)
   counts-contract κs four four′ = refl
 
 -- ---- check
-module _ (settings : Settings) (heap ids locations listing : Lent) (faults : Place) (r : ℕ) (listing′ : Lent) (faults′ : Place) where
-  pub check-contract : (κs : Lfts 5)
-      → check.Learnt κs (settings, (heap, (ids, (locations, (listing, (faults, tt)))))) r (settings, (heap, (ids, (locations, (listing′, (faults′, tt))))))
-      ≡ ChecksOut settings (now heap) (now ids) (now locations) (now listing) r (now faults′ ∷ []) (now listing′)
+module _ (settings : Settings) (heap table listing : Lent) (faults : Place) (r : ℕ) (listing′ : Lent) (faults′ : Place) where
+  pub check-contract : (κs : Lfts 4)
+      → check.Learnt κs (settings, (heap, (table, (listing, (faults, tt))))) r (settings, (heap, (table, (listing′, (faults′, tt)))))
+      ≡ ChecksOut settings (now heap) (now table) (now listing) r (now faults′ ∷ []) (now listing′)
   check-contract κs = refl
 
 -- ---- salvage
-module _ (settings : Settings) (heap ids locations report : Lent) (count : Place) (r : ℕ) (heap′ report′ : Lent) (count′ : Place) where
-  pub salvage-contract : (κs : Lfts 5)
-      → salvage.Learnt κs (settings, (heap, (ids, (locations, (report, (count, tt)))))) r (settings, (heap′, (ids, (locations, (report′, (count′, tt))))))
-      ≡ SalvagesOut settings (now heap) (now ids) (now locations) (now report) (rescue (given r (now count′ ∷ [])) (now report′) (now heap′))
+module _ (settings : Settings) (heap table report : Lent) (count : Place) (r : ℕ) (heap′ report′ : Lent) (count′ : Place) where
+  pub salvage-contract : (κs : Lfts 4)
+      → salvage.Learnt κs (settings, (heap, (table, (report, (count, tt))))) r (settings, (heap′, (table, (report′, (count′, tt)))))
+      ≡ SalvagesOut settings (now heap) (now table) (now report) (rescue (given r (now count′ ∷ [])) (now report′) (now heap′))
   salvage-contract κs = refl
 
 -- ---- the table's calls
-module _ (ids locations : Lent) (id location r : ℕ) (ids′ locations′ : Lent) where
-  pub load-contract : (κs : Lfts 3) (held held′ : Place)
-      → load.Learnt κs (ids, (locations, (id, (held, tt)))) r (ids, (locations, (id, (held′, tt))))
-      ≡ Loads (now ids) (now locations) id r (now held′ ∷ [])
+module _ (table : Lent) (id location r : ℕ) (table′ : Lent) where
+  pub load-contract : (κs : Lfts 2) (held held′ : Place)
+      → load.Learnt κs (table, (id, (held, tt))) r (table, (id, (held′, tt)))
+      ≡ Loads (now table) id r (now held′ ∷ [])
   load-contract κs held held′ = refl
 
-  pub store-contract : (κs : Lfts 2)
-      → store.Learnt κs (ids, (locations, (id, (location, tt)))) r (ids′, (locations′, (id, (location, tt))))
-      ≡ Stores (now ids) (now locations) id location (tableLeaving (given r []) (table (now ids′) (now locations′)))
+  pub store-contract : (κs : Lfts 1)
+      → store.Learnt κs (table, (id, (location, tt))) r (table′, (id, (location, tt)))
+      ≡ Stores (now table) id location (tableLeaving (given r []) (now table′))
   store-contract κs = refl
 
-  pub compare-contract : (κs : Lfts 3) (old : ℕ) (current current′ : Place)
-      → compare.Learnt κs (ids, (locations, (id, (old, (location, (current, tt)))))) r (ids′, (locations′, (id, (old, (location, (current′, tt))))))
-      ≡ Compares (now ids) (now locations) id old location (tableLeaving (given r (now current′ ∷ [])) (table (now ids′) (now locations′)))
+  pub compare-contract : (κs : Lfts 2) (old : ℕ) (current current′ : Place)
+      → compare.Learnt κs (table, (id, (old, (location, (current, tt))))) r (table′, (id, (old, (location, (current′, tt)))))
+      ≡ Compares (now table) id old location (tableLeaving (given r (now current′ ∷ [])) (now table′))
   compare-contract κs old current current′ = refl
 
-  pub greater-contract : (κs : Lfts 3) (held held′ : Place)
-      → greater.Learnt κs (ids, (locations, (id, (location, (held, tt))))) r (ids′, (locations′, (id, (location, (held′, tt)))))
-      ≡ StoresGreater (now ids) (now locations) id location (tableLeaving (given r (now held′ ∷ [])) (table (now ids′) (now locations′)))
+  pub greater-contract : (κs : Lfts 2) (held held′ : Place)
+      → greater.Learnt κs (table, (id, (location, (held, tt)))) r (table′, (id, (location, (held′, tt))))
+      ≡ StoresGreater (now table) id location (tableLeaving (given r (now held′ ∷ [])) (now table′))
   greater-contract κs held held′ = refl

@@ -15,7 +15,7 @@ use Rattle.rules.specs.declared.ReadAnswer.the-variants.{Found, Nothing, ReadRe
 use Rattle.disk_location.specs.Locations.{deleteOf}
 use Rattle.rules.specs.Answers.{known, valueAt}
 use Rattle.rules.specs.FileMap.{fileFor}
-use Rattle.rules.specs.Layout.{Buffers, usedIn, usedEntries}
+use Rattle.rules.specs.Layout.{Table, tableIds, tableLocations, usedIn, usedEntries}
 use Rattle.rules.specs.Read.{objectTests, readFile, readHeld, readOf, readCall}
 use Rattle.rules.specs.Refusal.{decide, after}
 use Rattle.rules.specs.Table.{lookup}
@@ -70,7 +70,7 @@ heldAt (Mapped l) = l
 heldAt Unmapped = 1
 
 -- "location 0 means unused": no used entry has it
-some-held : (ids locations : List ℕ) (id : ℕ) → 0 < heldAt (lookup (usedIn ids locations) id)
+some-held : (is ls : List ℕ) (id : ℕ) → 0 < heldAt (lookup (usedIn is ls) id)
 unfolding usedIn lookup
 some-held [] ls id = omega arith
 some-held (i ∷ is) [] id = omega arith
@@ -85,6 +85,6 @@ some-held (i ∷ is) (l ∷ ls) id = go (eqb l 0) refl (some-held is ls id)
     go false e h = within (eqb i id) e h
 
 -- a location that the table holds is not 0
-pub held-some : (b : Buffers) (id l : ℕ) → lookup (usedEntries b) id ≡ Mapped l → 0 < l
+pub held-some : (b : Table) (id l : ℕ) → lookup (usedEntries b) id ≡ Mapped l → 0 < l
 unfolding usedEntries
-held-some b id l e = subst (λ (h : Held). 0 < heldAt h) e (some-held (b .ids) (b .locations) id)
+held-some b id l e = subst (λ (h : Held). 0 < heldAt h) e (some-held (tableIds b) (tableLocations b) id)

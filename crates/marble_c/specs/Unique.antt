@@ -5,7 +5,6 @@ use Rattle.rules.specs.declared.Settings.{Settings}
 use Rattle.rules.specs.declared.Claims.{Claims}
 use Rattle.rules.specs.Claims.{noClaims, claimCall, releaseCall}
 use Rattle.rules.specs.Counts.{countsCall}
-use Rattle.rules.specs.Layout.{table}
 use Rattle.rules.specs.Maintenance.{maintainCall}
 use Rattle.rules.specs.Prune.{pruneCall}
 use Rattle.rules.specs.Read.{readCall}
@@ -28,8 +27,7 @@ pub record Left : Type 0 where
   pub state : List ℕ
   pub claims : List ℕ
   pub heap : List ℕ
-  pub ids : List ℕ
-  pub locations : List ℕ
+  pub table : List ℕ
 
 -- arrays have the lengths of their types
 pub record Sized (l : Left) : Type 0 where
@@ -38,7 +36,7 @@ pub record Sized (l : Left) : Type 0 where
 
 -- the same, as the calls' definitions say it
 abbrev pub said : Settings → Left → After
-said s l = leaving (given (l .number) (l .values)) (world s (stateIn (l .state)) (claimsIn (l .claims)) (l .heap) (table (l .ids) (l .locations)))
+said s l = leaving (given (l .number) (l .values)) (world s (stateIn (l .state)) (claimsIn (l .claims)) (l .heap) (l .table))
 
 -- what settles this settles every word
 left-one : (s : Settings) (a : After) (l m : Left) → Sized l → Sized m → said s l ≡ a → said s m ≡ a → l ≡ m
@@ -52,68 +50,65 @@ left-one s a l m p q e f =
       state = state i;
       claims = claims i;
       heap = both i .world .heap;
-      ids = both i .world .table .ids;
-      locations = both i .world .table .locations;
+      table = both i .world .table;
     }
 
 -- ---- calls on a store: settings, the words and the buffers before
-module _ (s : Settings) (state claims heap ids locations : List ℕ) where
+module _ (s : Settings) (state claims heap table : List ℕ) where
   -- what each contract says
   abbrev pub Reopens : Left → Type 0
-  Reopens l = said s l ≡ reopenCall (world s (stateIn state) (claimsIn claims) heap (table ids locations))
+  Reopens l = said s l ≡ reopenCall (world s (stateIn state) (claimsIn claims) heap table)
 
   abbrev pub ClaimsSlot : ℕ → Left → Type 0
-  ClaimsSlot slot l = said s l ≡ claimCall (world s (stateIn state) (claimsIn claims) heap (table ids locations)) slot
+  ClaimsSlot slot l = said s l ≡ claimCall (world s (stateIn state) (claimsIn claims) heap table) slot
 
   abbrev pub Releases : ℕ → Left → Type 0
-  Releases slot l = said s l ≡ releaseCall (world s (stateIn state) (claimsIn claims) heap (table ids locations)) slot
+  Releases slot l = said s l ≡ releaseCall (world s (stateIn state) (claimsIn claims) heap table) slot
 
   abbrev pub Prunes : Left → Type 0
-  Prunes l = said s l ≡ pruneCall (world s (stateIn state) (claimsIn claims) heap (table ids locations))
+  Prunes l = said s l ≡ pruneCall (world s (stateIn state) (claimsIn claims) heap table)
 
   abbrev pub Maintains : Left → Type 0
-  Maintains l = said s l ≡ stopAfter (maintainCall (world s (stateIn state) (claimsIn claims) heap (table ids locations)))
+  Maintains l = said s l ≡ stopAfter (maintainCall (world s (stateIn state) (claimsIn claims) heap table))
 
   -- any two are equal
   pub reopen-one : (l m : Left) → Sized l → Sized m → Reopens l → Reopens m → l ≡ m
-  reopen-one = left-one s (reopenCall (world s (stateIn state) (claimsIn claims) heap (table ids locations)))
+  reopen-one = left-one s (reopenCall (world s (stateIn state) (claimsIn claims) heap table))
 
   pub claim-one : (slot : ℕ) (l m : Left) → Sized l → Sized m → ClaimsSlot slot l → ClaimsSlot slot m → l ≡ m
-  claim-one slot = left-one s (claimCall (world s (stateIn state) (claimsIn claims) heap (table ids locations)) slot)
+  claim-one slot = left-one s (claimCall (world s (stateIn state) (claimsIn claims) heap table) slot)
 
   pub release-one : (slot : ℕ) (l m : Left) → Sized l → Sized m → Releases slot l → Releases slot m → l ≡ m
-  release-one slot = left-one s (releaseCall (world s (stateIn state) (claimsIn claims) heap (table ids locations)) slot)
+  release-one slot = left-one s (releaseCall (world s (stateIn state) (claimsIn claims) heap table) slot)
 
   pub prune-one : (l m : Left) → Sized l → Sized m → Prunes l → Prunes m → l ≡ m
-  prune-one = left-one s (pruneCall (world s (stateIn state) (claimsIn claims) heap (table ids locations)))
+  prune-one = left-one s (pruneCall (world s (stateIn state) (claimsIn claims) heap table))
 
   pub maintain-one : (l m : Left) → Sized l → Sized m → Maintains l → Maintains m → l ≡ m
-  maintain-one = left-one s (stopAfter (maintainCall (world s (stateIn state) (claimsIn claims) heap (table ids locations))))
+  maintain-one = left-one s (stopAfter (maintainCall (world s (stateIn state) (claimsIn claims) heap table)))
 
 -- ---- calls that are not lent the claim record
-module _ (s : Settings) (state heap ids locations : List ℕ) where
+module _ (s : Settings) (state heap table : List ℕ) where
   -- state words and buffers after
-  abbrev pub Writes : List ℕ → ℕ → List ℕ → List ℕ → List ℕ → List ℕ → Type 0
-  Writes batch r ws hs is ls =
-      (c : Claims) → leaving (given r []) (world s (stateIn ws) c hs (table is ls)) ≡ writeCall (world s (stateIn state) c heap (table ids locations)) batch
+  abbrev pub Writes : List ℕ → ℕ → List ℕ → List ℕ → List ℕ → Type 0
+  Writes batch r ws hs ts = (c : Claims) → leaving (given r []) (world s (stateIn ws) c hs ts) ≡ writeCall (world s (stateIn state) c heap table) batch
 
-  pub write-one : (batch : List ℕ) (r q : ℕ) (ws vs hs ks is js ls ms : List ℕ) → length ws ≡ 1545 → length vs ≡ 1545
-      → Writes batch r ws hs is ls → Writes batch q vs ks js ms → (r ≡ q) × (ws ≡ vs) × (hs ≡ ks) × (is ≡ js) × (ls ≡ ms)
-  write-one batch r q ws vs hs ks is js ls ms m n e f =
+  pub write-one : (batch : List ℕ) (r q : ℕ) (ws vs hs ks ts us : List ℕ) → length ws ≡ 1545 → length vs ≡ 1545
+      → Writes batch r ws hs ts → Writes batch q vs ks us → (r ≡ q) × (ws ≡ vs) × (hs ≡ ks) × (ts ≡ us)
+  write-one batch r q ws vs hs ks ts us m n e f =
       let both = e noClaims ∙ sym (f noClaims) in (
         ap (λ (x : After). x .answer .number) both,
         state-one ws vs m n (ap (λ (x : After). x .world .state) both),
         ap (λ (x : After). x .world .heap) both,
-        ap (λ (x : After). x .world .table .ids) both,
-        ap (λ (x : After). x .world .table .locations) both,
+        ap (λ (x : After). x .world .table) both,
       )
 
   -- number and out-parameters
   abbrev pub ReadsOut : ℕ → ℕ → List ℕ → Type 0
-  ReadsOut id r values = (c : Claims) → given r values ≡ shown 2 (readCall (world s (stateIn state) c heap (table ids locations)) id .answer)
+  ReadsOut id r values = (c : Claims) → given r values ≡ shown 2 (readCall (world s (stateIn state) c heap table) id .answer)
 
   abbrev pub CountsOut : ℕ → List ℕ → Type 0
-  CountsOut r values = (c : Claims) → given r values ≡ shown 4 (countsCall (world s (stateIn state) c heap (table ids locations)) .answer)
+  CountsOut r values = (c : Claims) → given r values ≡ shown 4 (countsCall (world s (stateIn state) c heap table) .answer)
 
   pub read-one : (id r q : ℕ) (vs us : List ℕ) → ReadsOut id r vs → ReadsOut id q us → given r vs ≡ given q us
   read-one id r q vs us e f = e noClaims ∙ sym (f noClaims)
@@ -122,40 +117,40 @@ module _ (s : Settings) (state heap ids locations : List ℕ) where
   counts-one r q vs us e f = e noClaims ∙ sym (f noClaims)
 
 -- ---- check, which is lent no state: number, out-parameter and the lent listing after
-module _ (s : Settings) (heap ids locations listing : List ℕ) where
+module _ (s : Settings) (heap table listing : List ℕ) where
   abbrev pub ChecksOut : ℕ → List ℕ → List ℕ → Type 0
   ChecksOut r values after =
-      (given r values ≡ shown 1 (checkCall s heap (table ids locations) listing .answer)) × (after ≡ checkCall s heap (table ids locations) listing .listing)
+      (given r values ≡ shown 1 (checkCall s heap table listing .answer)) × (after ≡ checkCall s heap table listing .listing)
 
   pub check-one : (r q : ℕ) (vs us after ends : List ℕ) → ChecksOut r vs after → ChecksOut q us ends → (given r vs ≡ given q us) × (after ≡ ends)
   check-one r q vs us after ends e f = (e .0 ∙ sym (f .0), e .1 ∙ sym (f .1))
 
 -- ---- salvage, which is lent no state: number, out-parameter, the lent report and the heap after
-module _ (s : Settings) (heap ids locations report : List ℕ) where
+module _ (s : Settings) (heap table report : List ℕ) where
   abbrev pub SalvagesOut : Salvaged → Type 0
-  SalvagesOut l = l ≡ shownRescue (salvageCall s heap (table ids locations) report)
+  SalvagesOut l = l ≡ shownRescue (salvageCall s heap table report)
 
   pub salvage-one : (l m : Salvaged) → SalvagesOut l → SalvagesOut m → l ≡ m
   salvage-one l m e f = e ∙ sym f
 
--- ---- the table's calls: both buffers before
-module _ (ids locations : List ℕ) (id : ℕ) where
+-- ---- the table's calls: its buffer before
+module _ (table : List ℕ) (id : ℕ) where
   abbrev pub Loads : ℕ → List ℕ → Type 0
-  Loads r values = given r values ≡ shown 1 (loadCall (table ids locations) id .answer)
+  Loads r values = given r values ≡ shown 1 (loadCall table id .answer)
 
   abbrev pub Stores : ℕ → TableAfter → Type 0
-  Stores location t = t ≡ storeCall (table ids locations) id location
+  Stores location t = t ≡ storeCall table id location
 
   abbrev pub Compares : ℕ → ℕ → TableAfter → Type 0
-  Compares old location t = t ≡ shownTable 1 (compareCall (table ids locations) id old location)
+  Compares old location t = t ≡ shownTable 1 (compareCall table id old location)
 
   abbrev pub StoresGreater : ℕ → TableAfter → Type 0
-  StoresGreater location t = t ≡ shownTable 1 (greaterCall (table ids locations) id location)
+  StoresGreater location t = t ≡ shownTable 1 (greaterCall table id location)
 
   pub load-one : (r q : ℕ) (vs us : List ℕ) → Loads r vs → Loads q us → given r vs ≡ given q us
   load-one r q vs us e f = e ∙ sym f
 
-  -- number, out-parameter and both buffers after
+  -- number, out-parameter and the buffer after
   pub store-one : (location : ℕ) (t u : TableAfter) → Stores location t → Stores location u → t ≡ u
   store-one location t u e f = e ∙ sym f
 

@@ -3,4 +3,4 @@ use Prim.Native.Nat.{ℕ}
 
 -- 1,000 times the major number plus the minor one: major 1, minor 2
 abbrev pub version : ℕ
-version = 1002
+version = 2000

@@ -28,7 +28,6 @@ ghost use Rattle.rules.specs.Reopen.{reopenCall};
 ghost use Rattle.rules.specs.TableCalls.{loadCall, storeCall, compareCall, greaterCall};
 ghost use Rattle.rules.specs.World.{world, leaving};
 ghost use Rattle.rules.specs.Write.{writeCall};
-ghost use Rattle.rules.specs.Layout.{table};
 ghost use Rattle.location_table.specs.Tables.{leaving as tableLeaving};
 ghost use Rattle.faults.specs.Faults.{checkCall};
 ghost use Rattle.checker.specs.Answers.{checkGiven};
@@ -46,7 +45,7 @@ ghost use Rattle.marble_c.specs.Version.{version};
 pub extern "C" fn marble_version() -> u64
     ensures { λ r. ⌜ r ≡ version ⌝ }
 {
-    1002
+    2000
 }
 
 // ---- the store
@@ -57,19 +56,18 @@ pub extern "C" fn marble_reopen(
     state: &mut [u64; 1545],
     claims: &mut [u64; 4],
     heap: &[u8],
-    ids: &mut [u64],
-    locations: &mut [u64],
+    table: &mut [u64],
 ) -> u64
     ensures { λ r. ⌜ leaving (numbered r)
         (world settings (stateIn (now (state .exit))) (claimsIn (now (claims .exit)))
-        (now (heap .entry)) (table (now (ids .exit)) (now (locations .exit))))
+        (now (heap .entry)) (now (table .exit)))
         ≡ reopenCall
         (world settings (stateIn (now (state .entry))) (claimsIn (now (claims .entry)))
-        (now (heap .entry)) (table (now (ids .entry)) (now (locations .entry)))) ⌝ }
+        (now (heap .entry)) (now (table .entry))) ⌝ }
 {
     let was = state_in(state);
     let held = claims_in(claims);
-    let done = marble::reopen(settings, was, held, heap, ids, locations);
+    let done = marble::reopen(settings, was, held, heap, table);
     let answer = done.answer;
     let after = done.state;
     let kept = done.claims;
@@ -84,18 +82,17 @@ pub extern "C" fn marble_write(
     settings: Settings,
     state: &mut [u64; 1545],
     heap: &mut [u8],
-    ids: &mut [u64],
-    locations: &mut [u64],
+    table: &mut [u64],
     batch: &[u8],
 ) -> u64
     ensures { λ r. ⌜ ((c : Claims) → leaving (numbered r)
-        (world settings (stateIn (now (state .exit))) c (now (heap .exit)) (table (now (ids .exit)) (now (locations .exit))))
+        (world settings (stateIn (now (state .exit))) c (now (heap .exit)) (now (table .exit)))
         ≡ writeCall
-        (world settings (stateIn (now (state .entry))) c (now (heap .entry)) (table (now (ids .entry)) (now (locations .entry))))
+        (world settings (stateIn (now (state .entry))) c (now (heap .entry)) (now (table .entry)))
         (now (batch .entry))) ⌝ }
 {
     let was = state_in(state);
-    let done = marble::write(settings, was, heap, ids, locations, batch);
+    let done = marble::write(settings, was, heap, table, batch);
     let answer = done.answer;
     let after = done.state;
     put_state(state, after);
@@ -108,19 +105,18 @@ pub extern "C" fn marble_read(
     settings: Settings,
     state: &[u64; 1545],
     heap: &[u8],
-    ids: &[u64],
-    locations: &[u64],
+    table: &[u64],
     id: u64,
     offset: &mut u64,
     size: &mut u64,
 ) -> u64
     ensures { λ r. ⌜ ((c : Claims) → given r (now (offset .exit) ∷ now (size .exit) ∷ [])
         ≡ shown 2 (readCall
-        (world settings (stateIn (now (state .entry))) c (now (heap .entry)) (table (now (ids .entry)) (now (locations .entry))))
+        (world settings (stateIn (now (state .entry))) c (now (heap .entry)) (now (table .entry)))
         id .answer)) ⌝ }
 {
     let was = state_in(state);
-    let found = read_shown(marble::read_answer(settings, was, heap, ids, locations, id));
+    let found = read_shown(marble::read_answer(settings, was, heap, table, id));
     *offset = found.first;
     *size = found.second;
     found.number
@@ -133,20 +129,19 @@ pub extern "C" fn marble_claim(
     state: &[u64; 1545],
     claims: &mut [u64; 4],
     heap: &[u8],
-    ids: &[u64],
-    locations: &[u64],
+    table: &[u64],
     slot: u64,
 ) -> u64
     ensures { λ r. ⌜ leaving (numbered r)
         (world settings (stateIn (now (state .entry))) (claimsIn (now (claims .exit)))
-        (now (heap .entry)) (table (now (ids .entry)) (now (locations .entry))))
+        (now (heap .entry)) (now (table .entry)))
         ≡ claimCall
         (world settings (stateIn (now (state .entry))) (claimsIn (now (claims .entry)))
-        (now (heap .entry)) (table (now (ids .entry)) (now (locations .entry)))) slot ⌝ }
+        (now (heap .entry)) (now (table .entry))) slot ⌝ }
 {
     let was = state_in(state);
     let held = claims_in(claims);
-    let done = marble::claim(settings, was, held, heap, ids, locations, slot);
+    let done = marble::claim(settings, was, held, heap, table, slot);
     let answer = done.answer;
     let kept = done.claims;
     put_claims(claims, kept);
@@ -160,20 +155,19 @@ pub extern "C" fn marble_release(
     state: &[u64; 1545],
     claims: &mut [u64; 4],
     heap: &[u8],
-    ids: &[u64],
-    locations: &[u64],
+    table: &[u64],
     slot: u64,
 ) -> u64
     ensures { λ r. ⌜ leaving (numbered r)
         (world settings (stateIn (now (state .entry))) (claimsIn (now (claims .exit)))
-        (now (heap .entry)) (table (now (ids .entry)) (now (locations .entry))))
+        (now (heap .entry)) (now (table .entry)))
         ≡ releaseCall
         (world settings (stateIn (now (state .entry))) (claimsIn (now (claims .entry)))
-        (now (heap .entry)) (table (now (ids .entry)) (now (locations .entry)))) slot ⌝ }
+        (now (heap .entry)) (now (table .entry))) slot ⌝ }
 {
     let was = state_in(state);
     let held = claims_in(claims);
-    let done = marble::release(settings, was, held, heap, ids, locations, slot);
+    let done = marble::release(settings, was, held, heap, table, slot);
     let answer = done.answer;
     let kept = done.claims;
     put_claims(claims, kept);
@@ -187,19 +181,18 @@ pub extern "C" fn marble_prune(
     state: &mut [u64; 1545],
     claims: &[u64; 4],
     heap: &mut [u8],
-    ids: &[u64],
-    locations: &[u64],
+    table: &[u64],
 ) -> u64
     ensures { λ r. ⌜ leaving (numbered r)
         (world settings (stateIn (now (state .exit))) (claimsIn (now (claims .entry)))
-        (now (heap .exit)) (table (now (ids .entry)) (now (locations .entry))))
+        (now (heap .exit)) (now (table .entry)))
         ≡ pruneCall
         (world settings (stateIn (now (state .entry))) (claimsIn (now (claims .entry)))
-        (now (heap .entry)) (table (now (ids .entry)) (now (locations .entry)))) ⌝ }
+        (now (heap .entry)) (now (table .entry))) ⌝ }
 {
     let was = state_in(state);
     let held = claims_in(claims);
-    let done = marble::prune(settings, was, held, heap, ids, locations);
+    let done = marble::prune(settings, was, held, heap, table);
     let answer = done.answer;
     let after = done.state;
     put_state(state, after);
@@ -213,21 +206,20 @@ pub extern "C" fn marble_maintain(
     state: &mut [u64; 1545],
     claims: &[u64; 4],
     heap: &mut [u8],
-    ids: &mut [u64],
-    locations: &mut [u64],
+    table: &mut [u64],
     generation: &mut u64,
     moved: &mut u64,
 ) -> u64
     ensures { λ r. ⌜ leaving (given r (now (generation .exit) ∷ now (moved .exit) ∷ []))
         (world settings (stateIn (now (state .exit))) (claimsIn (now (claims .entry)))
-        (now (heap .exit)) (table (now (ids .exit)) (now (locations .exit))))
+        (now (heap .exit)) (now (table .exit)))
         ≡ stopAfter (maintainCall
         (world settings (stateIn (now (state .entry))) (claimsIn (now (claims .entry)))
-        (now (heap .entry)) (table (now (ids .entry)) (now (locations .entry))))) ⌝ }
+        (now (heap .entry)) (now (table .entry)))) ⌝ }
 {
     let was = state_in(state);
     let held = claims_in(claims);
-    let done = marble::maintain(settings, was, held, heap, ids, locations);
+    let done = marble::maintain(settings, was, held, heap, table);
     let answer = done.answer;
     let after = done.state;
     put_state(state, after);
@@ -243,16 +235,15 @@ pub extern "C" fn marble_counts(
     settings: Settings,
     state: &[u64; 1545],
     heap: &[u8],
-    ids: &[u64],
-    locations: &[u64],
+    table: &[u64],
     counts: &mut [u64; 4],
 ) -> u64
     ensures { λ r. ⌜ ((c : Claims) → given r (now (counts .exit))
         ≡ shown 4 (countsCall (world settings (stateIn (now (state .entry))) c
-        (now (heap .entry)) (table (now (ids .entry)) (now (locations .entry)))) .answer)) ⌝ }
+        (now (heap .entry)) (now (table .entry))) .answer)) ⌝ }
 {
     let was = state_in(state);
-    let done = counts_shown(marble::counts(settings, was, heap, ids, locations));
+    let done = counts_shown(marble::counts(settings, was, heap, table));
     let sums = done.counts;
     put_counts(counts, sums);
     done.number
@@ -279,17 +270,16 @@ fn check_shown(a: CheckAnswer) -> One
 pub extern "C" fn marble_check(
     settings: Settings,
     heap: &[u8],
-    ids: &[u64],
-    locations: &[u64],
+    table: &[u64],
     listing: &mut [u64],
     faults: &mut u64,
 ) -> u64
     ensures { λ r. ⌜ (given r (now (faults .exit) ∷ []) ≡ shown 1
-        (checkCall settings (now (heap .entry)) (table (now (ids .entry)) (now (locations .entry))) (now (listing .entry)) .answer))
+        (checkCall settings (now (heap .entry)) (now (table .entry)) (now (listing .entry)) .answer))
         × (now (listing .exit)
-        ≡ checkCall settings (now (heap .entry)) (table (now (ids .entry)) (now (locations .entry))) (now (listing .entry)) .listing) ⌝ }
+        ≡ checkCall settings (now (heap .entry)) (now (table .entry)) (now (listing .entry)) .listing) ⌝ }
 {
-    let done = check_shown(marble::check(settings, heap, ids, locations, listing));
+    let done = check_shown(marble::check(settings, heap, table, listing));
     *faults = done.value;
     done.number
 }
@@ -315,18 +305,17 @@ fn salvage_shown(a: SalvageAnswer) -> One
 pub extern "C" fn marble_salvage(
     settings: Settings,
     heap: &mut [u8],
-    ids: &[u64],
-    locations: &[u64],
+    table: &[u64],
     report: &mut [u64; 512],
     lost: &mut u64,
 ) -> u64
     ensures { λ r. ⌜
         rescue (given r (now (lost .exit) ∷ [])) (now (report .exit)) (now (heap .exit))
         ≡ shownRescue
-        (salvageCall settings (now (heap .entry)) (table (now (ids .entry)) (now (locations .entry))) (now (report .entry)))
+        (salvageCall settings (now (heap .entry)) (now (table .entry)) (now (report .entry)))
         ⌝ }
 {
-    let done = salvage_shown(marble::salvage(settings, heap, ids, locations, report));
+    let done = salvage_shown(marble::salvage(settings, heap, table, report));
     *lost = done.value;
     done.number
 }
@@ -334,43 +323,37 @@ pub extern "C" fn marble_salvage(
 // ---- the table
 // "Load (nothing for an unmapped id)": a held location is never 0.
 #[no_mangle]
-pub extern "C" fn marble_load(ids: &[u64], locations: &[u64], id: u64, location: &mut u64) -> u64
+pub extern "C" fn marble_load(table: &[u64], id: u64, location: &mut u64) -> u64
     ensures { λ r. ⌜ given r (now (location .exit) ∷ [])
-        ≡ shown 1 (loadCall (table (now (ids .entry)) (now (locations .entry))) id .answer) ⌝ }
+        ≡ shown 1 (loadCall (now (table .entry)) id .answer) ⌝ }
 {
-    let held = load_shown(marble::load(ids, locations, id));
+    let held = load_shown(marble::load(table, id));
     *location = held.value;
     held.number
 }
 
 // "store"
 #[no_mangle]
-pub extern "C" fn marble_store(
-    ids: &mut [u64],
-    locations: &mut [u64],
-    id: u64,
-    location: u64,
-) -> u64
-    ensures { λ r. ⌜ tableLeaving (numbered r) (table (now (ids .exit)) (now (locations .exit)))
-        ≡ storeCall (table (now (ids .entry)) (now (locations .entry))) id location ⌝ }
+pub extern "C" fn marble_store(table: &mut [u64], id: u64, location: u64) -> u64
+    ensures { λ r. ⌜ tableLeaving (numbered r) (now (table .exit))
+        ≡ storeCall (now (table .entry)) id location ⌝ }
 {
-    number(marble::store(ids, locations, id, location))
+    number(marble::store(table, id, location))
 }
 
 // "A compare that differs stores nothing and gives the current location"
 #[no_mangle]
 pub extern "C" fn marble_compare_and_store(
-    ids: &mut [u64],
-    locations: &mut [u64],
+    table: &mut [u64],
     id: u64,
     old: u64,
     location: u64,
     current: &mut u64,
 ) -> u64
-    ensures { λ r. ⌜ tableLeaving (given r (now (current .exit) ∷ [])) (table (now (ids .exit)) (now (locations .exit)))
-        ≡ shownTable 1 (compareCall (table (now (ids .entry)) (now (locations .entry))) id old location) ⌝ }
+    ensures { λ r. ⌜ tableLeaving (given r (now (current .exit) ∷ [])) (now (table .exit))
+        ≡ shownTable 1 (compareCall (now (table .entry)) id old location) ⌝ }
 {
-    let held = compare_shown(marble::compare_and_store(ids, locations, id, old, location));
+    let held = compare_shown(marble::compare_and_store(table, id, old, location));
     *current = held.value;
     held.number
 }
@@ -378,16 +361,15 @@ pub extern "C" fn marble_compare_and_store(
 // "Store-if-greater gives the location held before or nothing"
 #[no_mangle]
 pub extern "C" fn marble_store_if_greater(
-    ids: &mut [u64],
-    locations: &mut [u64],
+    table: &mut [u64],
     id: u64,
     location: u64,
     held: &mut u64,
 ) -> u64
-    ensures { λ r. ⌜ tableLeaving (given r (now (held .exit) ∷ [])) (table (now (ids .exit)) (now (locations .exit)))
-        ≡ shownTable 1 (greaterCall (table (now (ids .entry)) (now (locations .entry))) id location) ⌝ }
+    ensures { λ r. ⌜ tableLeaving (given r (now (held .exit) ∷ [])) (now (table .exit))
+        ≡ shownTable 1 (greaterCall (now (table .entry)) id location) ⌝ }
 {
-    let was = load_shown(marble::store_if_greater(ids, locations, id, location));
+    let was = load_shown(marble::store_if_greater(table, id, location));
     *held = was.value;
     was.number
 }

@@ -53,36 +53,45 @@ fn say_slot(s: Slot) {
 }
 
 // A table of two entries: 20 and 6, a compare that differs, 18, 19, a lower location not stored.
-fn stores(ids: &mut [u64], locations: &mut [u64]) {
-    say_load(table_calls::load(ids, locations, 7));
-    say_answer(table_calls::store(ids, locations, 7, 10));
-    say_answer(table_calls::store(ids, locations, 3, 0));
-    say_answer(table_calls::store(ids, locations, 3, 11));
-    say_answer(table_calls::store(ids, locations, 9, 12));
-    say_load(table_calls::load(ids, locations, 7));
+fn stores(table: &mut [u64]) {
+    say_load(table_calls::load(table, 7));
+    say_answer(table_calls::store(table, 7, 10));
+    say_answer(table_calls::store(table, 3, 0));
+    say_answer(table_calls::store(table, 3, 11));
+    say_answer(table_calls::store(table, 9, 12));
+    say_load(table_calls::load(table, 7));
 }
 
-fn compares(ids: &mut [u64], locations: &mut [u64]) {
-    say_compare(table_calls::compare_and_store(ids, locations, 7, 10, 14));
-    say_compare(table_calls::compare_and_store(ids, locations, 7, 10, 16));
-    say_compare(table_calls::compare_and_store(ids, locations, 5, 10, 16));
-    say_compare(table_calls::compare_and_store(ids, locations, 7, 0, 16));
+fn compares(table: &mut [u64]) {
+    say_compare(table_calls::compare_and_store(table, 7, 10, 14));
+    say_compare(table_calls::compare_and_store(table, 7, 10, 16));
+    say_compare(table_calls::compare_and_store(table, 5, 10, 16));
+    say_compare(table_calls::compare_and_store(table, 7, 0, 16));
 }
 
-fn greaters(ids: &mut [u64], locations: &mut [u64]) {
-    say_load(table_calls::store_if_greater(ids, locations, 7, 14));
-    say_load(table_calls::store_if_greater(ids, locations, 7, 12));
-    say_load(table_calls::store_if_greater(ids, locations, 7, 20));
-    say_load(table_calls::store_if_greater(ids, locations, 9, 20));
-    say_load(table_calls::load(ids, locations, 7));
+fn greaters(table: &mut [u64]) {
+    say_load(table_calls::store_if_greater(table, 7, 14));
+    say_load(table_calls::store_if_greater(table, 7, 12));
+    say_load(table_calls::store_if_greater(table, 7, 20));
+    say_load(table_calls::store_if_greater(table, 9, 20));
+    say_load(table_calls::load(table, 7));
 }
 
 // A table with a hole is not in form; nor is one of no entries.
 fn forms() {
-    let ids = [3u64, 0, 7];
-    let locations = [11u64, 0, 10];
-    say_load(table_calls::load(&ids, &locations, 7));
-    say_load(table_calls::load(&ids[0..0], &locations[0..0], 7));
+    let table = [3u64, 11, 0, 0, 7, 10];
+    say_load(table_calls::load(&table, 7));
+    say_load(table_calls::load(&table[0..0], 7));
+}
+
+// An odd length: refused by each of the four, and the last word stays.
+fn odd() {
+    let mut table = [3u64, 11, 9];
+    say_load(table_calls::load(&table, 3));
+    say_answer(table_calls::store(&mut table, 3, 12));
+    say_compare(table_calls::compare_and_store(&mut table, 3, 11, 12));
+    say_load(table_calls::store_if_greater(&mut table, 3, 12));
+    say(b"last word ", table[2]);
 }
 
 // A batch file of base 101 in slot 0, the same one in slot 2, a rewritten one of base 205 in slot 1: raw locations
@@ -96,12 +105,12 @@ fn files() -> FileMap {
 }
 
 fn main() {
-    let mut ids = [0u64; 2];
-    let mut locations = [0u64; 2];
-    stores(&mut ids, &mut locations);
-    compares(&mut ids, &mut locations);
-    greaters(&mut ids, &mut locations);
+    let mut table = [0u64; 4];
+    stores(&mut table);
+    compares(&mut table);
+    greaters(&mut table);
     forms();
+    odd();
     let m = files();
     say_slot(file_map::file_for(m, 409));
     say_slot(file_map::file_for(m, 410));

@@ -14,7 +14,7 @@ use Rattle.rules.specs.Ops.{objectsOf, entriesOf, fileBytes, joined, settled}
 use Rattle.rules.specs.Label.{labelBytes, fiveIn, labelIn, outOfBounds}
 use Rattle.rules.specs.SlotFile.{slotBytes, slotTests, viewIn, viewsIn}
 use Rattle.rules.specs.Table.{lookup, insert, insertAll, full}
-use Rattle.rules.specs.Layout.{lengthsInRange, formFrom, inForm, usedIn, usedEntries, laidOut}
+use Rattle.rules.specs.Layout.{tableIds, tableLocations, alternating, lengthsInRange, formFrom, inForm, usedIn, usedEntries, laidOut}
 use Rattle.rules.specs.FileMap.{isEmpty, noFiles, slotsWhere, emptySlots, lowestEmpty, leads, leadFrom, fileFor, fileCount}
 use Rattle.rules.specs.Condition1.{outOfRange, notTheStates, badRecord, badFrom, conditionOne}
 use Rattle.rules.specs.Batch.{putOperation, operationAt, batchFrom, batchIn, anyTooLarge}
@@ -256,12 +256,12 @@ groupOrders =
 -- "Per non-empty slot, ascending: 8, 9, 10, 11, 12, 13. Then over all: 14, 15, 6."
 unfoldable pub reopenOrders : List Line
 reopenOrders =
-    -- buffers of two lengths; masked lsn 0; a trailer of 19 bytes; another checksum; a count too great; an object at T; present_objects not the
+    -- a table of an odd number of words; masked lsn 0; a trailer of 19 bytes; another checksum; a count too great; an object at T; present_objects not the
     -- count. Behind it two slots overlap, one repeats an id, and the table has no room for their ids.
     record {
       ours =
           each told
-          (reopenCall (closed (trailing (2 ^ 62) 1 (replicate 19 0)) (record { ids = 0 ∷ []; locations = [] })) .answer
+          (reopenCall (closed (trailing (2 ^ 62) 1 (replicate 19 0)) (0 ∷ 0 ∷ 0 ∷ [])) .answer
           ∷ reopenCall (behind (trailing (2 ^ 62) 1 (replicate 19 1))) .answer
           ∷ reopenCall (behind (trailing 10 2 (misSummed (leBytes 8 1 ++ replicate 7 0)))) .answer
           ∷ reopenCall (behind (trailing 10 2 (misSummed (leBytes 8 1 ++ replicate 8 0)))) .answer
@@ -298,5 +298,5 @@ orders = tableOrders ++ (writeOrders ++ (readOrders ++ (claimOrders ++ (groupOrd
 
 -- LAW: no row differs
 pub orders-hold : any (λ (l : Line). not (agree (l .ours) (l .paper))) orders ≡ false
-unfolding orders tableOrders writeOrders readOrders groupOrders reopenOrders claimOrders any zeros keep each sum greatest padded putOperation operationAt batchFrom batchIn anyTooLarge outOfRange notTheStates badRecord badFrom conditionOne isEmpty noFiles slotsWhere emptySlots lowestEmpty leads leadFrom fileFor fileCount newLabel newRecord losing recordsWith storesFor tableWith nextWith installed installedAll roomTests positionTests labelBytes fiveIn labelIn outOfBounds lengthsInRange formFrom inForm usedIn usedEntries laidOut worthIt cutOff joining splitFrom filesOf objectBytes storedAt objectsFrom objectsIn badChecksum objectsOf entriesOf fileBytes joined settled decide filesIn overlapping notRising latest latestFrom tableOf reopenTests mappedInto recordsFrom nextAfter opened givenUp reopenCall inRanges heapInRange sameSettings slotBytes slotTests viewIn viewsIn made storesOf fileStores lookup insert insertAll full listed trailerBytes trailerTests entriesFrom entriesIn misplaced tooManyIds writeTests written writeCall loadCall storeCall compareCall greaterCall withStored isDead emptiedFrom pruneStores pruned isClaimed claimSet claimCleared claimCall releaseCall isCandidate group movedTests deleteTests deletesOf fileTests objectsFound deletesFound found groupTests rewriteGroup groupsFrom courseOf maintainCall objectTests readOf leBytes leValue groupsOf readGroups numberIn shiftBit shifts crcFrom crc32 objectSum maskedOf digitsIn readCall
+unfolding orders tableOrders writeOrders readOrders groupOrders reopenOrders claimOrders any zeros keep each sum greatest padded putOperation operationAt batchFrom batchIn anyTooLarge outOfRange notTheStates badRecord badFrom conditionOne isEmpty noFiles slotsWhere emptySlots lowestEmpty leads leadFrom fileFor fileCount newLabel newRecord losing recordsWith storesFor tableWith nextWith installed installedAll roomTests positionTests labelBytes fiveIn labelIn outOfBounds tableIds tableLocations alternating lengthsInRange formFrom inForm usedIn usedEntries laidOut worthIt cutOff joining splitFrom filesOf objectBytes storedAt objectsFrom objectsIn badChecksum objectsOf entriesOf fileBytes joined settled decide filesIn overlapping notRising latest latestFrom tableOf reopenTests mappedInto recordsFrom nextAfter opened givenUp reopenCall inRanges heapInRange sameSettings slotBytes slotTests viewIn viewsIn made storesOf fileStores lookup insert insertAll full listed trailerBytes trailerTests entriesFrom entriesIn misplaced tooManyIds writeTests written writeCall loadCall storeCall compareCall greaterCall withStored isDead emptiedFrom pruneStores pruned isClaimed claimSet claimCleared claimCall releaseCall isCandidate group movedTests deleteTests deletesOf fileTests objectsFound deletesFound found groupTests rewriteGroup groupsFrom courseOf maintainCall objectTests readOf leBytes leValue groupsOf readGroups numberIn shiftBit shifts crcFrom crc32 objectSum maskedOf digitsIn readCall
 orders-hold = refl

@@ -13,7 +13,7 @@ use Rattle.rules.specs.Ops.{objectsOf, entriesOf, fileBytes, joined, settled}
 use Rattle.rules.specs.Label.{labelBytes, outOfBounds}
 use Rattle.rules.specs.SlotFile.{slotBytes}
 use Rattle.rules.specs.Table.{lookup, insert, insertAll}
-use Rattle.rules.specs.Layout.{lengthsInRange, formFrom, inForm, usedIn, usedEntries, laidOut}
+use Rattle.rules.specs.Layout.{tableIds, tableLocations, alternating, lengthsInRange, formFrom, inForm, usedIn, usedEntries, laidOut}
 use Rattle.rules.specs.FileMap.{recorded, emptyRecord, isEmpty, noFiles, slotsWhere, emptySlots, lowestEmpty, leads, leadFrom, fileFor, fileCount}
 use Rattle.rules.specs.Condition1.{outOfRange, notTheStates, badRecord, badFrom, conditionOne}
 use Rattle.rules.specs.Stores.{made, storesOf, fileStores}
@@ -59,7 +59,7 @@ pub stopped-stands :
     ∷ 50 ∷ 0 ∷ 0 ∷ 50
     ∷ 0 ∷ 0 ∷ 0 ∷ 0
     ∷ []
-unfolding any zeros keep each sum padded outOfRange notTheStates badRecord badFrom conditionOne isEmpty noFiles slotsWhere emptySlots lowestEmpty leads leadFrom fileFor fileCount newLabel newRecord losing recordsWith storesFor tableWith nextWith installed installedAll roomTests positionTests labelBytes outOfBounds lengthsInRange formFrom inForm usedIn usedEntries laidOut worthIt cutOff joining splitFrom filesOf objectBytes storedAt objectsFrom objectsIn badChecksum objectsOf entriesOf fileBytes joined settled decide inRanges heapInRange sameSettings slotBytes made storesOf fileStores lookup insert insertAll listed trailerBytes trailerTests entriesFrom entriesIn isDead emptiedFrom pruneStores pruned isClaimed isCandidate group movedTests deleteTests deletesOf fileTests objectsFound deletesFound found groupTests rewriteGroup groupsFrom courseOf maintainCall leBytes leValue groupsOf shiftBit shifts crcFrom crc32 objectSum maskedOf digitsIn
+unfolding any zeros keep each sum padded outOfRange notTheStates badRecord badFrom conditionOne isEmpty noFiles slotsWhere emptySlots lowestEmpty leads leadFrom fileFor fileCount newLabel newRecord losing recordsWith storesFor tableWith nextWith installed installedAll roomTests positionTests labelBytes outOfBounds tableIds tableLocations alternating lengthsInRange formFrom inForm usedIn usedEntries laidOut worthIt cutOff joining splitFrom filesOf objectBytes storedAt objectsFrom objectsIn badChecksum objectsOf entriesOf fileBytes joined settled decide inRanges heapInRange sameSettings slotBytes made storesOf fileStores lookup insert insertAll listed trailerBytes trailerTests entriesFrom entriesIn isDead emptiedFrom pruneStores pruned isClaimed isCandidate group movedTests deleteTests deletesOf fileTests objectsFound deletesFound found groupTests rewriteGroup groupsFrom courseOf maintainCall leBytes leValue groupsOf shiftBit shifts crcFrom crc32 objectSum maskedOf digitsIn
 stopped-stands = refl
 
 -- LAW: with that trailer as it should be both ids are moved, each to a file of its generation, and what has nothing live is pruned
@@ -72,5 +72,5 @@ pub finished-pruned :
     ∷ 0 ∷ 0 ∷ 0 ∷ 0
     ∷ 221 ∷ 2 ∷ 1 ∷ 0xdd
     ∷ []
-unfolding any zeros keep each sum padded outOfRange notTheStates badRecord badFrom conditionOne isEmpty noFiles slotsWhere emptySlots lowestEmpty leads leadFrom fileFor fileCount newLabel newRecord losing recordsWith storesFor tableWith nextWith installed installedAll roomTests positionTests labelBytes outOfBounds lengthsInRange formFrom inForm usedIn usedEntries laidOut worthIt cutOff joining splitFrom filesOf objectBytes storedAt objectsFrom objectsIn badChecksum objectsOf entriesOf fileBytes joined settled decide inRanges heapInRange sameSettings slotBytes made storesOf fileStores lookup insert insertAll listed trailerBytes trailerTests entriesFrom entriesIn isDead emptiedFrom pruneStores pruned isClaimed isCandidate group movedTests deleteTests deletesOf fileTests objectsFound deletesFound found groupTests rewriteGroup groupsFrom courseOf maintainCall leBytes leValue groupsOf shiftBit shifts crcFrom crc32 objectSum maskedOf digitsIn
+unfolding any zeros keep each sum padded outOfRange notTheStates badRecord badFrom conditionOne isEmpty noFiles slotsWhere emptySlots lowestEmpty leads leadFrom fileFor fileCount newLabel newRecord losing recordsWith storesFor tableWith nextWith installed installedAll roomTests positionTests labelBytes outOfBounds tableIds tableLocations alternating lengthsInRange formFrom inForm usedIn usedEntries laidOut worthIt cutOff joining splitFrom filesOf objectBytes storedAt objectsFrom objectsIn badChecksum objectsOf entriesOf fileBytes joined settled decide inRanges heapInRange sameSettings slotBytes made storesOf fileStores lookup insert insertAll listed trailerBytes trailerTests entriesFrom entriesIn isDead emptiedFrom pruneStores pruned isClaimed isCandidate group movedTests deleteTests deletesOf fileTests objectsFound deletesFound found groupTests rewriteGroup groupsFrom courseOf maintainCall leBytes leValue groupsOf shiftBit shifts crcFrom crc32 objectSum maskedOf digitsIn
 finished-pruned = refl

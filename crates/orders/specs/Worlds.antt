@@ -7,7 +7,7 @@ use Rattle.disk_location.specs.Locations.{rawOf}
 use Rattle.rules.specs.Object.{objectBytes}
 use Rattle.rules.specs.Trailer.{trailerBytes}
 use Rattle.rules.specs.Label.{labelBytes}
-use Rattle.rules.specs.Layout.{Buffers}
+use Rattle.rules.specs.Layout.{Table, capacityOf}
 use Rattle.rules.specs.FileMap.{recorded, emptyRecord}
 use Rattle.rules.specs.Claims.{noClaims}
 use Rattle.rules.specs.World.{World, noState}
@@ -19,20 +19,20 @@ settings = record { «slot_bytes» = 128; «file_compaction_percent» = 0; «min
 
 -- ---- a table
 -- no entry used, of one
-abbrev pub none : Buffers
-none = record { ids = 0 ∷ []; locations = 0 ∷ [] }
+abbrev pub none : Table
+none = 0 ∷ 0 ∷ []
 
 -- an id at a location, and no room for another
-abbrev pub one : ℕ → ℕ → Buffers
-one id location = record { ids = id ∷ []; locations = location ∷ [] }
+abbrev pub one : ℕ → ℕ → Table
+one id location = id ∷ location ∷ []
 
 -- two
-abbrev pub two : ℕ → ℕ → ℕ → ℕ → Buffers
-two id location jd mocation = record { ids = id ∷ jd ∷ []; locations = location ∷ mocation ∷ [] }
+abbrev pub two : ℕ → ℕ → ℕ → ℕ → Table
+two id location jd mocation = id ∷ location ∷ jd ∷ mocation ∷ []
 
 -- the unused entry stands first: not in form
-abbrev pub noForm : Buffers
-noForm = record { ids = 0 ∷ 5 ∷ []; locations = 0 ∷ 40 ∷ [] }
+abbrev pub noForm : Table
+noForm = 0 ∷ 0 ∷ 5 ∷ 40 ∷ []
 
 -- ---- files
 -- a label of generation 0
@@ -65,17 +65,17 @@ abbrev pub records : List Record → List Record
 records rs = rs ++ replicate (256 - length rs) emptyRecord
 
 -- the state of a heap and a table
-abbrev pub state : List Record → ℕ → List ℕ → Buffers → State
+abbrev pub state : List Record → ℕ → List ℕ → Table → State
 state rs next heap table = record {
   settings = settings;
   «heap_len» = length heap;
-  «table_len» = length (table .ids);
+  «table_len» = capacityOf table;
   files = record { records = records rs };
   «next_position» = next;
 }
 
 -- a world of records, a next position, a heap and a table
-abbrev pub holding : List Record → ℕ → List ℕ → Buffers → World
+abbrev pub holding : List Record → ℕ → List ℕ → Table → World
 holding rs next heap table = record { settings = settings; state = state rs next heap table; claims = noClaims; heap = heap; table = table }
 
 -- the same, called with a setting that is not the state's
@@ -156,7 +156,7 @@ abbrev pub deleting : ℕ → ℕ → List ℕ
 deleting lsn id = trailing lsn 1 (trailerBytes (mapping id 1 ∷ []))
 
 -- a heap to be reopened with a table
-abbrev pub closed : List ℕ → Buffers → World
+abbrev pub closed : List ℕ → Table → World
 closed heap table = record { settings = settings; state = noState; claims = noClaims; heap = heap; table = table }
 
 -- three slots: the last two overlap, one of them repeats an id, and a table of one entry has no room for their ids

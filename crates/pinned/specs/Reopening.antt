@@ -91,13 +91,12 @@ pub record Opens (w : World) : Type 0 where
   pub heap : reopenCall w .world .heap ≡ w .heap
   pub settings : reopenCall w .world .state .settings ≡ w .settings
 
--- "a reopening refused with any number but 1 zeroes both table buffers and hands back an empty file map, no claims and next position 1"
+-- "a reopening refused with any number but 1 zeroes the one buffer and hands back an empty file map, no claims and next position 1"
 pub record GivenUp (w : World) (r : Refusal) : Type 0 where
   pub answer : reopenCall w .answer ≡ refused r
   pub next : reopenCall w .world .state .«next_position» ≡ 1
   pub files : reopenCall w .world .state .files .records ≡ replicate 256 emptyRecord
-  pub ids : reopenCall w .world .table .ids ≡ replicate (length (w .table .ids)) 0
-  pub locations : reopenCall w .world .table .locations ≡ replicate (length (w .table .locations)) 0
+  pub table : reopenCall w .world .table ≡ replicate (length (w .table)) 0
   pub claims : reopenCall w .world .claims ≡ noClaims
   pub heap : reopenCall w .world .heap ≡ w .heap
   pub settings : reopenCall w .world .state .settings ≡ w .settings
@@ -121,8 +120,7 @@ gives-up w r f e = record {
   answer = rw (reopen-in-range w f, e);
   next = rw (reopen-in-range w f, e);
   files = rw (reopen-in-range w f, e);
-  ids = rw (reopen-in-range w f, e);
-  locations = rw (reopen-in-range w f, e);
+  table = rw (reopen-in-range w f, e);
   claims = rw (reopen-in-range w f, e);
   heap = rw (reopen-in-range w f, e);
   settings = rw (reopen-in-range w f, e);

@@ -10,21 +10,21 @@ use Rattle.theory.specs.Types.{Entry, Held, Mapped, Unmapped, Refusal, Limits, 
 use Rattle.rules.specs.Refusal.{Test, _gives_, decide, after, decide-none, decide-first, decide-next}
 use Rattle.rules.specs.Table.{lookup, insert, unmapped, mappedTo, full}
 use Rattle.rules.specs.TableLaws.{Rising, Has, mapped-one, mapped-not, lookup-insert-same, lookup-insert-other, rising-insert, lookup-has, has-lookup, insert-new, insert-old, insert-length, full-when, full-mapped, full-room}
-use Rattle.rules.specs.Layout.{Buffers, lengthsInRange, inForm, capacityOf, usedEntries, laidOut}
-use Rattle.rules.specs.LayoutLaws.{LengthsInRange, lengths-in-range, range-lengths-in, laid-out-ids, laid-out-locations, Used, used-laid-out, form-laid-out, used-located, used-length, form-rising}
+use Rattle.rules.specs.Layout.{Table, lengthsInRange, inForm, capacityOf, usedEntries, laidOut}
+use Rattle.rules.specs.LayoutLaws.{LengthsInRange, lengths-in-range, range-lengths-in, laid-out-capacity, laid-out-even, Used, used-laid-out, form-laid-out, used-located, used-length, form-rising}
 use Rattle.rules.specs.World.{Given, accepted, refused}
 use Rattle.rules.specs.TableCalls.{TableAfter, notForm, same, withStored, heldGiven, loadCall, storeCall, compareCall, below, greaterCall}
 
 -- where an id is, if it is mapped
-abbrev pub heldIn : Buffers → ℕ → Held
+abbrev pub heldIn : Table → ℕ → Held
 heldIn b id = lookup (usedEntries b) id
 
 -- "a new id in a full table"
-abbrev pub NewInFull : Buffers → ℕ → Type 0
+abbrev pub NewInFull : Table → ℕ → Type 0
 NewInFull b id = (heldIn b id ≡ Unmapped) × (capacityOf b ≤ length (usedEntries b))
 
 -- the table afterwards: in form and as long, this id at this location, every other where it was
-pub record Took (b : Buffers) (id raw : ℕ) (t : Buffers) : Type 0 where
+pub record Took (b : Table) (id raw : ℕ) (t : Table) : Type 0 where
   pub form : notForm t ≡ false
   pub capacity : capacityOf t ≡ capacityOf b
   pub here : loadCall t id .answer ≡ accepted (raw ∷ [])
@@ -32,20 +32,20 @@ pub record Took (b : Buffers) (id raw : ℕ) (t : Buffers) : Type 0 where
 
 -- ---- load
 -- LAW: 1; else the location, or nothing for an unmapped id; the table stays
-pub record Load (b : Buffers) (id : ℕ) : Type 0 where
+pub record Load (b : Table) (id : ℕ) : Type 0 where
   pub limits : notForm b ≡ true → loadCall b id ≡ same b (refused Limits)
   pub mapped : notForm b ≡ false → (l : ℕ) → heldIn b id ≡ Mapped l → loadCall b id ≡ same b (accepted (l ∷ []))
   pub nothing : notForm b ≡ false → heldIn b id ≡ Unmapped → loadCall b id ≡ same b (accepted [])
 
-load-held : (b : Buffers) (id : ℕ) → notForm b ≡ false → loadCall b id ≡ same b (heldGiven (heldIn b id))
+load-held : (b : Table) (id : ℕ) → notForm b ≡ false → loadCall b id ≡ same b (heldGiven (heldIn b id))
 unfolding loadCall
 load-held b id f = rw (decide-next (notForm b) Limits [] f, decide-none)
 
-load-limits : (b : Buffers) (id : ℕ) → notForm b ≡ true → loadCall b id ≡ same b (refused Limits)
+load-limits : (b : Table) (id : ℕ) → notForm b ≡ true → loadCall b id ≡ same b (refused Limits)
 unfolding loadCall
 load-limits b id f = rw (decide-first (notForm b) Limits [] f)
 
-pub load-facts : (b : Buffers) (id : ℕ) → Load b id
+pub load-facts : (b : Table) (id : ℕ) → Load b id
 load-facts b id = record {
   limits = load-limits b id;
   mapped = λ f l h. load-held b id f ∙ ap (λ (x : Held). same b (heldGiven x)) h;
@@ -53,10 +53,10 @@ load-facts b id = record {
 }
 
 -- ---- a store
-in-form : (b : Buffers) → notForm b ≡ false → (lengthsInRange b ≡ true) × (inForm b ≡ true)
+in-form : (b : Table) → notForm b ≡ false → (lengthsInRange b ≡ true) × (inForm b ≡ true)
 in-form b f = and-true (lengthsInRange b) (inForm b) (not-false (lengthsInRange b && inForm b) f)
 
-form-in : (b : Buffers) → lengthsInRange b ≡ true → inForm b ≡ true → notForm b ≡ false
+form-in : (b : Table) → lengthsInRange b ≡ true → inForm b ≡ true → notForm b ≡ false
 form-in b l f = rw (and-holds (lengthsInRange b) (inForm b) l f)
 
 used-insert : (es : List Entry) (n : Entry) → Rising 0 es → Used es → 0 < n .location → Used (insert es n)
@@ -72,7 +72,7 @@ used-insert es n r u some x l h = go (same? (n .id) x)
     go (inr d) = u x l (lookup-has es x l (sym (lookup-insert-other es n x d) ∙ at))
 
 -- stored where the id is mapped or there is room
-took : (b : Buffers) (id raw : ℕ) → notForm b ≡ false → (raw ≡ 0 → ⊥) → (NewInFull b id → ⊥) → Took b id raw (withStored b id raw)
+took : (b : Table) (id raw : ℕ) → notForm b ≡ false → (raw ≡ 0 → ⊥) → (NewInFull b id → ⊥) → Took b id raw (withStored b id raw)
 unfolding withStored
 took b id raw f some room = record {
   form = form-after;
@@ -90,7 +90,7 @@ took b id raw f some room = record {
     es : List Entry
     es = insert (usedEntries b) n
 
-    t : Buffers
+    t : Table
     t = laidOut (capacityOf b) es
 
     rising : Rising 0 (usedEntries b)
@@ -111,7 +111,7 @@ took b id raw f some room = record {
     fits = length-by (heldIn b id) refl
 
     capacity-after : capacityOf t ≡ capacityOf b
-    capacity-after = laid-out-ids (capacityOf b) es fits
+    capacity-after = laid-out-capacity (capacityOf b) es fits
 
     entries-after : usedEntries t ≡ es
     entries-after = used-laid-out (capacityOf b) es used
@@ -120,11 +120,11 @@ took b id raw f some room = record {
     form-after =
         let w = lengths-in-range b (in-form b f .0) in
         form-in t
-        (range-lengths-in t (record { equal = capacity-after ∙ sym (laid-out-locations (capacityOf b) es fits); some = omega (arith, capacity-after, w .some); most = omega (arith, capacity-after, w .most) }))
+        (range-lengths-in t (record { even = laid-out-even (capacityOf b) es fits; some = omega (arith, capacity-after, w .some); most = omega (arith, capacity-after, w .most) }))
         (form-laid-out (capacityOf b) es used (rising-insert 0 (usedEntries b) n (omega arith) rising))
 
 -- full or not, as facts
-not-full : (b : Buffers) (id : ℕ) → (NewInFull b id → ⊥) → full (usedEntries b) (capacityOf b) id ≡ false
+not-full : (b : Table) (id : ℕ) → (NewInFull b id → ⊥) → full (usedEntries b) (capacityOf b) id ≡ false
 not-full b id room = go (heldIn b id) refl
   where
     go : (h : Held) → heldIn b id ≡ h → full (usedEntries b) (capacityOf b) id ≡ false
@@ -136,14 +136,14 @@ not-full b id room = go (heldIn b id) refl
         by-room false q = full-room (usedEntries b) (capacityOf b) id (leb-false (capacityOf b) (length (usedEntries b)) q)
 
 -- LAW: 1; 20 of raw 0; 6 of a new id in a full table; else stored
-pub record Store (b : Buffers) (id raw : ℕ) : Type 0 where
+pub record Store (b : Table) (id raw : ℕ) : Type 0 where
   pub limits : notForm b ≡ true → storeCall b id raw ≡ same b (refused Limits)
   pub location : notForm b ≡ false → raw ≡ 0 → storeCall b id raw ≡ same b (refused Location)
   pub room : notForm b ≡ false → (raw ≡ 0 → ⊥) → NewInFull b id → storeCall b id raw ≡ same b (refused TableRoom)
   pub answer : notForm b ≡ false → (raw ≡ 0 → ⊥) → (NewInFull b id → ⊥) → storeCall b id raw .answer ≡ accepted []
   pub took : notForm b ≡ false → (raw ≡ 0 → ⊥) → (NewInFull b id → ⊥) → Took b id raw (storeCall b id raw .table)
 
-pub store-facts : (b : Buffers) (id raw : ℕ) → Store b id raw
+pub store-facts : (b : Table) (id raw : ℕ) → Store b id raw
 unfolding storeCall
 store-facts b id raw = record {
   limits = λ f. rw (decide-first (notForm b) Limits _ f);
@@ -154,7 +154,7 @@ store-facts b id raw = record {
 }
 
 -- LAW: 1; 20 of either raw 0; 18 of an unmapped id; a compare that differs stores nothing and gives the current location; else stored
-pub record Compare (b : Buffers) (id old raw : ℕ) : Type 0 where
+pub record Compare (b : Table) (id old raw : ℕ) : Type 0 where
   pub limits : notForm b ≡ true → compareCall b id old raw ≡ same b (refused Limits)
   pub location : notForm b ≡ false → (old ≡ 0) ⊎ (raw ≡ 0) → compareCall b id old raw ≡ same b (refused Location)
   pub unmapped : notForm b ≡ false → (old ≡ 0 → ⊥) → (raw ≡ 0 → ⊥) → heldIn b id ≡ Unmapped → compareCall b id old raw ≡ same b (refused NotThere)
@@ -170,10 +170,10 @@ either-zero old raw (inr e) = rw (eq-eqb raw 0 e) (go (eqb old 0))
     go true = refl
     go false = refl
 
-not-new : (b : Buffers) (id l : ℕ) → heldIn b id ≡ Mapped l → NewInFull b id → ⊥
+not-new : (b : Table) (id l : ℕ) → heldIn b id ≡ Mapped l → NewInFull b id → ⊥
 not-new b id l h w = mapped-not (sym h ∙ w .0)
 
-pub compare-facts : (b : Buffers) (id old raw : ℕ) → Compare b id old raw
+pub compare-facts : (b : Table) (id old raw : ℕ) → Compare b id old raw
 unfolding compareCall
 compare-facts b id old raw = record {
   limits = λ f. rw (decide-first (notForm b) Limits _ f);
@@ -191,7 +191,7 @@ compare-facts b id old raw = record {
 
 -- LAW: 1; 20 of raw 0; 19 of an equal one; 6 of a new id in a full table; a lower one is not stored; a greater one and a new one are; and it gives the
 -- location held before, or nothing
-pub record Greater (b : Buffers) (id raw : ℕ) : Type 0 where
+pub record Greater (b : Table) (id raw : ℕ) : Type 0 where
   pub limits : notForm b ≡ true → greaterCall b id raw ≡ same b (refused Limits)
   pub location : notForm b ≡ false → raw ≡ 0 → greaterCall b id raw ≡ same b (refused Location)
   pub equal : notForm b ≡ false → (raw ≡ 0 → ⊥) → heldIn b id ≡ Mapped raw → greaterCall b id raw ≡ same b (refused EqualLocation)
@@ -202,7 +202,7 @@ pub record Greater (b : Buffers) (id raw : ℕ) : Type 0 where
   pub new-answer : notForm b ≡ false → (raw ≡ 0 → ⊥) → heldIn b id ≡ Unmapped → (NewInFull b id → ⊥) → greaterCall b id raw .answer ≡ accepted []
   pub new-took : notForm b ≡ false → (raw ≡ 0 → ⊥) → heldIn b id ≡ Unmapped → (NewInFull b id → ⊥) → Took b id raw (greaterCall b id raw .table)
 
-pub greater-facts : (b : Buffers) (id raw : ℕ) → Greater b id raw
+pub greater-facts : (b : Table) (id raw : ℕ) → Greater b id raw
 unfolding greaterCall
 greater-facts b id raw = record {
   limits = λ f. rw (decide-first (notForm b) Limits _ f);

@@ -16,8 +16,7 @@ use Rattle.power_cuts.specs.Runs.{runOf}
 -- "the same settings and table size"
 pub record Alike (w v : World) : Type 0 where
   pub settings : v .settings ≡ w .settings
-  pub ids : length (v .table .ids) ≡ length (w .table .ids)
-  pub locations : length (v .table .locations) ≡ length (w .table .locations)
+  pub table : length (v .table) ≡ length (w .table)
 
 -- v is what the robot may have after power was cut behind the first k stores of the call: the heap as far as it was stored, the same settings
 -- and table size; of the memory, which is lost, nothing is said: any state, any claims, any content of the table

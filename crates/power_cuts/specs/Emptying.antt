@@ -124,7 +124,7 @@ emptying-cut told [] w s a zero = stands-self w told s
 emptying-cut told [] w s a (suc j) = stands-self w told s
 emptying-cut told (k ∷ ks) w s a zero = stands-self w told s
 emptying-cut told (k ∷ ks) w s a (suc j) =
-    stands-alike w (emptiedOne w k) _ told (record { settings = refl; ids = refl; locations = refl })
+    stands-alike w (emptiedOne w k) _ told (record { settings = refl; table = refl })
     (emptying-cut told ks (emptiedOne w k) (sound-one w told s k (a .0 .0) (a .0 .1))
     (all-map (Lifeless w) (Lifeless (emptiedOne w k)) ks (lifeless-on w told s k (a .0 .0) (a .0 .1)) (a .1)) j)
 
@@ -139,7 +139,7 @@ module _ (w : World) (told : ℕ → Said) (s : SoundWorld w told) where
   pub prune-endured : Endured w (pruned w) (pruneStores w) told
   unfolding pruned
   prune-endured = record {
-    alike = record { settings = refl; ids = refl; locations = refl };
+    alike = record { settings = refl; table = refl };
     bytes = refl;
     sound = sound-pruned w told s;
     cut = λ k.

@@ -23,11 +23,11 @@ pub record StandsOn (w : World) (heap : List ℕ) (told : ℕ → Said) : Type 0
 
 -- a world is like itself
 pub alike-self : (w : World) → Alike w w
-alike-self w = record { settings = refl; ids = refl; locations = refl }
+alike-self w = record { settings = refl; table = refl }
 
 -- and what is like one like it
 pub alike-on : (w v u : World) → Alike w v → Alike v u → Alike w u
-alike-on w v u a b = record { settings = b .settings ∙ a .settings; ids = b .ids ∙ a .ids; locations = b .locations ∙ a .locations }
+alike-on w v u a b = record { settings = b .settings ∙ a .settings; table = b .table ∙ a .table }
 
 -- a store stands on its own heap
 pub stands-self : (w : World) (told : ℕ → Said) → SoundWorld w told → StandsOn w (w .heap) told

@@ -155,7 +155,7 @@ module _ (w : World) (told : ℕ → Said) (s : SoundWorld w told) (bit g : ℕ)
       (all-take (Within (suc start) (start + S)) k (beforeLast start (labelBytes new) (fileBytes os)) (behind-first start S (labelBytes new) (fileBytes os) (label-length new) (f .slot))) in
       record {
         store = withHeap w (made run (w .heap));
-        alike = record { settings = refl; ids = refl; locations = refl };
+        alike = record { settings = refl; table = refl };
         bytes = refl;
         sound = sound-heap w told s (made run (w .heap)) (made-length run (w .heap))
             (views-kept (slotsOf w) S (w .heap) (made run (w .heap)) (newSlot w) (free .0) (omega arith) (omega arith) (made-length run (w .heap))

@@ -25,7 +25,7 @@ use Rattle.power_cuts.specs.Calls.{cut-early, cut-whole}
 
 -- a cut happens at any store of any call: lost memory may, for one, be as it was
 pub can-happen : (k : ℕ) (w : World) (c : Call) → CutAt k w c (withHeap w (made (take k (runOf w c)) (w .heap)))
-can-happen k w c = record { alike = record { settings = refl; ids = refl; locations = refl }; heap = refl }
+can-happen k w c = record { alike = record { settings = refl; table = refl }; heap = refl }
 
 -- ---- one cut
 same-reads : (w v : World) (history : List Op) → SoundWorld w (engine history) → SoundWorld v (engine history) → SameReads v w

@@ -2,7 +2,7 @@
 use mathlib.Core.Path.{_≡_, refl, sym, ap, _∙_, subst}
 use native.Mathlib.Omega.{arith}
 use lib.ListN.{length-replicate}
-use Rattle.rules.specs.Base.{false, List, [], ℕ, _-_, length, replicate}
+use Rattle.rules.specs.Base.{false, List, [], ℕ, _-_, _%_, length, replicate}
 use Rattle.theory.specs.Types.{Settings, Refusal}
 use Rattle.rules.specs.Refusal.{decide, after}
 use Rattle.rules.specs.SettingsLaws.{HeapInRange, InRanges}
@@ -18,9 +18,8 @@ use Rattle.power_cuts.specs.Cuts.{Alike}
 use Rattle.power_cuts.specs.Enduring.{StandsOn}
 
 -- these settings, this heap and a table of this size: no other memory
-abbrev pub bare : Settings → List ℕ → ℕ → ℕ → World
-bare settings heap ids locations =
-    record { settings = settings; state = noState; claims = noClaims; heap = heap; table = record { ids = replicate ids 0; locations = replicate locations 0 } }
+abbrev pub bare : Settings → List ℕ → ℕ → World
+bare settings heap words = record { settings = settings; state = noState; claims = noClaims; heap = heap; table = replicate words 0 }
 
 -- what a reopening does once 1 does not refuse it
 abbrev pub onceInRange : World → After
@@ -31,31 +30,30 @@ zeros-length n = length-replicate {A = ℕ} n 0
 
 -- of the table it takes the size alone, and nothing of state and claims
 reopens-bare : (w : World) → outOfRange (w .settings) (length (w .heap)) (w .table) ≡ false
-    → reopenCall w ≡ onceInRange (bare (w .settings) (w .heap) (length (w .table .ids)) (length (w .table .locations)))
+    → reopenCall w ≡ onceInRange (bare (w .settings) (w .heap) (length (w .table)))
 unfolding reopenCall reopenTests givenUp opened decide
 reopens-bare w range = rw range (λ i. after (decide (tests i)) (λ r. given-up r i) (found i))
   where
-    tests : reopenTests w (viewsOf w) ≡ reopenTests (bare (w .settings) (w .heap) (length (w .table .ids)) (length (w .table .locations))) (viewsOf w)
-    tests = rw (zeros-length (length (w .table .ids))) refl
+    tests : reopenTests w (viewsOf w) ≡ reopenTests (bare (w .settings) (w .heap) (length (w .table))) (viewsOf w)
+    tests = rw (zeros-length (length (w .table))) refl
 
-    given-up : (r : Refusal) → givenUp w r ≡ givenUp (bare (w .settings) (w .heap) (length (w .table .ids)) (length (w .table .locations))) r
-    given-up r = rw (zeros-length (length (w .table .ids)), zeros-length (length (w .table .locations))) refl
+    given-up : (r : Refusal) → givenUp w r ≡ givenUp (bare (w .settings) (w .heap) (length (w .table))) r
+    given-up r = rw (zeros-length (length (w .table))) refl
 
-    found : opened w (viewsOf w) ≡ opened (bare (w .settings) (w .heap) (length (w .table .ids)) (length (w .table .locations))) (viewsOf w)
-    found = rw (zeros-length (length (w .table .ids))) refl
+    found : opened w (viewsOf w) ≡ opened (bare (w .settings) (w .heap) (length (w .table))) (viewsOf w)
+    found = rw (zeros-length (length (w .table))) refl
 
 -- 1 does not refuse what is like a world in range
 alike-range : (w v : World) → Alike w v → v .heap ≡ w .heap → InLimits (w .settings) (length (w .heap)) (w .table) → outOfRange (v .settings) (length (v .heap)) (v .table) ≡ false
 alike-range w v a h l =
     let t = l .table in
-    let b = a .ids in
-    let c = a .locations in
+    let b = a .table in
     let lo = t .some in
     let hi = t .most in
     limits-in (v .settings) (length (v .heap)) (v .table) (record {
       settings = subst InRanges (sym (a .settings)) (l .settings);
       heap = in-range;
-      table = record { equal = b ∙ t .equal ∙ sym c; some = omega arith; most = omega arith };
+      table = record { even = ap (λ (n : ℕ). n % 2) b ∙ t .even; some = omega arith; most = omega arith };
     })
   where
     in-range : HeapInRange (v .settings) (length (v .heap))
@@ -67,7 +65,7 @@ alike-range w v a h l =
 pub reopen-alike : (w v : World) → Alike w v → v .heap ≡ w .heap → InLimits (w .settings) (length (w .heap)) (w .table) → reopenCall v ≡ reopenCall w
 reopen-alike w v a h l =
     reopens-bare v (alike-range w v a h l)
-    ∙ (λ i. onceInRange (bare (a .settings i) (h i) (a .ids i) (a .locations i)))
+    ∙ (λ i. onceInRange (bare (a .settings i) (h i) (a .table i)))
     ∙ sym (reopens-bare w (limits-in (w .settings) (length (w .heap)) (w .table) l))
 
 -- LAW: where a store stands on the heap, reopening is accepted and finds it
@@ -81,6 +79,5 @@ reopen-finds w heap told t v a h =
     found : Alike (t .store) v
     found = record {
       settings = a .settings ∙ sym (t .alike .settings);
-      ids = a .ids ∙ sym (t .alike .ids);
-      locations = a .locations ∙ sym (t .alike .locations);
+      table = a .table ∙ sym (t .alike .table);
     }

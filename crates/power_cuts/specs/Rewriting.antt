@@ -11,17 +11,19 @@ use Rattle.rules.specs.BaseLaws.{All}
 use Rattle.rules.specs.Refusal.{decide, after, NoneHolds, clear-when, none-first, none-rest}
 use Rattle.rules.specs.Ops.{Op, objectsOf, fileBytes}
 use Rattle.rules.specs.Layout.{capacityOf}
-use Rattle.rules.specs.LayoutLaws.{laid-out-ids, laid-out-locations}
+use Rattle.rules.specs.LayoutLaws.{laid-out-length}
 use Rattle.rules.specs.WrittenLaws.{fileOfOps}
 use Rattle.rules.specs.FileMap.{recordAt}
 use Rattle.rules.specs.Stores.{Store, made}
 use Rattle.rules.specs.Install.{newLabel, newLsn, storesFor, tableWith, installed, installedAll, roomTests, emptyOf, positionTests}
 use Rattle.rules.specs.InstallLaws.{room-clear, positions-clear}
 use Rattle.rules.specs.Maintenance.{found, filesOf, fileTests, slotOf, Stop, going, stopped, Course, group, groupTests, rewriteGroup, onward, groupsFrom, courseOf, ended, maintainCall}
+use Rattle.rules.specs.Table.{insertAll}
 use Rattle.rules.specs.World.{World, recordsOf, mappings}
 use Rattle.theory.specs.Picture.{Said, fileSays}
 use Rattle.theory.specs.Installed.{over}
 use Rattle.theory.specs.SoundWorld.{SoundWorld, sound-fine}
+use Rattle.theory.specs.Losing.{rowsFor}
 use Rattle.theory.specs.Adding.{Fitting, sound-installed}
 use Rattle.history_theory.specs.Writing.{engine, sound-told}
 use Rattle.history_theory.specs.Rewriting.{Rewritable, one-fewer, still-said, fits-file, installed-numbers}
@@ -39,8 +41,7 @@ module _ (w : World) (told : ℕ → Said) (s : SoundWorld w told) (bit g : ℕ)
   unfolding installed tableWith
   alike-installed = record {
     settings = refl;
-    ids = laid-out-ids (capacityOf (w .table)) _ (f .room);
-    locations = laid-out-locations (capacityOf (w .table)) _ (f .room) ∙ s .tidy .limits .table .equal;
+    table = omega (arith, laid-out-length (capacityOf (w .table)) (insertAll (mappings w) (rowsFor (newLsn bit w) 0 os)) (f .room), s .tidy .limits .table .even);
   }
 
   -- LAW: a file's run made whole leaves the store with the file

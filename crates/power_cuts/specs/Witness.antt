@@ -13,7 +13,7 @@ use Rattle.rules.specs.Condition1.{outOfRange, notTheStates, badRecord, badFrom
 use Rattle.rules.specs.FileMap.{isEmpty, noFiles, slotsWhere, emptySlots, lowestEmpty, leads, leadFrom, fileFor, fileCount}
 use Rattle.rules.specs.Install.{newLabel, newRecord, losing, recordsWith, storesFor, tableWith, nextWith, installed, installedAll, roomTests, positionTests}
 use Rattle.rules.specs.Label.{labelBytes, fiveIn, labelIn, outOfBounds}
-use Rattle.rules.specs.Layout.{lengthsInRange, formFrom, inForm, usedIn, usedEntries, laidOut}
+use Rattle.rules.specs.Layout.{tableIds, tableLocations, alternating, lengthsInRange, formFrom, inForm, usedIn, usedEntries, laidOut}
 use Rattle.rules.specs.Maintenance.{worthIt, cutOff, joining, splitFrom, filesOf, isCandidate, group, movedTests, deleteTests, deletesOf, fileTests, objectsFound, deletesFound, found, groupTests, rewriteGroup, groupsFrom, courseOf, maintainCall}
 use Rattle.rules.specs.Object.{objectBytes, storedAt, objectsFrom, objectsIn, badChecksum}
 use Rattle.rules.specs.Ops.{objectsOf, entriesOf, fileBytes, joined, settled}
@@ -39,7 +39,7 @@ tiny = record {
   state = noState;
   claims = noClaims;
   heap = replicate 384 0;
-  table = record { ids = replicate 1 0; locations = replicate 1 0 };
+  table = replicate 2 0;
 }
 
 -- id 7 put as 0x41
@@ -52,7 +52,7 @@ again = write (0x07 ∷ 0x01 ∷ 0x01 ∷ 0x42 ∷ [])
 
 -- what the robot has: the heap, and nothing else of use
 unfoldable pub lost : World → List ℕ → World
-lost w heap = record { settings = w .settings; state = noState; claims = noClaims; heap = heap; table = record { ids = 9 ∷ []; locations = 9 ∷ [] } }
+lost w heap = record { settings = w .settings; state = noState; claims = noClaims; heap = heap; table = 9 ∷ 9 ∷ [] }
 
 -- what a reopening finds: its number, and what id 7 reads as; and how many operations the engine heard of the cut call
 pub record Finding : Type 0 where
@@ -94,5 +94,5 @@ pub cuts :
     ∷ record { stores = 114; found = old ∷ old ∷ old ∷ old ∷ old ∷ old ∷ [] }
     ∷ record { stores = 1; found = new 0 ∷ new 0 ∷ [] }
     ∷ []
-unfolding any zeros keep each sum greatest padded putOperation operationAt batchFrom batchIn anyTooLarge outOfRange notTheStates badRecord badFrom conditionOne isEmpty noFiles slotsWhere emptySlots lowestEmpty leads leadFrom fileFor fileCount newRecord newLabel losing recordsWith storesFor tableWith nextWith installed installedAll roomTests positionTests labelBytes fiveIn labelIn outOfBounds lengthsInRange formFrom inForm usedIn usedEntries laidOut worthIt cutOff joining splitFrom filesOf objectBytes storedAt objectsOf entriesOf fileBytes joined settled decide filesIn overlapping notRising latest latestFrom tableOf reopenTests mappedInto recordsFrom nextAfter opened reopenCall inRanges heapInRange sameSettings slotTests viewIn viewsIn made storesOf fileStores lookup insert insertAll listed trailerBytes trailerTests entriesFrom entriesIn misplaced tooManyIds writeTests written writeCall leBytes leValue groupsOf readGroups numberIn shiftBit shifts crcFrom crc32 objectSum maskedOf digitsIn isDead emptiedFrom pruneStores pruned pruneCall isCandidate group movedTests deleteTests deletesOf fileTests objectsFound deletesFound found groupTests rewriteGroup groupsFrom courseOf maintainCall objectsFrom objectsIn badChecksum objectTests readOf slotBytes lastOn givenUp isClaimed filesRun writeRun pruneRun groupRun groupsRun maintainRun lost finding cutsAt
+unfolding any zeros keep each sum greatest padded putOperation operationAt batchFrom batchIn anyTooLarge outOfRange notTheStates badRecord badFrom conditionOne isEmpty noFiles slotsWhere emptySlots lowestEmpty leads leadFrom fileFor fileCount newRecord newLabel losing recordsWith storesFor tableWith nextWith installed installedAll roomTests positionTests labelBytes fiveIn labelIn outOfBounds tableIds tableLocations alternating lengthsInRange formFrom inForm usedIn usedEntries laidOut worthIt cutOff joining splitFrom filesOf objectBytes storedAt objectsOf entriesOf fileBytes joined settled decide filesIn overlapping notRising latest latestFrom tableOf reopenTests mappedInto recordsFrom nextAfter opened reopenCall inRanges heapInRange sameSettings slotTests viewIn viewsIn made storesOf fileStores lookup insert insertAll listed trailerBytes trailerTests entriesFrom entriesIn misplaced tooManyIds writeTests written writeCall leBytes leValue groupsOf readGroups numberIn shiftBit shifts crcFrom crc32 objectSum maskedOf digitsIn isDead emptiedFrom pruneStores pruned pruneCall isCandidate group movedTests deleteTests deletesOf fileTests objectsFound deletesFound found groupTests rewriteGroup groupsFrom courseOf maintainCall objectsFrom objectsIn badChecksum objectTests readOf slotBytes lastOn givenUp isClaimed filesRun writeRun pruneRun groupRun groupsRun maintainRun lost finding cutsAt
 cuts = refl

@@ -15,21 +15,20 @@ use Rattle.rules.specs.Condition1.{refused1}
 use Rattle.rules.specs.Prune.{isDead, emptiedFrom, pruneStores, pruned, pruneCall}
 use Rattle.rules.specs.PruneLaws.{emptying}
 use Rattle.rules.specs.World.{World, world, stateWith, After, leaving, answerGiven}
-use Rattle.rules.specs.Layout.{table}
 use Rattle.prune.specs.declared.PruneAnswer.{PruneAnswer}
 
-module _ (s : Settings) (t : State) (c : Claims) (heap ids locations : List ℕ) where
+module _ (s : Settings) (t : State) (c : Claims) (heap table : List ℕ) where
   -- records and heap as they are left; where a prune is not due, all as it was
   pub pruned-parts : (due : Bool) (rs : List Record) (h : List ℕ) → rs ≡ pick due (emptiedFrom c 0 (t .files .records)) (t .files .records)
       → h ≡ made (pick due (emptying (s .«slot_bytes») (slotsWhere (isDead c) 0 (t .files .records))) []) heap
-      → world s (stateWith t rs (t .«next_position»)) c h (table ids locations) ≡ pick due (pruned (world s t c heap (table ids locations))) (world s t c heap (table ids locations))
+      → world s (stateWith t rs (t .«next_position»)) c h table ≡ pick due (pruned (world s t c heap table)) (world s t c heap table)
   unfolding pruned pruneStores made
-  pruned-parts true rs h p q = λ i. world s (stateWith t (p i) (t .«next_position»)) c (q i) (table ids locations)
-  pruned-parts false rs h p q = λ i. world s (stateWith t (p i) (t .«next_position»)) c (q i) (table ids locations)
+  pruned-parts true rs h p q = λ i. world s (stateWith t (p i) (t .«next_position»)) c (q i) table
+  pruned-parts false rs h p q = λ i. world s (stateWith t (p i) (t .«next_position»)) c (q i) table
 
   -- what the contract says of a result and of the heap after the call
   abbrev pub Prunes : PruneAnswer → List ℕ → Type 0
-  Prunes r h = leaving (answerGiven (r .answer)) (world s (r .state) c h (table ids locations)) ≡ pruneCall (world s t c heap (table ids locations))
+  Prunes r h = leaving (answerGiven (r .answer)) (world s (r .state) c h table) ≡ pruneCall (world s t c heap table)
 
 -- refused with 1 it changes nothing
 pub prune-decided : (w : World) (refused : Bool) → refused ≡ refused1 w → leaving (answerGiven (pick refused (Refused Limits) Done)) (pick (not refused) (pruned w) w) ≡ pruneCall w
@@ -42,9 +41,9 @@ pub record Same (r q : PruneAnswer) (h g : List ℕ) : Type 0 where
   pub result : r ≡ q
   pub heap : h ≡ g
 
-pub prune-one : (s : Settings) (t : State) (c : Claims) (heap ids locations : List ℕ) (r q : PruneAnswer) (h g : List ℕ)
-    → Prunes s t c heap ids locations r h → Prunes s t c heap ids locations q g → Same r q h g
-prune-one s t c heap ids locations r q h g p e =
+pub prune-one : (s : Settings) (t : State) (c : Claims) (heap table : List ℕ) (r q : PruneAnswer) (h g : List ℕ)
+    → Prunes s t c heap table r h → Prunes s t c heap table q g → Same r q h g
+prune-one s t c heap table r q h g p e =
     let both = p ∙ sym e in
     let answer = answer-one (r .answer) (q .answer) (ap (λ (a : After). a .answer) both) in
     let state = ap (λ (a : After). a .world .state) both in

@@ -24,7 +24,6 @@ ghost use Rattle.rules.specs.Stores.{made};
 ghost use Rattle.rules.specs.Prune.{isDead, emptiedFrom, pruned, pruneCall};
 ghost use Rattle.rules.specs.PruneLaws.{emptying};
 ghost use Rattle.rules.specs.World.{world, leaving, answerGiven};
-ghost use Rattle.rules.specs.Layout.{table};
 ghost use Rattle.stores.specs.Runs.{Made};
 ghost use Rattle.prune.specs.Labels.{LabelsIn};
 
@@ -114,9 +113,9 @@ pub fn prune_stores(
 // For a call that has decided refusal 1: the state after it, where a prune is due.
 pub fn pruned(settings: Settings, state: State, claims: Claims, heap: &mut [u8], due: bool) -> State
     requires { ⌜ (due ≡ true → LabelsIn (settings .«slot_bytes») (state .files .records) (length (now heap))) ⌝ }
-    ensures { λ r. ⌜ ((ids locations : List ℕ) → world settings r claims (now (heap .exit)) (table ids locations)
-        ≡ pick due (pruned (world settings state claims (now (heap .entry)) (table ids locations)))
-        (world settings state claims (now (heap .entry)) (table ids locations))) ⌝ }
+    ensures { λ r. ⌜ ((table : List ℕ) → world settings r claims (now (heap .exit)) table
+        ≡ pick due (pruned (world settings state claims (now (heap .entry)) table))
+        (world settings state claims (now (heap .entry)) table)) ⌝ }
 {
     let files = state.files;
     let next = prune_stores(
@@ -147,23 +146,15 @@ pub fn prune(
     state: State,
     claims: Claims,
     heap: &mut [u8],
-    ids: &[u64],
-    locations: &[u64],
+    table: &[u64],
 ) -> PruneAnswer
     ensures { λ r. ⌜ leaving (answerGiven (r .answer))
-        (world settings (r .state) claims (now (heap .exit)) (table (now (ids .entry)) (now (locations .entry))))
-        ≡ pruneCall (world settings state claims (now (heap .entry)) (table (now (ids .entry)) (now (locations .entry)))) ⌝ }
+        (world settings (r .state) claims (now (heap .exit)) (now (table .entry)))
+        ≡ pruneCall (world settings state claims (now (heap .entry)) (now (table .entry))) ⌝ }
 {
     let files = state.files;
-    let bad = bad_files(settings, heap.len() as u64, ids, locations, files);
-    let refused = refused_apart(
-        settings,
-        heap.len() as u64,
-        ids,
-        locations,
-        rest_of(state),
-        bad,
-    );
+    let bad = bad_files(settings, heap.len() as u64, table, files);
+    let refused = refused_apart(settings, heap.len() as u64, table, rest_of(state), bad);
     let after = pruned(settings, state, claims, heap, !refused);
     PruneAnswer {
         answer: answer(refused),

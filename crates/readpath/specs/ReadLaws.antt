@@ -28,7 +28,7 @@ use Rattle.rules.specs.SlotFile.{slotBytes, fileIn}
 use Rattle.rules.specs.PartLaws.{drop-take}
 use Rattle.rules.specs.FileMap.{recordAt, fileFor}
 use Rattle.rules.specs.Table.{lookup}
-use Rattle.rules.specs.Layout.{Buffers, table}
+use Rattle.rules.specs.Layout.{Table}
 use Rattle.rules.specs.SettingsLaws.{slot-within}
 use Rattle.rules.specs.Condition1.{refused1}
 use Rattle.rules.specs.Condition1Laws.{Passed}
@@ -40,7 +40,7 @@ use Rattle.slot_file.specs.Objects.{bodyOf}
 use Rattle.readpath.specs.Reads.{Lies, FilesLie, inHeap, Within, placeOf}
 
 -- once 1 is decided
-pub passed-lie : (s : Settings) (n : ℕ) (b : Buffers) (t : State) → Passed s n b t → FilesLie (s .«slot_bytes») (t .files .records) n
+pub passed-lie : (s : Settings) (n : ℕ) (b : Table) (t : State) → Passed s n b t → FilesLie (s .«slot_bytes») (t .files .records) n
 passed-lie s n b t w k e =
     let g = w .records k e in
     record {
@@ -154,14 +154,14 @@ module _ (w : World) (id : ℕ) where
       go false e = rw (read-held e) (held-named (lookup (mappings w) id))
 
 -- ---- any two answers that a read's contract admits are equal, and any two parts: their bytes, and where they begin in memory
-module _ (s : Settings) (t : State) (heap ids locations : List ℕ) (id : ℕ) where
+module _ (s : Settings) (t : State) (heap table : List ℕ) (id : ℕ) where
   abbrev pub Answers : ReadAnswer → Type 0
-  Answers r = (c : Claims) → r ≡ readOf (world s t c heap (table ids locations)) id
+  Answers r = (c : Claims) → r ≡ readOf (world s t c heap table) id
 
   -- of a heap that begins there
   abbrev pub Parts : ℕ × ℕ → List ℕ → ℕ × ℕ → Type 0
   Parts begins p place =
-      ((c : Claims) → p ≡ partOf (readOf (world s t c heap (table ids locations)) id) heap) × ((c : Claims) → place ≡ placeOf (readOf (world s t c heap (table ids locations)) id) begins)
+      ((c : Claims) → p ≡ partOf (readOf (world s t c heap table) id) heap) × ((c : Claims) → place ≡ placeOf (readOf (world s t c heap table) id) begins)
 
   pub read-one : (a b : ReadAnswer) → Answers a → Answers b → a ≡ b
   read-one a b p q = p noClaims ∙ sym (q noClaims)

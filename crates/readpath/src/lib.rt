@@ -20,7 +20,6 @@ ghost use Rattle.rules.specs.SlotFile.{slotBytes, fileIn};
 ghost use Rattle.rules.specs.Object.{storedAt};
 ghost use Rattle.rules.specs.Read.{readOf, partOf};
 ghost use Rattle.rules.specs.World.{world};
-ghost use Rattle.rules.specs.Layout.{table};
 ghost use Rattle.slot_file.specs.Objects.{bodyOf};
 ghost use Rattle.readpath.specs.Reads.{Lies, inHeap, Within, placeOf};
 
@@ -63,27 +62,19 @@ pub fn read_answer(
     settings: Settings,
     state: State,
     heap: &[u8],
-    ids: &[u64],
-    locations: &[u64],
+    table: &[u64],
     id: u64,
 ) -> ReadAnswer
     ensures { λ r. ⌜ ((c : Claims)
-        → r ≡ readOf (world settings state c (now (heap .entry)) (table (now (ids .entry)) (now (locations .entry)))) id) ⌝ }
+        → r ≡ readOf (world settings state c (now (heap .entry)) (now (table .entry))) id) ⌝ }
 {
     let files = state.files;
     let lsns = file_map::lsns(files);
-    let bad = bad_files(settings, heap.len() as u64, ids, locations, files);
-    if refused_apart(
-        settings,
-        heap.len() as u64,
-        ids,
-        locations,
-        rest_of(state),
-        bad,
-    ) {
+    let bad = bad_files(settings, heap.len() as u64, table, files);
+    if refused_apart(settings, heap.len() as u64, table, rest_of(state), bad) {
         return ReadAnswer::ReadRefused(Refusal::Limits);
     }
-    let Held::Mapped(location) = location_table::load_in(ids, locations, id) else {
+    let Held::Mapped(location) = location_table::load_in(table, id) else {
         return ReadAnswer::Nothing;
     };
     if DiskLocation(location).is_delete() {
@@ -121,17 +112,16 @@ pub fn read<'a>(
     settings: Settings,
     state: State,
     heap: &'a [u8],
-    ids: &[u64],
-    locations: &[u64],
+    table: &[u64],
     id: u64,
 ) -> &'a [u8]
     ensures { λ r. ⌜ ((c : Claims) → now r ≡ partOf
-        (readOf (world settings state c (now (heap .entry)) (table (now (ids .entry)) (now (locations .entry)))) id)
+        (readOf (world settings state c (now (heap .entry)) (now (table .entry))) id)
         (now (heap .entry))) ⌝ }
     ensures { λ r. ⌜ ((c : Claims) → r .ptr ≡ placeOf
-        (readOf (world settings state c (now (heap .entry)) (table (now (ids .entry)) (now (locations .entry)))) id)
+        (readOf (world settings state c (now (heap .entry)) (now (table .entry))) id)
         (heap .entry .ptr)) ⌝ }
 {
-    let answer = read_answer(settings, state, heap, ids, locations, id);
+    let answer = read_answer(settings, state, heap, table, id);
     part(heap, answer)
 }

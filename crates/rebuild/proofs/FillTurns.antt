@@ -9,7 +9,7 @@ use lib.Seq.{take-all}
 use Rattle.rules.specs.Base.{each}
 use Rattle.rules.specs.BaseLaws.{All, all-map, any-false, all-append, each-append}
 use Rattle.rules.specs.LabelLaws.{lsn-some}
-use Rattle.rules.specs.Layout.{Buffers}
+use Rattle.rules.specs.Layout.{Table}
 use Rattle.disk_location.specs.Locations.{maskedOf, positionOf}
 use Rattle.rules.specs.Trailer.{absolute, misplaced}
 use Rattle.rules.specs.TrailerLaws.{placed}
@@ -23,7 +23,7 @@ use Rattle.rebuild.specs.Latest.{InUse}
 use Rattle.rebuild.specs.Filled.{rowsOf, Placed, Filled, filled-then, filled-stop, rows-in-use}
 use Rattle.rebuild.proofs.CountTurns.{taken, taken-map}
 
-module _ (b : Buffers) (formed : Formed b) (xs chunk : List Entry) (used : All InUse xs) (m : Buffers) (w : Filled b xs true m) (room : Bool) (after : Buffers) (v : Filled m chunk room after) where
+module _ (b : Table) (formed : Formed b) (xs chunk : List Entry) (used : All InUse xs) (m : Table) (w : Filled b xs true m) (room : Bool) (after : Table) (v : Filled m chunk room after) where
   -- there was room: the chunk is in
   pub chunk-in : room ≡ true → (all : List Entry) → all ≡ xs ++ chunk → Filled b all true after
   chunk-in r all e = subst (λ (es : List Entry). Filled b es true after) (sym e) (subst (λ (t : Bool). Filled b (xs ++ chunk) t after) r (filled-then b formed xs m used w chunk room after v))
@@ -34,7 +34,7 @@ module _ (b : Buffers) (formed : Formed b) (xs chunk : List Entry) (used : All I
       subst (λ (es : List Entry). Filled b es false after) (sym e)
       (filled-stop b formed (xs ++ chunk) after rest (subst (λ (t : Bool). Filled b (xs ++ chunk) t after) r (filled-then b formed xs m used w chunk room after v)))
 
-pub filled-as : {b : Buffers} {xs ys : List Entry} {room : Bool} {after : Buffers} → xs ≡ ys → Filled b xs room after → Filled b ys room after
+pub filled-as : {b : Table} {xs ys : List Entry} {room : Bool} {after : Table} → xs ≡ ys → Filled b xs room after → Filled b ys room after
 filled-as {b = b} {room = room} {after = after} e w = subst (λ (es : List Entry). Filled b es room after) e w
 
 -- ---- the entries of a trailer

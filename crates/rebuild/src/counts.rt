@@ -16,21 +16,21 @@ ghost use mathlib.Core.Path.{_≡_};
 ghost use mathlib.Core.List.{map};
 ghost use Prim.Native.Nat.{_^_, _<_};
 ghost use Rattle.rules.specs.Base.{larger};
-ghost use Rattle.rules.specs.Layout.{table, usedEntries};
+ghost use Rattle.rules.specs.Layout.{usedEntries};
 ghost use Rattle.rules.specs.Reopen.{mappedInto};
 ghost use Rattle.location_table.specs.Tables.{Formed};
 ghost use Rattle.rebuild.specs.Records.{counted, nextFrom};
 
 // "a file's live count is the ids mapped into it, deletes included"
-fn mapped_into(ids: &[u64], locations: &[u64], l: Label) -> u64
-    requires { ⌜ Formed (table (now ids) (now locations)) ⌝ }
-    ensures { λ n. ⌜ n ≡ mappedInto (usedEntries (table (now (ids .entry)) (now (locations .entry)))) l ⌝ }
+fn mapped_into(table: &[u64], l: Label) -> u64
+    requires { ⌜ Formed (now table) ⌝ }
+    ensures { λ n. ⌜ n ≡ mappedInto (usedEntries (now (table .entry))) l ⌝ }
 {
-    let all = used(ids, locations);
+    let all = used(table);
     let mut n: u64 = 0;
     let mut i: usize = 0;
     while i < all {
-        if in_range(l, masked_position(location_at(locations, i))) {
+        if in_range(l, masked_position(location_at(table, i))) {
             n += 1;
         }
         i += 1;
@@ -39,24 +39,24 @@ fn mapped_into(ids: &[u64], locations: &[u64], l: Label) -> u64
 }
 
 // A slot's record: its file's label and live count; empty for a slot without a file.
-fn counted(ids: &[u64], locations: &[u64], l: Label) -> Record
-    requires { ⌜ Formed (table (now ids) (now locations)) ⌝ }
-    ensures { λ r. ⌜ r ≡ counted (usedEntries (table (now (ids .entry)) (now (locations .entry)))) l ⌝ }
+fn counted(table: &[u64], l: Label) -> Record
+    requires { ⌜ Formed (now table) ⌝ }
+    ensures { λ r. ⌜ r ≡ counted (usedEntries (now (table .entry))) l ⌝ }
 {
     if no_file(l) {
         return empty();
     }
-    recorded(l, mapped_into(ids, locations, l))
+    recorded(l, mapped_into(table, l))
 }
 
-pub fn with_live_counts(ids: &[u64], locations: &[u64], slots: Labels) -> FileMap
-    requires { ⌜ Formed (table (now ids) (now locations)) ⌝ }
-    ensures { λ m. ⌜ m .records ≡ map (counted (usedEntries (table (now (ids .entry)) (now (locations .entry))))) (slots .labels) ⌝ }
+pub fn with_live_counts(table: &[u64], slots: Labels) -> FileMap
+    requires { ⌜ Formed (now table) ⌝ }
+    ensures { λ m. ⌜ m .records ≡ map (counted (usedEntries (now (table .entry)))) (slots .labels) ⌝ }
 {
     let mut m = no_files();
     let mut k: usize = 0;
     while k < RECORDS {
-        m.records[k] = counted(ids, locations, slots.labels[k]);
+        m.records[k] = counted(table, slots.labels[k]);
         k += 1;
     }
     m

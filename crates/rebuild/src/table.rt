@@ -19,7 +19,6 @@ ghost use Rattle.rules.specs.Base.{each};
 ghost use Rattle.rules.specs.Trailer.{absolute, countIn, entriesIn};
 ghost use Rattle.rules.specs.SlotFile.{viewIn, viewsIn};
 ghost use Rattle.rules.specs.Reopen.{fileOf, filesIn};
-ghost use Rattle.rules.specs.Layout.{table};
 ghost use Rattle.location_table.specs.Tables.{Formed};
 ghost use Rattle.reopen_tests.specs.Shown.{Shown, Surveyed};
 ghost use Rattle.rebuild.specs.Filled.{replaces, Filled, Placed, rowsOf};
@@ -41,37 +40,37 @@ fn replaces(held: Held, location: u64) -> bool
     }
 }
 
-// One entry beside those met before; where a new id finds no room both buffers are cleared.
-fn meet(ids: &mut [u64], locations: &mut [u64], id: u64, location: u64) -> bool
-    requires { ⌜ Formed (table (now ids) (now locations)) × (0 < location) ⌝ }
-    ensures { λ r. ⌜ Filled (table (now (ids .entry)) (now (locations .entry)))
+// One entry beside those met before; where a new id finds no room the buffer is cleared.
+fn meet(table: &mut [u64], id: u64, location: u64) -> bool
+    requires { ⌜ Formed (now table) × (0 < location) ⌝ }
+    ensures { λ r. ⌜ Filled (now (table .entry))
         (record { id = id; location = location } ∷ []) r
-        (table (now (ids .exit)) (now (locations .exit))) ⌝ }
+        (now (table .exit)) ⌝ }
 {
-    if !replaces(load_in(ids, locations, id), location) {
+    if !replaces(load_in(table, id), location) {
         return true;
     }
-    if !store_in(ids, locations, id, location) {
-        clear(ids, locations);
+    if !store_in(table, id, location) {
+        clear(table);
         return false;
     }
     true
 }
 
 // The entries of one trailer, in one pass over it.
-fn fill_file(trailer: &[u8], lsn: u64, ids: &mut [u64], locations: &mut [u64]) -> bool
-    requires { ⌜ Formed (table (now ids) (now locations))
+fn fill_file(trailer: &[u8], lsn: u64, table: &mut [u64]) -> bool
+    requires { ⌜ Formed (now table)
         × (12 + 16 * countIn (now trailer) ≤ length (now trailer))
         × Placed lsn (entriesIn (now trailer)) ⌝ }
-    ensures { λ r. ⌜ Filled (table (now (ids .entry)) (now (locations .entry)))
+    ensures { λ r. ⌜ Filled (now (table .entry))
         (map (absolute lsn) (entriesIn (now (trailer .entry)))) r
-        (table (now (ids .exit)) (now (locations .exit))) ⌝ }
+        (now (table .exit)) ⌝ }
 {
     let n = trailer::count(trailer);
     let mut k: u64 = 0;
     while k < n {
         let e = absolute(trailer::entry(trailer, k), lsn);
-        if !meet(ids, locations, e.id, e.location) {
+        if !meet(table, e.id, e.location) {
             return false;
         }
         k += 1;
@@ -80,35 +79,28 @@ fn fill_file(trailer: &[u8], lsn: u64, ids: &mut [u64], locations: &mut [u64]) -
 }
 
 // The entries of a slot's file, if there is one.
-fn fill_slot(slot: &[u8], l: Label, ids: &mut [u64], locations: &mut [u64]) -> bool
-    requires { ⌜ Formed (table (now ids) (now locations)) × Shown (now slot) l ⌝ }
-    ensures { λ b. ⌜ Filled (table (now (ids .entry)) (now (locations .entry)))
+fn fill_slot(slot: &[u8], l: Label, table: &mut [u64]) -> bool
+    requires { ⌜ Formed (now table) × Shown (now slot) l ⌝ }
+    ensures { λ b. ⌜ Filled (now (table .entry))
         (each rowsOf (fileOf (viewIn (now (slot .entry))))) b
-        (table (now (ids .exit)) (now (locations .exit))) ⌝ }
+        (now (table .exit)) ⌝ }
 {
     if no_file(l) {
         return true;
     }
-    fill_file(trailer_part(slot, l), l.lsn, ids, locations)
+    fill_file(trailer_part(slot, l), l.lsn, table)
 }
 
-// "Each id maps to its entry of greatest masked position"; without room for all ids both buffers are cleared.
-pub fn fill(
-    heap: &[u8],
-    size: usize,
-    n: usize,
-    slots: Labels,
-    ids: &mut [u64],
-    locations: &mut [u64],
-) -> bool
-    requires { ⌜ Formed (table (now ids) (now locations)) × Surveyed n size (now heap) (slots .labels) ⌝ }
-    ensures { λ b. ⌜ Filled (table (now (ids .entry)) (now (locations .entry)))
+// "Each id maps to its entry of greatest masked position"; without room for all ids the buffer is cleared.
+pub fn fill(heap: &[u8], size: usize, n: usize, slots: Labels, table: &mut [u64]) -> bool
+    requires { ⌜ Formed (now table) × Surveyed n size (now heap) (slots .labels) ⌝ }
+    ensures { λ b. ⌜ Filled (now (table .entry))
         (each rowsOf (filesIn (viewsIn n size (now (heap .entry))))) b
-        (table (now (ids .exit)) (now (locations .exit))) ⌝ }
+        (now (table .exit)) ⌝ }
 {
     let mut k: usize = 0;
     while k < n {
-        if !fill_slot(slot_at(heap, size, k), slots.labels[k], ids, locations) {
+        if !fill_slot(slot_at(heap, size, k), slots.labels[k], table) {
             return false;
         }
         k += 1;

@@ -8,7 +8,7 @@ use lib.ListN.{length}
 use Rattle.numbers.specs.Choice.{pick}
 use Rattle.rules.specs.Base.{each}
 use Rattle.rules.specs.BaseLaws.{All}
-use Rattle.rules.specs.Layout.{Buffers, capacityOf, usedEntries, laidOut, cleared}
+use Rattle.rules.specs.Layout.{Table, capacityOf, usedEntries, laidOut, cleared}
 use Rattle.rules.specs.SlotFile.{View}
 use Rattle.rules.specs.Reopen.{filesIn, tableOf}
 use Rattle.location_table.specs.Tables.{Formed}
@@ -19,14 +19,14 @@ use Rattle.recovery.specs.Types.{Entry}
 use Rattle.recovery.specs.Reopening.{Blank}
 use Rattle.recovery.specs.Steps.{blank-formed, blank-used, filled-table}
 
-module _ (b : Buffers) (blank : Blank b) (views : List View) (room : Bool) (after : Buffers) (w : Filled b (each rowsOf (filesIn views)) room after) where
+module _ (b : Table) (blank : Blank b) (views : List View) (room : Bool) (after : Table) (w : Filled b (each rowsOf (filesIn views)) room after) where
   answer : leb (length (tableOf (filesIn views))) (capacityOf b) ≡ room
   answer = sym (w .answer ∙ ap (λ (es : List Entry). leb (length es) (capacityOf b)) (filled-table b views (blank-used b blank)))
 
   left : after ≡ pick room (laidOut (capacityOf b) (tableOf (filesIn views))) (cleared b)
   left = w .left ∙ ap (λ (es : List Entry). pick room (laidOut (capacityOf b) es) (cleared b)) (filled-table b views (blank-used b blank))
 
-  -- 6: the buffers are zeros
+  -- 6: the buffer is zeros
   pub no-room : room ≡ false → (leb (length (tableOf (filesIn views))) (capacityOf b) ≡ false) × (after ≡ cleared b)
   no-room e = (answer ∙ e, left ∙ ap (λ (t : Bool). pick t (laidOut (capacityOf b) (tableOf (filesIn views))) (cleared b)) e)
 

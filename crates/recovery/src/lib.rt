@@ -2,6 +2,7 @@
 use claims::no_claims;
 use file_map::no_files;
 use limits::out_of_range;
+use location_table::capacity;
 use location_table::clear;
 use rebuild::counts::next_position;
 use rebuild::counts::with_live_counts;
@@ -22,7 +23,6 @@ ghost use Rattle.rules.specs.Condition1Laws.{InLimits};
 ghost use Rattle.rules.specs.Reopen.{reopenCall};
 ghost use Rattle.rules.specs.SlotFile.{viewsIn};
 ghost use Rattle.rules.specs.World.{answerGiven, leaving, world};
-ghost use Rattle.rules.specs.Layout.{table};
 ghost use Rattle.reopen_tests.specs.Shown.{Surveyed};
 ghost use Rattle.recovery.specs.Reopening.{stateBy, handedBack, leaves, bare, Blank, pastTests, pastSlots, pastLimits};
 
@@ -63,19 +63,18 @@ fn rebuilt(
     size: usize,
     n: usize,
     slots: Labels,
-    ids: &mut [u64],
-    locations: &mut [u64],
+    table: &mut [u64],
 ) -> Reopened
-    requires { ⌜ Surveyed n size (now heap) (slots .labels) × (size ≤ 1048576) × Blank (table (now ids) (now locations)) ⌝ }
-    ensures { λ r. ⌜ leaves settings r (now (heap .entry)) (now (ids .exit)) (now (locations .exit))
-        ≡ pastTests (bare settings (now (heap .entry)) (now (ids .entry)) (now (locations .entry))) (viewsIn n size (now (heap .entry))) ⌝ }
+    requires { ⌜ Surveyed n size (now heap) (slots .labels) × (size ≤ 1048576) × Blank (now table) ⌝ }
+    ensures { λ r. ⌜ leaves settings r (now (heap .entry)) (now (table .exit))
+        ≡ pastTests (bare settings (now (heap .entry)) (now (table .entry))) (viewsIn n size (now (heap .entry))) ⌝ }
 {
     let heap_len = heap.len() as u64;
-    let table_len = ids.len() as u64;
-    if !fill(heap, size, n, slots, ids, locations) {
+    let table_len = capacity(table) as u64;
+    if !fill(heap, size, n, slots, table) {
         return given_up(settings, heap_len, table_len, Refusal::TableRoom);
     }
-    let files = with_live_counts(ids, locations, slots);
+    let files = with_live_counts(table, slots);
     Reopened {
         answer: Answer::Done,
         state: state_of(settings, heap_len, table_len, files, next_position(slots)),
@@ -90,35 +89,34 @@ fn tested(
     size: usize,
     n: usize,
     slots: Labels,
-    ids: &mut [u64],
-    locations: &mut [u64],
+    table: &mut [u64],
 ) -> Reopened
-    requires { ⌜ Surveyed n size (now heap) (slots .labels) × (size ≤ 1048576) × Blank (table (now ids) (now locations)) ⌝ }
-    ensures { λ r. ⌜ leaves settings r (now (heap .entry)) (now (ids .exit)) (now (locations .exit))
-        ≡ pastSlots (bare settings (now (heap .entry)) (now (ids .entry)) (now (locations .entry))) (viewsIn n size (now (heap .entry))) ⌝ }
+    requires { ⌜ Surveyed n size (now heap) (slots .labels) × (size ≤ 1048576) × Blank (now table) ⌝ }
+    ensures { λ r. ⌜ leaves settings r (now (heap .entry)) (now (table .exit))
+        ≡ pastSlots (bare settings (now (heap .entry)) (now (table .entry))) (viewsIn n size (now (heap .entry))) ⌝ }
 {
     match check(heap, size, n, slots) {
-        Answer::Refused(r) => given_up(settings, heap.len() as u64, ids.len() as u64, r),
-        Answer::Done => rebuilt(settings, heap, size, n, slots, ids, locations),
+        Answer::Refused(r) => given_up(settings, heap.len() as u64, capacity(table) as u64, r),
+        Answer::Done => rebuilt(settings, heap, size, n, slots, table),
     }
 }
 
 // All but 1.
-fn recovered(settings: Settings, heap: &[u8], ids: &mut [u64], locations: &mut [u64]) -> Reopened
-    requires { ⌜ InLimits settings (length (now heap)) (table (now ids) (now locations)) ⌝ }
-    ensures { λ r. ⌜ leaves settings r (now (heap .entry)) (now (ids .exit)) (now (locations .exit))
-        ≡ pastLimits (bare settings (now (heap .entry)) (now (ids .entry)) (now (locations .entry))) ⌝ }
+fn recovered(settings: Settings, heap: &[u8], table: &mut [u64]) -> Reopened
+    requires { ⌜ InLimits settings (length (now heap)) (now table) ⌝ }
+    ensures { λ r. ⌜ leaves settings r (now (heap .entry)) (now (table .exit))
+        ≡ pastLimits (bare settings (now (heap .entry)) (now (table .entry))) ⌝ }
 {
     let size = settings.slot_bytes as usize;
     let n = heap.len() / size;
-    clear(ids, locations);
+    clear(table);
     let found = survey(heap, size, n);
     let answer = found.answer;
     match answer {
-        Answer::Refused(r) => given_up(settings, heap.len() as u64, ids.len() as u64, r),
+        Answer::Refused(r) => given_up(settings, heap.len() as u64, capacity(table) as u64, r),
         Answer::Done => {
             let slots = found.slots;
-            tested(settings, heap, size, n, slots, ids, locations)
+            tested(settings, heap, size, n, slots, table)
         }
     }
 }
@@ -129,19 +127,18 @@ pub fn reopen(
     state: State,
     claims: Claims,
     heap: &[u8],
-    ids: &mut [u64],
-    locations: &mut [u64],
+    table: &mut [u64],
 ) -> Reopened
     ensures { λ r. ⌜ leaving (answerGiven (r .answer))
-        (world settings (r .state) (r .claims) (now (heap .entry)) (table (now (ids .exit)) (now (locations .exit))))
-        ≡ reopenCall (world settings state claims (now (heap .entry)) (table (now (ids .entry)) (now (locations .entry)))) ⌝ }
+        (world settings (r .state) (r .claims) (now (heap .entry)) (now (table .exit)))
+        ≡ reopenCall (world settings state claims (now (heap .entry)) (now (table .entry))) ⌝ }
 {
-    if out_of_range(settings, heap.len() as u64, ids, locations) {
+    if out_of_range(settings, heap.len() as u64, table) {
         return Reopened {
             answer: Answer::Refused(Refusal::Limits),
             state: state,
             claims: claims,
         };
     }
-    recovered(settings, heap, ids, locations)
+    recovered(settings, heap, table)
 }

@@ -6,7 +6,7 @@ use Rattle.rules.specs.Trailer.{absolute}
 use Rattle.rules.specs.Ops.{Op, objectsOf, entriesOf, fileBytes}
 use Rattle.rules.specs.Label.{labelBytes}
 use Rattle.rules.specs.Table.{lookup, insertAll}
-use Rattle.rules.specs.Layout.{Buffers, laidOut, capacityOf}
+use Rattle.rules.specs.Layout.{Table, laidOut, capacityOf}
 use Rattle.rules.specs.FileMap.{recorded, emptySlots, lowestEmpty, fileFor, lessLive}
 use Rattle.rules.specs.Stores.{Store, made, fileStores}
 use Rattle.rules.specs.World.{World, recordsOf, slotsOf, mappings, stateWith}
@@ -52,7 +52,7 @@ unfoldable pub storesFor : Label → World → List Op → List Store
 storesFor new w ops = fileStores (newSlot w * w .settings .«slot_bytes») (labelBytes new) (fileBytes ops)
 
 -- "Each id takes its new location"
-unfoldable pub tableWith : ℕ → World → List Op → Buffers
+unfoldable pub tableWith : ℕ → World → List Op → Table
 tableWith lsn w ops = laidOut (capacityOf (w .table)) (insertAll (mappings w) (map (absolute lsn) (entriesOf 0 ops)))
 
 -- "next grows by T + 1"

@@ -106,7 +106,7 @@ stateOf w records next = record {
   «next_position» = next;
 }
 
--- "a reopening refused with any number but 1 zeroes both table buffers and hands back an empty file map, no claims and next position 1"
+-- "a reopening refused with any number but 1 zeroes the one buffer and hands back an empty file map, no claims and next position 1"
 unfoldable pub givenUp : World → Refusal → After
 givenUp w r = record {
   answer = refused r;

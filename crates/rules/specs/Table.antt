@@ -1,4 +1,4 @@
--- "Table.": the used entries as a list, whatever the buffers look like.
+-- "Table.": the used entries as a list, whatever the buffer looks like.
 use Rattle.rules.specs.Base.{Bool, true, false, _&&_, List, [], _∷_, ℕ, length, leb, ltb, eqb, pick}
 use Rattle.rules.specs.Types.{Entry, Held, Mapped, Unmapped}
 

@@ -3,7 +3,7 @@ use Rattle.rules.specs.Base.{List, [], _∷_, ℕ, length}
 use Rattle.rules.specs.Types.{Entry, Settings, Record, State, Claims, Refusal, Answer, Done, Refused, ReadAnswer, Found, Nothing, ReadRefused, MaintainAnswer, Moved, Stopped, CountsAnswer, Counted, CountsRefused, LoadAnswer, At, NoLocation, LoadRefused, CompareAnswer, Swapped, Differs, CompareRefused}
 use Rattle.rules.specs.Refusal.{numberOf}
 use Rattle.rules.specs.Settings.{slotsIn}
-use Rattle.rules.specs.Layout.{Buffers, usedEntries}
+use Rattle.rules.specs.Layout.{Table, usedEntries}
 use Rattle.rules.specs.FileMap.{noFiles}
 
 -- a call's settings, the state, the claims and the lent buffers
@@ -12,10 +12,10 @@ pub record World : Type 0 where
   pub state : State
   pub claims : Claims
   pub heap : List ℕ
-  pub table : Buffers
+  pub table : Table
 
 -- the same, as a call's parameters give it
-abbrev pub world : Settings → State → Claims → List ℕ → Buffers → World
+abbrev pub world : Settings → State → Claims → List ℕ → Table → World
 world settings state claims heap table = record { settings = settings; state = state; claims = claims; heap = heap; table = table }
 
 -- the file map's records

@@ -4,7 +4,7 @@ use Rattle.rules.specs.Base.{true, false, List, [], _∷_, ℕ, length, each}
 use Rattle.numbers.specs.Parts.{front}
 use Rattle.rules.specs.Answers.{inverse-one, known, byNumber, valueAt}
 use Rattle.rules.specs.Refusal.{decide-none, decide-first, decide-next}
-use Rattle.rules.specs.Layout.{Buffers}
+use Rattle.rules.specs.Layout.{Table}
 use Rattle.rules.specs.Condition1.{outOfRange}
 use Rattle.rules.specs.Stores.{made}
 use Rattle.rules.specs.World.{Given, accepted, refused}
@@ -20,7 +20,7 @@ salvageGiven (SalvageRefused r) = refused r
 abbrev pub salvaged : SalvageAnswer → List ℕ → List ℕ → Salvaged
 salvaged answer words heap = record { answer = salvageGiven answer; report = words; heap = heap }
 
-module _ (s : Settings) (heap : List ℕ) (table : Buffers) (words : List ℕ) where
+module _ (s : Settings) (heap : List ℕ) (table : Table) (words : List ℕ) where
   -- 1
   pub salvage-refused : outOfRange s (length heap) table ≡ true → salvaged (SalvageRefused Limits) words heap ≡ salvageCall s heap table words
   unfolding salvageCall

@@ -15,7 +15,6 @@ ghost use Prim.Native.Nat.{_*_, _≤_};
 ghost use lib.ListN.{length, take};
 ghost use Rattle.numbers.specs.Parts.{front};
 ghost use Rattle.rules.specs.Base.{each};
-ghost use Rattle.rules.specs.Layout.{table};
 ghost use Rattle.rules.specs.SettingsLaws.{InRanges, HeapInRange};
 ghost use Rattle.rules.specs.Stores.{made};
 ghost use Rattle.losses.specs.Salvage.{lossesIn, reportOf, emptyingOf, lossWords, salvageCall};
@@ -85,14 +84,13 @@ pub fn give_up(settings: Settings, heap: &mut [u8], report: &mut [u64], left: u6
 pub fn salvage(
     settings: Settings,
     heap: &mut [u8],
-    ids: &[u64],
-    locations: &[u64],
+    table: &[u64],
     report: &mut [u64; 512],
 ) -> SalvageAnswer
     ensures { λ r. ⌜ salvaged r (now (report .exit)) (now (heap .exit))
-        ≡ salvageCall settings (now (heap .entry)) (table (now (ids .entry)) (now (locations .entry))) (now (report .entry)) ⌝ }
+        ≡ salvageCall settings (now (heap .entry)) (now (table .entry)) (now (report .entry)) ⌝ }
 {
-    if out_of_range(settings, heap.len() as u64, ids, locations) {
+    if out_of_range(settings, heap.len() as u64, table) {
         return SalvageAnswer::SalvageRefused(Refusal::Limits);
     }
     SalvageAnswer::GivenUp(give_up(settings, heap, report, RECORDS as u64))

@@ -16,7 +16,7 @@ use Rattle.rules.specs.SlotFile.{viewsIn}
 use Rattle.rules.specs.SlotLaws.{views-length}
 use Rattle.rules.specs.Stores.{Store, made}
 use Rattle.rules.specs.StoreLaws.{made-length}
-use Rattle.rules.specs.Layout.{Buffers}
+use Rattle.rules.specs.Layout.{Table}
 use Rattle.rules.specs.World.{Given, accepted, refused}
 use Rattle.theory.specs.Types.{Settings, Refusal, Limits}
 use Rattle.theory.specs.Reopened.{refused-not}
@@ -62,7 +62,7 @@ unfolding front each
 no-words words = refl
 
 -- request P9: "Refusals: 1 only": refused with 1 where a reopening is, and nothing changes
-pub salvage-limits : (s : Settings) (heap : List ℕ) (table : Buffers) (words : List ℕ) → outOfRange s (length heap) table ≡ true
+pub salvage-limits : (s : Settings) (heap : List ℕ) (table : Table) (words : List ℕ) → outOfRange s (length heap) table ≡ true
     → salvageCall s heap table words ≡ record { answer = refused Limits; report = words; heap = heap }
 unfolding salvageCall decide
 salvage-limits s heap table words h = rw h refl
@@ -72,13 +72,13 @@ abbrev pub gaveUp : List Loss → List ℕ → List ℕ → Salvaged
 gaveUp report words heap = record { answer = accepted (length report ∷ []); report = front (each lossWords report) words; heap = heap }
 
 -- request P9: the number of lines; "slot and refusal number .. in the order emptied"; the heap after the stores
-pub salvage-reports : (s : Settings) (heap : List ℕ) (table : Buffers) (words : List ℕ) → outOfRange s (length heap) table ≡ false
+pub salvage-reports : (s : Settings) (heap : List ℕ) (table : Table) (words : List ℕ) → outOfRange s (length heap) table ≡ false
     → salvageCall s heap table words ≡ gaveUp (reportOf s heap) words (made (emptyingOf s (reportOf s heap)) heap)
 unfolding salvageCall decide
 salvage-reports s heap table words range = rw range refl
 
 -- request P9: "Refusals: 1 only"
-pub salvage-refuses : (s : Settings) (heap : List ℕ) (table : Buffers) (words : List ℕ) (r : Refusal) → salvageCall s heap table words .answer ≡ refused r → r ≡ Limits
+pub salvage-refuses : (s : Settings) (heap : List ℕ) (table : Table) (words : List ℕ) (r : Refusal) → salvageCall s heap table words .answer ≡ refused r → r ≡ Limits
 salvage-refuses s heap table words r e = go (outOfRange s (length heap) table) refl
   where
     go : (b : Bool) → outOfRange s (length heap) table ≡ b → r ≡ Limits
@@ -87,7 +87,7 @@ salvage-refuses s heap table words r e = go (outOfRange s (length heap) table) r
         sym (known r .back) ∙ ap refusalAt n
     go false h = absurd (refused-not r (sym (ap (λ (g : Given). g .number) e) ∙ ap (λ (c : Salvaged). c .answer .number) (salvage-reports s heap table words h)))
 
-module _ (s : Settings) (heap : List ℕ) (table : Buffers) (range : outOfRange s (length heap) table ≡ false) where
+module _ (s : Settings) (heap : List ℕ) (table : Table) (range : outOfRange s (length heap) table ≡ false) where
   -- LAW: the first k stores keep the heap's length
   pub cut-length : (k : ℕ) → length (made (take k (emptyingOf s (reportOf s heap))) heap) ≡ length heap
   cut-length k = made-length (take k (emptyingOf s (reportOf s heap))) heap

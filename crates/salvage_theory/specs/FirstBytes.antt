@@ -12,7 +12,7 @@ use Rattle.rules.specs.SlotFile.{View, empty, viewsIn}
 use Rattle.rules.specs.PruneLaws.{emptying-these, emptying-others}
 use Rattle.rules.specs.Condition1.{outOfRange}
 use Rattle.rules.specs.Condition1Laws.{in-limits}
-use Rattle.rules.specs.Layout.{Buffers}
+use Rattle.rules.specs.Layout.{Table}
 use Rattle.rules.specs.Stores.{made}
 use Rattle.theory.specs.Types.{Settings}
 use Rattle.theory.specs.Places.{viewAt}
@@ -35,7 +35,7 @@ slot-line [] k a = absurd a
 slot-line (y ∷ report) k (inl e) = (y, inl refl, e)
 slot-line (y ∷ report) k (inr a) = let w = slot-line report k a in (w .0, inr (w .1), w .2)
 
-module _ (s : Settings) (heap : List ℕ) (table : Buffers) (words : List ℕ) (range : outOfRange s (length heap) table ≡ false) where
+module _ (s : Settings) (heap : List ℕ) (table : Table) (words : List ℕ) (range : outOfRange s (length heap) table ≡ false) where
   -- the heap after the stores
   left : salvageCall s heap table words .heap ≡ made (emptyingOf s (reportOf s heap)) heap
   left = ap (λ (c : Salvaged). c .heap) (salvage-reports s heap table words range)
@@ -94,7 +94,7 @@ module _ (s : Settings) (heap : List ℕ) (table : Buffers) (words : List ℕ) (
       (λ a. let w = slot-line (reportOf s heap) k a in none (w .0) (w .1) (w .2))
 
 -- LAW: a heap of bytes stays one, salvage refused or not
-pub salvage-bytes : (s : Settings) (heap : List ℕ) (table : Buffers) (words : List ℕ) → Bytes heap → Bytes (salvageCall s heap table words .heap)
+pub salvage-bytes : (s : Settings) (heap : List ℕ) (table : Table) (words : List ℕ) → Bytes heap → Bytes (salvageCall s heap table words .heap)
 unfolding emptyingOf
 salvage-bytes s heap table words b = go (outOfRange s (length heap) table) refl
   where

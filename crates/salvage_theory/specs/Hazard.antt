@@ -10,7 +10,7 @@ use Rattle.rules.specs.Condition1.{outOfRange, notTheStates, badRecord, badFrom
 use Rattle.rules.specs.FileMap.{isEmpty, noFiles, slotsWhere, emptySlots, lowestEmpty, leads, leadFrom, fileFor}
 use Rattle.rules.specs.Install.{newLabel, newRecord, losing, recordsWith, storesFor, tableWith, nextWith, installed, installedAll, roomTests, positionTests}
 use Rattle.rules.specs.Label.{labelBytes, fiveIn, labelIn, outOfBounds}
-use Rattle.rules.specs.Layout.{lengthsInRange, formFrom, inForm, usedIn, usedEntries, laidOut}
+use Rattle.rules.specs.Layout.{tableIds, tableLocations, alternating, lengthsInRange, formFrom, inForm, usedIn, usedEntries, laidOut}
 use Rattle.rules.specs.Object.{objectBytes, storedAt, objectsFrom, objectsIn, badChecksum}
 use Rattle.rules.specs.Ops.{objectsOf, entriesOf, fileBytes, joined, settled}
 use Rattle.rules.specs.Read.{objectTests, readOf}
@@ -52,7 +52,7 @@ pub older-again :
     × (reportOf (newer .settings) (newer .heap) ≡ loss 1 Checksum ∷ [])
     × (listOf (rescued newer []) ≡ [])
     × (got (reopenCall (rescued newer []) .world) 7 ≡ bytes (0x41 ∷ []))
-unfolding any zeros keep each sum greatest padded putOperation operationAt batchFrom batchIn anyTooLarge outOfRange notTheStates badRecord badFrom conditionOne isEmpty noFiles slotsWhere emptySlots lowestEmpty leads leadFrom fileFor newRecord newLabel losing recordsWith storesFor tableWith nextWith installed installedAll roomTests positionTests labelBytes fiveIn labelIn outOfBounds lengthsInRange formFrom inForm usedIn usedEntries laidOut objectBytes storedAt objectsOf entriesOf fileBytes joined settled decide filesIn overlapping notRising latest latestFrom tableOf reopenTests mappedInto recordsFrom nextAfter opened reopenCall inRanges heapInRange sameSettings slotTests viewIn viewsIn made storesOf fileStores lookup insert insertAll listed trailerBytes trailerTests entriesFrom entriesIn misplaced tooManyIds writeTests written writeCall leBytes leValue groupsOf readGroups numberIn shiftBit shifts crcFrom crc32 objectSum maskedOf digitsIn objectsFrom objectsIn badChecksum objectTests readOf slotBytes givenUp firstKind theRest placed inOrder givenUpBehind secondKind lossesIn emptyingOf salvageCall front walked objectFaults entryFaults fileFaults slotFaults faultsFrom closing faultsOf
+unfolding any zeros keep each sum greatest padded putOperation operationAt batchFrom batchIn anyTooLarge outOfRange notTheStates badRecord badFrom conditionOne isEmpty noFiles slotsWhere emptySlots lowestEmpty leads leadFrom fileFor newRecord newLabel losing recordsWith storesFor tableWith nextWith installed installedAll roomTests positionTests labelBytes fiveIn labelIn outOfBounds tableIds tableLocations alternating lengthsInRange formFrom inForm usedIn usedEntries laidOut objectBytes storedAt objectsOf entriesOf fileBytes joined settled decide filesIn overlapping notRising latest latestFrom tableOf reopenTests mappedInto recordsFrom nextAfter opened reopenCall inRanges heapInRange sameSettings slotTests viewIn viewsIn made storesOf fileStores lookup insert insertAll listed trailerBytes trailerTests entriesFrom entriesIn misplaced tooManyIds writeTests written writeCall leBytes leValue groupsOf readGroups numberIn shiftBit shifts crcFrom crc32 objectSum maskedOf digitsIn objectsFrom objectsIn badChecksum objectTests readOf slotBytes givenUp firstKind theRest placed inOrder givenUpBehind secondKind lossesIn emptyingOf salvageCall front walked objectFaults entryFaults fileFaults slotFaults faultsFrom closing faultsOf
 older-again = (refl, refl, refl, refl)
 
 -- LAW: 7 was deleted; slot 1 is given up, and 7 reads 0x41 again
@@ -60,5 +60,5 @@ pub delete-undone :
     (got (called first (write (0x07 ∷ 0x00 ∷ [])) .world) 7 ≡ nothing)
     × (reportOf (deleted .settings) (deleted .heap) ≡ loss 1 Checksum ∷ [])
     × (got (reopenCall (rescued deleted []) .world) 7 ≡ bytes (0x41 ∷ []))
-unfolding any zeros keep each sum greatest padded putOperation operationAt batchFrom batchIn anyTooLarge outOfRange notTheStates badRecord badFrom conditionOne isEmpty noFiles slotsWhere emptySlots lowestEmpty leads leadFrom fileFor newRecord newLabel losing recordsWith storesFor tableWith nextWith installed installedAll roomTests positionTests labelBytes fiveIn labelIn outOfBounds lengthsInRange formFrom inForm usedIn usedEntries laidOut objectBytes storedAt objectsOf entriesOf fileBytes joined settled decide filesIn overlapping notRising latest latestFrom tableOf reopenTests mappedInto recordsFrom nextAfter opened reopenCall inRanges heapInRange sameSettings slotTests viewIn viewsIn made storesOf fileStores lookup insert insertAll listed trailerBytes trailerTests entriesFrom entriesIn misplaced tooManyIds writeTests written writeCall leBytes leValue groupsOf readGroups numberIn shiftBit shifts crcFrom crc32 objectSum maskedOf digitsIn objectsFrom objectsIn badChecksum objectTests readOf slotBytes givenUp firstKind theRest placed inOrder givenUpBehind secondKind lossesIn emptyingOf salvageCall front
+unfolding any zeros keep each sum greatest padded putOperation operationAt batchFrom batchIn anyTooLarge outOfRange notTheStates badRecord badFrom conditionOne isEmpty noFiles slotsWhere emptySlots lowestEmpty leads leadFrom fileFor newRecord newLabel losing recordsWith storesFor tableWith nextWith installed installedAll roomTests positionTests labelBytes fiveIn labelIn outOfBounds tableIds tableLocations alternating lengthsInRange formFrom inForm usedIn usedEntries laidOut objectBytes storedAt objectsOf entriesOf fileBytes joined settled decide filesIn overlapping notRising latest latestFrom tableOf reopenTests mappedInto recordsFrom nextAfter opened reopenCall inRanges heapInRange sameSettings slotTests viewIn viewsIn made storesOf fileStores lookup insert insertAll listed trailerBytes trailerTests entriesFrom entriesIn misplaced tooManyIds writeTests written writeCall leBytes leValue groupsOf readGroups numberIn shiftBit shifts crcFrom crc32 objectSum maskedOf digitsIn objectsFrom objectsIn badChecksum objectTests readOf slotBytes givenUp firstKind theRest placed inOrder givenUpBehind secondKind lossesIn emptyingOf salvageCall front
 delete-undone = (refl, refl, refl)

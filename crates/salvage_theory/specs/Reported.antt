@@ -15,7 +15,7 @@ use Rattle.rules.specs.Condition1.{outOfRange}
 use Rattle.rules.specs.Condition1Laws.{in-limits}
 use Rattle.rules.specs.SlotFile.{File, View, empty, damaged, holds, viewsIn}
 use Rattle.rules.specs.Reopen.{notRising}
-use Rattle.rules.specs.Layout.{Buffers}
+use Rattle.rules.specs.Layout.{Table}
 use Rattle.theory.specs.Types.{Settings, Refusal, Overlap, NotRising}
 use Rattle.theory.specs.Places.{viewAt}
 use Rattle.faults.specs.Faults.{judged, judgedIn}
@@ -106,7 +106,7 @@ module _ (s : Settings) (heap : List ℕ) where
   pub report-slots : length (reportOf s heap) ≤ slotsIn s (length heap)
   report-slots = omega (arith, losses-few (judgedIn s heap), judged-length s heap)
 
-  module _ (table : Buffers) (range : outOfRange s (length heap) table ≡ false) where
+  module _ (table : Table) (range : outOfRange s (length heap) table ≡ false) where
     -- request P9: "the report always has room for 256 lines": there are no more
     pub report-room : length (reportOf s heap) ≤ 256
     report-room = let n = report-slots in let m = in-limits s (length heap) table range .heap .most in omega arith

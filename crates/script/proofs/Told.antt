@@ -19,7 +19,7 @@ shapes =
     numbers 0 ∷
     numbers 6 ∷
     numbers 1 ∷
-    numbers 2 ∷
+    numbers 1 ∷
     numbersAndBytes 1 ∷
     numbers 3 ∷
     numbers 9 ∷

@@ -78,6 +78,7 @@ pub fn shape_of(keyword: Keyword) -> Shape
             bytes: false,
         },
         Keyword::Heap
+        | Keyword::Table
         | Keyword::Claim
         | Keyword::Release
         | Keyword::Read
@@ -86,7 +87,7 @@ pub fn shape_of(keyword: Keyword) -> Shape
             numbers: 1,
             bytes: false,
         },
-        Keyword::Table | Keyword::Store | Keyword::Max | Keyword::Bytes => Shape {
+        Keyword::Store | Keyword::Max | Keyword::Bytes => Shape {
             numbers: 2,
             bytes: false,
         },

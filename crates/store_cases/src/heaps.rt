@@ -59,21 +59,20 @@ pub fn entry(id: u64, location: u64) -> Entry {
 
 pub fn one(f: TwoEntries) {
     let mut heap = [0u8; 512];
-    let mut ids = [0u64; 4];
-    let mut locations = [0u64; 4];
+    let mut table = [0u64; 8];
     show_made(f);
     put(&mut heap, 0, f);
-    host::reopen(&heap, &mut ids, &mut locations);
+    host::reopen(&heap, &mut table);
 }
 
 // The table's length is the caller's.
-pub fn two(f: TwoEntries, g: TwoEntries, ids: &mut [u64], locations: &mut [u64]) {
+pub fn two(f: TwoEntries, g: TwoEntries, table: &mut [u64]) {
     let mut heap = [0u8; 512];
     show_made(f);
     show_made(g);
     put(&mut heap, 0, f);
     put(&mut heap, 256, g);
-    host::reopen(&heap, ids, locations);
+    host::reopen(&heap, table);
 }
 
 fn raised(b: u8) -> u8 {
@@ -99,15 +98,14 @@ fn damage(heap: &mut [u8], at: usize, flip: bool) {
 // Label and trailer of line P10 with one byte changed.
 pub fn damaged(at: usize, flip: bool) {
     let mut heap = [0u8; 512];
-    let mut ids = [0u64; 4];
-    let mut locations = [0u64; 4];
+    let mut table = [0u64; 8];
     put(
         &mut heap,
         0,
         made(4611686018427387905, 2, entry(7, 0), entry(9, 43)),
     );
     damage(&mut heap, at, flip);
-    let r = host::opened(&heap, &mut ids, &mut locations);
+    let r = host::opened(&heap, &mut table);
     let answer = r.answer;
     show::answer(answer);
 }

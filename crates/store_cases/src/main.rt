@@ -8,54 +8,45 @@ use heaps::entry;
 use heaps::made;
 use rules::State;
 
-fn reads(state: State, heap: &[u8], ids: &[u64], locations: &[u64]) {
-    host::read(state, heap, ids, locations, 7);
-    host::read(state, heap, ids, locations, 9);
-    host::read(state, heap, ids, locations, 5);
+fn reads(state: State, heap: &[u8], table: &[u64]) {
+    host::read(state, heap, table, 7);
+    host::read(state, heap, table, 9);
+    host::read(state, heap, table, 5);
 }
 
 // Line P10.
 fn p10() {
     let mut heap = [0u8; 512];
-    let mut ids = [0u64; 4];
-    let mut locations = [0u64; 4];
-    let fresh = host::reopen(&heap, &mut ids, &mut locations);
-    let state = host::write(
-        fresh,
-        &mut heap,
-        &mut ids,
-        &mut locations,
-        b"\x07\x01\x01\x41\x09\x00",
-    );
-    reads(state, &heap, &ids, &locations);
-    let again = host::reopen(&heap, &mut ids, &mut locations);
-    host::read(again, &heap, &ids, &locations, 7);
+    let mut table = [0u64; 8];
+    let fresh = host::reopen(&heap, &mut table);
+    let state = host::write(fresh, &mut heap, &mut table, b"\x07\x01\x01\x41\x09\x00");
+    reads(state, &heap, &table);
+    let again = host::reopen(&heap, &mut table);
+    host::read(again, &heap, &table, 7);
 }
 
 // A batch on a fresh store, then the store reopened and id 7 read.
 fn alone(batch: &[u8]) {
     let mut heap = [0u8; 512];
-    let mut ids = [0u64; 4];
-    let mut locations = [0u64; 4];
-    let fresh = host::fresh(&heap, &mut ids, &mut locations);
-    host::write(fresh, &mut heap, &mut ids, &mut locations, batch);
-    let state = host::reopen(&heap, &mut ids, &mut locations);
-    host::read(state, &heap, &ids, &locations, 7);
+    let mut table = [0u64; 8];
+    let fresh = host::fresh(&heap, &mut table);
+    host::write(fresh, &mut heap, &mut table, batch);
+    let state = host::reopen(&heap, &mut table);
+    host::read(state, &heap, &table, 7);
 }
 
 // Three batches, one after the other, from a next position set by hand.
 fn three(next: u64, a: &[u8], b: &[u8], c: &[u8]) {
     let mut heap = [0u8; 512];
-    let mut ids = [0u64; 4];
-    let mut locations = [0u64; 4];
-    let mut state = host::fresh(&heap, &mut ids, &mut locations);
+    let mut table = [0u64; 8];
+    let mut state = host::fresh(&heap, &mut table);
     state.next_position = next;
-    state = host::write(state, &mut heap, &mut ids, &mut locations, a);
-    state = host::write(state, &mut heap, &mut ids, &mut locations, b);
-    state = host::write(state, &mut heap, &mut ids, &mut locations, c);
-    host::read(state, &heap, &ids, &locations, 7);
-    let again = host::reopen(&heap, &mut ids, &mut locations);
-    host::read(again, &heap, &ids, &locations, 7);
+    state = host::write(state, &mut heap, &mut table, a);
+    state = host::write(state, &mut heap, &mut table, b);
+    state = host::write(state, &mut heap, &mut table, c);
+    host::read(state, &heap, &table, 7);
+    let again = host::reopen(&heap, &mut table);
+    host::read(again, &heap, &table, 7);
 }
 
 // The last operation on an id counts: put and put, put and delete, delete and put, among others.
@@ -206,13 +197,11 @@ fn trailers() {
 
 // Two files of the same ids, in a table of four.
 fn pair(first: u64, second: u64) {
-    let mut ids = [0u64; 4];
-    let mut locations = [0u64; 4];
+    let mut table = [0u64; 8];
     heaps::two(
         made(first, 2, entry(7, 0), entry(9, 43)),
         made(second, 2, entry(5, 1), entry(7, 2)),
-        &mut ids,
-        &mut locations,
+        &mut table,
     );
 }
 
@@ -231,33 +220,24 @@ fn overlaps() {
 
 // Three ids in a table of three, then of two.
 fn table_room() {
-    let mut ids = [8u64; 3];
-    let mut locations = [8u64; 3];
+    let mut table = [8u64; 6];
     let f = made(1, 2, entry(7, 0), entry(9, 43));
     let g = made(30, 2, entry(5, 1), entry(7, 2));
-    heaps::two(f, g, &mut ids, &mut locations);
-    let mut few_ids = [8u64; 2];
-    let mut few_locations = [8u64; 2];
-    heaps::two(f, g, &mut few_ids, &mut few_locations);
+    heaps::two(f, g, &mut table);
+    let mut few = [8u64; 4];
+    heaps::two(f, g, &mut few);
 }
 
 // Slots empty by their first byte alone: what follows is not looked at, and stays behind a file.
 fn stale_bytes() {
     let mut heap = [238u8; 512];
-    let mut ids = [0u64; 4];
-    let mut locations = [0u64; 4];
+    let mut table = [0u64; 8];
     heap[0] = 0;
     heap[256] = 0;
-    let fresh = host::reopen(&heap, &mut ids, &mut locations);
-    host::write(
-        fresh,
-        &mut heap,
-        &mut ids,
-        &mut locations,
-        b"\x07\x01\x01A\x09\x00",
-    );
-    let state = host::reopen(&heap, &mut ids, &mut locations);
-    host::read(state, &heap, &ids, &locations, 7);
+    let fresh = host::reopen(&heap, &mut table);
+    host::write(fresh, &mut heap, &mut table, b"\x07\x01\x01A\x09\x00");
+    let state = host::reopen(&heap, &mut table);
+    host::read(state, &heap, &table, 7);
 }
 
 fn main() {

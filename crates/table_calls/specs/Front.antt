@@ -6,22 +6,22 @@ use Rattle.rules.specs.declared.Refusal.{Refusal}
 use Rattle.rules.specs.declared.Refusal.the-variants.{Limits, Location}
 use Rattle.rules.specs.declared.Answer.the-variants.{Done, Refused}
 use Rattle.rules.specs.Refusal.{Test, _gives_, decide, after, NoneHolds, clear-when, decide-early, after-refused}
-use Rattle.rules.specs.Layout.{Buffers}
+use Rattle.rules.specs.Layout.{Table}
 use Rattle.rules.specs.TableCalls.{TableAfter, notForm}
 use Rattle.location_table.specs.Tables.{Formed}
 use Rattle.location_table.specs.LayoutLaws.{formed-of}
 
 -- "Order: 1, 20 (a given raw 0)": what each call that stores asks first
-abbrev pub frontTests : Buffers → Bool → List Test
+abbrev pub frontTests : Table → Bool → List Test
 frontTests b absent = notForm b gives Limits ∷ absent gives Location ∷ []
 
 -- ---- the front of a call that stores: clear, or its refusal
-pub record FrontClear (b : Buffers) (absent : Bool) : Type 0 where
+pub record FrontClear (b : Table) (absent : Bool) : Type 0 where
   pub form : notForm b ≡ false
   pub given : absent ≡ false
   pub table : Formed b
 
-module _ (b : Buffers) (absent : Bool) where
+module _ (b : Table) (absent : Bool) where
   pub front-clear : decide (frontTests b absent) ≡ Done → FrontClear b absent
   unfolding NoneHolds
   front-clear e =

@@ -11,31 +11,30 @@ ghost use mathlib.Core.Path.{_≡_};
 ghost use mathlib.Core.Bool.{_||_};
 ghost use lib.Dec.{eqb};
 ghost use Rattle.rules.specs.Refusal.{decide};
-ghost use Rattle.rules.specs.Layout.{table};
 ghost use Rattle.rules.specs.TableCalls.{loadCall, storeCall, compareCall, greaterCall};
 ghost use Rattle.rules.specs.World.{answerGiven, loadGiven, compareGiven};
 ghost use Rattle.location_table.specs.Tables.{leaving};
 ghost use Rattle.table_calls.specs.Front.{frontTests};
 
 // "Load (nothing for an unmapped id)"
-pub fn load(ids: &[u64], locations: &[u64], id: u64) -> LoadAnswer
-    ensures { λ r. ⌜ leaving (loadGiven r) (table (now (ids .entry)) (now (locations .entry)))
-        ≡ loadCall (table (now (ids .entry)) (now (locations .entry))) id ⌝ }
+pub fn load(table: &[u64], id: u64) -> LoadAnswer
+    ensures { λ r. ⌜ leaving (loadGiven r) (now (table .entry))
+        ≡ loadCall (now (table .entry)) id ⌝ }
 {
-    if !formed(ids, locations) {
+    if !formed(table) {
         return LoadAnswer::LoadRefused(Refusal::Limits);
     }
-    match load_in(ids, locations, id) {
+    match load_in(table, id) {
         Held::Mapped(l) => LoadAnswer::At(l),
         Held::Unmapped => LoadAnswer::NoLocation,
     }
 }
 
 // "Order: 1, 20 (a given raw 0)": what each call that stores asks first.
-fn front(ids: &[u64], locations: &[u64], absent: bool) -> Answer
-    ensures { λ r. ⌜ r ≡ decide (frontTests (table (now (ids .entry)) (now (locations .entry))) absent) ⌝ }
+fn front(table: &[u64], absent: bool) -> Answer
+    ensures { λ r. ⌜ r ≡ decide (frontTests (now (table .entry)) absent) ⌝ }
 {
-    if !formed(ids, locations) {
+    if !formed(table) {
         return Answer::Refused(Refusal::Limits);
     }
     if absent {
@@ -53,58 +52,47 @@ fn either_zero(a: u64, b: u64) -> bool
     b == 0
 }
 
-pub fn store(ids: &mut [u64], locations: &mut [u64], id: u64, location: u64) -> Answer
-    ensures { λ r. ⌜ leaving (answerGiven r) (table (now (ids .exit)) (now (locations .exit)))
-        ≡ storeCall (table (now (ids .entry)) (now (locations .entry))) id location ⌝ }
+pub fn store(table: &mut [u64], id: u64, location: u64) -> Answer
+    ensures { λ r. ⌜ leaving (answerGiven r) (now (table .exit))
+        ≡ storeCall (now (table .entry)) id location ⌝ }
 {
-    if let Answer::Refused(r) = front(ids, locations, location == 0) {
+    if let Answer::Refused(r) = front(table, location == 0) {
         return Answer::Refused(r);
     }
-    if !store_in(ids, locations, id, location) {
+    if !store_in(table, id, location) {
         return Answer::Refused(Refusal::TableRoom);
     }
     Answer::Done
 }
 
 // "A compare that differs stores nothing and gives the current location; on an unmapped id it is 18."
-pub fn compare_and_store(
-    ids: &mut [u64],
-    locations: &mut [u64],
-    id: u64,
-    old: u64,
-    location: u64,
-) -> CompareAnswer
-    ensures { λ r. ⌜ leaving (compareGiven r) (table (now (ids .exit)) (now (locations .exit)))
-        ≡ compareCall (table (now (ids .entry)) (now (locations .entry))) id old location ⌝ }
+pub fn compare_and_store(table: &mut [u64], id: u64, old: u64, location: u64) -> CompareAnswer
+    ensures { λ r. ⌜ leaving (compareGiven r) (now (table .exit))
+        ≡ compareCall (now (table .entry)) id old location ⌝ }
 {
-    if let Answer::Refused(r) = front(ids, locations, either_zero(old, location)) {
+    if let Answer::Refused(r) = front(table, either_zero(old, location)) {
         return CompareAnswer::CompareRefused(r);
     }
-    let Held::Mapped(current) = load_in(ids, locations, id) else {
+    let Held::Mapped(current) = load_in(table, id) else {
         return CompareAnswer::CompareRefused(Refusal::NotThere);
     };
     if current != old {
         return CompareAnswer::Differs(current);
     }
-    store_in(ids, locations, id, location);
+    store_in(table, id, location);
     CompareAnswer::Swapped
 }
 
 // "Store-if-greater gives the location held before or nothing, and doesn't store a lower one; equal is 19."
-pub fn store_if_greater(
-    ids: &mut [u64],
-    locations: &mut [u64],
-    id: u64,
-    location: u64,
-) -> LoadAnswer
-    ensures { λ r. ⌜ leaving (loadGiven r) (table (now (ids .exit)) (now (locations .exit)))
-        ≡ greaterCall (table (now (ids .entry)) (now (locations .entry))) id location ⌝ }
+pub fn store_if_greater(table: &mut [u64], id: u64, location: u64) -> LoadAnswer
+    ensures { λ r. ⌜ leaving (loadGiven r) (now (table .exit))
+        ≡ greaterCall (now (table .entry)) id location ⌝ }
 {
-    if let Answer::Refused(r) = front(ids, locations, location == 0) {
+    if let Answer::Refused(r) = front(table, location == 0) {
         return LoadAnswer::LoadRefused(r);
     }
-    let Held::Mapped(current) = load_in(ids, locations, id) else {
-        if !store_in(ids, locations, id, location) {
+    let Held::Mapped(current) = load_in(table, id) else {
+        if !store_in(table, id, location) {
             return LoadAnswer::LoadRefused(Refusal::TableRoom);
         }
         return LoadAnswer::NoLocation;
@@ -113,7 +101,7 @@ pub fn store_if_greater(
         return LoadAnswer::LoadRefused(Refusal::EqualLocation);
     }
     if current < location {
-        store_in(ids, locations, id, location);
+        store_in(table, id, location);
     }
     LoadAnswer::At(current)
 }

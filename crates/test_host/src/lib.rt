@@ -66,24 +66,25 @@ fn files(m: FileMap) {
     }
 }
 
-fn places(s: &[u64]) {
-    let mut i: usize = 0;
-    while i < s.len() {
-        number(s[i]);
-        i += 1;
+// Every second word, from the first or the next one on.
+fn every_second(table: &[u64], from: usize) {
+    let mut i = from;
+    while i < table.len() {
+        number(table[i]);
+        i += 2;
     }
 }
 
 // Next position, files, table, and the checksum of the whole heap.
-pub fn store(state: State, heap: &[u8], ids: &[u64], locations: &[u64]) {
+pub fn store(state: State, heap: &[u8], table: &[u64]) {
     text(b" next");
     number(state.next_position);
     let m = state.files;
     files(m);
     text(b" ids");
-    places(ids);
+    every_second(table, 0);
     text(b" locations");
-    places(locations);
+    every_second(table, 1);
     text(b" heap");
     number(checksum::sum(heap) as u64);
     text(b"\n");

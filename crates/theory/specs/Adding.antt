@@ -19,7 +19,7 @@ use Rattle.rules.specs.WrittenLaws.{Writable, fileOfOps, views-made}
 use Rattle.rules.specs.Table.{insertAll}
 use Rattle.rules.specs.TableLaws.{rising-insert-all}
 use Rattle.rules.specs.Layout.{capacityOf}
-use Rattle.rules.specs.LayoutLaws.{Used, laid-out-ids, laid-out-locations, used-laid-out, form-laid-out}
+use Rattle.rules.specs.LayoutLaws.{Used, laid-out-capacity, laid-out-even, used-laid-out, form-laid-out}
 use Rattle.rules.specs.FileMap.{isEmpty, recordAt}
 use Rattle.rules.specs.FileMapLaws.{not-empty, lowest-empty}
 use Rattle.rules.specs.Install.{newLabel, newRecord, newSlot, newLsn, recordsWith, storesFor, tableWith, nextWith, installed, emptyOf}
@@ -137,15 +137,15 @@ module _ (w : World) (told : ℕ → Said) (s : SoundWorld w told) where
 
     capacity-after : capacityOf (installed bit g w os .table) ≡ capacityOf (w .table)
     unfolding installed tableWith
-    capacity-after = laid-out-ids (capacityOf (w .table)) (insertAll (mappings w) (rowsFor (newLsn bit w) 0 os)) (f .room)
+    capacity-after = laid-out-capacity (capacityOf (w .table)) (insertAll (mappings w) (rowsFor (newLsn bit w) 0 os)) (f .room)
 
     tidy-installed : Tidy (installed bit g w os)
     unfolding installed tableWith
     tidy-installed =
         let t = insertAll (mappings w) (rowsFor (newLsn bit w) 0 os) in
         let n = made-length (storesFor (newLabel (newLsn bit w) g os) w os) (w .heap) in
-        let a = laid-out-ids (capacityOf (w .table)) t (f .room) in
-        let b = laid-out-locations (capacityOf (w .table)) t (f .room) in
+        let a = laid-out-capacity (capacityOf (w .table)) t (f .room) in
+        let b = laid-out-even (capacityOf (w .table)) t (f .room) in
         let r = s .tidy .limits .table in
         let lo = r .some in
         let hi = r .most in
@@ -153,7 +153,7 @@ module _ (w : World) (told : ℕ → Said) (s : SoundWorld w told) where
           limits = record {
             settings = s .tidy .limits .settings;
             heap = subst (HeapInRange (w .settings)) (sym n) (s .tidy .limits .heap);
-            table = record { equal = a ∙ sym b; some = omega arith; most = omega arith };
+            table = record { even = b; some = omega arith; most = omega arith };
           };
           settings = s .tidy .settings;
           heap-len = n ∙ s .tidy .heap-len;

@@ -33,7 +33,7 @@ use Rattle.rules.specs.Condition1.{outOfRange, notTheStates, badRecord, badFrom
 use Rattle.rules.specs.FileMap.{isEmpty, noFiles, slotsWhere, emptySlots, leads, leadFrom, fileFor, fileCount}
 use Rattle.rules.specs.Install.{roomTests, positionTests}
 use Rattle.rules.specs.Label.{labelBytes, fiveIn, labelIn, outOfBounds}
-use Rattle.rules.specs.Layout.{lengthsInRange, formFrom, inForm, usedIn, usedEntries, laidOut}
+use Rattle.rules.specs.Layout.{tableIds, tableLocations, alternating, lengthsInRange, formFrom, inForm, usedIn, usedEntries, laidOut}
 use Rattle.rules.specs.Maintenance.{worthIt, cutOff, joining, splitFrom, filesOf, isCandidate, group, movedTests, deleteTests, deletesOf, fileTests, objectsFound, deletesFound, found, groupTests, rewriteGroup, groupsFrom, courseOf, maintainCall}
 use Rattle.rules.specs.Ops.{objectsOf, entriesOf, fileBytes, joined, settled}
 use Rattle.rules.specs.Reopen.{filesIn, overlapping, notRising, latest, latestFrom, tableOf, reopenTests, mappedInto, recordsFrom, nextAfter, opened, reopenCall, givenUp}
@@ -65,7 +65,7 @@ foreign = record {
   state = noState;
   claims = noClaims;
   heap = labelBytes label ++ (objects ++ (trailer ++ replicate 306 0));
-  table = record { ids = replicate 3 0; locations = replicate 3 0 };
+  table = replicate 6 0;
 }
 
 -- what the first slot shows
@@ -120,5 +120,5 @@ pub foreign-answers :
     ≡ bytes (0x42 ∷ 0x43 ∷ []) ∷ nothing ∷ bytes (0x44 ∷ []) ∷ nothing ∷ [])
     × (maintainCall (reopenCall foreign .world) .answer ≡ maintainGiven (Stopped ObjectSize 3 0))
     × (writeCall (reopenCall foreign .world) (0x03 ∷ 0x00 ∷ []) .answer ≡ refused PositionsSpent)
-unfolding any zeros keep each sum greatest padded operationAt batchFrom batchIn anyTooLarge outOfRange notTheStates badRecord badFrom conditionOne isEmpty noFiles slotsWhere emptySlots leads leadFrom fileFor fileCount roomTests positionTests labelBytes fiveIn labelIn outOfBounds lengthsInRange formFrom inForm usedIn usedEntries laidOut worthIt cutOff joining splitFrom filesOf objectBytes storedAt objectsOf entriesOf fileBytes joined settled decide filesIn overlapping notRising latest latestFrom tableOf reopenTests mappedInto recordsFrom nextAfter opened reopenCall inRanges heapInRange sameSettings slotTests viewIn viewsIn lookup insert insertAll listed trailerBytes trailerTests entriesFrom entriesIn misplaced tooManyIds writeTests writeCall leBytes leValue groupsOf readGroups numberIn shiftBit shifts crcFrom crc32 objectSum maskedOf digitsIn isClaimed isCandidate group movedTests deleteTests deletesOf fileTests objectsFound deletesFound found groupTests rewriteGroup groupsFrom courseOf maintainCall objectsFrom objectsIn badChecksum objectTests readOf slotBytes givenUp
+unfolding any zeros keep each sum greatest padded operationAt batchFrom batchIn anyTooLarge outOfRange notTheStates badRecord badFrom conditionOne isEmpty noFiles slotsWhere emptySlots leads leadFrom fileFor fileCount roomTests positionTests labelBytes fiveIn labelIn outOfBounds tableIds tableLocations alternating lengthsInRange formFrom inForm usedIn usedEntries laidOut worthIt cutOff joining splitFrom filesOf objectBytes storedAt objectsOf entriesOf fileBytes joined settled decide filesIn overlapping notRising latest latestFrom tableOf reopenTests mappedInto recordsFrom nextAfter opened reopenCall inRanges heapInRange sameSettings slotTests viewIn viewsIn lookup insert insertAll listed trailerBytes trailerTests entriesFrom entriesIn misplaced tooManyIds writeTests writeCall leBytes leValue groupsOf readGroups numberIn shiftBit shifts crcFrom crc32 objectSum maskedOf digitsIn isClaimed isCandidate group movedTests deleteTests deletesOf fileTests objectsFound deletesFound found groupTests rewriteGroup groupsFrom courseOf maintainCall objectsFrom objectsIn badChecksum objectTests readOf slotBytes givenUp
 foreign-answers = (refl, refl, refl)

@@ -18,7 +18,7 @@ use Rattle.rules.specs.Condition1.{outOfRange, notTheStates, badRecord, badFrom
 use Rattle.rules.specs.FileMap.{isEmpty, noFiles, slotsWhere, emptySlots, lowestEmpty, leads, leadFrom, fileFor, fileCount}
 use Rattle.rules.specs.Install.{newLabel, newRecord, losing, recordsWith, storesFor, tableWith, nextWith, installed, installedAll, roomTests, positionTests}
 use Rattle.rules.specs.Label.{labelBytes, fiveIn, labelIn, outOfBounds}
-use Rattle.rules.specs.Layout.{lengthsInRange, formFrom, inForm, usedIn, usedEntries, laidOut}
+use Rattle.rules.specs.Layout.{tableIds, tableLocations, alternating, lengthsInRange, formFrom, inForm, usedIn, usedEntries, laidOut}
 use Rattle.rules.specs.Maintenance.{worthIt, cutOff, joining, splitFrom, filesOf, isCandidate, group, movedTests, deleteTests, deletesOf, fileTests, objectsFound, deletesFound, found, groupTests, rewriteGroup, groupsFrom, courseOf, maintainCall}
 use Rattle.rules.specs.Object.{objectBytes, storedAt, objectsFrom, objectsIn, badChecksum}
 use Rattle.rules.specs.Ops.{objectsOf, entriesOf, fileBytes, joined, settled}
@@ -42,7 +42,7 @@ small = record {
   state = noState;
   claims = noClaims;
   heap = replicate 1024 0;
-  table = record { ids = replicate 3 0; locations = replicate 3 0 };
+  table = replicate 6 0;
 }
 
 -- a call's answer, which of the four slots hold a file after it, and what ids 7, 8 and 9 read as
@@ -94,5 +94,5 @@ pub moves :
     ∷ record { answer = accepted []; files = true ∷ true ∷ false ∷ true ∷ []; reads = nothing ∷ bytes (0x42 ∷ []) ∷ bytes (0x45 ∷ []) ∷ [] }
     ∷ record { answer = accepted []; files = true ∷ true ∷ false ∷ true ∷ []; reads = nothing ∷ bytes (0x42 ∷ []) ∷ bytes (0x45 ∷ []) ∷ [] }
     ∷ []
-unfolding any zeros keep each sum greatest padded putOperation operationAt batchFrom batchIn anyTooLarge outOfRange notTheStates badRecord badFrom conditionOne isEmpty noFiles slotsWhere emptySlots lowestEmpty leads leadFrom fileFor fileCount newRecord newLabel losing recordsWith storesFor tableWith nextWith installed installedAll roomTests positionTests labelBytes fiveIn labelIn outOfBounds lengthsInRange formFrom inForm usedIn usedEntries laidOut worthIt cutOff joining splitFrom filesOf objectBytes storedAt objectsOf entriesOf fileBytes joined settled decide filesIn overlapping notRising latest latestFrom tableOf reopenTests mappedInto recordsFrom nextAfter opened reopenCall inRanges heapInRange sameSettings slotTests viewIn viewsIn made storesOf fileStores lookup insert insertAll listed trailerBytes trailerTests entriesFrom entriesIn misplaced tooManyIds writeTests written writeCall leBytes leValue groupsOf readGroups numberIn shiftBit shifts crcFrom crc32 objectSum maskedOf digitsIn isDead emptiedFrom pruneStores pruned pruneCall isClaimed isCandidate group movedTests deleteTests deletesOf fileTests objectsFound deletesFound found groupTests rewriteGroup groupsFrom courseOf maintainCall objectsFrom objectsIn badChecksum objectTests readOf slotBytes lastOn givenUp claimSet claimCleared claimCall releaseCall seen stages
+unfolding any zeros keep each sum greatest padded putOperation operationAt batchFrom batchIn anyTooLarge outOfRange notTheStates badRecord badFrom conditionOne isEmpty noFiles slotsWhere emptySlots lowestEmpty leads leadFrom fileFor fileCount newRecord newLabel losing recordsWith storesFor tableWith nextWith installed installedAll roomTests positionTests labelBytes fiveIn labelIn outOfBounds tableIds tableLocations alternating lengthsInRange formFrom inForm usedIn usedEntries laidOut worthIt cutOff joining splitFrom filesOf objectBytes storedAt objectsOf entriesOf fileBytes joined settled decide filesIn overlapping notRising latest latestFrom tableOf reopenTests mappedInto recordsFrom nextAfter opened reopenCall inRanges heapInRange sameSettings slotTests viewIn viewsIn made storesOf fileStores lookup insert insertAll listed trailerBytes trailerTests entriesFrom entriesIn misplaced tooManyIds writeTests written writeCall leBytes leValue groupsOf readGroups numberIn shiftBit shifts crcFrom crc32 objectSum maskedOf digitsIn isDead emptiedFrom pruneStores pruned pruneCall isClaimed isCandidate group movedTests deleteTests deletesOf fileTests objectsFound deletesFound found groupTests rewriteGroup groupsFrom courseOf maintainCall objectsFrom objectsIn badChecksum objectTests readOf slotBytes lastOn givenUp claimSet claimCleared claimCall releaseCall seen stages
 moves = refl

@@ -9,7 +9,7 @@ use Rattle.rules.specs.declared.Answer.the-variants as answer
 use Rattle.rules.specs.Refusal.{Test, _gives_, decide, after, after-refused, after-done}
 use Rattle.rules.specs.Ops.{Op, objectsOf, settled}
 use Rattle.rules.specs.Batch.{batchIn, isMalformed, opsOf, anyTooLarge}
-use Rattle.rules.specs.Layout.{Buffers}
+use Rattle.rules.specs.Layout.{Table}
 use Rattle.rules.specs.Condition1.{conditionOne}
 use Rattle.rules.specs.Install.{newSlot}
 use Rattle.rules.specs.Write.{writeTests}
@@ -31,7 +31,7 @@ abbrev pub batchTests : Settings → List ℕ → List Test
 batchTests s bytes = isMalformed (batchIn bytes) gives BatchBytes ∷ anyTooLarge (s .«max_object_size») (opsOf (batchIn bytes)) gives ObjectSize ∷ []
 
 -- 1 to 3 do not refuse
-pub record Parsed (s : Settings) (t : State) (heap : List ℕ) (b : Buffers) (bytes : List ℕ) : Type 0 where
+pub record Parsed (s : Settings) (t : State) (heap : List ℕ) (b : Table) (bytes : List ℕ) : Type 0 where
   pub passed : conditionOne s (length heap) b t ≡ false
   pub parsed : decide (batchTests s bytes) ≡ answer.Done
 

@@ -13,7 +13,7 @@ use Rattle.rules.specs.Settings.{slotsIn}
 use Rattle.rules.specs.Ops.{Op, objectsOf, entriesOf, fileBytes, settled}
 use Rattle.rules.specs.Batch.{batchIn, opsOf}
 use Rattle.rules.specs.Table.{insertAll}
-use Rattle.rules.specs.Layout.{Buffers, usedEntries, capacityOf}
+use Rattle.rules.specs.Layout.{Table, usedEntries, capacityOf}
 use Rattle.rules.specs.FileMap.{lowestEmpty}
 use Rattle.rules.specs.FileMapLaws.{lowest-empty}
 use Rattle.rules.specs.Condition1Laws.{Passed, passed}
@@ -29,7 +29,7 @@ use Rattle.writepath.specs.declared.decision.Decision.{Decision}
 use Rattle.writepath.specs.declared.decision.Decision.the-variants.{Refused, Nothing, File}
 
 -- none of 1 to 7, and the batch is not empty
-pub record Filed (s : Settings) (t : State) (heap : List ℕ) (b : Buffers) (bytes : List ℕ) (slot count total : ℕ) : Type 0 where
+pub record Filed (s : Settings) (t : State) (heap : List ℕ) (b : Table) (bytes : List ℕ) (slot count total : ℕ) : Type 0 where
   pub limits : Passed s (length heap) b t
   pub sized : Sized bytes count total
   pub fits : 64 + length (fileBytes (settled (opsIn bytes))) ≤ s .«slot_bytes»

@@ -11,7 +11,7 @@ use Rattle.rules.specs.OpsLaws.{entries-of-rising}
 use Rattle.rules.specs.SettledLaws.{settled-rising}
 use Rattle.rules.specs.Table.{insertAll}
 use Rattle.rules.specs.TableLaws.{Rising, rise, rise-end}
-use Rattle.rules.specs.Layout.{Buffers, usedEntries, capacityOf}
+use Rattle.rules.specs.Layout.{Table, usedEntries, capacityOf}
 use Rattle.rules.specs.LayoutLaws.{form-rising}
 use Rattle.batch.specs.Reading.{opsIn}
 use Rattle.batch.specs.ReadingLaws.{settled-fit}
@@ -29,7 +29,7 @@ taken-rising : (lsn f : ℕ) (es : List Entry) → Rising f es → Rising f (tak
 taken-rising lsn f [] rise-end = rise-end
 taken-rising lsn f (e ∷ es) (rise a r) = rise a (taken-rising lsn (suc (e .id)) es r)
 
-module _ {s : Settings} {t : State} {heap : List ℕ} {b : Buffers} {bytes : List ℕ} {slot count total : ℕ} (f : Filed s t heap b bytes slot count total) where
+module _ {s : Settings} {t : State} {heap : List ℕ} {b : Table} {bytes : List ℕ} {slot count total : ℕ} (f : Filed s t heap b bytes slot count total) where
   -- there is room for its entries
   entries-room : (lsn : ℕ) → length (insertAll (usedEntries b) (taken lsn (entriesOf 0 (settled (opsIn bytes))))) ≤ capacityOf b
   entries-room lsn =

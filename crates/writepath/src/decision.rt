@@ -18,7 +18,7 @@ ghost use Prim.Native.Nat.{_≤_};
 ghost use lib.ListN.{length};
 ghost use Rattle.rules.specs.declared.Claims.{Claims};
 ghost use Rattle.rules.specs.Ops.{settled};
-ghost use Rattle.rules.specs.Layout.{table, tableIds, usedEntries};
+ghost use Rattle.rules.specs.Layout.{usedEntries, capacityOf};
 ghost use Rattle.rules.specs.Write.{tooManyIds};
 ghost use Rattle.rules.specs.World.{world};
 ghost use Rattle.location_table.specs.Tables.{Formed};
@@ -34,21 +34,21 @@ pub enum Decision {
     File(usize, u64, u64),
 }
 
-fn is_new(ids: &[u64], locations: &[u64], id: u64) -> u64
-    requires { ⌜ Formed (table (now ids) (now locations)) ⌝ }
-    ensures { λ r. ⌜ r ≡ isNew (usedEntries (table (now (ids .entry)) (now (locations .entry)))) id ⌝ }
+fn is_new(table: &[u64], id: u64) -> u64
+    requires { ⌜ Formed (now table) ⌝ }
+    ensures { λ r. ⌜ r ≡ isNew (usedEntries (now (table .entry))) id ⌝ }
 {
-    match location_table::load_in(ids, locations, id) {
+    match location_table::load_in(table, id) {
         Held::Mapped(_) => 0,
         Held::Unmapped => 1,
     }
 }
 
 // How many of the batch's ids the table does not have.
-fn new_ids(ids: &[u64], locations: &[u64], batch: &[u8]) -> u64
-    requires { ⌜ Formed (table (now ids) (now locations)) ⌝ }
+fn new_ids(table: &[u64], batch: &[u8]) -> u64
+    requires { ⌜ Formed (now table) ⌝ }
     ensures { λ r. ⌜ (r
-        ≡ newIds (usedEntries (table (now (ids .entry)) (now (locations .entry)))) (idsOf (settled (opsIn (now (batch .entry))))))
+        ≡ newIds (usedEntries (now (table .entry))) (idsOf (settled (opsIn (now (batch .entry))))))
         × (r ≤ length (now (batch .entry))) ⌝ }
 {
     let mut count: u64 = 0;
@@ -57,22 +57,22 @@ fn new_ids(ids: &[u64], locations: &[u64], batch: &[u8]) -> u64
         let Step::Next(o, after) = batch::next(batch, cursor) else {
             return count;
         };
-        count += is_new(ids, locations, o.id);
+        count += is_new(table, o.id);
         cursor = after;
     }
 }
 
 // "6 more distinct ids than table entries": the table's and the batch's together.
-fn too_many(ids: &[u64], locations: &[u64], batch: &[u8]) -> bool
-    requires { ⌜ Formed (table (now ids) (now locations)) ⌝ }
+fn too_many(table: &[u64], batch: &[u8]) -> bool
+    requires { ⌜ Formed (now table) ⌝ }
     ensures { λ r. ⌜ r ≡ tooManyIds
-        (length (tableIds (now (ids .entry))))
-        (usedEntries (table (now (ids .entry)) (now (locations .entry))))
+        (capacityOf (now (table .entry)))
+        (usedEntries (now (table .entry)))
         (settled (opsIn (now (batch .entry)))) ⌝ }
 {
-    let used = location_table::used(ids, locations) as u64;
-    let more = new_ids(ids, locations, batch);
-    (location_table::capacity(ids) as u64) < used + more
+    let used = location_table::used(table) as u64;
+    let more = new_ids(table, batch);
+    (location_table::capacity(table) as u64) < used + more
 }
 
 // 4 to 7, for a batch that passed 1 to 3; an empty one passes.
@@ -81,13 +81,12 @@ fn room(
     rest: Rest,
     files: FileMap,
     heap: &[u8],
-    ids: &[u64],
-    locations: &[u64],
+    table: &[u64],
     batch: &[u8],
 ) -> Decision
-    requires { ⌜ Parsed settings (stateOf rest files) (now heap) (table (now ids) (now locations)) (now batch) ⌝ }
+    requires { ⌜ Parsed settings (stateOf rest files) (now heap) (now table) (now batch) ⌝ }
     ensures { λ r. ⌜ ((c : Claims) → r ≡ decisionOf
-        (world settings (stateOf rest files) c (now (heap .entry)) (table (now (ids .entry)) (now (locations .entry))))
+        (world settings (stateOf rest files) c (now (heap .entry)) (now (table .entry)))
         (now (batch .entry))) ⌝ }
 {
     let Room::Fits(count, total) = batch::sizes(batch, settings.slot_bytes) else {
@@ -101,7 +100,7 @@ fn room(
     if n <= slot {
         return Decision::Refused(Refusal::NoEmptySlot);
     }
-    if too_many(ids, locations, batch) {
+    if too_many(table, batch) {
         return Decision::Refused(Refusal::TableRoom);
     }
     if spent(rest.next_position, total + 1) {
@@ -114,22 +113,21 @@ pub fn decided(
     settings: Settings,
     state: State,
     heap: &[u8],
-    ids: &[u64],
-    locations: &[u64],
+    table: &[u64],
     batch: &[u8],
 ) -> Decision
     ensures { λ r. ⌜ ((c : Claims) → r ≡ decisionOf
-        (world settings state c (now (heap .entry)) (table (now (ids .entry)) (now (locations .entry))))
+        (world settings state c (now (heap .entry)) (now (table .entry)))
         (now (batch .entry))) ⌝ }
 {
     let files = state.files;
-    let bad = bad_files(settings, heap.len() as u64, ids, locations, files);
+    let bad = bad_files(settings, heap.len() as u64, table, files);
     let rest = rest_of(state);
-    if refused_apart(settings, heap.len() as u64, ids, locations, rest, bad) {
+    if refused_apart(settings, heap.len() as u64, table, rest, bad) {
         return Decision::Refused(Refusal::Limits);
     }
     match batch::check(batch, settings.max_object_size) {
         Answer::Refused(r) => Decision::Refused(r),
-        Answer::Done => room(settings, rest, files, heap, ids, locations, batch),
+        Answer::Done => room(settings, rest, files, heap, table, batch),
     }
 }

@@ -18,7 +18,6 @@ ghost use Rattle.rules.specs.Stores.{made, fileStores};
 ghost use Rattle.rules.specs.Install.{installed};
 ghost use Rattle.rules.specs.Write.{writeCall};
 ghost use Rattle.rules.specs.World.{world, leaving, answerGiven};
-ghost use Rattle.rules.specs.Layout.{table};
 ghost use Rattle.file_map.specs.Records.{labelled};
 ghost use Rattle.batch.specs.Reading.{opsIn};
 ghost use Rattle.batch_file.specs.Steps.{Sized};
@@ -61,14 +60,13 @@ fn add_file(
     settings: Settings,
     state: State,
     heap: &mut [u8],
-    ids: &mut [u64],
-    locations: &mut [u64],
+    table: &mut [u64],
     batch: &[u8],
     file: NewFile,
 ) -> State
-    requires { ⌜ Filed settings state (now heap) (table (now ids) (now locations)) (now batch) (file .slot) (file .count) (file .total) ⌝ }
-    ensures { λ r. ⌜ ((c : Claims) → world settings r c (now (heap .exit)) (table (now (ids .exit)) (now (locations .exit)))
-        ≡ installed (2 ^ 62) 0 (world settings state c (now (heap .entry)) (table (now (ids .entry)) (now (locations .entry))))
+    requires { ⌜ Filed settings state (now heap) (now table) (now batch) (file .slot) (file .count) (file .total) ⌝ }
+    ensures { λ r. ⌜ ((c : Claims) → world settings r c (now (heap .exit)) (now (table .exit))
+        ≡ installed (2 ^ 62) 0 (world settings state c (now (heap .entry)) (now (table .entry)))
         (settled (opsIn (now (batch .entry))))) ⌝ }
 {
     let new = new_label(state.next_position, file.count, file.total);
@@ -83,7 +81,7 @@ fn add_file(
         total: file.total,
         lsn: new.lsn,
     };
-    install::install(&lsns, &mut lives, ids, locations, heap, stored);
+    install::install(&lsns, &mut lives, table, heap, stored);
     install::with_file(state, &lives, file.slot, new)
 }
 
@@ -91,16 +89,15 @@ pub fn write(
     settings: Settings,
     state: State,
     heap: &mut [u8],
-    ids: &mut [u64],
-    locations: &mut [u64],
+    table: &mut [u64],
     batch: &[u8],
 ) -> Written
     ensures { λ r. ⌜ ((c : Claims) → leaving (answerGiven (r .answer))
-        (world settings (r .state) c (now (heap .exit)) (table (now (ids .exit)) (now (locations .exit))))
-        ≡ writeCall (world settings state c (now (heap .entry)) (table (now (ids .entry)) (now (locations .entry))))
+        (world settings (r .state) c (now (heap .exit)) (now (table .exit)))
+        ≡ writeCall (world settings state c (now (heap .entry)) (now (table .entry)))
         (now (batch .entry))) ⌝ }
 {
-    match decision::decided(settings, state, heap, ids, locations, batch) {
+    match decision::decided(settings, state, heap, table, batch) {
         Decision::Refused(r) => Written {
             answer: Answer::Refused(r),
             state: state,
@@ -115,7 +112,7 @@ pub fn write(
                 count: count,
                 total: total,
             };
-            let after = add_file(settings, state, heap, ids, locations, batch, file);
+            let after = add_file(settings, state, heap, table, batch, file);
             Written {
                 answer: Answer::Done,
                 state: after,

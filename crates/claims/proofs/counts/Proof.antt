@@ -6,19 +6,18 @@ use Rattle.rules.specs.Counts.{countsCall}
 use Rattle.rules.specs.Refusal.{decide}
 use Rattle.rules.specs.Condition1.{conditionOne}
 use Rattle.rules.specs.Condition1Laws.{passed}
-use Rattle.rules.specs.Layout.{table}
 use Rattle.limits.specs.Settled.{passed-bounded}
 use Rattle.claims.proofs.counts.Tie as tie
 
 abbrev begun : tie.After-refused-apart → tie.Start
-begun p = p .before .before .before .before .before .before .before
+begun p = p .before .before .before .before .before .before
 
 asked : (p : tie.After-refused-apart) → let a = begun p .args in
-    conditionOne (a .s) (length (a .heap .now)) (table (a .ids .now) (a .locations .now)) (a .state) ≡ p .refused-apart .result
+    conditionOne (a .s) (length (a .heap .now)) (a .table .now) (a .state) ≡ p .refused-apart .result
 asked p =
     let a = begun p .args in
     let told = p .refused-apart .ensures .0 (a .state .files) (p .before .before .bad-files .ensures) in
-    sym (told ∙ ap (conditionOne (a .s) (length (a .heap .now)) (table (a .ids .now) (a .locations .now))) (p .before .rest-of .ensures))
+    sym (told ∙ ap (conditionOne (a .s) (length (a .heap .now)) (a .table .now)) (p .before .rest-of .ensures))
 
 bad-files-requires : tie.Need-bad-files-requires
 bad-files-requires c κs = search needs
@@ -37,7 +36,7 @@ counts-requires : tie.Need-counts-requires
 counts-requires c κs =
     let a = begun (c .before) .args in
     let n = length (a .heap .now) in
-    let b = table (a .ids .now) (a .locations .now) in
+    let b = (a .table .now) in
     passed-bounded (a .s) n b (a .state) (passed (a .s) n b (a .state) (asked (c .before) ∙ c .if1 .left))
 
 returns-2 : tie.Need-returns-2

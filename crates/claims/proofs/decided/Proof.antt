@@ -8,24 +8,23 @@ use Rattle.rules.specs.declared.FileMap.{FileMap}
 use Rattle.rules.specs.Refusal.{decide}
 use Rattle.rules.specs.Settings.{slotsIn}
 use Rattle.rules.specs.Condition1.{conditionOne}
-use Rattle.rules.specs.Layout.{table}
 use Rattle.limits.specs.Settled.{stateOf, badFiles}
 use Rattle.claims.proofs.decided.Statement.{statement}
 use Rattle.claims.proofs.decided.Tie as tie
 
 -- ---- each test as it was left, for the records that `bad` tells of
 abbrev begun : tie.After-refused-apart → tie.Start
-begun p = p .before .before .before .before
+begun p = p .before .before .before
 
 abbrev one : tie.After-refused-apart → FileMap → Bool
 one p files =
     let a = begun p .args in
-    conditionOne (a .s) (length (a .heap .now)) (table (a .ids .now) (a .locations .now)) (stateOf (a .rest) files)
+    conditionOne (a .s) (length (a .heap .now)) (a .table .now) (stateOf (a .rest) files)
 
 abbrev Told : tie.After-refused-apart → FileMap → Type 0
 Told p files =
     let a = begun p .args in
-    a .bad ≡ badFiles (a .s) (length (a .heap .now)) (table (a .ids .now) (a .locations .now)) (files .records)
+    a .bad ≡ badFiles (a .s) (length (a .heap .now)) (a .table .now) (files .records)
 
 asked : (p : tie.After-refused-apart) (files : FileMap) → Told p files → one p files ≡ p .refused-apart .result
 asked p files bad = sym (p .refused-apart .ensures .0 files bad)

@@ -54,7 +54,7 @@ same-length c = search needs
 
 returns : tie.Need-returns
 unfolding lentBy
-returns c = let p = c .before .before in rw (p .before .before .enum-told .given .1) (p .poke .ensures _ _)
+returns c = let p = c .before .before in rw (p .before .before .enum-told .given .1) (p .poke .ensures _)
 
 same-length-2 : tie.Need-same-length-2
 same-length-2 c = search needs
@@ -67,7 +67,7 @@ same-length-4 c = search needs
 
 returns-2 : tie.Need-returns-2
 unfolding lentBy
-returns-2 c = let p = c .before .before .before .before in rw (p .before .before .before .before .enum-told2 .given .1) (p .reopen .ensures)
+returns-2 c = let p = c .before .before in rw (p .before .before .before .enum-told2 .given .1) (p .reopen .ensures)
 
 same-length-5 : tie.Need-same-length-5
 same-length-5 c = search needs
@@ -80,7 +80,7 @@ same-length-7 c = search needs
 
 returns-3 : tie.Need-returns-3
 unfolding lentBy
-returns-3 c = let p = c .before .before .before .before .before .before in rw (p .before .before .before .before .enum-told3 .given .1) (p .write .ensures)
+returns-3 c = let p = c .before .before .before .before in rw (p .before .before .before .enum-told3 .given .1) (p .write .ensures)
 
 same-length-8 : tie.Need-same-length-8
 same-length-8 c = search needs
@@ -93,7 +93,7 @@ same-length-10 c = search needs
 
 returns-4 : tie.Need-returns-4
 unfolding lentBy
-returns-4 c = let p = c .before .before in rw (p .before .before .before .before .enum-told4 .given .1) (p .prune .ensures)
+returns-4 c = let p = c .before .before in rw (p .before .before .before .enum-told4 .given .1) (p .prune .ensures)
 
 same-length-11 : tie.Need-same-length-11
 same-length-11 c = search needs
@@ -101,30 +101,12 @@ same-length-11 c = search needs
 same-length-12 : tie.Need-same-length-12
 same-length-12 c = search needs
 
-same-length-13 : tie.Need-same-length-13
-same-length-13 c = search needs
-
 returns-5 : tie.Need-returns-5
 unfolding lentBy
-returns-5 c = let p = c .before .before .before .before .before .before in rw (p .before .before .before .before .enum-told5 .given .1) (p .maintain .ensures)
-
-same-length-14 : tie.Need-same-length-14
-same-length-14 c = search needs
-
-same-length-15 : tie.Need-same-length-15
-same-length-15 c = search needs
+returns-5 c = let p = c .before .before .before .before in rw (p .before .before .before .enum-told5 .given .1) (p .maintain .ensures)
 
 returns-6 : tie.Need-returns-6
-returns-6 c = c .before .before .before .before .on-table .ensures _ _
-
-same-length-16 : tie.Need-same-length-16
-same-length-16 c = search needs
-
-same-length-17 : tie.Need-same-length-17
-same-length-17 c = search needs
-
-same-length-18 : tie.Need-same-length-18
-same-length-18 c = search needs
+returns-6 c = c .before .before .on-table .ensures _ _
 
 returns-7 : tie.Need-returns-7
 returns-7 c = c .asked .ensures _
@@ -132,9 +114,9 @@ returns-7 c = c .asked .ensures _
 returns-8 : tie.Need-returns-8
 returns-8 c =
     let m = c .before in
-    let a = m .before .before .before .before .before .args in
-    ap (λ (t : Turn). left t (a .heap .now) (a .ids .now) (a .locations .now)) (c .bad-line .ensures)
-    ∙ lent-rest (a .t3) (a .bytes .now) (desk (a .b) (a .heap .now) (a .ids .now) (a .locations .now)) (a .keyword) (m .match .keys8)
+    let a = m .before .before .before .before .args in
+    ap (λ (t : Turn). left t (a .heap .now) (a .table .now)) (c .bad-line .ensures)
+    ∙ lent-rest (a .t3) (a .bytes .now) (desk (a .b) (a .heap .now) (a .table .now)) (a .keyword) (m .match .keys8)
 
 pub after-lent-spec : {M : Type 1} → statement M
 after-lent-spec =
@@ -158,25 +140,19 @@ after-lent-spec =
     returns
     same-length-2
     same-length-3
-    same-length-4
     returns-2
+    same-length-4
     same-length-5
+    returns-3
     same-length-6
     same-length-7
-    returns-3
+    returns-4
     same-length-8
     same-length-9
+    returns-5
     same-length-10
-    returns-4
+    returns-6
     same-length-11
     same-length-12
-    same-length-13
-    returns-5
-    same-length-14
-    same-length-15
-    returns-6
-    same-length-16
-    same-length-17
-    same-length-18
     returns-7
     returns-8)

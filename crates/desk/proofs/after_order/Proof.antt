@@ -21,9 +21,6 @@ enum-told-2 c = search needs
 array-read-table : tie.Need-array-read-table
 array-read-table c = search needs
 
-array-read-table-2 : tie.Need-array-read-table-2
-array-read-table-2 c = search needs
-
 table-requires : tie.Need-table-requires
 table-requires c κs = search needs
 
@@ -47,7 +44,7 @@ unfolding doneBy
 returns c =
     let p = c .before .before in
     let told = p .before .before .enum-told .given .1 in
-    (rw told (p .heap .ensures _ _), rw told refl)
+    (rw told (p .heap .ensures _), rw told refl)
 
 same-length-2 : tie.Need-same-length-2
 same-length-2 c = search needs
@@ -58,15 +55,15 @@ same-length-3 c = search needs
 returns-2 : tie.Need-returns-2
 unfolding doneBy
 returns-2 c =
-    let p = c .before .before .before .before in
-    let told = p .before .before .before .enum-told2 .given .1 in
+    let p = c .before .before in
+    let told = p .before .before .enum-told2 .given .1 in
     (rw told (p .table .ensures _), rw told refl)
 
 returns-3 : tie.Need-returns-3
 returns-3 c =
     let m = c .before in
-    let a = m .before .before .before .before .before .args in
-    (c .at-bench .ensures _ _ _ _, bench-report (desk (a .b) (a .heap .now) (a .ids .now) (a .locations .now)) (a .report .now) (a .keyword) (m .match .keys3))
+    let a = m .before .before .before .before .args in
+    (c .at-bench .ensures _ _ _, bench-report (desk (a .b) (a .heap .now) (a .table .now)) (a .report .now) (a .keyword) (m .match .keys3))
 
 same-length-4 : tie.Need-same-length-4
 same-length-4 c = search needs
@@ -81,24 +78,15 @@ returns-4 : tie.Need-returns-4
 unfolding doneBy
 returns-4 c =
     let p = c .before .before in
-    let told = p .before .before .before .before .before .enum-told3 .given .1 in
+    let told = p .before .before .before .before .enum-told3 .given .1 in
     (rw told (p .salvaged .ensures .0), rw told (p .salvaged .ensures .1))
-
-same-length-7 : tie.Need-same-length-7
-same-length-7 c = search needs
-
-same-length-8 : tie.Need-same-length-8
-same-length-8 c = search needs
-
-same-length-9 : tie.Need-same-length-9
-same-length-9 c = search needs
 
 returns-5 : tie.Need-returns-5
 returns-5 c =
-    let p = c .before .before .before .before .before .before in
-    let m = p .before .before .before .before in
-    let a = m .before .before .before .before .before .args in
-    let d = desk (a .b) (a .heap .now) (a .ids .now) (a .locations .now) in
+    let p = c .before .before .before .before in
+    let m = p .before .before .before in
+    let a = m .before .before .before .before .args in
+    let d = desk (a .b) (a .heap .now) (a .table .now) in
     (p .lent .ensures ∙ done-rest (a .t3) (a .bytes .now) d (a .keyword) (m .match .keys5), parts-report d (a .report .now) (a .keyword) (m .match .keys5))
 
 pub after-order-spec : {M : Type 1} → statement M
@@ -110,7 +98,6 @@ after-order-spec =
     heap-requires
     enum-told-2
     array-read-table
-    array-read-table-2
     table-requires
     at-bench-requires
     enum-told-3
@@ -119,14 +106,11 @@ after-order-spec =
     same-length
     returns
     same-length-2
-    same-length-3
     returns-2
     returns-3
+    same-length-3
     same-length-4
+    returns-4
     same-length-5
     same-length-6
-    returns-4
-    same-length-7
-    same-length-8
-    same-length-9
     returns-5)

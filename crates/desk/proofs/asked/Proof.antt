@@ -69,9 +69,9 @@ returns-6 : tie.Need-returns-6
 unfolding lentBy
 returns-6 c =
     let m = c .before in
-    let s = m .before .before .before .before in
+    let s = m .before .before .before in
     let shown = last (key.Claim ∷ key.Release ∷ key.Read ∷ key.Counts ∷ key.Load ∷ []) key.Bytes (s .args .keyword) (s .pre) (m .match .keys6) in
-    λ bytes. rw shown (c .bytes .ensures _ _)
+    λ bytes. rw shown (c .bytes .ensures _)
 
 pub asked-spec : {M : Type 1} → statement M
 asked-spec =

@@ -66,39 +66,39 @@ shown-requires-4 c κs = search needs
 
 returns : tie.Need-returns
 unfolding doneBy
-returns c = λ bytes heap ids locations. rw (c .shown .ensures, c .before .enum-told .given .1) refl
+returns c = λ bytes heap table. rw (c .shown .ensures, c .before .enum-told .given .1) refl
 
 returns-2 : tie.Need-returns-2
 unfolding doneBy
-returns-2 c = λ bytes heap ids locations. rw (c .bad-line .ensures, c .before .enum-told2 .given .1) refl
+returns-2 c = λ bytes heap table. rw (c .bad-line .ensures, c .before .enum-told2 .given .1) refl
 
 returns-3 : tie.Need-returns-3
 unfolding doneBy
-returns-3 c = λ bytes heap ids locations. rw (c .settings .ensures, c .before .enum-told3 .given .1) refl
+returns-3 c = λ bytes heap table. rw (c .settings .ensures, c .before .enum-told3 .given .1) refl
 
 returns-4 : tie.Need-returns-4
 unfolding doneBy
-returns-4 c = λ bytes heap ids locations. rw (c .state .ensures, c .before .enum-told4 .given .1) refl
+returns-4 c = λ bytes heap table. rw (c .state .ensures, c .before .enum-told4 .given .1) refl
 
 returns-5 : tie.Need-returns-5
 unfolding doneBy
-returns-5 c = λ bytes heap ids locations. rw (c .«record» .ensures, c .before .enum-told5 .given .1) refl
+returns-5 c = λ bytes heap table. rw (c .«record» .ensures, c .before .enum-told5 .given .1) refl
 
 returns-6 : tie.Need-returns-6
 unfolding doneBy
-returns-6 c = λ bytes heap ids locations. rw (c .claims .ensures, c .before .enum-told6 .given .1) refl
+returns-6 c = λ bytes heap table. rw (c .claims .ensures, c .before .enum-told6 .given .1) refl
 
 returns-7 : tie.Need-returns-7
 unfolding doneBy
-returns-7 c = λ bytes heap ids locations. rw (c .check .ensures, c .before .enum-told7 .given .1) refl
+returns-7 c = λ bytes heap table. rw (c .check .ensures, c .before .enum-told7 .given .1) refl
 
 returns-8 : tie.Need-returns-8
 unfolding doneBy
-returns-8 c = λ bytes heap ids locations. rw (c .shown2 .ensures, c .before .enum-told8 .given .1) refl
+returns-8 c = λ bytes heap table. rw (c .shown2 .ensures, c .before .enum-told8 .given .1) refl
 
 returns-9 : tie.Need-returns-9
 unfolding doneBy
-returns-9 c = λ bytes heap ids locations. rw (c .shown3 .ensures, c .before .enum-told9 .given .1) refl
+returns-9 c = λ bytes heap table. rw (c .shown3 .ensures, c .before .enum-told9 .given .1) refl
 
 returns-10 : tie.Need-returns-10
 unfolding doneBy
@@ -106,7 +106,7 @@ returns-10 c =
     let m = c .before in
     let s = m .before in
     let help = last (key.Blank ∷ key.Bad ∷ key.Settings ∷ key.State ∷ key.Record ∷ key.Claims ∷ key.Check ∷ key.List ∷ key.Dump ∷ []) key.Help (s .args .keyword) (s .pre) (m .match .keys10) in
-    λ bytes heap ids locations. rw (c .shown4 .ensures, help) refl
+    λ bytes heap table. rw (c .shown4 .ensures, help) refl
 
 pub at-bench-spec : {M : Type 1} → statement M
 at-bench-spec =

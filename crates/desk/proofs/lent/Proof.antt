@@ -10,9 +10,6 @@ least-requires c κs = search needs
 least-requires-2 : tie.Need-least-requires-2
 least-requires-2 c κs = search needs
 
-least-requires-3 : tie.Need-least-requires-3
-least-requires-3 c κs = search needs
-
 sub-after-lent : tie.Need-sub-after-lent
 sub-after-lent c = search needs
 
@@ -31,15 +28,6 @@ part-after-lent-start-2 c = search needs
 part-after-lent-end-2 : tie.Need-part-after-lent-end-2
 part-after-lent-end-2 c = search needs
 
-sub-after-lent-3 : tie.Need-sub-after-lent-3
-sub-after-lent-3 c = search needs
-
-part-after-lent-start-3 : tie.Need-part-after-lent-start-3
-part-after-lent-start-3 c = search needs
-
-part-after-lent-end-3 : tie.Need-part-after-lent-end-3
-part-after-lent-end-3 c = search needs
-
 after-lent-requires : tie.Need-after-lent-requires
 after-lent-requires c κs = search needs
 
@@ -49,18 +37,14 @@ same-length c = search needs
 same-length-2 : tie.Need-same-length-2
 same-length-2 c = search needs
 
-same-length-3 : tie.Need-same-length-3
-same-length-3 c = search needs
-
 returns : tie.Need-returns
 returns c =
-    let w = c .before .before .before .before .before .before in
-    let locations = w .before .before .before .before in
-    let ids = locations .before in
-    let heap = ids .before in
-    let a = heap .before .before .before .before .before .args in
-    lending (lentBy (a .keyword) (a .n) (a .bytes .now)) (a .b) (a .heap .now) (a .ids .now) (a .locations .now) (heap .least .result) (ids .least2 .result) (locations .least3 .result)
-    (w .after-lent .result) _ _ _ (heap .least .ensures .2) (ids .least2 .ensures .2) (locations .least3 .ensures .2) (w .after-lent .ensures)
+    let w = c .before .before .before .before in
+    let table = w .before .before .before in
+    let heap = table .before in
+    let a = heap .before .before .before .before .args in
+    lending (lentBy (a .keyword) (a .n) (a .bytes .now)) (a .b) (a .heap .now) (a .table .now) (heap .least .result) (table .least2 .result)
+    (w .after-lent .result) _ _ (heap .least .ensures .2) (table .least2 .ensures .2) (w .after-lent .ensures)
 
 pub lent-spec : {M : Type 1} → statement M
 lent-spec =
@@ -68,18 +52,13 @@ lent-spec =
     (tie.spec
     least-requires
     least-requires-2
-    least-requires-3
     sub-after-lent
     part-after-lent-start
     part-after-lent-end
     sub-after-lent-2
     part-after-lent-start-2
     part-after-lent-end-2
-    sub-after-lent-3
-    part-after-lent-start-3
-    part-after-lent-end-3
     after-lent-requires
     same-length
     same-length-2
-    same-length-3
     returns)

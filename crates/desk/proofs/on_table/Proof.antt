@@ -44,7 +44,7 @@ same-length-2 c = search needs
 
 returns : tie.Need-returns
 unfolding lentBy
-returns c = let p = c .before .before .before .before in λ bytes heap. rw (p .before .before .before .enum-told .given .1) (p .entry .ensures heap)
+returns c = let p = c .before .before in λ bytes heap. rw (p .before .before .enum-told .given .1) (p .entry .ensures heap)
 
 same-length-3 : tie.Need-same-length-3
 same-length-3 c = search needs
@@ -54,30 +54,18 @@ same-length-4 c = search needs
 
 returns-2 : tie.Need-returns-2
 unfolding lentBy
-returns-2 c = let p = c .before .before .before .before in λ bytes heap. rw (p .before .before .before .enum-told2 .given .1) (p .store .ensures heap)
-
-same-length-5 : tie.Need-same-length-5
-same-length-5 c = search needs
-
-same-length-6 : tie.Need-same-length-6
-same-length-6 c = search needs
+returns-2 c = let p = c .before .before in λ bytes heap. rw (p .before .before .enum-told2 .given .1) (p .store .ensures heap)
 
 returns-3 : tie.Need-returns-3
 unfolding lentBy
-returns-3 c = let p = c .before .before .before .before in λ bytes heap. rw (p .before .before .before .enum-told3 .given .1) (p .cas .ensures heap)
-
-same-length-7 : tie.Need-same-length-7
-same-length-7 c = search needs
-
-same-length-8 : tie.Need-same-length-8
-same-length-8 c = search needs
+returns-3 c = let p = c .before .before in λ bytes heap. rw (p .before .before .enum-told3 .given .1) (p .cas .ensures heap)
 
 returns-4 : tie.Need-returns-4
 unfolding lentBy
 returns-4 c =
-    let p = c .before .before .before .before in
-    let m = p .before .before .before in
-    let s = m .before .before .before in
+    let p = c .before .before in
+    let m = p .before .before in
+    let s = m .before .before in
     let max = last (key.Entry ∷ key.Store ∷ key.Cas ∷ []) key.Max (s .args .keyword) (s .pre) (m .match .keys4) in
     λ bytes heap. rw max (p .max .ensures heap)
 
@@ -96,14 +84,10 @@ on-table-spec =
     cas-requires
     max-requires
     same-length
-    same-length-2
     returns
-    same-length-3
-    same-length-4
+    same-length-2
     returns-2
-    same-length-5
-    same-length-6
+    same-length-3
     returns-3
-    same-length-7
-    same-length-8
+    same-length-4
     returns-4)

@@ -12,9 +12,6 @@ least-requires c κs = search needs
 least-requires-2 : tie.Need-least-requires-2
 least-requires-2 c κs = search needs
 
-least-requires-3 : tie.Need-least-requires-3
-least-requires-3 c κs = search needs
-
 sub-salvage : tie.Need-sub-salvage
 sub-salvage c = search needs
 
@@ -33,15 +30,6 @@ part-salvage-start-2 c = search needs
 part-salvage-end-2 : tie.Need-part-salvage-end-2
 part-salvage-end-2 c = search needs
 
-sub-salvage-3 : tie.Need-sub-salvage-3
-sub-salvage-3 c = search needs
-
-part-salvage-start-3 : tie.Need-part-salvage-start-3
-part-salvage-start-3 c = search needs
-
-part-salvage-end-3 : tie.Need-part-salvage-end-3
-part-salvage-end-3 c = search needs
-
 salvage-requires : tie.Need-salvage-requires
 salvage-requires c κs = search needs
 
@@ -51,15 +39,14 @@ same-length c = search needs
 returns : tie.Need-returns
 returns c =
     let w = c .before .before in
-    let locations = w .before .before .before .before .before in
-    let ids = locations .before in
-    let heap = ids .before in
-    let a = heap .before .before .before .before .args in
+    let table = w .before .before .before .before in
+    let heap = table .before in
+    let a = heap .before .before .before .args in
     let parts =
-    lent-parts (a .b) (a .heap .now) (a .ids .now) (a .locations .now) (heap .least .result) (ids .least2 .result) (locations .least3 .result)
-    (heap .least .ensures .2) (ids .least2 .ensures .2) (locations .least3 .ensures .2) in (
-      lending-heap salvageBy (a .b) (a .heap .now) (a .ids .now) (a .locations .now) (heap .least .result) (ids .least2 .result) (locations .least3 .result)
-          (w .salvage .result) _ (heap .least .ensures .2) (ids .least2 .ensures .2) (locations .least3 .ensures .2) (w .salvage .ensures .0),
+    lent-parts (a .b) (a .heap .now) (a .table .now) (heap .least .result) (table .least2 .result)
+    (heap .least .ensures .2) (table .least2 .ensures .2) in (
+      lending-heap salvageBy (a .b) (a .heap .now) (a .table .now) (heap .least .result) (table .least2 .result)
+          (w .salvage .result) _ (heap .least .ensures .2) (table .least2 .ensures .2) (w .salvage .ensures .0),
       w .salvage .ensures .1 ∙ ap (λ (x : Desk). salvageOn x (a .report .now) .report) parts,
     )
 
@@ -69,16 +56,12 @@ salvaged-spec =
     (tie.spec
     least-requires
     least-requires-2
-    least-requires-3
     sub-salvage
     part-salvage-start
     part-salvage-end
     sub-salvage-2
     part-salvage-start-2
     part-salvage-end-2
-    sub-salvage-3
-    part-salvage-start-3
-    part-salvage-end-3
     salvage-requires
     same-length
     returns)

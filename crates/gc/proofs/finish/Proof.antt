@@ -2,7 +2,6 @@ use mathlib.Core.Path.{ap₂, _∙_}
 use borrow.Author.Needs.{needs}
 use Rattle.rules.specs.declared.MaintainAnswer.{MaintainAnswer}
 use Rattle.rules.specs.World.{World, world, maintainGiven, leaving}
-use Rattle.rules.specs.Layout.{table}
 use Rattle.gc.specs.RunLaws.{finish-run}
 use Rattle.gc.proofs.finish.Statement.{statement}
 use Rattle.gc.proofs.finish.Tie as tie
@@ -25,9 +24,9 @@ returns c =
     let g = p .before in
     let o = g .before .before in
     let a = o .before .before .before .args in
-    λ ids locations.
-    ap₂ (λ (x : MaintainAnswer) (w : World). leaving (maintainGiven x) w) (o .answer-of .ensures) (p .pruned .ensures ids locations)
-    ∙ finish-run (a .run) (world (a .settings) (a .run .state) (a .claims) (a .heap .now) (table ids locations)) (g .is-going .result) (g .is-going .ensures)
+    λ table.
+    ap₂ (λ (x : MaintainAnswer) (w : World). leaving (maintainGiven x) w) (o .answer-of .ensures) (p .pruned .ensures table)
+    ∙ finish-run (a .run) (world (a .settings) (a .run .state) (a .claims) (a .heap .now) table) (g .is-going .result) (g .is-going .ensures)
 
 pub finish-spec : {M : Type 1} → statement M
 finish-spec = tie.close (tie.spec answer-of-requires is-going-requires pruned-requires same-length returns)

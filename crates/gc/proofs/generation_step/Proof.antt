@@ -5,17 +5,16 @@ use lib.ListN.{length}
 use Rattle.gc.specs.RunLaws.{under-ready, under-after, given-course}
 use Rattle.gc.proofs.generation_step.Statement.{statement}
 use Rattle.gc.proofs.generation_step.Tie as tie
-use Rattle.rules.specs.Layout.{table}
 
 rewrite-group-requires : tie.Need-rewrite-group-requires
 rewrite-group-requires c κs =
-    let start = c .before .before .before .before .before .before .before .before in
+    let start = c .before .before .before .before .before .before in
     let a = start .args in
     let w = start .pre .0 in
     let p = start .pre .1 in (
       w .limits,
       (
-        under-ready (a .settings) (length (a .heap .now)) (table (a .ids .now) (a .locations .now)) (a .run .state) (a .plan .now) (a .generation) w (p .0),
+        under-ready (a .settings) (length (a .heap .now)) (a .table .now) (a .run .state) (a .plan .now) (a .generation) w (p .0),
         ((λ k e. w .files k (omega arith)), (p .0, p .1, omega (arith, p .1, p .2))),
       ),
     )
@@ -29,20 +28,17 @@ same-length c = search needs
 same-length-2 : tie.Need-same-length-2
 same-length-2 c = search needs
 
-same-length-3 : tie.Need-same-length-3
-same-length-3 c = search needs
-
 returns : tie.Need-returns
 returns c =
-    let r = c .before .before .before .before .before .before .before .before in
-    let start = r .before .before .before .before .before .before .before .before .before in
+    let r = c .before .before .before .before .before .before in
+    let start = r .before .before .before .before .before .before .before in
     let a = start .args in (
       λ m. given-course (a .generation) (r .rewrite-group .result .answer) _ _ _ (c .halt-of .ensures) ∙ r .rewrite-group .ensures .0 m,
       (
-        under-after (a .settings) (length (a .heap .now)) (table (a .ids .now) (a .locations .now)) (a .run .state) (a .plan .now) (start .pre .0) _ _ _ (r .rewrite-group .ensures .1 .0) (r .rewrite-group .ensures .1 .1 .1),
+        under-after (a .settings) (length (a .heap .now)) (a .table .now) (a .run .state) (a .plan .now) (start .pre .0) _ _ _ (r .rewrite-group .ensures .1 .0) (r .rewrite-group .ensures .1 .1 .1),
         r .rewrite-group .ensures .1 .1 .0 .0,
       ),
     )
 
 pub generation-step-spec : {M : Type 1} → statement M
-generation-step-spec = tie.close (tie.spec rewrite-group-requires halt-of-requires same-length same-length-2 same-length-3 returns)
+generation-step-spec = tie.close (tie.spec rewrite-group-requires halt-of-requires same-length same-length-2 returns)

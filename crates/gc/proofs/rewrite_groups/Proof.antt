@@ -2,7 +2,6 @@ use mathlib.Core.Path.{_≡_, _∙_}
 use borrow.Author.Needs.{needs}
 use lib.ListN.{length}
 use Rattle.rules.specs.World.{world}
-use Rattle.rules.specs.Layout.{table}
 use Rattle.file_map.proofs.RecordTurns.{mapped-length}
 use Rattle.limits.specs.Settled.{passed-bounded}
 use Rattle.prune.specs.Labels.{passed-labels}
@@ -15,10 +14,10 @@ all-records start = search (mapped-length, needs)
 
 plan-requires : tie.Need-plan-requires
 plan-requires c κs =
-    let start = c .before .before .before .before in
+    let start = c .before .before .before in
     let a = start .args in
     let n = length (a .heap .now) in
-    let b = table (a .ids .now) (a .locations .now) in
+    let b = a .table .now in
     (start .pre .limits .settings, passed-bounded (a .settings) n b (a .state) (start .pre))
 
 slice-aggregate-generations : tie.Need-slice-aggregate-generations
@@ -26,11 +25,11 @@ slice-aggregate-generations c = search needs
 
 generations-requires : tie.Need-generations-requires
 generations-requires c κs =
-    let p = c .before .before .before .before in
-    let start = p .before .before .before .before .before in
+    let p = c .before .before .before in
+    let start = p .before .before .before .before in
     let a = start .args in
     let n = length (a .heap .now) in
-    let b = table (a .ids .now) (a .locations .now) in
+    let b = a .table .now in
     rw (p .plan .ensures) (under-start (a .settings) (a .claims) n b (a .state) (start .pre) (all-records start))
 
 same-length : tie.Need-same-length
@@ -39,16 +38,13 @@ same-length c = search needs
 same-length-2 : tie.Need-same-length-2
 same-length-2 c = search needs
 
-same-length-3 : tie.Need-same-length-3
-same-length-3 c = search needs
-
 returns : tie.Need-returns
 returns c =
-    let g = c .before .before .before .before .before .before in
-    let p = g .before .before .before .before .before in
-    let start = p .before .before .before .before .before in
+    let g = c .before .before .before .before in
+    let p = g .before .before .before .before in
+    let start = p .before .before .before .before in
     let a = start .args in (
-      g .generations .ensures .0 (a .claims) ∙ by-plan (world (a .settings) (a .state) (a .claims) (a .heap .now) (table (a .ids .now) (a .locations .now))) _ (p .plan .ensures),
+      g .generations .ensures .0 (a .claims) ∙ by-plan (world (a .settings) (a .state) (a .claims) (a .heap .now) (a .table .now)) _ (p .plan .ensures),
       passed-labels (a .settings) _ _ _ (g .generations .ensures .1 .limits),
     )
 
@@ -61,5 +57,4 @@ rewrite-groups-spec =
     generations-requires
     same-length
     same-length-2
-    same-length-3
     returns)

@@ -9,7 +9,7 @@ use Rattle.gc_install.proofs.add_at.Tie as tie
 
 new-label-requires : tie.Need-new-label-requires
 new-label-requires c κs =
-    let small = sizes-small (c .before .before .before .before .before .pre .0) in
+    let small = sizes-small (c .before .before .before .before .pre .0) in
     omega (arith, small .0, small .1)
 
 mul-start : tie.Need-mul-start
@@ -32,10 +32,10 @@ slice-aggregate-install-2 c = search needs
 
 install-requires : tie.Need-install-requires
 install-requires c κs =
-    let l = c .before .before .before .before .before in
+    let l = c .before .before .before .before in
     let p = l .before .before .before .before .before in
     let n = p .before .before .before .before in
-    let f = n .before .before .before .before .before .before .pre .0 in
+    let f = n .before .before .before .before .before .pre .0 in
     installable f (sym (add-zero _)) (n .new-label .ensures) (p .put-piece .ensures) (l .before .lsns .ensures) (l .lives .ensures) (passed-formed _ _ _ _ (f .limits))
 
 slice-aggregate-with-file : tie.Need-slice-aggregate-with-file
@@ -43,8 +43,8 @@ slice-aggregate-with-file c = search needs
 
 with-file-requires : tie.Need-with-file-requires
 with-file-requires c κs =
-    let n = c .before .before .before .before .before .before .before .before .before .before .before .before .before .before .before .before .before .before .before .before .before in
-    let fits = record-fits (n .before .before .before .before .before .before .pre .0) (n .new-label .ensures) in
+    let n = c .before .before .before .before .before .before .before .before .before .before .before .before .before .before .before .before .before .before in
+    let fits = record-fits (n .before .before .before .before .before .pre .0) (n .new-label .ensures) in
     (search needs, fits .0, fits .1)
 
 same-length : tie.Need-same-length
@@ -53,16 +53,13 @@ same-length c = search needs
 same-length-2 : tie.Need-same-length-2
 same-length-2 c = search needs
 
-same-length-3 : tie.Need-same-length-3
-same-length-3 c = search needs
-
 returns : tie.Need-returns
 returns c =
-    let i = c .before .before .before .before .before .before .before in
-    let l = i .before .before .before .before .before .before in
+    let i = c .before .before .before .before .before in
+    let l = i .before .before .before .before .before in
     let p = l .before .before .before .before .before in
     let n = p .before .before .before .before in
-    let f = n .before .before .before .before .before .before .pre .0 in
+    let f = n .before .before .before .before .before .pre .0 in
     added f (sym (add-zero _)) (n .new-label .ensures) (p .put-piece .ensures) (l .before .lsns .ensures) (l .lives .ensures) (i .install .ensures) (c .with-file .ensures)
 
 pub add-at-spec : {M : Type 1} → statement M
@@ -81,5 +78,4 @@ add-at-spec =
     with-file-requires
     same-length
     same-length-2
-    same-length-3
     returns)

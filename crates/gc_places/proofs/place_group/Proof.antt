@@ -6,6 +6,7 @@ use lib.ListN.{length, length-map}
 use borrow.Author.Needs.{needs}
 use Rattle.numbers.specs.Parts.{front}
 use Rattle.rules.specs.declared.Record.{Record}
+use Rattle.rules.specs.Layout.{tableLocations}
 use Rattle.file_map.proofs.RecordTurns.{mapped-length}
 use Rattle.gc_files.specs.Places.{placesFor}
 use Rattle.gc_places.specs.Group.{Checked}
@@ -37,14 +38,14 @@ enum-told : tie.Need-enum-told
 enum-told c = search needs
 
 -- none of the checks refuses the group
-cleared : (c : tie.After-enum-told) → let a = c .before .before .before .before .before .before .before .before .before .before .before .before .before .before .args in
-    Checked (a .group .settings .«max_object_size») (a .group .settings .«slot_bytes») (a .heap .now) (a .m .records) (a .plan .now) (a .group .generation) (a .ids .now) (a .locations .now) (length (a .marks .now))
+cleared : (c : tie.After-enum-told) → let a = c .before .before .before .before .before .before .before .before .before .before .before .before .before .args in
+    Checked (a .group .settings .«max_object_size») (a .group .settings .«slot_bytes») (a .heap .now) (a .m .records) (a .plan .now) (a .group .generation) (a .table .now) (length (a .marks .now))
 cleared c =
     let group = c .before .before .before .before .before in
-    let start = group .before .before .before .before .before .before .before .before .before in
+    let start = group .before .before .before .before .before .before .before .before in
     let a = start .args in
     let asked = start .pre in
-    group-checked (a .group .settings) (a .heap .now) (a .m .records) (a .plan .now) (a .group .generation) (a .ids .now) (a .locations .now) (length (a .marks .now)) (asked .0) (asked .1 .0)
+    group-checked (a .group .settings) (a .heap .now) (a .m .records) (a .plan .now) (a .group .generation) (a .table .now) (length (a .marks .now)) (asked .0) (asked .1 .0)
     (sym (group .mark-group .ensures .0) ∙ c .enum-told .given .1) (asked .1 .1 .0) (asked .1 .1 .1 .0)
 
 slice-aggregate-place-all : tie.Need-slice-aggregate-place-all
@@ -54,14 +55,14 @@ place-all-requires : tie.Need-place-all-requires
 place-all-requires c κs =
     let told = c .before .before .before in
     let group = told .before .before .before .before .before in
-    let start = group .before .before .before .before .before .before .before .before .before in
+    let start = group .before .before .before .before .before .before .before .before in
     let a = start .args in
     let done = told .enum-told .given .1 in
     let lsns = group .mark-group .ensures .1 .1 done in
     let marks = group .mark-group .ensures .1 .0 done in
     let checked = cleared told in (
       checked .high,
-      placeables (a .group .settings .«max_object_size») (a .group .settings .«slot_bytes») (a .heap .now) (a .m .records) (a .plan .now) (a .group .generation) (a .ids .now) (a .locations .now) (length (a .marks .now)) checked
+      placeables (a .group .settings .«max_object_size») (a .group .settings .«slot_bytes») (a .heap .now) (a .m .records) (a .plan .now) (a .group .generation) (a .table .now) (length (a .marks .now)) checked
           _ _ (a .places .now) (ap length lsns ∙ length-map (a .m .records) (λ (r : Record). r .label .lsn) ∙ all-records start) lsns marks (start .pre .1 .1 .1 .1),
     )
 
@@ -76,16 +77,16 @@ returns-2 c =
     let put = c .before .before in
     let told = put .before .before .before .before in
     let group = told .before .before .before .before .before in
-    let start = group .before .before .before .before .before .before .before .before .before in
+    let start = group .before .before .before .before .before .before .before .before in
     let a = start .args in
     let done = told .enum-told .given .1 in
     let lsns = group .mark-group .ensures .1 .1 done in
     let marks = group .mark-group .ensures .1 .0 done in (
       sym done ∙ group .mark-group .ensures .0,
       λ e.
-          places-told (a .group .settings .«max_object_size») (a .group .settings .«slot_bytes») (a .heap .now) (a .m .records) (a .plan .now) (a .group .generation) (a .ids .now) (a .locations .now) (length (a .marks .now)) (cleared told)
+          places-told (a .group .settings .«max_object_size») (a .group .settings .«slot_bytes») (a .heap .now) (a .m .records) (a .plan .now) (a .group .generation) (a .table .now) (length (a .marks .now)) (cleared told)
           (a .places .now) _ (start .pre .1 .1 .1 .1) (start .pre .1 .1 .1 .2)
-          (put .place-all .ensures ∙ ap₂ (λ (ns ms : List ℕ). front (placesFor (a .group .settings .«slot_bytes») ns (a .locations .now) ms) (a .places .now)) lsns marks),
+          (put .place-all .ensures ∙ ap₂ (λ (ns ms : List ℕ). front (placesFor (a .group .settings .«slot_bytes») ns (tableLocations (a .table .now)) ms) (a .places .now)) lsns marks),
     )
 
 pub place-group-spec : {M : Type 1} → statement M

@@ -2,6 +2,8 @@ use mathlib.Core.Path.{refl, sym, _∙_}
 use native.Mathlib.Omega.{arith}
 use borrow.Author.Needs.{needs}
 use lib.ListN.{length}
+use Rattle.rules.specs.Layout.{tableIds}
+use Rattle.rules.specs.LayoutLaws.{ids-count}
 use Rattle.limits.specs.Settled.{passed-formed}
 use Rattle.gc_rewrite.specs.Groups.{Checked, places-enough, places-blank, group-stopped, group-moving, group-rewritten}
 use Rattle.gc_rewrite.proofs.rewrite_group.Statement.{statement}
@@ -15,8 +17,8 @@ slice-aggregate-place-group-2 c = search needs
 
 place-group-requires : tie.Need-place-group-requires
 place-group-requires c κs =
-    let start = c .before .before .before .before .before .before .before .before .before .before in
-    let room = places-enough (length (start .args .ids .now)) (start .pre .0 .limits .table .most) in
+    let start = c .before .before .before .before .before .before .before .before in
+    let room = places-enough (length (tableIds (start .args .table .now))) (omega (arith, start .pre .0 .limits .table .most, ids-count (start .args .table .now))) in
     (start .pre .0 .limits .settings, (start .pre .1 .0, (passed-formed _ _ _ _ (start .pre .0), (room, room, places-blank))))
 
 enum-known-refusal : tie.Need-enum-known-refusal
@@ -35,19 +37,19 @@ returns : tie.Need-returns
 returns c =
     let told = c .before in
     let placed = told .before .before .before .before in
-    let start = placed .before .before .before .before .before .before .before .before .before .before .before in
-    let left = group-stopped _ _ _ _ _ (start .args .plan .now) (start .args .generation) (start .args .moved) _ (start .pre .0) (sym (placed .place-group .ensures .0) ∙ told .refusal .given .1) in
+    let start = placed .before .before .before .before .before .before .before .before .before in
+    let left = group-stopped _ _ _ _ (start .args .plan .now) (start .args .generation) (start .args .moved) _ (start .pre .0) (sym (placed .place-group .ensures .0) ∙ told .refusal .given .1) in
     (left .course, (left .limits, ((left .count, refl), left .kept)))
 
 enum-told : tie.Need-enum-told
 enum-told c = search needs
 
 -- none of the group's checks refuses it
-clear : (c : tie.After-enum-told) → let a = c .before .before .before .before .before .before .before .before .before .before .before .before .before .before .before .args in
-    Checked (a .settings) (a .state) (a .heap .now) (a .ids .now) (a .locations .now) (a .plan .now) (a .generation)
+clear : (c : tie.After-enum-told) → let a = c .before .before .before .before .before .before .before .before .before .before .before .before .before .args in
+    Checked (a .settings) (a .state) (a .heap .now) (a .table .now) (a .plan .now) (a .generation)
 clear c =
     let placed = c .before .before .before .before in
-    let start = placed .before .before .before .before .before .before .before .before .before .before .before in
+    let start = placed .before .before .before .before .before .before .before .before .before in
     record { limits = start .pre .0; ready = start .pre .1 .0; filled = start .pre .1 .1 .0; clear = sym (placed .place-group .ensures .0) ∙ c .enum-told .given .1 }
 
 slice-aggregate-split-files : tie.Need-slice-aggregate-split-files
@@ -58,30 +60,24 @@ slice-aggregate-split-files-2 c = search needs
 
 split-files-requires : tie.Need-split-files-requires
 split-files-requires c κs =
-    let told = c .before .before .before .before .before in
+    let told = c .before .before .before .before in
     let placed = told .before .before .before .before in
-    let start = placed .before .before .before .before .before .before .before .before .before .before .before in
+    let start = placed .before .before .before .before .before .before .before .before .before in
     let numbers = start .pre .1 .1 .1 in
-    let room = places-enough (length (start .args .ids .now)) (start .pre .0 .limits .table .most) in
+    let room = places-enough (length (tableIds (start .args .table .now))) (omega (arith, start .pre .0 .limits .table .most, ids-count (start .args .table .now))) in
     let found = placed .place-group .ensures .1 (told .enum-told .given .1) in
-    (group-moving _ _ _ _ _ _ _ (clear told) _ (search (room, needs)) (found .1 .0) (found .1 .1 .1), (search (room, needs), omega (arith, numbers .1), numbers .2))
+    (group-moving _ _ _ _ _ _ (clear told) _ (search (room, needs)) (found .1 .0) (found .1 .1 .1), (search (room, needs), omega (arith, numbers .1), numbers .2))
 
 same-length-4 : tie.Need-same-length-4
 same-length-4 c = search needs
 
-same-length-5 : tie.Need-same-length-5
-same-length-5 c = search needs
-
-same-length-6 : tie.Need-same-length-6
-same-length-6 c = search needs
-
 returns-2 : tie.Need-returns-2
 returns-2 c =
-    let done = c .before .before .before .before .before .before .before in
-    let told = done .before .before .before .before .before .before in
+    let done = c .before .before .before .before .before in
+    let told = done .before .before .before .before .before in
     let placed = told .before .before .before .before in
     let found = placed .place-group .ensures .1 (told .enum-told .given .1) in
-    let left = group-rewritten _ _ _ _ _ _ _ (clear told) _ _ _ _ _ _ _ _ (found .0) (done .split-files .ensures) in
+    let left = group-rewritten _ _ _ _ _ _ (clear told) _ _ _ _ _ _ _ (found .0) (done .split-files .ensures) in
     (left .course, (left .limits, ((left .count, search needs), left .kept)))
 
 pub rewrite-group-spec : {M : Type 1} → statement M
@@ -94,13 +90,11 @@ rewrite-group-spec =
     enum-known-refusal
     same-length
     same-length-2
-    same-length-3
     returns
     enum-told
     slice-aggregate-split-files
     slice-aggregate-split-files-2
     split-files-requires
+    same-length-3
     same-length-4
-    same-length-5
-    same-length-6
     returns-2)

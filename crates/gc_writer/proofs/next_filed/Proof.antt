@@ -3,15 +3,17 @@ use Prim.Native.Nat.{_≤_, _<_, _-_}
 use native.Mathlib.Omega.{arith}
 use borrow.Author.Needs.{needs}
 use Rattle.rules.specs.Base.{List, ℕ, length}
+use Rattle.rules.specs.Layout.{tableIds, capacityOf}
+use Rattle.rules.specs.LayoutLaws.{ids-count}
 use Rattle.gc_writer.specs.Walk.{filedFrom, filed-next}
 use Rattle.gc_writer.proofs.next_filed.Statement.{statement}
 use Rattle.gc_writer.proofs.next_filed.Tie as tie
 
 abbrev Inv-loop : tie.InvT-loop
-Inv-loop ids places pieces piece from n i₀ i = (from ≤ i) × ((heap : List ℕ) → filedFrom piece heap ids places pieces i ≡ filedFrom piece heap ids places pieces from)
+Inv-loop table places pieces piece from n i₀ i = (from ≤ i) × ((heap : List ℕ) → filedFrom piece heap (tableIds table) places pieces i ≡ filedFrom piece heap (tableIds table) places pieces from)
 
 abbrev μ-loop : tie.MeasureT-loop
-μ-loop ids places pieces piece from n i₀ i = length ids - i
+μ-loop table places pieces piece from n i₀ i = capacityOf table - i
 
 capacity-requires : tie.Need-capacity-requires Inv-loop μ-loop
 capacity-requires c κs = search needs
@@ -23,13 +25,21 @@ mul-filed : tie.Need-mul-filed Inv-loop μ-loop
 mul-filed c = search needs
 
 shared-slice-read-filed : tie.Need-shared-slice-read-filed Inv-loop μ-loop
-shared-slice-read-filed c = search needs
+shared-slice-read-filed c =
+    let at = c .before .before in
+    let start = at .before .before .before .before .before in
+    let entries = at .before .capacity .ensures ∙ sym (ids-count (start .args .table .now)) in
+    omega (arith, start .pre .0)
 
 mul-filed-2 : tie.Need-mul-filed-2 Inv-loop μ-loop
 mul-filed-2 c = search needs
 
 shared-slice-read-filed-2 : tie.Need-shared-slice-read-filed-2 Inv-loop μ-loop
-shared-slice-read-filed-2 c = search needs
+shared-slice-read-filed-2 c =
+    let at = c .before .before .before in
+    let start = at .before .before .before .before .before in
+    let entries = at .before .capacity .ensures ∙ sym (ids-count (start .args .table .now)) in
+    omega (arith, start .pre .1)
 
 filed-requires : tie.Need-filed-requires Inv-loop μ-loop
 filed-requires c κs = search needs
@@ -51,20 +61,20 @@ loop-again c =
     let f = c .before in
     let at = f .before .before .before .before in
     let start = at .before .before .before .before .before in
-    let entries = at .before .capacity .ensures in
     let a = start .args in
+    let entries = at .before .capacity .ensures ∙ sym (ids-count (a .table .now)) in
     let i = at .loop .i in
-    let low : i < length (a .ids .now) = omega arith in
+    let low : i < length (tableIds (a .table .now)) = omega arith in
     let other = sym (f .filed .ensures) ∙ c .if1 .left in (
       omega arith,
-      λ heap. filed-next (a .piece) heap (a .ids .now) (a .places .now) (a .pieces .now) i low (omega (arith, start .pre .0)) (omega (arith, start .pre .1)) other
+      λ heap. filed-next (a .piece) heap (tableIds (a .table .now)) (a .places .now) (a .pieces .now) i low (omega (arith, start .pre .0)) (omega (arith, start .pre .1)) other
           ∙ at .loop .inv .1 heap,
     )
 
 returns-2 : tie.Need-returns-2 Inv-loop μ-loop
 returns-2 c =
     let at = c .before in
-    let entries = at .before .capacity .ensures in
+    let entries = at .before .capacity .ensures ∙ sym (ids-count (at .before .before .before .before .before .args .table .now)) in
     record { on = at .loop .inv .0; here = λ low. absurd (omega (arith, c .loop-test .left)); same = at .loop .inv .1 }
 
 pub next-filed-spec : {M : Type 1} → statement M

@@ -1,4 +1,4 @@
-use mathlib.Core.Path.{_≡_, ap}
+use mathlib.Core.Path.{_≡_, sym, ap, _∙_}
 use Prim.Native.Nat.{ℕ, _+_, _*_, _<_, _-_}
 use native.Mathlib.Omega.{arith}
 use borrow.Author.Needs.{needs}
@@ -8,6 +8,8 @@ use Rattle.rules.specs.Trailer.{entryBytes}
 use Rattle.rules.specs.TrailerLaws.{entry-length}
 use Rattle.batch.specs.SizeLaws.{total-next}
 use Rattle.batch_file.specs.Putting.{Putting, entriesFrom, putting-start, entry-fits, entry-put, entries-put}
+use Rattle.rules.specs.Layout.{tableIds, capacityOf}
+use Rattle.rules.specs.LayoutLaws.{ids-count}
 use Rattle.gc_files.specs.Places.{filedOps}
 use Rattle.gc_writer.specs.Walk.{filedFrom, filedHere, filed-end}
 use Rattle.gc_writer.specs.Writing.{Free, free-walking, free-put}
@@ -15,13 +17,13 @@ use Rattle.gc_writer.proofs.put_entries.Statement.{statement}
 use Rattle.gc_writer.proofs.put_entries.Tie as tie
 
 abbrev Inv-loop : tie.InvT-loop
-Inv-loop heap₀ at ids places pieces piece left rest₀ to₀ position₀ n i₀ heap rest to position i =
-    (i < length ids → filedHere piece (getD places i 0) (getD pieces i 0) ≡ true)
-    × Free at (16 * length (filedOps piece heap₀ ids places pieces)) heap ids places pieces
-    × Putting entriesFrom left at (filedOps piece heap₀ ids places pieces) heap₀ rest to position (filedFrom piece heap ids places pieces i) heap
+Inv-loop heap₀ at table places pieces piece left rest₀ to₀ position₀ n i₀ heap rest to position i =
+    (i < length (tableIds table) → filedHere piece (getD places i 0) (getD pieces i 0) ≡ true)
+    × Free at (16 * length (filedOps piece heap₀ (tableIds table) places pieces)) heap (tableIds table) places pieces
+    × Putting entriesFrom left at (filedOps piece heap₀ (tableIds table) places pieces) heap₀ rest to position (filedFrom piece heap (tableIds table) places pieces i) heap
 
 abbrev μ-loop : tie.MeasureT-loop
-μ-loop heap₀ at ids places pieces piece left rest₀ to₀ position₀ n i₀ heap rest to position i = length ids - i
+μ-loop heap₀ at table places pieces piece left rest₀ to₀ position₀ n i₀ heap rest to position i = capacityOf table - i
 
 capacity-requires : tie.Need-capacity-requires Inv-loop μ-loop
 capacity-requires c κs = search needs
@@ -38,8 +40,10 @@ loop-holds c =
 turn-at-requires : tie.Need-turn-at-requires Inv-loop μ-loop
 turn-at-requires c κs =
     let inside = c .before in
-    let inv = inside .before .loop .inv in
-    let low = rw (inside .before .before .before .capacity .ensures) at (inside .loop-test .taken) in
+    let at = inside .before in
+    let inv = at .loop .inv in
+    let start = at .before .before .before .before .before .before .before in
+    let low = rw (at .before .before .capacity .ensures ∙ sym (ids-count (start .args .table .now))) at (inside .loop-test .taken) in
     (free-walking (inv .1), (low, inv .0 low))
 
 entry-of-requires : tie.Need-entry-of-requires Inv-loop μ-loop
@@ -97,8 +101,8 @@ returns c =
     let at = c .before in
     let l = at .loop in
     let a = at .before .before .before .before .before .before .before .args in
-    let entries = at .before .before .capacity .ensures in
-    entries-put (l .inv .2) (filed-end (a .piece) (l .heap) (a .ids .now) (a .places .now) (a .pieces .now) (l .i) (omega arith))
+    let entries = at .before .before .capacity .ensures ∙ sym (ids-count (a .table .now)) in
+    entries-put (l .inv .2) (filed-end (a .piece) (l .heap) (tableIds (a .table .now)) (a .places .now) (a .pieces .now) (l .i) (omega arith))
 
 pub put-entries-spec : {M : Type 1} → statement M
 put-entries-spec =

@@ -2,6 +2,7 @@ use Prim.Native.Nat.{_+_, _*_}
 use native.Mathlib.Omega.{arith}
 use borrow.Author.Needs.{needs}
 use Rattle.batch_file.specs.Summing.{trailer-of}
+use Rattle.rules.specs.Layout.{tableIds}
 use Rattle.gc_writer.specs.Elsewhere.{filed-elsewhere}
 use Rattle.gc_writer.specs.Writing.{free-walking, free-elsewhere, free-part, head-elsewhere}
 use Rattle.gc_writer.proofs.put_trailer.Statement.{statement}
@@ -26,7 +27,7 @@ put-entries-requires c κs =
     let a = start .args in
     let free = start .pre .0 in
     let away = head-elsewhere (a .at) (12 + 16 * a .count) (s .sum .result) (a .count) (omega arith) (first .put-head .ensures) in
-    let same = filed-elsewhere away (a .piece) (a .ids .now) (a .places .now) (a .pieces .now) (free .apart) in
+    let same = filed-elsewhere away (a .piece) (tableIds (a .table .now)) (a .places .now) (a .pieces .now) (free .apart) in
     rw same (free-part (free-elsewhere free away) (a .at + 12) _ (omega arith) (omega (arith, start .pre .1 .0)), start .pre .1 .1)
 
 same-length : tie.Need-same-length
@@ -41,7 +42,7 @@ returns c =
     let a = start .args in
     let free = start .pre .0 in
     let away = head-elsewhere (a .at) (12 + 16 * a .count) (s .sum .result) (a .count) (omega arith) (first .put-head .ensures) in
-    let same = filed-elsewhere away (a .piece) (a .ids .now) (a .places .now) (a .pieces .now) (free .apart) in
+    let same = filed-elsewhere away (a .piece) (tableIds (a .table .now)) (a .places .now) (a .pieces .now) (free .apart) in
     trailer-of (a .at) _ (start .pre .1 .0) (s .sum .ensures) (first .put-head .ensures) (rw same at (second .put-entries .ensures))
 
 pub put-trailer-spec : {M : Type 1} → statement M

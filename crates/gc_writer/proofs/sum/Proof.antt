@@ -1,4 +1,4 @@
-use mathlib.Core.Path.{_≡_, ap, _∙_}
+use mathlib.Core.Path.{_≡_, sym, ap, _∙_}
 use Prim.Native.Nat.{ℕ, _+_, _<_, _-_}
 use native.Mathlib.Omega.{arith}
 use borrow.Author.Needs.{needs}
@@ -6,18 +6,20 @@ use lib.ListN.{length, getD}
 use Rattle.rules.specs.Base.{true}
 use Rattle.batch.specs.SizeLaws.{total-next}
 use Rattle.batch_file.specs.Summing.{Summing, summing-start, summing-next, summing-end}
+use Rattle.rules.specs.Layout.{tableIds, capacityOf}
+use Rattle.rules.specs.LayoutLaws.{ids-count}
 use Rattle.gc_files.specs.Places.{filedOps}
 use Rattle.gc_writer.specs.Walk.{filedFrom, filedHere, filed-end}
 use Rattle.gc_writer.proofs.sum.Statement.{statement}
 use Rattle.gc_writer.proofs.sum.Tie as tie
 
 abbrev Inv-loop : tie.InvT-loop
-Inv-loop heap ids places pieces piece count register₀ position₀ n i₀ register position i =
-    (i < length ids → filedHere piece (getD places i 0) (getD pieces i 0) ≡ true)
-    × Summing (filedOps piece heap ids places pieces) (filedFrom piece heap ids places pieces i) register position
+Inv-loop heap table places pieces piece count register₀ position₀ n i₀ register position i =
+    (i < length (tableIds table) → filedHere piece (getD places i 0) (getD pieces i 0) ≡ true)
+    × Summing (filedOps piece heap (tableIds table) places pieces) (filedFrom piece heap (tableIds table) places pieces i) register position
 
 abbrev μ-loop : tie.MeasureT-loop
-μ-loop heap ids places pieces piece count register₀ position₀ n i₀ register position i = length ids - i
+μ-loop heap table places pieces piece count register₀ position₀ n i₀ register position i = capacityOf table - i
 
 sum-count-requires : tie.Need-sum-count-requires Inv-loop μ-loop
 sum-count-requires c κs = search needs
@@ -38,8 +40,9 @@ loop-holds c =
 turn-at-requires : tie.Need-turn-at-requires Inv-loop μ-loop
 turn-at-requires c κs =
     let at = c .before in
-    let low = rw (at .before .before .capacity .ensures) at (c .loop-test .taken) in
-    (at .before .before .before .before .before .before .before .before .pre .0, (low, at .loop .inv .0 low))
+    let start = at .before .before .before .before .before .before .before .before in
+    let low = rw (at .before .before .capacity .ensures ∙ sym (ids-count (start .args .table .now))) at (c .loop-test .taken) in
+    (start .pre .0, (low, at .loop .inv .0 low))
 
 entry-of-requires : tie.Need-entry-of-requires Inv-loop μ-loop
 entry-of-requires c κs = omega (arith, c .before .before .loop .inv .1 .low)
@@ -69,8 +72,8 @@ returns : tie.Need-returns Inv-loop μ-loop
 returns c =
     let at = c .before .before in
     let a = at .before .before .before .before .before .before .before .before .args in
-    let entries = at .before .before .capacity .ensures in
-    let none = filed-end (a .piece) (a .heap .now) (a .ids .now) (a .places .now) (a .pieces .now) (at .loop .i) (omega arith) in
+    let entries = at .before .before .capacity .ensures ∙ sym (ids-count (a .table .now)) in
+    let none = filed-end (a .piece) (a .heap .now) (tableIds (a .table .now)) (a .places .now) (a .pieces .now) (at .loop .i) (omega arith) in
     c .sum-end .ensures ∙ summing-end (at .loop .inv .1) none
 
 pub sum-spec : {M : Type 1} → statement M

@@ -1,13 +1,15 @@
 use native.Mathlib.Omega.{arith}
 use borrow.Author.Needs.{needs}
 use lib.ListN.{getD}
+use Rattle.rules.specs.Layout.{tableIds}
+use Rattle.rules.specs.LayoutLaws.{ids-count}
 use Rattle.gc_files.specs.PlaceLaws.{moving-told}
 use Rattle.gc_writer.specs.Walk.{filed-moved, turned}
 use Rattle.gc_writer.proofs.turn_at.Statement.{statement}
 use Rattle.gc_writer.proofs.turn_at.Tie as tie
 
 id-at-requires : tie.Need-id-at-requires
-id-at-requires c κs = search needs
+id-at-requires c κs = search (ids-count (c .before .before .before .before .args .table .now), needs)
 
 mul-moving-at : tie.Need-mul-moving-at
 mul-moving-at c = search needs
@@ -26,7 +28,7 @@ size-of-requires c κs =
     let start = c .before .before .before .before .before .before .before in
     let a = start .args in
     let some = filed-moved (a .piece) (getD (a .places .now) (a .i) 0) (getD (a .pieces .now) (a .i) 0) (start .pre .1 .1) in
-    let told = moving-told (a .heap .now) (getD (a .ids .now) (a .i) 0) (getD (a .places .now) (a .i) 0) some (start .pre .0 .standing (a .i)) in
+    let told = moving-told (a .heap .now) (getD (tableIds (a .table .now)) (a .i) 0) (getD (a .places .now) (a .i) 0) some (start .pre .0 .standing (a .i)) in
     rw (c .moving-at .ensures, c .before .before .id-at .ensures) (omega (arith, told .short))
 
 add-next-filed : tie.Need-add-next-filed

@@ -2,6 +2,7 @@ use Prim.Native.Nat.{_+_, _*_}
 use native.Mathlib.Omega.{arith}
 use borrow.Author.Needs.{needs}
 use Rattle.slot_writer.specs.Files.{file-made}
+use Rattle.rules.specs.Layout.{tableIds}
 use Rattle.gc_files.specs.Places.{filedOps}
 use Rattle.gc_writer.specs.Elsewhere.{filed-elsewhere}
 use Rattle.gc_writer.specs.Writing.{free-elsewhere, free-part, writing-free, writing-room, objects-elsewhere}
@@ -30,7 +31,7 @@ put-trailer-requires c κs =
     let a = start .args in
     let w = start .pre in
     let away = objects-elsewhere w (first .put-objects .ensures) in
-    let same = filed-elsewhere away (a .file .piece) (a .ids .now) (a .places .now) (a .pieces .now) (w .apart) in
+    let same = filed-elsewhere away (a .file .piece) (tableIds (a .table .now)) (a .places .now) (a .pieces .now) (w .apart) in
     let room = writing-room w in
     rw same (
       free-part (free-elsewhere (writing-free w) away) (a .file .start + 64 + a .file .total) (12 + 16 * a .file .count) (omega arith) (omega arith),
@@ -52,8 +53,8 @@ returns c =
     let a = start .args in
     let w = start .pre in
     let away = objects-elsewhere w (first .put-objects .ensures) in
-    let same = filed-elsewhere away (a .file .piece) (a .ids .now) (a .places .now) (a .pieces .now) (w .apart) in
-    let ops = filedOps (a .file .piece) (a .heap .now) (a .ids .now) (a .places .now) (a .pieces .now) in
+    let same = filed-elsewhere away (a .file .piece) (tableIds (a .table .now)) (a .places .now) (a .pieces .now) (w .apart) in
+    let ops = filedOps (a .file .piece) (a .heap .now) (tableIds (a .table .now)) (a .places .now) (a .pieces .now) in
     file-made (a .file .start) ops (a .new) (first .put-objects .ensures) (rw (same, w .objects) at (second .put-trailer .ensures)) (third .put .ensures)
 
 pub write-piece-spec : {M : Type 1} → statement M

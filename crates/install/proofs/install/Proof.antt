@@ -33,7 +33,7 @@ part-by-trailer-end c = search needs
 
 by-trailer-requires : tie.Need-by-trailer-requires
 by-trailer-requires c κs =
-    let start = c .before .before .before .before .before .before .before .before .before .before in
+    let start = c .before .before .before .before .before .before .before .before in
     let a = start .args in
     let w = start .pre in
     let from = a .file .start + 64 + a .file .total in
@@ -47,13 +47,10 @@ same-length c = search needs
 same-length-2 : tie.Need-same-length-2
 same-length-2 c = search needs
 
-same-length-3 : tie.Need-same-length-3
-same-length-3 c = search needs
-
 returns : tie.Need-returns
 returns c =
-    let t = c .before .before .before .before .before .before in
-    let a = t .before .before .before .before .before .before .before .before .before .before .before .args in
+    let t = c .before .before .before .before in
+    let a = t .before .before .before .before .before .before .before .before .before .args in
     let from = a .file .start + 64 + a .file .total in
     let size : from + (12 + 16 * a .file .count) - from ≡ 12 + 16 * a .file .count = omega arith in
     rw size at (t .by-trailer .ensures)
@@ -73,5 +70,4 @@ install-spec =
     by-trailer-requires
     same-length
     same-length-2
-    same-length-3
     returns)

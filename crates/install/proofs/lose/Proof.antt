@@ -6,7 +6,7 @@ use lib.ListN.{length, drop, getD}
 use Rattle.rules.specs.declared.Entry.{Entry}
 use Rattle.rules.specs.Trailer.{countIn, entriesIn}
 use Rattle.rules.specs.Table.{lookup, noEntry}
-use Rattle.rules.specs.Layout.{table, usedEntries}
+use Rattle.rules.specs.Layout.{usedEntries}
 use Rattle.trailer.specs.Entries.{entries-count}
 use Rattle.file_map.specs.Lists.{lessAt}
 use Rattle.file_map.specs.ListLaws.{length-less}
@@ -15,10 +15,10 @@ use Rattle.install.proofs.lose.Statement.{statement}
 use Rattle.install.proofs.lose.Tie as tie
 
 abbrev Inv-loop : tie.InvT-loop
-Inv-loop lsns lives₀ ids locations trailer n k₀ lives k = (n ≡ countIn trailer) × (k ≤ n) × (length lives ≡ length lives₀) × (losingLives lsns (usedEntries (table ids locations)) (drop k (entriesIn trailer)) lives ≡ losingLives lsns (usedEntries (table ids locations)) (entriesIn trailer) lives₀)
+Inv-loop lsns lives₀ table trailer n k₀ lives k = (n ≡ countIn trailer) × (k ≤ n) × (length lives ≡ length lives₀) × (losingLives lsns (usedEntries table) (drop k (entriesIn trailer)) lives ≡ losingLives lsns (usedEntries table) (entriesIn trailer) lives₀)
 
 abbrev μ-loop : tie.MeasureT-loop
-μ-loop lsns lives₀ ids locations trailer n k₀ lives k = n - k
+μ-loop lsns lives₀ table trailer n k₀ lives k = n - k
 
 count-requires : tie.Need-count-requires Inv-loop μ-loop
 count-requires c κs = search needs
@@ -32,7 +32,7 @@ entry-requires c κs = search needs
 lose-one-requires : tie.Need-lose-one-requires Inv-loop μ-loop
 lose-one-requires c κs =
     let l = c .before .before .before .loop in
-    let pre = c .before .before .before .before .before .before .before .before .before .before .pre in
+    let pre = c .before .before .before .before .before .before .before .before .before .pre in
     (pre .0, omega (arith, l .inv .2, pre .1))
 
 add-k : tie.Need-add-k Inv-loop μ-loop
@@ -46,10 +46,10 @@ loop-again c =
     let w = c .before .before in
     let l = w .before .before .before .before .loop in
     let counted = w .before .before .before .before .before in
-    let start = counted .before .before .before .before .before .before in
+    let start = counted .before .before .before .before .before in
     let a = start .args in
     let es = entriesIn (a .trailer .now) in
-    let t = usedEntries (table (a .ids .now) (a .locations .now)) in
+    let t = usedEntries (a .table .now) in
     let h : l .k < length es = omega (arith, l .inv .0, entries-count (a .trailer .now) (start .pre .2), w .before .before .before .loop-test .taken) in
     let lost : w .lose-one .last .1 .0 ≡ lessAt (slotHolding (a .lsns .now) (lookup t (getD es (l .k) noEntry .id))) (l .lives) =
     w .lose-one .ensures ∙ ap (λ (e : Entry). lessAt (slotHolding (a .lsns .now) (lookup t (e .id))) (l .lives)) (w .before .before .entry .ensures) in (
@@ -65,10 +65,10 @@ same-length c = c .before .loop .inv .2
 returns : tie.Need-returns Inv-loop μ-loop
 returns c =
     let l = c .before .loop in
-    let start = c .before .before .before .before .before .before .before .before in
+    let start = c .before .before .before .before .before .before .before in
     let a = start .args in
     let es = entriesIn (a .trailer .now) in
-    let t = usedEntries (table (a .ids .now) (a .locations .now)) in
+    let t = usedEntries (a .table .now) in
     let done : length es ≤ l .k = omega (arith, l .inv .0, entries-count (a .trailer .now) (start .pre .2), c .loop-test .left) in
     sym (losing-end (a .lsns .now) t es (l .lives) (l .k) done) ∙ l .inv .3
 

@@ -19,7 +19,7 @@ lsn-at-requires c κs = search needs
 
 less-at-requires : tie.Need-less-at-requires
 less-at-requires c κs =
-    let start = c .before .before .before .before .before .before .before .before .before .before in
+    let start = c .before .before .before .before .before .before .before .before .before in
     λ k e. omega (arith, found-within (start .args .lsns .now) _ k (sym (c .before .lsn-at .ensures) ∙ e), start .pre .1)
 
 enum-told : tie.Need-enum-told
@@ -32,7 +32,7 @@ returns : tie.Need-returns
 returns c =
     let w = c .before .before in
     let loaded = w .before .before .before .before .before .before in
-    let a = loaded .before .before .before .before .before .args in
+    let a = loaded .before .before .before .before .args in
     w .less-at .ensures
     ∙ ap (λ (s : Slot). lessAt s (a .lives .now))
     (w .before .before .lsn-at .ensures ∙ ap (slotHolding (a .lsns .now)) (sym (w .before .before .before .before .location .given .1) ∙ loaded .load-in .ensures))
@@ -40,7 +40,7 @@ returns c =
 returns-2 : tie.Need-returns-2
 returns-2 c =
     let loaded = c .before .before in
-    let a = loaded .before .before .before .before .before .args in
+    let a = loaded .before .before .before .before .args in
     ap (λ (h : Held). lessAt (slotHolding (a .lsns .now) h) (a .lives .now)) (sym (c .enum-told .given .1) ∙ loaded .load-in .ensures)
 
 pub lose-one-spec : {M : Type 1} → statement M

@@ -8,7 +8,7 @@ use lib.ListN.{length, drop}
 use Rattle.rules.specs.declared.Entry.{Entry}
 use Rattle.rules.specs.Trailer.{countIn, entriesIn, absolute}
 use Rattle.rules.specs.Table.{insert, insertAll, full, noEntry}
-use Rattle.rules.specs.Layout.{Buffers, table, laidOut, usedEntries}
+use Rattle.rules.specs.Layout.{laidOut, usedEntries, capacityOf}
 use Rattle.trailer.specs.Entries.{entries-count}
 use Rattle.location_table.specs.Tables.{Formed}
 use Rattle.disk_location.specs.Locations.{positionOf}
@@ -19,10 +19,10 @@ use Rattle.install.proofs.store_all.Statement.{statement}
 use Rattle.install.proofs.store_all.Tie as tie
 
 abbrev Inv-loop : tie.InvT-loop
-Inv-loop ids₀ locations₀ trailer lsn n k₀ ids locations k = (n ≡ countIn trailer) × (k ≤ n) × Formed (table ids locations) × (length ids ≡ length ids₀) × (insertAll (usedEntries (table ids locations)) (taken lsn (drop k (entriesIn trailer))) ≡ insertAll (usedEntries (table ids₀ locations₀)) (taken lsn (entriesIn trailer)))
+Inv-loop table₀ trailer lsn n k₀ table k = (n ≡ countIn trailer) × (k ≤ n) × Formed table × (capacityOf table ≡ capacityOf table₀) × (insertAll (usedEntries table) (taken lsn (drop k (entriesIn trailer))) ≡ insertAll (usedEntries table₀) (taken lsn (entriesIn trailer)))
 
 abbrev μ-loop : tie.MeasureT-loop
-μ-loop ids₀ locations₀ trailer lsn n k₀ ids locations k = n - k
+μ-loop table₀ trailer lsn n k₀ table k = n - k
 
 -- what a turn knows of the entry that it looks at
 record Met (lsn k : ℕ) (es : List Entry) (t all : List Entry) (capacity : ℕ) (e : Entry) : Type 0 where
@@ -32,23 +32,23 @@ record Met (lsn k : ℕ) (es : List Entry) (t all : List Entry) (capacity : ℕ)
   pub next : insertAll (insert t (absolute lsn e)) (taken lsn (drop (k + 1) es)) ≡ insertAll t (taken lsn (drop k es))
 
 met : (c : tie.After-entry Inv-loop μ-loop) → let l = c .before .before .loop in
-    let a = c .before .before .before .before .before .before .before .args in
+    let a = c .before .before .before .before .before .before .args in
     let es = entriesIn (a .trailer .now) in
-    Met (a .lsn) (l .k) es (usedEntries (table (l .ids) (l .locations))) es (length (l .ids)) (c .entry .result)
+    Met (a .lsn) (l .k) es (usedEntries (l .table)) es (capacityOf (l .table)) (c .entry .result)
 met c =
     let l = c .before .before .loop in
-    let start = c .before .before .before .before .before .before .before in
+    let start = c .before .before .before .before .before .before in
     let a = start .args in
     let pre = start .pre in
     let es = entriesIn (a .trailer .now) in
-    let t = usedEntries (table (l .ids) (l .locations)) in
+    let t = usedEntries (l .table) in
     let h : l .k < length es = omega (arith, l .inv .0, entries-count (a .trailer .now) (pre .1), c .before .loop-test .taken) in
     let next : insertAll (insert t (absolute (a .lsn) (c .entry .result))) (taken (a .lsn) (drop (l .k + 1) es)) ≡ insertAll t (taken (a .lsn) (drop (l .k) es)) =
     ap (λ (e : Entry). insertAll (insert t (absolute (a .lsn) e)) (taken (a .lsn) (drop (l .k + 1) es))) (c .entry .ensures) ∙ sym (adding-next (a .lsn) t es (l .k) noEntry h) in
     record {
       placed = omega (arith, ap (λ (e : Entry). positionOf (e .location)) (c .entry .ensures), pre .2 (l .k));
       positive = pre .3;
-      room = room-now t (absolute (a .lsn) (c .entry .result)) (taken (a .lsn) (drop (l .k + 1) es)) (length (l .ids)) (omega (arith, ap length (next ∙ l .inv .4), pre .4, l .inv .3));
+      room = room-now t (absolute (a .lsn) (c .entry .result)) (taken (a .lsn) (drop (l .k + 1) es)) (capacityOf (l .table)) (omega (arith, ap length (next ∙ l .inv .4), pre .4, l .inv .3));
       next = next;
     }
 
@@ -57,7 +57,7 @@ count-requires c κs = search needs
 
 loop-holds : tie.Need-loop-holds Inv-loop μ-loop
 loop-holds c =
-    let pre = c .before .before .before .before .pre in
+    let pre = c .before .before .before .pre in
     (c .count .ensures, zero-le, pre .0, refl, refl)
 
 entry-requires : tie.Need-entry-requires Inv-loop μ-loop
@@ -65,7 +65,7 @@ entry-requires c κs = search needs
 
 store-one-requires : tie.Need-store-one-requires Inv-loop μ-loop
 store-one-requires c κs =
-    let entry = c .before .before in
+    let entry = c .before in
     let l = entry .before .before .loop in
     let m = met entry in
     (l .inv .2, m .placed, m .positive, m .room)
@@ -78,10 +78,10 @@ loop-less c = search needs
 
 loop-again : tie.Need-loop-again Inv-loop μ-loop
 loop-again c =
-    let w = c .before .before .before .before in
-    let entry = w .before .before .before in
+    let w = c .before .before in
+    let entry = w .before .before in
     let l = entry .before .before .loop in
-    let a = entry .before .before .before .before .before .before .before .args in
+    let a = entry .before .before .before .before .before .before .args in
     let es = entriesIn (a .trailer .now) in
     let m = met entry in
     let e = entry .entry .result in
@@ -89,32 +89,29 @@ loop-again c =
     let stored = w .store-one .ensures in (
       l .inv .0,
       omega arith,
-      subst Formed (sym stored) (formed-after (l .ids) (l .locations) (l .inv .2) (e .id) (absolute (a .lsn) e .location) some (m .room)),
-      ap (λ (b : Buffers). length (b .ids)) stored ∙ length-after (l .ids) (l .locations) (l .inv .2) (e .id) (absolute (a .lsn) e .location) some (m .room) ∙ l .inv .3,
+      subst Formed (sym stored) (formed-after (l .table) (l .inv .2) (e .id) (absolute (a .lsn) e .location) some (m .room)),
+      ap capacityOf stored ∙ length-after (l .table) (l .inv .2) (e .id) (absolute (a .lsn) e .location) some (m .room) ∙ l .inv .3,
       ap (λ (t : List Entry). insertAll t (taken (a .lsn) (drop (l .k + 1) es)))
-          (ap usedEntries stored ∙ used-after (l .ids) (l .locations) (l .inv .2) (e .id) (absolute (a .lsn) e .location) some (m .room))
+          (ap usedEntries stored ∙ used-after (l .table) (l .inv .2) (e .id) (absolute (a .lsn) e .location) some (m .room))
           ∙ m .next
           ∙ l .inv .4,
     )
 
 same-length : tie.Need-same-length Inv-loop μ-loop
-same-length c = c .before .loop .inv .3
-
-same-length-2 : tie.Need-same-length-2 Inv-loop μ-loop
-same-length-2 c =
+same-length c =
     let l = c .before .loop in
-    let pre = c .before .before .before .before .before .before .pre in
+    let pre = c .before .before .before .before .before .pre in
     omega (arith, l .inv .3, l .inv .2 .even, pre .0 .even)
 
 returns : tie.Need-returns Inv-loop μ-loop
 returns c =
     let l = c .before .loop in
-    let start = c .before .before .before .before .before .before in
+    let start = c .before .before .before .before .before in
     let a = start .args in
     let es = entriesIn (a .trailer .now) in
     let done : length es ≤ l .k = omega (arith, l .inv .0, entries-count (a .trailer .now) (start .pre .1), c .loop-test .left) in
-    laid-out (l .ids) (l .locations) (l .inv .2)
-    ∙ ap₂ laidOut (l .inv .3) (sym (adding-end (a .lsn) (usedEntries (table (l .ids) (l .locations))) es (l .k) done) ∙ l .inv .4)
+    laid-out (l .table) (l .inv .2)
+    ∙ ap₂ laidOut (l .inv .3) (sym (adding-end (a .lsn) (usedEntries (l .table)) es (l .k) done) ∙ l .inv .4)
 
 pub store-all-spec : {M : Type 1} → statement M
 store-all-spec =
@@ -130,5 +127,4 @@ store-all-spec =
     loop-less
     loop-again
     same-length
-    same-length-2
     returns)

@@ -2,7 +2,6 @@ use mathlib.Core.Path.{ap, _∙_}
 use borrow.Author.Needs.{needs}
 use Rattle.rules.specs.declared.Entry.{Entry}
 use Rattle.rules.specs.TableCalls.{withStored}
-use Rattle.rules.specs.Layout.{table}
 use Rattle.location_table.specs.StoreLaws.{stored-is}
 use Rattle.install.proofs.store_one.Statement.{statement}
 use Rattle.install.proofs.store_one.Tie as tie
@@ -16,17 +15,14 @@ store-in-requires c κs = search needs
 same-length : tie.Need-same-length
 same-length c = search needs
 
-same-length-2 : tie.Need-same-length-2
-same-length-2 c = search needs
-
 returns : tie.Need-returns
 returns c =
-    let w = c .before .before .before .before in
-    let a = w .before .before .before .before .before .before .args in
-    let pre = w .before .before .before .before .before .before .pre in
-    let b = table (a .ids .now) (a .locations .now) in
-    stored-is b (a .e .id) _ (pre .3) _ _ (w .store-in .ensures) ∙ ap (λ (x : Entry). withStored b (a .e .id) (x .location)) (w .before .before .before .absolute .ensures)
+    let w = c .before .before in
+    let a = w .before .before .before .before .args in
+    let pre = w .before .before .before .before .pre in
+    let b = a .table .now in
+    stored-is b (a .e .id) _ (pre .3) _ _ (w .store-in .ensures) ∙ ap (λ (x : Entry). withStored b (a .e .id) (x .location)) (w .before .before .absolute .ensures)
 
 pub store-one-spec : {M : Type 1} → statement M
 store-one-spec =
-    tie.close (tie.spec absolute-requires store-in-requires same-length same-length-2 returns)
+    tie.close (tie.spec absolute-requires store-in-requires same-length returns)

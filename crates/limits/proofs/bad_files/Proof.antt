@@ -7,23 +7,22 @@ use lib.ListN.{length, drop}
 use Rattle.limits.proofs.bad_files.Statement.{statement}
 use Rattle.rules.specs.BaseLaws.{within-true}
 use Rattle.rules.specs.Condition1.{badFrom}
-use Rattle.rules.specs.Layout.{table}
 use Rattle.file_map.proofs.RecordTurns.{mapped-length}
 use Rattle.limits.specs.Settled.{badFiles, bad-files}
 use Rattle.limits.proofs.BadFileTurns.{bad-here, bad-next, bad-end}
 use Rattle.limits.proofs.bad_files.Tie as tie
 
 abbrev Inv-loop : tie.InvT-loop
-Inv-loop s heap ids locations files i₀ i =
+Inv-loop s heap table files i₀ i =
     (i ≤ 256)
     × (128 ≤ s .«slot_bytes»)
     × (s .«slot_bytes» ≤ 1048576)
-    × (badFiles s heap (table ids locations) (files .records) ≡ badFrom s heap (table ids locations) i (drop i (files .records)))
+    × (badFiles s heap table (files .records) ≡ badFrom s heap table i (drop i (files .records)))
 
 abbrev μ-loop : tie.MeasureT-loop
-μ-loop s heap ids locations files i₀ i = 256 - i
+μ-loop s heap table files i₀ i = 256 - i
 
-all-records : (start : tie.Start Inv-loop μ-loop) → length (start .args .t5 .records) ≡ 256
+all-records : (start : tie.Start Inv-loop μ-loop) → length (start .args .t4 .records) ≡ 256
 all-records start = search (mapped-length, needs)
 
 within-requires : tie.Need-within-requires Inv-loop μ-loop
@@ -35,9 +34,9 @@ returns c = rw (sym (c .before .within .ensures) ∙ not-true _ (c .if1 .taken))
 
 loop-holds : tie.Need-loop-holds Inv-loop μ-loop
 loop-holds c =
-    let a = c .before .before .before .before .args in
+    let a = c .before .before .before .args in
     let w = within-true 128 1048576 (a .s .«slot_bytes») (sym (c .before .within .ensures) ∙ not-false _ (c .if1 .left)) in
-    (omega arith, w .0, w .1, bad-files (a .s) (a .heap) (table (a .ids .now) (a .locations .now)) (a .t5 .records) (w .0) (w .1))
+    (omega arith, w .0, w .1, bad-files (a .s) (a .heap) (a .table .now) (a .t4 .records) (w .0) (w .1))
 
 mul-bad-record : tie.Need-mul-bad-record Inv-loop μ-loop
 mul-bad-record c = search needs
@@ -51,10 +50,10 @@ bad-record-requires c κs = search needs
 returns-2 : tie.Need-returns-2 Inv-loop μ-loop
 returns-2 c =
     let at-loop = c .before .before .before .before in
-    let start = at-loop .before .before .before .before .before in
+    let start = at-loop .before .before .before .before in
     let a = start .args in
-    let b = table (a .ids .now) (a .locations .now) in
-    let rs = a .t5 .records in
+    let b = (a .table .now) in
+    let rs = a .t4 .records in
     let all = all-records start in
     let i = at-loop .loop .i in
     sym (at-loop .loop .inv .3 ∙ bad-here (a .s) (a .heap) b rs i (omega arith) (sym (c .before .bad-record .ensures) ∙ c .if2 .taken))
@@ -68,10 +67,10 @@ loop-less c = search needs
 loop-again : tie.Need-loop-again Inv-loop μ-loop
 loop-again c =
     let at-loop = c .before .before .before .before in
-    let start = at-loop .before .before .before .before .before in
+    let start = at-loop .before .before .before .before in
     let a = start .args in
-    let b = table (a .ids .now) (a .locations .now) in
-    let rs = a .t5 .records in
+    let b = (a .table .now) in
+    let rs = a .t4 .records in
     let all = all-records start in
     let i = at-loop .loop .i in
     let inv = at-loop .loop .inv in
@@ -80,12 +79,12 @@ loop-again c =
 returns-3 : tie.Need-returns-3 Inv-loop μ-loop
 returns-3 c =
     let at-loop = c .before in
-    let start = at-loop .before .before .before .before .before in
+    let start = at-loop .before .before .before .before in
     let a = start .args in
-    let rs = a .t5 .records in
+    let rs = a .t4 .records in
     let all = all-records start in
     let i = at-loop .loop .i in
-    sym (at-loop .loop .inv .3 ∙ bad-end (a .s) (a .heap) (table (a .ids .now) (a .locations .now)) rs i (omega arith))
+    sym (at-loop .loop .inv .3 ∙ bad-end (a .s) (a .heap) (a .table .now) rs i (omega arith))
 
 pub bad-files-spec : {M : Type 1} → statement M
 bad-files-spec =

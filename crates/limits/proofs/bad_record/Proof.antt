@@ -12,7 +12,7 @@ use Rattle.limits.proofs.bad_record.Tie as tie
 
 -- ---- each test as it was left
 abbrev begun : tie.Else1 → tie.Start
-begun z = z .before .before .before .before
+begun z = z .before .before .before
 
 abbrev first : tie.Else2 → tie.Else1
 first z = z .before .before

@@ -14,7 +14,7 @@ unfolding outOfRange
 returns c = rw (sym (c .before .in-ranges .ensures) ∙ not-true _ (c .if1 .taken)) refl
 
 heap-in-range-requires : tie.Need-heap-in-range-requires
-heap-in-range-requires c κs = in-ranges (c .before .before .before .before .args .s) (sym (c .before .in-ranges .ensures) ∙ not-false _ (c .if1 .left))
+heap-in-range-requires c κs = in-ranges (c .before .before .before .args .s) (sym (c .before .in-ranges .ensures) ∙ not-false _ (c .if1 .left))
 
 returns-2 : tie.Need-returns-2
 unfolding outOfRange

@@ -5,7 +5,7 @@ use borrow.Author.Needs.{needs}
 use lib.ListN.{length}
 use borrow.Author.Tests.{not-true, not-false, eq-eqb, ne-eqb}
 use Rattle.rules.specs.declared.FileMap.{FileMap}
-use Rattle.rules.specs.Layout.{Buffers, table, inForm}
+use Rattle.rules.specs.Layout.{capacityOf, Table, inForm}
 use Rattle.rules.specs.Condition1.{conditionOne, outOfRange, notTheStates}
 use Rattle.rules.specs.Condition1Laws.{InLimits, in-limits}
 use Rattle.limits.specs.Settled.{stateOf, theStates, the-states, bad-files}
@@ -14,10 +14,10 @@ use Rattle.limits.proofs.refused_apart.Tie as tie
 
 -- ---- each test as it was left
 abbrev begun : tie.Else1 → tie.Start
-begun z = z .before .before .before .before
+begun z = z .before .before .before
 
-abbrev buffers : tie.Else1 → Buffers
-buffers z = table (begun z .args .ids .now) (begun z .args .locations .now)
+abbrev lent : tie.Else1 → Table
+lent z = begun z .args .table .now
 
 abbrev first : tie.Else2 → tie.Else1
 first z = z .before .before .before
@@ -25,24 +25,24 @@ first z = z .before .before .before
 abbrev second : tie.Else3 → tie.Else2
 second z = z .before .before
 
-in-range : (z : tie.Else1) → outOfRange (begun z .args .s) (begun z .args .heap) (buffers z) ≡ false
+in-range : (z : tie.Else1) → outOfRange (begun z .args .s) (begun z .args .heap) (lent z) ≡ false
 in-range z = sym (z .before .out-of-range .ensures) ∙ z .if1 .left
 
-limited : (z : tie.Else1) → InLimits (begun z .args .s) (begun z .args .heap) (buffers z)
-limited z = in-limits (begun z .args .s) (begun z .args .heap) (buffers z) (in-range z)
+limited : (z : tie.Else1) → InLimits (begun z .args .s) (begun z .args .heap) (lent z)
+limited z = in-limits (begun z .args .s) (begun z .args .heap) (lent z) (in-range z)
 
 -- lengths and settings, as they were found
-told : (p : tie.After-the-states) → let a = begun (p .before .before) .args in theStates (a .s) (a .heap) (length (a .ids .now)) (a .rest) ≡ p .the-states .result
+told : (p : tie.After-the-states) → let a = begun (p .before .before) .args in theStates (a .s) (a .heap) (capacityOf (a .table .now)) (a .rest) ≡ p .the-states .result
 told p =
     let a = begun (p .before .before) .args in
     sym (p .the-states .ensures ∙ ap (λ (n : ℕ). theStates (a .s) (a .heap) n (a .rest)) (p .before .capacity .ensures))
 
-settled : (z : tie.Else2) (files : FileMap) → let a = begun (first z) .args in notTheStates (a .s) (a .heap) (buffers (first z)) (stateOf (a .rest) files) ≡ false
+settled : (z : tie.Else2) (files : FileMap) → let a = begun (first z) .args in notTheStates (a .s) (a .heap) (lent (first z)) (stateOf (a .rest) files) ≡ false
 settled z files =
     let a = begun (first z) .args in
-    the-states (a .s) (a .heap) (buffers (first z)) (a .rest) files ∙ ap not (told (z .before) ∙ not-false _ (z .if2 .left))
+    the-states (a .s) (a .heap) (lent (first z)) (a .rest) files ∙ ap not (told (z .before) ∙ not-false _ (z .if2 .left))
 
-formed : (z : tie.Else3) → inForm (buffers (first (second z))) ≡ true
+formed : (z : tie.Else3) → inForm (lent (first (second z))) ≡ true
 formed z = sym (z .before .in-form .ensures) ∙ not-false _ (z .if3 .left)
 
 -- a call that is refused owes no limits
@@ -69,10 +69,10 @@ returns-2 c =
     let z = c .before .before .before in
     let a = begun z .args in
     let other = told (c .before) ∙ not-true _ (c .if2 .taken) in
-    (λ files bad. rw (in-range z, the-states (a .s) (a .heap) (buffers z) (a .rest) files ∙ ap not other) refl, refused)
+    (λ files bad. rw (in-range z, the-states (a .s) (a .heap) (lent z) (a .rest) files ∙ ap not other) refl, refused)
 
 in-form-requires : tie.Need-in-form-requires
-in-form-requires c κs = limited (first c) .table .equal
+in-form-requires c κs = search needs
 
 returns-3 : tie.Need-returns-3
 unfolding conditionOne
@@ -96,7 +96,7 @@ returns-5 c =
     let a = begun (first w) .args in
     let size = limited (first w) .settings in
     let some = ne-eqb (a .rest .«next_position») 0 (c .if4 .left) in
-    (λ files bad. rw (in-range (first w), settled w files, formed z, some) (bad ∙ bad-files (a .s) (a .heap) (buffers (first w)) (files .records) (size .slot-low) (size .slot-high)), λ _. limited (first w))
+    (λ files bad. rw (in-range (first w), settled w files, formed z, some) (bad ∙ bad-files (a .s) (a .heap) (lent (first w)) (files .records) (size .slot-low) (size .slot-high)), λ _. limited (first w))
 
 pub refused-apart-spec : {M : Type 1} → statement M
 refused-apart-spec =

@@ -2,7 +2,6 @@ use mathlib.Core.Path.{sym, _∙_}
 use borrow.Author.Needs.{needs}
 use lib.ListN.{length}
 use Rattle.rules.specs.Condition1Laws.{passed}
-use Rattle.rules.specs.Layout.{table}
 use Rattle.limits.specs.Settled.{passed-formed}
 use Rattle.listing.proofs.list.Statement.{statement}
 use Rattle.listing.proofs.list.Tie as tie
@@ -15,10 +14,10 @@ returns c = search needs
 
 used-requires : tie.Need-used-requires
 used-requires c κs =
-    let a = c .before .before .before .before .before .args in
+    let a = c .before .before .before .before .args in
     let n = length (a .heap .now) in
     let clear = sym (c .before .refused .ensures) ∙ c .if1 .left in
-    let b = table (a .ids .now) (a .locations .now) in
+    let b = a .table .now in
     passed-formed (a .settings) n b (a .state) (passed (a .settings) n b (a .state) clear)
 
 show-requires : tie.Need-show-requires

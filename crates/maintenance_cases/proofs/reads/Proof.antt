@@ -4,10 +4,10 @@ use Rattle.maintenance_cases.proofs.reads.Statement.{statement}
 use Rattle.maintenance_cases.proofs.reads.Tie as tie
 
 abbrev Inv-loop : tie.InvT-loop
-Inv-loop s state heap ids locations id₀ t8 id = id ≤ 8
+Inv-loop s state heap table id₀ t8 id = id ≤ 8
 
 abbrev μ-loop : tie.MeasureT-loop
-μ-loop s state heap ids locations id₀ t8 id = 8 - id
+μ-loop s state heap table id₀ t8 id = 8 - id
 
 slice-aggregate-text : tie.Need-slice-aggregate-text Inv-loop μ-loop
 slice-aggregate-text c = search needs

@@ -13,13 +13,10 @@ compare-shown-requires c κs = search needs
 same-length : tie.Need-same-length
 same-length c = search needs
 
-same-length-2 : tie.Need-same-length-2
-same-length-2 c = search needs
-
 returns : tie.Need-returns
-returns c = rw (c .compare-shown .ensures) (ap (shownTable 1) (c .before .before .before .before .before .compare-and-store .ensures))
+returns c = rw (c .compare-shown .ensures) (ap (shownTable 1) (c .before .before .before .compare-and-store .ensures))
 
 pub marble-compare-and-store-spec : {M : Type 1} → statement M
 marble-compare-and-store-spec =
     tie.close
-    (tie.spec compare-and-store-requires compare-shown-requires same-length same-length-2 returns)
+    (tie.spec compare-and-store-requires compare-shown-requires same-length returns)

@@ -25,14 +25,11 @@ same-length c = search needs
 same-length-2 : tie.Need-same-length-2
 same-length-2 c = search needs
 
-same-length-3 : tie.Need-same-length-3
-same-length-3 c = search needs
-
 returns : tie.Need-returns
 returns c =
     let p = c .before in
-    let w = p .before .before .before .before .before .before .before .before .before in
-    let h = w .before .before .before .before in
+    let w = p .before .before .before .before .before .before .before in
+    let h = w .before .before .before in
     rw (c .maintain-shown .ensures, p .put-state .ensures, ← (h .claims-in .ensures), ← (h .before .before .state-in .ensures)) (ap stopAfter (w .maintain .ensures))
 
 pub marble-maintain-spec : {M : Type 1} → statement M
@@ -46,5 +43,4 @@ marble-maintain-spec =
     maintain-shown-requires
     same-length
     same-length-2
-    same-length-3
     returns)

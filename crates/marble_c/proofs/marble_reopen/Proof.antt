@@ -23,15 +23,12 @@ number-requires c κs = search needs
 same-length : tie.Need-same-length
 same-length c = search needs
 
-same-length-2 : tie.Need-same-length-2
-same-length-2 c = search needs
-
 returns : tie.Need-returns
 returns c =
     let q = c .before in
     let p = q .before .before in
-    let w = p .before .before .before .before .before .before .before .before in
-    let h = w .before .before .before in
+    let w = p .before .before .before .before .before .before in
+    let h = w .before .before in
     rw (c .number .ensures, p .put-state .ensures, q .put-claims .ensures, ← (h .claims-in .ensures), ← (h .before .before .before .state-in .ensures)) (w .reopen .ensures)
 
 pub marble-reopen-spec : {M : Type 1} → statement M
@@ -45,5 +42,4 @@ marble-reopen-spec =
     put-claims-requires
     number-requires
     same-length
-    same-length-2
     returns)

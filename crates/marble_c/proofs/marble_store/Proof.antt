@@ -11,12 +11,9 @@ number-requires c κs = search needs
 same-length : tie.Need-same-length
 same-length c = search needs
 
-same-length-2 : tie.Need-same-length-2
-same-length-2 c = search needs
-
 returns : tie.Need-returns
-returns c = rw (c .number .ensures) (c .before .before .before .before .before .store .ensures)
+returns c = rw (c .number .ensures) (c .before .before .before .store .ensures)
 
 pub marble-store-spec : {M : Type 1} → statement M
 marble-store-spec =
-    tie.close (tie.spec store-requires number-requires same-length same-length-2 returns)
+    tie.close (tie.spec store-requires number-requires same-length returns)

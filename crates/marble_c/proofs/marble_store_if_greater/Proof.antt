@@ -13,13 +13,10 @@ load-shown-requires c κs = search needs
 same-length : tie.Need-same-length
 same-length c = search needs
 
-same-length-2 : tie.Need-same-length-2
-same-length-2 c = search needs
-
 returns : tie.Need-returns
-returns c = rw (c .load-shown .ensures) (ap (shownTable 1) (c .before .before .before .before .before .store-if-greater .ensures))
+returns c = rw (c .load-shown .ensures) (ap (shownTable 1) (c .before .before .before .store-if-greater .ensures))
 
 pub marble-store-if-greater-spec : {M : Type 1} → statement M
 marble-store-if-greater-spec =
     tie.close
-    (tie.spec store-if-greater-requires load-shown-requires same-length same-length-2 returns)
+    (tie.spec store-if-greater-requires load-shown-requires same-length returns)

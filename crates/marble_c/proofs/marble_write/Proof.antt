@@ -20,14 +20,11 @@ same-length c = search needs
 same-length-2 : tie.Need-same-length-2
 same-length-2 c = search needs
 
-same-length-3 : tie.Need-same-length-3
-same-length-3 c = search needs
-
 returns : tie.Need-returns
 returns c =
     let p = c .before in
-    let w = p .before .before .before .before .before .before .before .before .before in
-    λ claims. rw (c .number .ensures, p .put-state .ensures, ← (w .before .before .before .before .state-in .ensures)) (w .write .ensures claims)
+    let w = p .before .before .before .before .before .before .before in
+    λ claims. rw (c .number .ensures, p .put-state .ensures, ← (w .before .before .before .state-in .ensures)) (w .write .ensures claims)
 
 pub marble-write-spec : {M : Type 1} → statement M
 marble-write-spec =
@@ -39,5 +36,4 @@ marble-write-spec =
     number-requires
     same-length
     same-length-2
-    same-length-3
     returns)

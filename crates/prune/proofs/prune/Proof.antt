@@ -6,7 +6,6 @@ use Rattle.rules.specs.declared.Answer.{Answer}
 use Rattle.rules.specs.Condition1.{conditionOne}
 use Rattle.rules.specs.Condition1Laws.{passed}
 use Rattle.rules.specs.World.{World, world, leaving, answerGiven}
-use Rattle.rules.specs.Layout.{table}
 use Rattle.prune.specs.Labels.{passed-labels}
 use Rattle.prune.specs.CallLaws.{prune-decided}
 use Rattle.prune.proofs.prune.Statement.{statement}
@@ -14,12 +13,12 @@ use Rattle.prune.proofs.prune.Tie as tie
 
 -- ---- what 1 says
 abbrev begun : tie.After-refused-apart → tie.Start
-begun p = p .before .before .before .before .before .before .before
+begun p = p .before .before .before .before .before .before
 
-one : (p : tie.After-refused-apart) → let a = begun p .args in p .refused-apart .result ≡ conditionOne (a .settings) (length (a .heap .now)) (table (a .ids .now) (a .locations .now)) (a .state)
+one : (p : tie.After-refused-apart) → let a = begun p .args in p .refused-apart .result ≡ conditionOne (a .settings) (length (a .heap .now)) (a .table .now) (a .state)
 one p =
     let a = begun p .args in
-    p .refused-apart .ensures .0 (a .state .files) (p .before .before .bad-files .ensures) ∙ ap (conditionOne (a .settings) (length (a .heap .now)) (table (a .ids .now) (a .locations .now))) (p .before .rest-of .ensures)
+    p .refused-apart .ensures .0 (a .state .files) (p .before .before .bad-files .ensures) ∙ ap (conditionOne (a .settings) (length (a .heap .now)) (a .table .now)) (p .before .rest-of .ensures)
 
 -- ---- the call
 bad-files-requires : tie.Need-bad-files-requires
@@ -36,7 +35,7 @@ pruned-requires c κs =
     let p = c .before in
     let a = begun p .args in
     let n = length (a .heap .now) in
-    let b = table (a .ids .now) (a .locations .now) in
+    let b = (a .table .now) in
     λ e. passed-labels (a .settings) n b (a .state) (passed (a .settings) n b (a .state) (sym (one p) ∙ not-true _ e))
 
 answer-requires : tie.Need-answer-requires
@@ -50,8 +49,8 @@ returns c =
     let q = c .before .before .before in
     let p = q .before .before in
     let a = begun p .args in
-    ap₂ (λ (x : Answer) (w : World). leaving (answerGiven x) w) (c .answer .ensures) (q .pruned .ensures (a .ids .now) (a .locations .now))
-    ∙ prune-decided (world (a .settings) (a .state) (a .claims) (a .heap .now) (table (a .ids .now) (a .locations .now))) (p .refused-apart .result) (one p)
+    ap₂ (λ (x : Answer) (w : World). leaving (answerGiven x) w) (c .answer .ensures) (q .pruned .ensures (a .table .now))
+    ∙ prune-decided (world (a .settings) (a .state) (a .claims) (a .heap .now) (a .table .now)) (p .refused-apart .result) (one p)
 
 pub prune-spec : {M : Type 1} → statement M
 prune-spec =

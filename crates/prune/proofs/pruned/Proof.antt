@@ -21,7 +21,7 @@ returns c =
     let w = c .before .before in
     let start = w .before .before .before .before in
     let a = start .args in
-    λ ids locations. pruned-parts (a .settings) (a .state) (a .claims) (a .heap .now) ids locations (a .due) _ _ (w .prune-stores .ensures .0) (w .prune-stores .ensures .1 ∙ all-made (a .settings .«slot_bytes») (a .claims) (a .due) (a .state .files .records) (a .heap .now) (all-records start))
+    λ table. pruned-parts (a .settings) (a .state) (a .claims) (a .heap .now) table (a .due) _ _ (w .prune-stores .ensures .0) (w .prune-stores .ensures .1 ∙ all-made (a .settings .«slot_bytes») (a .claims) (a .due) (a .state .files .records) (a .heap .now) (all-records start))
 
 pub pruned-spec : {M : Type 1} → statement M
 pruned-spec = tie.close (tie.spec prune-stores-requires same-length returns)

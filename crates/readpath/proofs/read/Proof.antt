@@ -4,7 +4,6 @@ use Rattle.rules.specs.declared.ReadAnswer.{ReadAnswer}
 use Rattle.rules.specs.Claims.{noClaims}
 use Rattle.rules.specs.World.{world}
 use Rattle.rules.specs.Read.{partOf}
-use Rattle.rules.specs.Layout.{table}
 use Rattle.readpath.specs.Reads.{placeOf}
 use Rattle.readpath.specs.ReadLaws.{read-named}
 use Rattle.readpath.proofs.read.Statement.{statement}
@@ -15,13 +14,13 @@ read-answer-requires c κs = search needs
 
 part-requires : tie.Need-part-requires
 part-requires c κs =
-    let a = c .before .before .before .before .args in
-    let w = world (a .settings) (a .state) noClaims (a .heap .now) (table (a .ids .now) (a .locations .now)) in
+    let a = c .before .before .before .args in
+    let w = world (a .settings) (a .state) noClaims (a .heap .now) (a .table .now) in
     rw (c .read-answer .ensures noClaims) (read-named w (a .id))
 
 returns : tie.Need-returns
 returns c =
-    let a = c .before .before .before .before .before .args in (
+    let a = c .before .before .before .before .args in (
       λ claims. c .part .ensures .0 ∙ ap (λ (r : ReadAnswer). partOf r (a .heap .now)) (c .before .read-answer .ensures claims),
       λ claims. c .part .ensures .1 ∙ ap (λ (r : ReadAnswer). placeOf r (a .heap .ptr)) (c .before .read-answer .ensures claims),
     )

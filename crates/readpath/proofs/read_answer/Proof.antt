@@ -18,7 +18,6 @@ use Rattle.rules.specs.Object.{storedAt}
 use Rattle.rules.specs.Read.{objectIn, readFile, readHeld, readOf}
 use Rattle.rules.specs.SlotFile.{slotBytes, fileIn}
 use Rattle.rules.specs.World.{World, world, recordsOf}
-use Rattle.rules.specs.Layout.{table}
 use Rattle.file_map.specs.Lists.{lsnAt}
 use Rattle.file_map.specs.ListLaws.{file-for-lsns}
 use Rattle.limits.specs.Settled.{passed-formed}
@@ -30,25 +29,25 @@ use Rattle.readpath.proofs.read_answer.Tie as tie
 
 -- ---- what is known where 1 does not refuse
 abbrev begun : tie.After-refused-apart → tie.Start
-begun p = p .before .before .before .before .before .before .before .before
+begun p = p .before .before .before .before .before .before .before
 
 asked : (p : tie.After-refused-apart) → let a = begun p .args in
-    conditionOne (a .settings) (length (a .heap .now)) (table (a .ids .now) (a .locations .now)) (a .state) ≡ p .refused-apart .result
+    conditionOne (a .settings) (length (a .heap .now)) (a .table .now) (a .state) ≡ p .refused-apart .result
 asked p =
     let a = begun p .args in
     let told = p .refused-apart .ensures .0 (a .state .files) (p .before .before .bad-files .ensures) in
-    sym (told ∙ ap (conditionOne (a .settings) (length (a .heap .now)) (table (a .ids .now) (a .locations .now))) (p .before .rest-of .ensures))
+    sym (told ∙ ap (conditionOne (a .settings) (length (a .heap .now)) (a .table .now)) (p .before .rest-of .ensures))
 
-through : (z : tie.Else1) → let a = begun (z .before) .args in Passed (a .settings) (length (a .heap .now)) (table (a .ids .now) (a .locations .now)) (a .state)
+through : (z : tie.Else1) → let a = begun (z .before) .args in Passed (a .settings) (length (a .heap .now)) (a .table .now) (a .state)
 through z =
     let a = begun (z .before) .args in
-    passed (a .settings) (length (a .heap .now)) (table (a .ids .now) (a .locations .now)) (a .state) (asked (z .before) ∙ z .if1 .left)
+    passed (a .settings) (length (a .heap .now)) (a .table .now) (a .state) (asked (z .before) ∙ z .if1 .left)
 
 -- ---- the answer, step by step
 abbrev given : tie.After-refused-apart → Claims → World
 given p claims =
     let a = begun p .args in
-    world (a .settings) (a .state) claims (a .heap .now) (table (a .ids .now) (a .locations .now))
+    world (a .settings) (a .state) claims (a .heap .now) (a .table .now)
 
 abbrev sought : tie.After-location → tie.After-refused-apart
 sought x = x .before .before .before .before
@@ -110,7 +109,7 @@ lies : (s : tie.After-slot)
 lies s =
     let a = begun (sought (at s)) .args in
     let k = s .slot .given .0 .0 in
-    passed-lie (a .settings) (length (a .heap .now)) (table (a .ids .now) (a .locations .now)) (a .state) (through (at s .before .before .before)) k (not-empty (recordAt (a .state .files .records) k) (found s .used))
+    passed-lie (a .settings) (length (a .heap .now)) (a .table .now) (a .state) (through (at s .before .before .before)) k (not-empty (recordAt (a .state .files .records) k) (found s .used))
 
 -- ---- the call
 lsns-requires : tie.Need-lsns-requires
@@ -131,7 +130,7 @@ returns c = λ claims. sym (read-refused (given (c .before) claims) (begun (c .b
 load-in-requires : tie.Need-load-in-requires
 load-in-requires c κs =
     let a = begun (c .before) .args in
-    passed-formed (a .settings) (length (a .heap .now)) (table (a .ids .now) (a .locations .now)) (a .state) (through c)
+    passed-formed (a .settings) (length (a .heap .now)) (a .table .now) (a .state) (through c)
 
 enum-known-location : tie.Need-enum-known-location
 enum-known-location c = search needs

@@ -1,10 +1,9 @@
-use mathlib.Core.Path.{refl, sym, ap, subst, _∙_}
+use mathlib.Core.Path.{sym, ap, subst, _∙_}
 use mathlib.Core.List.{List, map}
 use Prim.Native.Nat.{ℕ, _^_, _<_}
 use borrow.Author.Tests.{not-true, not-false}
 use Rattle.rules.specs.SlotFile.{viewsIn}
 use Rattle.rules.specs.Reopen.{filesIn, tableOf}
-use Rattle.rules.specs.Layout.{table}
 use Rattle.reopen_tests.specs.Shown.{sound-views}
 use Rattle.rebuild.specs.Records.{counted, nextFrom, records-counted, next-labels, next-low}
 use Rattle.recovery.specs.Types.{Entry, TableRoom}
@@ -14,10 +13,13 @@ use borrow.Author.Needs.{needs}
 use Rattle.recovery.proofs.rebuilt.Statement.{statement}
 use Rattle.recovery.proofs.rebuilt.Tie as tie
 
+capacity-requires : tie.Need-capacity-requires
+capacity-requires c κs = search needs
+
 fill-requires : tie.Need-fill-requires
 fill-requires c κs =
     let start = c .before .before .before .before .before in
-    (blank-formed (table (start .args .ids .now) (start .args .locations .now)) (start .pre .2), start .pre .0)
+    (blank-formed (start .args .table .now) (start .pre .2), start .pre .0)
 
 given-up-requires : tie.Need-given-up-requires
 given-up-requires c κs = search needs
@@ -30,25 +32,25 @@ same-length-2 c = search needs
 
 returns : tie.Need-returns
 returns c =
-    let start = c .before .before .before .before .before .before .before .before .before .before .before .before in
+    let start = c .before .before .before .before .before .before .before .before .before .before in
     let a = start .args in
     let heap = a .heap .now in
     let views = viewsIn (a .n) (a .size) heap in
-    let out = no-room (table (a .ids .now) (a .locations .now)) (start .pre .2) views _ _ (c .before .before .before .before .before .before .fill .ensures) (not-true _ (c .before .if1 .taken)) in
-    gives-up (a .settings) heap (a .ids .now) (a .locations .now) _ _ _ _ TableRoom (c .given-up .ensures) refl (out .1)
-    ∙ sym (past-full (a .settings) heap (a .ids .now) (a .locations .now) (a .ids .now) (a .locations .now) views (out .0))
+    let out = no-room (a .table .now) (start .pre .2) views _ _ (c .before .before .before .before .fill .ensures) (not-true _ (c .before .if1 .taken)) in
+    gives-up (a .settings) heap (a .table .now) _ _ _ TableRoom (c .given-up .ensures) (c .before .before .before .before .before .before .capacity .ensures) (out .1)
+    ∙ sym (past-full (a .settings) heap (a .table .now) (a .table .now) views (out .0))
 
 with-live-counts-requires : tie.Need-with-live-counts-requires
 with-live-counts-requires c κs =
-    let start = c .before .before .before .before .before .before .before .before .before .before .before .before .before in
+    let start = c .before .before .before .before .before .before .before .before .before .before in
     let a = start .args in
     let views = viewsIn (a .n) (a .size) (a .heap .now) in
     let sound = sound-views (a .n) (a .size) (a .heap .now) _ (start .pre .0) in
-    room-formed (table (a .ids .now) (a .locations .now)) (start .pre .2) views _ _ (c .before .before .before .before .before .before .before .fill .ensures) (a .size) sound (not-false _ (c .before .before .if1 .left))
+    room-formed (a .table .now) (start .pre .2) views _ _ (c .before .before .before .before .fill .ensures) (a .size) sound (not-false _ (c .before .if1 .left))
 
 next-position-requires : tie.Need-next-position-requires
 next-position-requires c κs =
-    let start = c .before .before .before .before .before .before .before .before .before .before .before .before .before .before in
+    let start = c .before .before .before .before .before .before .before .before .before .before .before in
     let a = start .args in
     let views = viewsIn (a .n) (a .size) (a .heap .now) in
     let sound = sound-views (a .n) (a .size) (a .heap .now) _ (start .pre .0) in
@@ -61,44 +63,37 @@ state-of-requires c κs = search needs
 no-claims-requires : tie.Need-no-claims-requires
 no-claims-requires c κs = search needs
 
-same-length-3 : tie.Need-same-length-3
-same-length-3 c = search needs
-
-same-length-4 : tie.Need-same-length-4
-same-length-4 c = search needs
-
 returns-2 : tie.Need-returns-2
 returns-2 c =
-    let start = c .before .before .before .before .before .before .before .before .before .before .before .before .before .before .before .before .before in
+    let start = c .before .before .before .before .before .before .before .before .before .before .before .before .before .before in
     let a = start .args in
     let heap = a .heap .now in
     let views = viewsIn (a .n) (a .size) heap in
     let mapped = tableOf (filesIn views) in
     let sound = sound-views (a .n) (a .size) heap _ (start .pre .0) in
-    let room = not-false _ (c .before .before .before .before .before .before .if1 .left) in
-    let b = table (a .ids .now) (a .locations .now) in
-    let in-table = has-room b (start .pre .2) views _ _ (c .before .before .before .before .before .before .before .before .before .before .before .fill .ensures) room in
+    let room = not-false _ (c .before .before .before .before .before .if1 .left) in
+    let b = a .table .now in
+    let in-table = has-room b (start .pre .2) views _ _ (c .before .before .before .before .before .before .before .before .fill .ensures) room in
     let records =
     c .before .before .before .with-live-counts .ensures
-    ∙ ap (λ (es : List Entry). map (counted es) (a .slots .labels)) (room-used b (start .pre .2) views _ _ (c .before .before .before .before .before .before .before .before .before .before .before .fill .ensures) (a .size) sound room)
+    ∙ ap (λ (es : List Entry). map (counted es) (a .slots .labels)) (room-used b (start .pre .2) views _ _ (c .before .before .before .before .before .before .before .before .fill .ensures) (a .size) sound room)
     ∙ ap (map (counted mapped)) (start .pre .0 .labels) ∙ records-counted (a .size) mapped views sound in
     let next =
     c .before .before .next-position .ensures ∙ ap nextFrom (start .pre .0 .labels) ∙ sym (next-labels views) in
-    past-room (a .settings) heap (a .ids .now) (a .locations .now) _ _ views (in-table .0) _ _ _ _ (c .before .state-of .ensures) (c .no-claims .ensures) records next (in-table .1)
+    past-room (a .settings) heap (a .table .now) _ views (in-table .0) _ _ _ _ _ (c .before .state-of .ensures) (c .before .before .before .before .before .before .before .before .before .before .capacity .ensures) (c .no-claims .ensures) records next (in-table .1)
 
 pub rebuilt-spec : {M : Type 1} → statement M
 rebuilt-spec =
     tie.close
     (tie.spec
+    capacity-requires
     fill-requires
     given-up-requires
     same-length
-    same-length-2
     returns
     with-live-counts-requires
     next-position-requires
     state-of-requires
     no-claims-requires
-    same-length-3
-    same-length-4
+    same-length-2
     returns-2)

@@ -1,6 +1,5 @@
 use mathlib.Core.Path.{sym, _∙_}
 use Rattle.rules.specs.Condition1Laws.{in-limits}
-use Rattle.rules.specs.Layout.{table}
 use Rattle.recovery.specs.Steps.{at-limits, past-limits}
 use borrow.Author.Needs.{needs}
 use lib.ListN.{length}
@@ -18,24 +17,18 @@ same-length-2 c = search needs
 
 returns : tie.Need-returns
 returns c =
-    let a = c .before .before .before .before .before .before .before .args in
-    at-limits (a .settings) (a .state) (a .claims) (a .heap .now) (a .ids .now) (a .locations .now) (sym (c .before .out-of-range .ensures) ∙ c .if1 .taken)
+    let a = c .before .before .before .before .before .args in
+    at-limits (a .settings) (a .state) (a .claims) (a .heap .now) (a .table .now) (sym (c .before .out-of-range .ensures) ∙ c .if1 .taken)
 
 recovered-requires : tie.Need-recovered-requires
 recovered-requires c κs =
-    let a = c .before .before .before .before .before .before .before .before .before .args in
-    in-limits (a .settings) (length (a .heap .now)) (table (a .ids .now) (a .locations .now)) (sym (c .before .before .before .out-of-range .ensures) ∙ c .before .before .if1 .left)
-
-same-length-3 : tie.Need-same-length-3
-same-length-3 c = search needs
-
-same-length-4 : tie.Need-same-length-4
-same-length-4 c = search needs
+    let a = c .before .before .before .before .before .before .args in
+    in-limits (a .settings) (length (a .heap .now)) (a .table .now) (sym (c .before .before .out-of-range .ensures) ∙ c .before .if1 .left)
 
 returns-2 : tie.Need-returns-2
 returns-2 c =
-    let a = c .before .before .before .before .before .before .before .before .before .before .before .before .before .before .args in
-    c .before .before .before .before .recovered .ensures ∙ past-limits (a .settings) (a .state) (a .claims) (a .heap .now) (a .ids .now) (a .locations .now) (sym (c .before .before .before .before .before .before .before .before .out-of-range .ensures) ∙ c .before .before .before .before .before .before .before .if1 .left)
+    let a = c .before .before .before .before .before .before .before .before .before .args in
+    c .before .before .recovered .ensures ∙ past-limits (a .settings) (a .state) (a .claims) (a .heap .now) (a .table .now) (sym (c .before .before .before .before .before .out-of-range .ensures) ∙ c .before .before .before .before .if1 .left)
 
 pub reopen-spec : {M : Type 1} → statement M
 reopen-spec =
@@ -43,9 +36,7 @@ reopen-spec =
     (tie.spec
     out-of-range-requires
     same-length
-    same-length-2
     returns
     recovered-requires
-    same-length-3
-    same-length-4
+    same-length-2
     returns-2)

@@ -30,10 +30,10 @@ unfolding shapeOf
 returns c = (sym (ap shapeOf (c .enum-told .given .1)), omega arith)
 
 returns-2 : tie.Need-returns-2
-returns-2 c = (shape-told 3 (12 ∷ 13 ∷ 15 ∷ 18 ∷ 20 ∷ []) (numbers 1) (c .before .args .keyword) (refl, (refl, (refl, (refl, (refl, (refl, tt)))))) (c .match .keys2), omega arith)
+returns-2 c = (shape-told 3 (4 ∷ 12 ∷ 13 ∷ 15 ∷ 18 ∷ 20 ∷ []) (numbers 1) (c .before .args .keyword) (refl, (refl, (refl, (refl, (refl, (refl, (refl, tt))))))) (c .match .keys2), omega arith)
 
 returns-3 : tie.Need-returns-3
-returns-3 c = (shape-told 4 (21 ∷ 23 ∷ 26 ∷ []) (numbers 2) (c .before .args .keyword) (refl, (refl, (refl, (refl, tt)))) (c .match .keys3), omega arith)
+returns-3 c = (shape-told 21 (23 ∷ 26 ∷ []) (numbers 2) (c .before .args .keyword) (refl, (refl, (refl, tt))) (c .match .keys3), omega arith)
 
 returns-4 : tie.Need-returns-4
 returns-4 c = (shape-told 6 (22 ∷ []) (numbers 3) (c .before .args .keyword) (refl, (refl, tt)) (c .match .keys4), omega arith)

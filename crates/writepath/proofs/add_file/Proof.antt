@@ -9,17 +9,17 @@ use Rattle.writepath.proofs.add_file.Tie as tie
 
 new-label-requires : tie.Need-new-label-requires
 new-label-requires c κs =
-    let f = filed-addable (c .before .before .before .before .pre) in
+    let f = filed-addable (c .before .before .before .pre) in
     (omega (arith, f .last), omega (arith, sizes-small f .0, sizes-small f .1))
 
 mul-start : tie.Need-mul-start
 mul-start c =
-    let start = c .before .before .before .before .before .before in
+    let start = c .before .before .before .before .before in
     omega (arith, slot-inside (filed-addable (start .pre)), start .good)
 
 put-file-requires : tie.Need-put-file-requires
 put-file-requires c κs =
-    let f = c .before .before .before .before .before .before .before .pre in
+    let f = c .before .before .before .before .before .before .pre in
     (f .sized, slot-inside (filed-addable f))
 
 lsns-requires : tie.Need-lsns-requires
@@ -36,10 +36,10 @@ slice-aggregate-install-2 c = search needs
 
 install-requires : tie.Need-install-requires
 install-requires c κs =
-    let l = c .before .before .before .before .before in
+    let l = c .before .before .before .before in
     let p = l .before .before .before .before .before in
     let n = p .before .before .before in
-    let f = filed-addable (n .before .before .before .before .before .pre) in
+    let f = filed-addable (n .before .before .before .before .pre) in
     installable f refl (n .new-label .ensures) (p .put-file .ensures) (l .before .lsns .ensures) (l .lives .ensures) (passed-formed _ _ _ _ (f .limits))
 
 slice-aggregate-with-file : tie.Need-slice-aggregate-with-file
@@ -47,8 +47,8 @@ slice-aggregate-with-file c = search needs
 
 with-file-requires : tie.Need-with-file-requires
 with-file-requires c κs =
-    let n = c .before .before .before .before .before .before .before .before .before .before .before .before .before .before .before .before .before .before .before .before in
-    let fits = record-fits (filed-addable (n .before .before .before .before .before .pre)) (n .new-label .ensures) in
+    let n = c .before .before .before .before .before .before .before .before .before .before .before .before .before .before .before .before .before in
+    let fits = record-fits (filed-addable (n .before .before .before .before .pre)) (n .new-label .ensures) in
     (search needs, fits .0, fits .1)
 
 same-length : tie.Need-same-length
@@ -57,16 +57,13 @@ same-length c = search needs
 same-length-2 : tie.Need-same-length-2
 same-length-2 c = search needs
 
-same-length-3 : tie.Need-same-length-3
-same-length-3 c = search needs
-
 returns : tie.Need-returns
 returns c =
-    let i = c .before .before .before .before .before .before .before in
-    let l = i .before .before .before .before .before .before in
+    let i = c .before .before .before .before .before in
+    let l = i .before .before .before .before .before in
     let p = l .before .before .before .before .before in
     let n = p .before .before .before in
-    let f = filed-addable (n .before .before .before .before .before .pre) in
+    let f = filed-addable (n .before .before .before .before .pre) in
     added f refl (n .new-label .ensures) (p .put-file .ensures) (l .before .lsns .ensures) (l .lives .ensures) (i .install .ensures) (c .with-file .ensures)
 
 pub add-file-spec : {M : Type 1} → statement M
@@ -85,5 +82,4 @@ add-file-spec =
     with-file-requires
     same-length
     same-length-2
-    same-length-3
     returns)

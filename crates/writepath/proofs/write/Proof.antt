@@ -2,7 +2,6 @@ use mathlib.Core.Path.{sym, _∙_}
 use borrow.Author.Needs.{needs}
 use Rattle.rules.specs.Claims.{noClaims}
 use Rattle.rules.specs.World.{world}
-use Rattle.rules.specs.Layout.{table}
 use Rattle.writepath.specs.Filing.{call-refused, call-kept, call-written, decision-filed}
 use Rattle.writepath.proofs.write.Statement.{statement}
 use Rattle.writepath.proofs.write.Tie as tie
@@ -21,10 +20,10 @@ enum-known-slot c = search needs
 
 add-file-requires : tie.Need-add-file-requires
 add-file-requires c κs =
-    let o = c .before .before .before .before in
+    let o = c .before .before .before in
     let d = o .before .before in
-    let a = d .before .before .before .before .before .before .before .before .args in
-    decision-filed (world (a .settings) (a .state) noClaims (a .heap .now) (table (a .ids .now) (a .locations .now))) (a .batch .now) _ _ _ (sym (d .decided .ensures noClaims) ∙ o .slot .given .1)
+    let a = d .before .before .before .before .before .before .args in
+    decision-filed (world (a .settings) (a .state) noClaims (a .heap .now) (a .table .now)) (a .batch .now) _ _ _ (sym (d .decided .ensures noClaims) ∙ o .slot .given .1)
 
 same-length : tie.Need-same-length
 same-length c = search needs
@@ -39,8 +38,8 @@ returns : tie.Need-returns
 returns c =
     let r = c .before in
     let d = r .before .before in
-    let a = d .before .before .before .before .before .before .before .before .args in
-    λ w. call-refused (world (a .settings) (a .state) w (a .heap .now) (table (a .ids .now) (a .locations .now))) (a .batch .now) _ (sym (d .decided .ensures w) ∙ r .r .given .1)
+    let a = d .before .before .before .before .before .before .args in
+    λ w. call-refused (world (a .settings) (a .state) w (a .heap .now) (a .table .now)) (a .batch .now) _ (sym (d .decided .ensures w) ∙ r .r .given .1)
 
 same-length-4 : tie.Need-same-length-4
 same-length-4 c = search needs
@@ -54,25 +53,16 @@ same-length-6 c = search needs
 returns-2 : tie.Need-returns-2
 returns-2 c =
     let d = c .before .before in
-    let a = d .before .before .before .before .before .before .before .before .args in
-    λ w. call-kept (world (a .settings) (a .state) w (a .heap .now) (table (a .ids .now) (a .locations .now))) (a .batch .now) (sym (d .decided .ensures w) ∙ c .enum-told .given .1)
-
-same-length-7 : tie.Need-same-length-7
-same-length-7 c = search needs
-
-same-length-8 : tie.Need-same-length-8
-same-length-8 c = search needs
-
-same-length-9 : tie.Need-same-length-9
-same-length-9 c = search needs
+    let a = d .before .before .before .before .before .before .args in
+    λ w. call-kept (world (a .settings) (a .state) w (a .heap .now) (a .table .now)) (a .batch .now) (sym (d .decided .ensures w) ∙ c .enum-told .given .1)
 
 returns-3 : tie.Need-returns-3
 returns-3 c =
-    let q = c .before .before .before .before .before .before in
-    let o = q .before .before .before .before .before in
+    let q = c .before .before .before .before in
+    let o = q .before .before .before .before in
     let d = o .before .before in
-    let a = d .before .before .before .before .before .before .before .before .args in
-    λ w. call-written (world (a .settings) (a .state) w (a .heap .now) (table (a .ids .now) (a .locations .now))) (a .batch .now) _ _ _ (sym (d .decided .ensures w) ∙ o .slot .given .1) _ (q .add-file .ensures w)
+    let a = d .before .before .before .before .before .before .args in
+    λ w. call-written (world (a .settings) (a .state) w (a .heap .now) (a .table .now)) (a .batch .now) _ _ _ (sym (d .decided .ensures w) ∙ o .slot .given .1) _ (q .add-file .ensures w)
 
 pub write-spec : {M : Type 1} → statement M
 write-spec =
@@ -85,13 +75,10 @@ write-spec =
     add-file-requires
     same-length
     same-length-2
-    same-length-3
     returns
+    same-length-3
     same-length-4
+    returns-2
     same-length-5
     same-length-6
-    returns-2
-    same-length-7
-    same-length-8
-    same-length-9
     returns-3)

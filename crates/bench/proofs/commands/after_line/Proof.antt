@@ -39,14 +39,11 @@ same-length-2 c = search needs
 same-length-3 : tie.Need-same-length-3
 same-length-3 c = search needs
 
-same-length-4 : tie.Need-same-length-4
-same-length-4 c = search needs
-
 returns : tie.Need-returns
 returns c =
-    let w = c .before .before .before .before .before .before .before .before .before .before .before .before in
-    let o = w .before .before .before .before .before .before .before .before .before .before .before in
-    let a = o .before .before .before .before .before .before .before .args in
+    let w = c .before .before .before .before .before .before .before .before .before in
+    let o = w .before .before .before .before .before .before .before .before .before .before in
+    let a = o .before .before .before .before .before .before .args in
     let asked = o .order-of .ensures in
     (ap (λ (x : Outcome). x .desk) (w .after-order .ensures .0) ∙ ran-order (length (a .decoded .now)) (a .line .now) (a .decoded .now) _ _ _ (asked .0) (asked .1), asked .1)
 
@@ -65,5 +62,4 @@ after-line-spec =
     same-length
     same-length-2
     same-length-3
-    same-length-4
     returns)

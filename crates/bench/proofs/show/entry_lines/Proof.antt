@@ -4,13 +4,13 @@ use Rattle.bench.proofs.show.entry_lines.Statement.{statement}
 use Rattle.bench.proofs.show.entry_lines.Tie as tie
 
 abbrev Inv-loop : tie.InvT-loop
-Inv-loop ids locations n k₀ k = (k ≤ n)
+Inv-loop table n k₀ k = (k ≤ n)
 
 abbrev μ-loop : tie.MeasureT-loop
-μ-loop ids locations n k₀ k = n - k
+μ-loop table n k₀ k = n - k
 
-least-requires : tie.Need-least-requires Inv-loop μ-loop
-least-requires c κs = search needs
+capacity-requires : tie.Need-capacity-requires Inv-loop μ-loop
+capacity-requires c κs = search needs
 
 loop-holds : tie.Need-loop-holds Inv-loop μ-loop
 loop-holds c = search needs
@@ -42,7 +42,7 @@ entry-lines-spec =
     (tie.spec
     Inv-loop
     μ-loop
-    least-requires
+    capacity-requires
     loop-holds
     id-at-requires
     location-at-requires

@@ -12,7 +12,7 @@ bad-line-requires c κs = search needs
 returns : tie.Need-returns
 returns c =
     let a = c .before .before .before .args in
-    λ ids locations. rw (c .bad-line .ensures, lt-ltb (length (a .heap .now)) (a .bytes) (omega arith)) refl
+    λ table. rw (c .bad-line .ensures, lt-ltb (length (a .heap .now)) (a .bytes) (omega arith)) refl
 
 zero-bytes-requires : tie.Need-zero-bytes-requires
 zero-bytes-requires c κs = search needs
@@ -27,7 +27,7 @@ returns-2 : tie.Need-returns-2
 returns-2 c =
     let z = c .before .before .before in
     let a = z .before .before .before .before .args in
-    λ ids locations. rw (c .done .ensures, z .zero-bytes .ensures, le-ltb (length (a .heap .now)) (a .bytes) (omega arith)) refl
+    λ table. rw (c .done .ensures, z .zero-bytes .ensures, le-ltb (length (a .heap .now)) (a .bytes) (omega arith)) refl
 
 pub heap-spec : {M : Type 1} → statement M
 heap-spec = tie.close (tie.spec bad-line-requires returns zero-bytes-requires done-requires same-length returns-2)

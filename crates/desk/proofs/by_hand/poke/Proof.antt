@@ -17,7 +17,7 @@ bad-line-requires c κs = search needs
 returns : tie.Need-returns
 returns c =
     let a = c .before .before .before .before .args in
-    λ ids locations. rw (c .bad-line .ensures, lt-ltb (length (a .heap .now)) (a .at + length (a .bytes .now)) (omega arith)) refl
+    λ table. rw (c .bad-line .ensures, lt-ltb (length (a .heap .now)) (a .at + length (a .bytes .now)) (omega arith)) refl
 
 sub-if2 : tie.Need-sub-if2
 sub-if2 c = search needs
@@ -28,7 +28,7 @@ bad-line-requires-2 c κs = search needs
 returns-2 : tie.Need-returns-2
 returns-2 c =
     let a = c .before .before .before .before .before .args in
-    λ ids locations. rw (c .bad-line2 .ensures, lt-ltb (length (a .heap .now)) (a .at + length (a .bytes .now)) (omega arith)) refl
+    λ table. rw (c .bad-line2 .ensures, lt-ltb (length (a .heap .now)) (a .at + length (a .bytes .now)) (omega arith)) refl
 
 sub-copy : tie.Need-sub-copy
 sub-copy c = search needs
@@ -53,9 +53,9 @@ returns-3 c =
     let w = c .before .before .before in
     let a = w .before .before .before .before .before .before .args in
     let fit : a .at + length (a .bytes .now) ≤ length (a .heap .now) = omega arith in
-    λ ids locations.
+    λ table.
     rw (c .done .ensures, le-ltb (length (a .heap .now)) (a .at + length (a .bytes .now)) fit)
-    (ap (λ (h : List ℕ). changed (desk (a .b) h ids locations)) (lent _ _ (a .bytes .now) (a .at) fit (copied _ (a .bytes .now) _ (w .copy .ensures .1))))
+    (ap (λ (h : List ℕ). changed (desk (a .b) h table)) (lent _ _ (a .bytes .now) (a .at) fit (copied _ (a .bytes .now) _ (w .copy .ensures .1))))
 
 pub poke-spec : {M : Type 1} → statement M
 poke-spec = tie.close (tie.spec bad-line-requires returns sub-if2 bad-line-requires-2 returns-2 sub-copy part-copy-start part-copy-end copy-requires done-requires same-length returns-3)

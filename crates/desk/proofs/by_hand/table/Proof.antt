@@ -2,7 +2,7 @@ use mathlib.Core.Path.{refl, ap}
 use native.Mathlib.Omega.{arith}
 use borrow.Author.Tests.{lt-ltb, le-ltb}
 use lib.ListN.{length}
-use Rattle.rules.specs.Layout.{Buffers}
+use Rattle.rules.specs.Layout.{Table}
 use Rattle.desk.specs.Desk.{desk, changed}
 use Rattle.desk.specs.Commands.{lendingTable}
 use borrow.Author.Needs.{needs}
@@ -14,16 +14,8 @@ bad-line-requires c κs = search needs
 
 returns : tie.Need-returns
 returns c =
-    let a = c .before .before .before .before .args in
-    λ heap. rw (c .bad-line .ensures, lt-ltb (length (a .ids .now)) (a .count) (omega arith)) refl
-
-bad-line-requires-2 : tie.Need-bad-line-requires-2
-bad-line-requires-2 c κs = search needs
-
-returns-2 : tie.Need-returns-2
-returns-2 c =
-    let a = c .before .before .before .before .before .args in
-    λ heap. rw (c .bad-line2 .ensures, le-ltb (length (a .ids .now)) (a .count) (omega arith), lt-ltb (length (a .locations .now)) (a .locations-count) (omega arith)) refl
+    let a = c .before .before .before .args in
+    λ heap. rw (c .bad-line .ensures, lt-ltb (length (a .table .now)) (a .words) (omega arith)) refl
 
 clear-requires : tie.Need-clear-requires
 clear-requires c κs = search needs
@@ -34,16 +26,13 @@ done-requires c κs = search needs
 same-length : tie.Need-same-length
 same-length c = search needs
 
-same-length-2 : tie.Need-same-length-2
-same-length-2 c = search needs
-
-returns-3 : tie.Need-returns-3
-returns-3 c =
-    let w = c .before .before .before .before .before in
-    let a = w .before .before .before .before .before .before .before .args in
+returns-2 : tie.Need-returns-2
+returns-2 c =
+    let w = c .before .before .before in
+    let a = w .before .before .before .before .args in
     λ heap.
-    rw (c .done .ensures, le-ltb (length (a .ids .now)) (a .count) (omega arith), le-ltb (length (a .locations .now)) (a .locations-count) (omega arith))
-    (ap (λ (t : Buffers). changed (desk (lendingTable (a .b) (a .count) (a .locations-count)) heap (t .ids) (t .locations))) (w .clear .ensures))
+    rw (c .done .ensures, le-ltb (length (a .table .now)) (a .words) (omega arith))
+    (ap (λ (t : Table). changed (desk (lendingTable (a .b) (a .words)) heap t)) (w .clear .ensures))
 
 pub table-spec : {M : Type 1} → statement M
-table-spec = tie.close (tie.spec bad-line-requires returns bad-line-requires-2 returns-2 clear-requires done-requires same-length same-length-2 returns-3)
+table-spec = tie.close (tie.spec bad-line-requires returns clear-requires done-requires same-length returns-2)

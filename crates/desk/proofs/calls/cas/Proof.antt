@@ -10,14 +10,11 @@ compare-and-store-requires c κs = search needs
 same-length : tie.Need-same-length
 same-length c = search needs
 
-same-length-2 : tie.Need-same-length-2
-same-length-2 c = search needs
-
 returns : tie.Need-returns
 returns c =
-    let w = c .before .before .before .before in
-    let a = w .before .before .before .before .before .args in
-    λ heap. tabled compared (a .b) heap (a .ids .now) (a .locations .now) (w .compare-and-store .ensures)
+    let w = c .before .before in
+    let a = w .before .before .before .args in
+    λ heap. tabled compared (a .b) heap (a .table .now) (w .compare-and-store .ensures)
 
 pub cas-spec : {M : Type 1} → statement M
-cas-spec = tie.close (tie.spec compare-and-store-requires same-length same-length-2 returns)
+cas-spec = tie.close (tie.spec compare-and-store-requires same-length returns)

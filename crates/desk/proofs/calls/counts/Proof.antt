@@ -9,7 +9,7 @@ counts-requires c κs = search needs
 
 returns : tie.Need-returns
 returns c =
-    let a = c .before .before .before .before .args in
+    let a = c .before .before .before .args in
     ap (answered counted (a .b)) (c .counts .ensures (a .b .claims))
 
 pub counts-spec : {M : Type 1} → statement M

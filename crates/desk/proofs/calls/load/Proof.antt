@@ -9,8 +9,8 @@ load-requires c κs = search needs
 
 returns : tie.Need-returns
 returns c =
-    let a = c .before .before .before .args in
-    λ heap. tabled located (a .b) heap (a .ids .now) (a .locations .now) (c .load .ensures)
+    let a = c .before .before .args in
+    λ heap. tabled located (a .b) heap (a .table .now) (c .load .ensures)
 
 pub load-spec : {M : Type 1} → statement M
 load-spec = tie.close (tie.spec load-requires returns)

@@ -16,14 +16,11 @@ same-length c = search needs
 same-length-2 : tie.Need-same-length-2
 same-length-2 c = search needs
 
-same-length-3 : tie.Need-same-length-3
-same-length-3 c = search needs
-
 returns : tie.Need-returns
 returns c =
-    let w = c .before .before .before .before .before .before .before in
-    let a = w .before .before .before .before .before .before .before .args in
+    let w = c .before .before .before .before .before in
+    let a = w .before .before .before .before .before .args in
     rw (c .with-state .ensures) (ap (answered moved (a .b)) (w .maintain .ensures))
 
 pub maintain-spec : {M : Type 1} → statement M
-maintain-spec = tie.close (tie.spec maintain-requires with-state-requires same-length same-length-2 same-length-3 returns)
+maintain-spec = tie.close (tie.spec maintain-requires with-state-requires same-length same-length-2 returns)

@@ -10,14 +10,11 @@ store-if-greater-requires c κs = search needs
 same-length : tie.Need-same-length
 same-length c = search needs
 
-same-length-2 : tie.Need-same-length-2
-same-length-2 c = search needs
-
 returns : tie.Need-returns
 returns c =
-    let w = c .before .before .before .before in
-    let a = w .before .before .before .before .before .args in
-    λ heap. tabled raised (a .b) heap (a .ids .now) (a .locations .now) (w .store-if-greater .ensures)
+    let w = c .before .before in
+    let a = w .before .before .before .args in
+    λ heap. tabled raised (a .b) heap (a .table .now) (w .store-if-greater .ensures)
 
 pub max-spec : {M : Type 1} → statement M
-max-spec = tie.close (tie.spec store-if-greater-requires same-length same-length-2 returns)
+max-spec = tie.close (tie.spec store-if-greater-requires same-length returns)

@@ -19,7 +19,7 @@ same-length c = search needs
 returns : tie.Need-returns
 returns c =
     let w = c .before .before .before .before in
-    let a = w .before .before .before .before .before .args in
+    let a = w .before .before .before .before .args in
     rw (c .answered .ensures, c .before .with-state .ensures) (ap (answered plain (a .b)) (w .prune .ensures))
 
 pub prune-spec : {M : Type 1} → statement M

@@ -13,8 +13,8 @@ read-answer-requires c κs = search needs
 returns : tie.Need-returns
 unfolding readCall
 returns c =
-    let a = c .before .before .before .before .args in
-    let w = worldOf (desk (a .b) (a .heap .now) (a .ids .now) (a .locations .now)) in
+    let a = c .before .before .before .args in
+    let w = worldOf (desk (a .b) (a .heap .now) (a .table .now)) in
     ap (λ (x : ReadAnswer). answered found (a .b) (leaving (readGiven x) w)) (c .read-answer .ensures (a .b .claims))
 
 pub read-spec : {M : Type 1} → statement M

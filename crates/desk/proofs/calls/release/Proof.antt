@@ -16,7 +16,7 @@ answered-requires c κs = search needs
 returns : tie.Need-returns
 returns c =
     let w = c .before .before in
-    let a = w .before .before .before .before .args in
+    let a = w .before .before .before .args in
     rw (c .answered .ensures, c .before .with-claims .ensures) (ap (answered plain (a .b)) (w .release .ensures))
 
 pub release-spec : {M : Type 1} → statement M

@@ -19,14 +19,11 @@ answered-requires c κs = search needs
 same-length : tie.Need-same-length
 same-length c = search needs
 
-same-length-2 : tie.Need-same-length-2
-same-length-2 c = search needs
-
 returns : tie.Need-returns
 returns c =
-    let w = c .before .before .before .before .before .before .before in
-    let a = w .before .before .before .before .before .before .args in
+    let w = c .before .before .before .before .before in
+    let a = w .before .before .before .before .args in
     rw (c .answered .ensures, c .before .with-claims .ensures, c .before .before .with-state .ensures) (ap (answered plain (a .b)) (w .reopen .ensures))
 
 pub reopen-spec : {M : Type 1} → statement M
-reopen-spec = tie.close (tie.spec reopen-requires with-state-requires with-claims-requires answered-requires same-length same-length-2 returns)
+reopen-spec = tie.close (tie.spec reopen-requires with-state-requires with-claims-requires answered-requires same-length returns)

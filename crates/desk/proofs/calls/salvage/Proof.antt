@@ -16,8 +16,8 @@ same-length c = search needs
 returns : tie.Need-returns
 returns c =
     let w = c .before .before in
-    let a = w .before .before .before .before .before .before .args in
-    let d = desk (a .b) (a .heap .now) (a .ids .now) (a .locations .now) in
+    let a = w .before .before .before .before .before .args in
+    let d = desk (a .b) (a .heap .now) (a .table .now) in
     let done = w .salvage .ensures in
     let apart = report-apart d (a .report .now) in (
       ap₂ (rescued d) (ap (λ (x : Salvaged). x .answer) done ∙ apart .0) (ap (λ (x : Salvaged). x .heap) done ∙ apart .1),

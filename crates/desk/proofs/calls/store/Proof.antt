@@ -13,14 +13,11 @@ answered-requires c κs = search needs
 same-length : tie.Need-same-length
 same-length c = search needs
 
-same-length-2 : tie.Need-same-length-2
-same-length-2 c = search needs
-
 returns : tie.Need-returns
 returns c =
-    let w = c .before .before .before .before .before in
-    let a = w .before .before .before .before .before .args in
-    λ heap. rw (c .answered .ensures) (tabled plain (a .b) heap (a .ids .now) (a .locations .now) (w .store .ensures))
+    let w = c .before .before .before in
+    let a = w .before .before .before .args in
+    λ heap. rw (c .answered .ensures) (tabled plain (a .b) heap (a .table .now) (w .store .ensures))
 
 pub store-spec : {M : Type 1} → statement M
-store-spec = tie.close (tie.spec store-requires answered-requires same-length same-length-2 returns)
+store-spec = tie.close (tie.spec store-requires answered-requires same-length returns)

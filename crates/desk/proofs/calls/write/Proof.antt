@@ -19,14 +19,11 @@ same-length c = search needs
 same-length-2 : tie.Need-same-length-2
 same-length-2 c = search needs
 
-same-length-3 : tie.Need-same-length-3
-same-length-3 c = search needs
-
 returns : tie.Need-returns
 returns c =
-    let w = c .before .before .before .before .before .before .before .before in
-    let a = w .before .before .before .before .before .before .before .before .args in
+    let w = c .before .before .before .before .before .before in
+    let a = w .before .before .before .before .before .before .args in
     rw (c .answered .ensures, c .before .with-state .ensures) (ap (answered plain (a .b)) (w .write .ensures (a .b .claims)))
 
 pub write-spec : {M : Type 1} → statement M
-write-spec = tie.close (tie.spec write-requires with-state-requires answered-requires same-length same-length-2 same-length-3 returns)
+write-spec = tie.close (tie.spec write-requires with-state-requires answered-requires same-length same-length-2 returns)

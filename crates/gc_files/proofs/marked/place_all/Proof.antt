@@ -1,6 +1,8 @@
 use mathlib.Core.Path.{refl, sym, ap, _∙_}
 use lib.ListN.{drop}
 use Rattle.numbers.specs.Parts.{front, putAt, put-front, put-step, put-none}
+use Rattle.rules.specs.Layout.{tableLocations, capacityOf}
+use Rattle.rules.specs.LayoutLaws.{locations-count}
 use Rattle.gc_files.specs.Places.{placesFor}
 use Rattle.gc_files.specs.PlaceLaws.{places-next, places-end}
 use Prim.Native.Nat.{_≤_, _<_, _-_}
@@ -12,13 +14,13 @@ use Rattle.gc_files.proofs.marked.place_all.Statement.{statement}
 use Rattle.gc_files.proofs.marked.place_all.Tie as tie
 
 abbrev Inv-loop : tie.InvT-loop
-Inv-loop locations marks lsns slot-bytes places₀ n i₀ places i =
-    (i ≤ length locations)
-    × (putAt places i (placesFor slot-bytes lsns (drop i locations) (drop i marks)) ≡ front (placesFor slot-bytes lsns locations marks) places₀)
+Inv-loop table marks lsns slot-bytes places₀ n i₀ places i =
+    (i ≤ length (tableLocations table))
+    × (putAt places i (placesFor slot-bytes lsns (drop i (tableLocations table)) (drop i marks)) ≡ front (placesFor slot-bytes lsns (tableLocations table) marks) places₀)
     × (length places ≡ length places₀)
 
 abbrev μ-loop : tie.MeasureT-loop
-μ-loop locations marks lsns slot-bytes places₀ n i₀ places i = length locations - i
+μ-loop table marks lsns slot-bytes places₀ n i₀ places i = capacityOf table - i
 
 capacity-requires : tie.Need-capacity-requires Inv-loop μ-loop
 capacity-requires c κs = search needs
@@ -26,7 +28,7 @@ capacity-requires c κs = search needs
 loop-holds : tie.Need-loop-holds Inv-loop μ-loop
 loop-holds c =
     let start = c .before .before .before .before .before in
-    (omega arith, put-front (start .args .places .now) (placesFor (start .args .slot-bytes) (start .args .lsns .now) (start .args .locations .now) (start .args .marks .now)), refl)
+    (omega arith, put-front (start .args .places .now) (placesFor (start .args .slot-bytes) (start .args .lsns .now) (tableLocations (start .args .table .now)) (start .args .marks .now)), refl)
 
 location-at-requires : tie.Need-location-at-requires Inv-loop μ-loop
 location-at-requires c κs = omega (arith, c .before .before .capacity .ensures)
@@ -35,13 +37,17 @@ mul-place-of : tie.Need-mul-place-of Inv-loop μ-loop
 mul-place-of c = search needs
 
 shared-slice-read-place-of : tie.Need-shared-slice-read-place-of Inv-loop μ-loop
-shared-slice-read-place-of c = search needs
+shared-slice-read-place-of c =
+    let at = c .before .before .before in
+    let start = at .before .before .before .before .before .before in
+    let entries = at .before .capacity .ensures ∙ sym (locations-count (start .args .table .now)) in
+    omega (arith, start .pre .1 .marks)
 
 place-of-requires : tie.Need-place-of-requires Inv-loop μ-loop
 place-of-requires c κs =
     let at = c .before .before .before in
     let start = at .before .before .before .before .before .before in
-    let entries = at .before .capacity .ensures in
+    let entries = at .before .capacity .ensures ∙ sym (locations-count (start .args .table .now)) in
     let asked = start .pre .1 in
     let i = at .loop .i in
     let size = at .loop .inv .2 in
@@ -54,7 +60,7 @@ slice-write-places : tie.Need-slice-write-places Inv-loop μ-loop
 slice-write-places c =
     let at = c .before .before .before .before in
     let start = at .before .before .before .before .before .before in
-    let entries = at .before .capacity .ensures in
+    let entries = at .before .capacity .ensures ∙ sym (locations-count (start .args .table .now)) in
     let asked = start .pre .1 in
     let i = at .loop .i in
     let size = at .loop .inv .2 in
@@ -70,13 +76,13 @@ loop-again : tie.Need-loop-again Inv-loop μ-loop
 loop-again c =
     let at = c .before .before .before .before in
     let start = at .before .before .before .before .before .before in
-    let entries = at .before .capacity .ensures in
+    let entries = at .before .capacity .ensures ∙ sym (locations-count (start .args .table .now)) in
     let asked = start .pre .1 in
     let i = at .loop .i in
     let size = at .loop .inv .2 in
-    let low : i < length (start .args .locations .now) = omega arith in
+    let low : i < length (tableLocations (start .args .table .now)) = omega arith in
     let room : i < length (at .loop .places) = omega (arith, asked .room) in
-    let next = places-next (start .args .slot-bytes) (start .args .lsns .now) (start .args .locations .now) (start .args .marks .now) i low (omega (arith, asked .marks)) in (
+    let next = places-next (start .args .slot-bytes) (start .args .lsns .now) (tableLocations (start .args .table .now)) (start .args .marks .now) i low (omega (arith, asked .marks)) in (
       omega arith,
       rw (c .place-of .ensures, c .before .before .location-at .ensures) (put-step (at .loop .places) i _ _ room ∙ ap (putAt (at .loop .places) i) (sym next) ∙ at .loop .inv .1),
       length-set (at .loop .places) i _ ∙ at .loop .inv .2,
@@ -89,11 +95,11 @@ returns : tie.Need-returns Inv-loop μ-loop
 returns c =
     let at = c .before in
     let start = at .before .before .before .before .before .before in
-    let entries = at .before .capacity .ensures in
+    let entries = at .before .capacity .ensures ∙ sym (locations-count (start .args .table .now)) in
     let asked = start .pre .1 in
     let i = at .loop .i in
     let size = at .loop .inv .2 in
-    let none = places-end (start .args .slot-bytes) (start .args .lsns .now) (start .args .locations .now) (start .args .marks .now) i (omega arith) in
+    let none = places-end (start .args .slot-bytes) (start .args .lsns .now) (tableLocations (start .args .table .now)) (start .args .marks .now) i (omega arith) in
     sym (put-none (at .loop .places) i) ∙ ap (putAt (at .loop .places) i) (sym none) ∙ at .loop .inv .1
 
 pub place-all-spec : {M : Type 1} → statement M

@@ -13,16 +13,16 @@ use Rattle.rules.specs.Refusal.{decide, decide-none, decide-early, decide-late}
 use Rattle.rules.specs.Trailer.{countIn, entriesIn}
 use Rattle.rules.specs.Table.{noEntry}
 use Rattle.trailer.specs.Entries.{entries-count}
-use Rattle.location_table.specs.LayoutLaws.{used}
+use Rattle.rules.specs.Layout.{usedEntries}
 use Rattle.gc_group.specs.Checks.{entryTests}
 
 abbrev Inv-loop : tie.InvT-loop
-Inv-loop trailer lsn ids locations n k₀ k =
+Inv-loop trailer lsn table n k₀ k =
     (n ≡ countIn trailer) × (k ≤ n)
-    × (decide (each (entryTests lsn (used ids locations)) (drop k (entriesIn trailer))) ≡ decide (each (entryTests lsn (used ids locations)) (entriesIn trailer)))
+    × (decide (each (entryTests lsn (usedEntries table)) (drop k (entriesIn trailer))) ≡ decide (each (entryTests lsn (usedEntries table)) (entriesIn trailer)))
 
 abbrev μ-loop : tie.MeasureT-loop
-μ-loop trailer lsn ids locations n k₀ k = n - k
+μ-loop trailer lsn table n k₀ k = n - k
 
 count-requires : tie.Need-count-requires Inv-loop μ-loop
 count-requires c κs = search needs
@@ -38,16 +38,16 @@ check-entry-requires c κs = search needs
 
 -- what a turn looks at: the entry, what is left, and what is decided of the entry
 looked : (c : tie.After-check-entry Inv-loop μ-loop) → let l = c .before .before .before .loop in
-    let start = c .before .before .before .before .before .before .before .before in
+    let start = c .before .before .before .before .before .before .before in
     let es = entriesIn (start .args .trailer .now) in
-    let f = entryTests (start .args .lsn) (used (start .args .ids .now) (start .args .locations .now)) in
+    let f = entryTests (start .args .lsn) (usedEntries (start .args .table .now)) in
     (l .k < length es) × (each f (drop (l .k) es) ≡ f (getD es (l .k) noEntry) ++ each f (drop (l .k + 1) es))
     × (decide (f (getD es (l .k) noEntry)) ≡ c .check-entry .result) × (decide (each f (drop (l .k) es)) ≡ decide (each f es))
 looked c =
     let l = c .before .before .before .loop in
-    let start = c .before .before .before .before .before .before .before .before in
+    let start = c .before .before .before .before .before .before .before in
     let es = entriesIn (start .args .trailer .now) in
-    let f = entryTests (start .args .lsn) (used (start .args .ids .now) (start .args .locations .now)) in
+    let f = entryTests (start .args .lsn) (usedEntries (start .args .table .now)) in
     let inside : l .k < length es = omega (arith, l .inv .0, entries-count (start .args .trailer .now) (start .pre .0), c .before .before .loop-test .taken) in
     (inside, each-next es (l .k) noEntry inside f, ap (λ (e : Entry). decide (f e)) (sym (c .before .entry .ensures)) ∙ sym (c .check-entry .ensures), l .inv .2)
 
@@ -77,9 +77,9 @@ loop-again c =
 returns-2 : tie.Need-returns-2 Inv-loop μ-loop
 returns-2 c =
     let l = c .before .loop in
-    let start = c .before .before .before .before .before .before in
+    let start = c .before .before .before .before .before in
     let es = entriesIn (start .args .trailer .now) in
-    let table = used (start .args .ids .now) (start .args .locations .now) in
+    let table = usedEntries (start .args .table .now) in
     sym (ap decide (each-end es (l .k) (omega (arith, l .inv .0, entries-count (start .args .trailer .now) (start .pre .0), c .loop-test .left)) (entryTests (start .args .lsn) table)) ∙ decide-none) ∙ l .inv .2
 
 pub check-deletes-spec : {M : Type 1} → statement M

@@ -11,19 +11,19 @@ use Rattle.rules.specs.Trailer.{trailerTests, entriesIn}
 use Rattle.rules.specs.SlotFile.{objectPart, trailerPart}
 use Rattle.rules.specs.Maintenance.{movedTests}
 use Rattle.trailer.specs.Entries.{clear-fits}
-use Rattle.location_table.specs.LayoutLaws.{used}
+use Rattle.rules.specs.Layout.{usedEntries}
 use Rattle.gc_group.specs.Checks.{entryTests, file-trailer, file-object, file-deletes}
 
 -- what is decided of the trailer, and of the objects
-trailer-is : (c : tie.After-check) → let a = c .before .before .before .before .before .args in
+trailer-is : (c : tie.After-check) → let a = c .before .before .before .before .args in
     decide (trailerTests (trailerPart (a .l) (a .slot .now))) ≡ c .check .result
 trailer-is c = ap (λ (s : List ℕ). decide (trailerTests s)) (sym (c .before .trailer-part .ensures)) ∙ sym (c .check .ensures)
 
-objects-are : (c : tie.After-check-objects) → let a = c .before .before .before .before .before .before .before .before .before .args in
-    decide (each (movedTests (a .limit) (used (a .ids .now) (a .locations .now))) (objectsIn (objectPart (a .l) (a .slot .now)))) ≡ c .check-objects .result
+objects-are : (c : tie.After-check-objects) → let a = c .before .before .before .before .before .before .before .before .args in
+    decide (each (movedTests (a .limit) (usedEntries (a .table .now))) (objectsIn (objectPart (a .l) (a .slot .now)))) ≡ c .check-objects .result
 objects-are c =
-    let a = c .before .before .before .before .before .before .before .before .before .args in
-    ap (λ (s : List ℕ). decide (each (movedTests (a .limit) (used (a .ids .now) (a .locations .now))) (objectsIn s))) (sym (c .before .object-part .ensures)) ∙ sym (c .check-objects .ensures)
+    let a = c .before .before .before .before .before .before .before .before .args in
+    ap (λ (s : List ℕ). decide (each (movedTests (a .limit) (usedEntries (a .table .now))) (objectsIn s))) (sym (c .before .object-part .ensures)) ∙ sym (c .check-objects .ensures)
 
 trailer-part-requires : tie.Need-trailer-part-requires
 trailer-part-requires c κs = search needs
@@ -37,8 +37,8 @@ enum-known-refusal c = search needs
 returns : tie.Need-returns
 returns c =
     let checked = c .before .before .before in
-    let a = checked .before .before .before .before .before .args in
-    sym (file-trailer (a .limit) (used (a .ids .now) (a .locations .now)) (a .l) (a .slot .now) _ (trailer-is checked ∙ c .before .refusal .given .1))
+    let a = checked .before .before .before .before .args in
+    sym (file-trailer (a .limit) (usedEntries (a .table .now)) (a .l) (a .slot .now) _ (trailer-is checked ∙ c .before .refusal .given .1))
 
 enum-told : tie.Need-enum-told
 enum-told c = search needs
@@ -56,8 +56,8 @@ returns-2 : tie.Need-returns-2
 returns-2 c =
     let walked = c .before .before .before in
     let checked = walked .before .before .before .before in
-    let a = checked .before .before .before .before .before .args in
-    sym (file-object (a .limit) (used (a .ids .now) (a .locations .now)) (a .l) (a .slot .now)
+    let a = checked .before .before .before .before .args in
+    sym (file-object (a .limit) (usedEntries (a .table .now)) (a .l) (a .slot .now)
     (trailer-is checked ∙ walked .before .before .enum-told .given .1) _ (objects-are walked ∙ c .before .refusal2 .given .1))
 
 enum-told-2 : tie.Need-enum-told-2
@@ -67,14 +67,14 @@ check-deletes-requires : tie.Need-check-deletes-requires
 check-deletes-requires c κs =
     let walked = c .before .before in
     let checked = walked .before .before .before .before in
-    (clear-fits _ (sym (checked .check .ensures) ∙ walked .before .before .enum-told .given .1), checked .before .before .before .before .before .pre .1)
+    (clear-fits _ (sym (checked .check .ensures) ∙ walked .before .before .enum-told .given .1), checked .before .before .before .before .pre .1)
 
 returns-3 : tie.Need-returns-3
 returns-3 c =
     let walked = c .before .before .before in
     let checked = walked .before .before .before .before in
-    let a = checked .before .before .before .before .before .args in
-    let table = used (a .ids .now) (a .locations .now) in
+    let a = checked .before .before .before .before .args in
+    let table = usedEntries (a .table .now) in
     c .check-deletes .ensures ∙ ap (λ (s : List ℕ). decide (each (entryTests (a .l .lsn) table) (entriesIn s))) (checked .before .trailer-part .ensures)
     ∙ sym (file-deletes (a .limit) table (a .l) (a .slot .now) (trailer-is checked ∙ walked .before .before .enum-told .given .1) (objects-are walked ∙ c .before .enum-told2 .given .1))
 

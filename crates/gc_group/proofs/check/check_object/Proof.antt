@@ -8,15 +8,15 @@ use mathlib.Core.Bool.{Bool}
 use Rattle.numbers.specs.Choice.{pick}
 use Rattle.rules.specs.declared.Answer.the-variants.{Done, Refused}
 use Rattle.rules.specs.declared.Refusal.the-variants.{Checksum}
-use Rattle.location_table.specs.LayoutLaws.{used}
+use Rattle.rules.specs.Layout.{usedEntries}
 use Rattle.slot_file.specs.Objects.{header-fits}
 use Rattle.gc_group.specs.Checks.{moved-large, moved-unmapped, moved-short, moved-sum}
 
 returns : tie.Need-returns
 returns c =
-    let start = c .before .before .before .before .before in
+    let start = c .before .before .before .before in
     let a = start .args in
-    sym (moved-large (a .limit) (used (a .ids .now) (a .locations .now)) (a .objects .now) (a .position) (a .h) (start .pre .0) (omega arith))
+    sym (moved-large (a .limit) (usedEntries (a .table .now)) (a .objects .now) (a .position) (a .h) (start .pre .0) (omega arith))
 
 unmapped-requires : tie.Need-unmapped-requires
 unmapped-requires c κs = search needs
@@ -24,15 +24,15 @@ unmapped-requires c κs = search needs
 returns-2 : tie.Need-returns-2
 returns-2 c =
     let small = c .before .before in
-    let start = small .before .before .before .before .before in
+    let start = small .before .before .before .before in
     let a = start .args in
-    sym (moved-unmapped (a .limit) (used (a .ids .now) (a .locations .now)) (a .objects .now) (a .position) (a .h) (start .pre .0) (small .if1 .left) (sym (c .before .unmapped .ensures) ∙ c .if2 .taken))
+    sym (moved-unmapped (a .limit) (usedEntries (a .table .now)) (a .objects .now) (a .position) (a .h) (start .pre .0) (small .if1 .left) (sym (c .before .unmapped .ensures) ∙ c .if2 .taken))
 
 sub-if3 : tie.Need-sub-if3
 sub-if3 c =
     let known = c .before in
     let small = known .before .before in
-    let start = small .before .before .before .before .before in
+    let start = small .before .before .before .before in
     let a = start .args in
     omega (arith, header-fits (a .objects .now) (a .position) (a .h) (start .pre .0) .0)
 
@@ -40,9 +40,9 @@ returns-3 : tie.Need-returns-3
 returns-3 c =
     let known = c .before .before .before in
     let small = known .before .before in
-    let start = small .before .before .before .before .before in
+    let start = small .before .before .before .before in
     let a = start .args in
-    let table = used (a .ids .now) (a .locations .now) in
+    let table = usedEntries (a .table .now) in
     sym (moved-short (a .limit) table (a .objects .now) (a .position) (a .h) (start .pre .0) (small .if1 .left) (sym (known .before .unmapped .ensures) ∙ known .if2 .left)
     (omega (arith, header-fits (a .objects .now) (a .position) (a .h) (start .pre .0) .0)))
 
@@ -50,7 +50,7 @@ bad-checksum-requires : tie.Need-bad-checksum-requires
 bad-checksum-requires c κs =
     let known = c .before .before .before in
     let small = known .before .before in
-    let start = small .before .before .before .before .before in
+    let start = small .before .before .before .before in
     let a = start .args in
     (start .pre .0 .header, omega (arith, header-fits (a .objects .now) (a .position) (a .h) (start .pre .0) .0))
 
@@ -58,9 +58,9 @@ returns-4 : tie.Need-returns-4
 returns-4 c =
     let known = c .before .before .before .before .before in
     let small = known .before .before in
-    let start = small .before .before .before .before .before in
+    let start = small .before .before .before .before in
     let a = start .args in
-    let table = used (a .ids .now) (a .locations .now) in
+    let table = usedEntries (a .table .now) in
     sym (
     moved-sum (a .limit) table (a .objects .now) (a .position) (a .h) (start .pre .0) (small .if1 .left) (sym (known .before .unmapped .ensures) ∙ known .if2 .left)
     (omega (arith, header-fits (a .objects .now) (a .position) (a .h) (start .pre .0) .0))
@@ -70,9 +70,9 @@ returns-5 : tie.Need-returns-5
 returns-5 c =
     let known = c .before .before .before .before .before in
     let small = known .before .before in
-    let start = small .before .before .before .before .before in
+    let start = small .before .before .before .before in
     let a = start .args in
-    let table = used (a .ids .now) (a .locations .now) in
+    let table = usedEntries (a .table .now) in
     sym (
     moved-sum (a .limit) table (a .objects .now) (a .position) (a .h) (start .pre .0) (small .if1 .left) (sym (known .before .unmapped .ensures) ∙ known .if2 .left)
     (omega (arith, header-fits (a .objects .now) (a .position) (a .h) (start .pre .0) .0))

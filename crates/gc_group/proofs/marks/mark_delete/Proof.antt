@@ -7,7 +7,7 @@ use mathlib.Core.List.{List}
 use mathlib.Core.Bool.{true}
 use Rattle.disk_location.specs.declared.Located.{Located}
 use Rattle.disk_location.specs.Locations.{positionOf, deleteOf, rawOf, told}
-use Rattle.location_table.specs.LayoutLaws.{used}
+use Rattle.rules.specs.Layout.{usedEntries}
 use Rattle.gc_group.specs.Marks.{current, marked}
 use Rattle.gc_group.specs.MarkLaws.{located-raw, delete-here, delete-not, mark-none}
 
@@ -30,9 +30,9 @@ returns : tie.Need-returns
 returns c =
     let called = c .before .before in
     let chosen = called .before .before .before .before in
-    let start = chosen .before .before .before .before .before in
+    let start = chosen .before .before .before .before in
     let a = start .args in
-    let table = used (a .ids .now) (a .locations .now) in
+    let table = usedEntries (a .table .now) in
     let d : deleteOf (a .e .location) ≡ true = sym (chosen .before .is-delete .ensures) ∙ chosen .if1 .taken in
     let sum = positionOf (a .e .location) + a .lsn in
     let raw : called .before .raw .result ≡ rawOf sum (deleteOf (a .e .location)) =
@@ -42,8 +42,8 @@ returns c =
 
 returns-2 : tie.Need-returns-2
 returns-2 c =
-    let a = c .before .before .before .before .before .args in
-    let table = used (a .ids .now) (a .locations .now) in
+    let a = c .before .before .before .before .args in
+    let table = usedEntries (a .table .now) in
     sym (
     ap (λ (ids : List ℕ). marked (a .mark) ids table (a .marks .now)) (delete-not (a .lsn) table (a .e) (sym (c .before .is-delete .ensures) ∙ c .if1 .left))
     ∙ mark-none (a .mark) table (a .marks .now))

@@ -11,7 +11,7 @@ use Rattle.rules.specs.declared.Entry.{Entry}
 use Rattle.rules.specs.Table.{noEntry}
 use Rattle.rules.specs.BaseLaws.{all-at}
 use Rattle.trailer.specs.Entries.{entries-count}
-use Rattle.location_table.specs.LayoutLaws.{used}
+use Rattle.rules.specs.Layout.{usedEntries}
 use Rattle.gc_group.specs.Clear.{SumFits}
 use Rattle.gc_group.specs.Marks.{deleteId, marked}
 use Rattle.gc_group.specs.MarkLaws.{marked-length}
@@ -19,13 +19,13 @@ use Rattle.gc_group.proofs.MarkTurns.{entries-mark, entries-done}
 use mathlib.Core.List.{List}
 
 abbrev Inv-loop : tie.InvT-loop
-Inv-loop trailer lsn ids locations marks₀ mark n k₀ marks k =
+Inv-loop trailer lsn table marks₀ mark n k₀ marks k =
     (n ≡ countIn trailer) × (k ≤ n) × (length marks ≡ length marks₀)
-    × (marked mark (each (deleteId lsn (used ids locations)) (drop k (entriesIn trailer))) (used ids locations) marks
-    ≡ marked mark (each (deleteId lsn (used ids locations)) (entriesIn trailer)) (used ids locations) marks₀)
+    × (marked mark (each (deleteId lsn (usedEntries table)) (drop k (entriesIn trailer))) (usedEntries table) marks
+    ≡ marked mark (each (deleteId lsn (usedEntries table)) (entriesIn trailer)) (usedEntries table) marks₀)
 
 abbrev μ-loop : tie.MeasureT-loop
-μ-loop trailer lsn ids locations marks₀ mark n k₀ marks k = n - k
+μ-loop trailer lsn table marks₀ mark n k₀ marks k = n - k
 
 count-requires : tie.Need-count-requires Inv-loop μ-loop
 count-requires c κs = search needs
@@ -39,7 +39,7 @@ entry-requires c κs = search needs
 mark-delete-requires : tie.Need-mark-delete-requires Inv-loop μ-loop
 mark-delete-requires c κs =
     let at = c .before .before .before in
-    let start = at .before .before .before .before .before .before in
+    let start = at .before .before .before .before .before in
     let es = entriesIn (start .args .trailer .now) in
     let k = at .loop .k in
     let inside : k < length es = omega (arith, at .loop .inv .0, entries-count (start .args .trailer .now) (start .pre .0), c .before .before .loop-test .taken) in
@@ -55,13 +55,13 @@ loop-again : tie.Need-loop-again Inv-loop μ-loop
 loop-again c =
     let called = c .before .before in
     let at = called .before .before .before .before in
-    let start = at .before .before .before .before .before .before in
+    let start = at .before .before .before .before .before in
     let a = start .args in
-    let table = used (a .ids .now) (a .locations .now) in
+    let table = usedEntries (a .table .now) in
     let es = entriesIn (a .trailer .now) in
     let k = at .loop .k in
     let inside : k < length es = omega (arith, at .loop .inv .0, entries-count (a .trailer .now) (start .pre .0), called .before .before .before .loop-test .taken) in
-    let after : called .mark-delete .last .1 .1 .1 .1 .0 ≡ marked (a .mark) (deleteId (a .lsn) table (getD es k noEntry)) table (at .loop .marks) =
+    let after : called .mark-delete .last .1 .1 .1 .0 ≡ marked (a .mark) (deleteId (a .lsn) table (getD es k noEntry)) table (at .loop .marks) =
     called .mark-delete .ensures ∙ ap (λ (e : Entry). marked (a .mark) (deleteId (a .lsn) table e) table (at .loop .marks)) (called .before .before .entry .ensures) in (
       at .loop .inv .0,
       omega arith,
@@ -76,10 +76,10 @@ same-length c = search needs
 returns : tie.Need-returns Inv-loop μ-loop
 returns c =
     let at = c .before in
-    let start = at .before .before .before .before .before .before in
+    let start = at .before .before .before .before .before in
     let a = start .args in
     let es = entriesIn (a .trailer .now) in
-    sym (entries-done (a .mark) (a .lsn) (used (a .ids .now) (a .locations .now)) es (at .loop .k) (at .loop .marks)
+    sym (entries-done (a .mark) (a .lsn) (usedEntries (a .table .now)) es (at .loop .k) (at .loop .marks)
     (omega (arith, at .loop .inv .0, entries-count (a .trailer .now) (start .pre .0), c .loop-test .left)))
     ∙ at .loop .inv .3
 

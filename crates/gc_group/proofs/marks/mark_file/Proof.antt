@@ -10,7 +10,7 @@ use Rattle.rules.specs.Base.{each}
 use Rattle.rules.specs.BaseLaws.{All}
 use Rattle.rules.specs.Object.{objectsIn}
 use Rattle.rules.specs.Trailer.{countIn, entriesIn}
-use Rattle.location_table.specs.LayoutLaws.{used}
+use Rattle.rules.specs.Layout.{usedEntries}
 use Rattle.gc_group.specs.Source.{part-length}
 use Rattle.gc_group.specs.Clear.{Inside, SumFits}
 use Rattle.gc_group.specs.Marks.{objectId, deleteId, marked}
@@ -21,7 +21,7 @@ object-part-requires c κs = search needs
 
 mark-objects-requires : tie.Need-mark-objects-requires
 mark-objects-requires c κs =
-    let start = c .before .before .before .before .before .before in
+    let start = c .before .before .before .before .before in
     let part = c .before .object-part .ensures in (
       subst (λ (s : List ℕ). All Inside (objectsIn s)) (sym part) (start .pre .1 .0 .objects),
       (omega (arith, ap length part, part-length (start .args .l) (start .args .slot .now), start .pre .0 .positions), (start .pre .1 .1 .0, start .pre .1 .1 .1)),
@@ -33,13 +33,13 @@ trailer-part-requires c κs = search needs
 mark-deletes-requires : tie.Need-mark-deletes-requires
 mark-deletes-requires c κs =
     let called = c .before .before .before .before in
-    let start = called .before .before .before .before .before .before .before in
+    let start = called .before .before .before .before .before .before in
     let a = start .args in
     let part = c .before .trailer-part .ensures in (
       subst (λ (s : List ℕ). 12 + 16 * countIn s ≤ length s) (sym part) (start .pre .1 .0 .entries),
       (
         subst (λ (s : List ℕ). All (SumFits (a .l .lsn)) (entriesIn s)) (sym part) (start .pre .1 .0 .deletes),
-        (start .pre .1 .1 .0, omega (arith, start .pre .1 .1 .1, ap length (called .mark-objects .ensures) ∙ marked-length (a .mark) _ (used (a .ids .now) (a .locations .now)) (a .marks .now))),
+        (start .pre .1 .1 .0, omega (arith, start .pre .1 .1 .1, ap length (called .mark-objects .ensures) ∙ marked-length (a .mark) _ (usedEntries (a .table .now)) (a .marks .now))),
       ),
     )
 
@@ -50,8 +50,8 @@ returns : tie.Need-returns
 returns c =
     let deletes = c .before .before in
     let objects = deletes .before .before .before .before .before in
-    let a = objects .before .before .before .before .before .before .before .args in
-    let table = used (a .ids .now) (a .locations .now) in
+    let a = objects .before .before .before .before .before .before .args in
+    let table = usedEntries (a .table .now) in
     deletes .mark-deletes .ensures
     ∙ ap₂ (λ (s ms : List ℕ). marked (a .mark) (each (deleteId (a .l .lsn) table) (entriesIn s)) table ms) (deletes .before .before .trailer-part .ensures)
     (objects .mark-objects .ensures ∙ ap (λ (s : List ℕ). marked (a .mark) (each (objectId (a .l .lsn) table) (objectsIn s)) table (a .marks .now)) (objects .before .before .object-part .ensures))

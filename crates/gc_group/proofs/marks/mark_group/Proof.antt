@@ -13,7 +13,7 @@ use Rattle.rules.specs.FileMap.{recordAt}
 use Rattle.rules.specs.SlotFile.{slotBytes}
 use Rattle.rules.specs.SlotLaws.{slot-length}
 use Rattle.rules.specs.Maintenance.{fileTests}
-use Rattle.location_table.specs.LayoutLaws.{used}
+use Rattle.rules.specs.Layout.{usedEntries}
 use Rattle.file_map.proofs.RecordTurns.{mapped-length, copied, copied-start, copied-next, copied-end}
 use Rattle.gc_candidates.specs.Plan.{planned, plannedFrom, planned-here, planned-next, planned-start, planned-end}
 use Rattle.gc_group.specs.Source.{source, Lies}
@@ -25,15 +25,15 @@ use Rattle.gc_group.proofs.marks.mark_group.Statement.{statement}
 use Rattle.gc_group.proofs.marks.mark_group.Tie as tie
 
 abbrev Inv-loop : tie.InvT-loop
-Inv-loop group heap plan ids locations marks₀ lsns₀ m i₀ marks lsns i =
-    let from = source (group .settings .«slot_bytes») heap (m .records) (used ids locations) in
+Inv-loop group heap plan table marks₀ lsns₀ m i₀ marks lsns i =
+    let from = source (group .settings .«slot_bytes») heap (m .records) (usedEntries table) in
     (i ≤ 256) × (length marks ≡ length marks₀) × (length lsns ≡ 256)
     × (decide (groupChecks (group .settings .«max_object_size») from (plannedFrom i (drop i plan) (group .generation))) ≡ decide (groupChecks (group .settings .«max_object_size») from (planned plan (group .generation))))
     × (marksFrom from (plannedFrom i (drop i plan) (group .generation)) marks ≡ marksOf from (length marks₀) (planned plan (group .generation)))
     × (lsns ≡ copied (λ (r : Record). r .label .lsn) (m .records) i lsns₀)
 
 abbrev μ-loop : tie.MeasureT-loop
-μ-loop group heap plan ids locations marks₀ lsns₀ m i₀ marks lsns i = 256 - i
+μ-loop group heap plan table marks₀ lsns₀ m i₀ marks lsns i = 256 - i
 
 all-records : (start : tie.Start Inv-loop μ-loop) → length (start .args .t3 .records) ≡ 256
 all-records start = search (mapped-length, needs)
@@ -43,9 +43,9 @@ unmark-requires c κs = search needs
 
 loop-holds : tie.Need-loop-holds Inv-loop μ-loop
 loop-holds c =
-    let start = c .before .before .before .before .before .before .before .before .before .before in
+    let start = c .before .before .before .before .before .before .before .before .before in
     let a = start .args in
-    let from = source (a .group .settings .«slot_bytes») (a .heap .now) (a .t3 .records) (used (a .ids .now) (a .locations .now)) in
+    let from = source (a .group .settings .«slot_bytes») (a .heap .now) (a .t3 .records) (usedEntries (a .table .now)) in
     let zeros = c .before .before .unmark .ensures in
     let first = planned-start (a .plan .now) (a .group .generation) in (
       omega arith,
@@ -78,14 +78,14 @@ shared-slice-read-if1 c = search needs
 slot-at-requires : tie.Need-slot-at-requires Inv-loop μ-loop
 slot-at-requires c κs =
     let at = c .before .before .before .before .before .before in
-    let start = at .before .before .before .before .before .before .before .before .before .before .before in
+    let start = at .before .before .before .before .before .before .before .before .before .before in
     start .pre .0 .standing (at .loop .i) (c .if1 .taken)
 
 check-file-requires : tie.Need-check-file-requires Inv-loop μ-loop
 check-file-requires c κs =
     let chosen = c .before in
     let at = chosen .before .before .before .before .before .before in
-    let start = at .before .before .before .before .before .before .before .before .before .before .before in
+    let start = at .before .before .before .before .before .before .before .before .before .before in
     let a = start .args in
     let i = at .loop .i in
     let whole : length (c .slot-at .result .now) ≡ a .group .settings .«slot_bytes» =
@@ -94,12 +94,12 @@ check-file-requires c κs =
 
 -- what is decided of the file in a slot
 checked : (c : tie.After-check-file Inv-loop μ-loop) → let at = c .before .before .before .before .before .before .before .before in
-    let a = at .before .before .before .before .before .before .before .before .before .before .before .args in
-    decide (fileTests (a .group .settings .«max_object_size») (used (a .ids .now) (a .locations .now)) (recordAt (a .t3 .records) (at .loop .i) .label) (slotBytes (a .group .settings .«slot_bytes») (a .heap .now) (at .loop .i))) ≡ c .check-file .result
+    let a = at .before .before .before .before .before .before .before .before .before .before .args in
+    decide (fileTests (a .group .settings .«max_object_size») (usedEntries (a .table .now)) (recordAt (a .t3 .records) (at .loop .i) .label) (slotBytes (a .group .settings .«slot_bytes») (a .heap .now) (at .loop .i))) ≡ c .check-file .result
 checked c =
     let at = c .before .before .before .before .before .before .before .before in
-    let a = at .before .before .before .before .before .before .before .before .before .before .before .args in
-    ap (λ (bytes : List ℕ). decide (fileTests (a .group .settings .«max_object_size») (used (a .ids .now) (a .locations .now)) (recordAt (a .t3 .records) (at .loop .i) .label) bytes)) (sym (c .before .slot-at .ensures))
+    let a = at .before .before .before .before .before .before .before .before .before .before .args in
+    ap (λ (bytes : List ℕ). decide (fileTests (a .group .settings .«max_object_size») (usedEntries (a .table .now)) (recordAt (a .t3 .records) (at .loop .i) .label) bytes)) (sym (c .before .slot-at .ensures))
     ∙ sym (c .check-file .ensures)
 
 enum-known-refusal : tie.Need-enum-known-refusal Inv-loop μ-loop
@@ -111,7 +111,7 @@ same-length c = search needs
 same-length-2 : tie.Need-same-length-2 Inv-loop μ-loop
 same-length-2 c =
     let at = c .before .before .before .before .before .before .before .before .before .before .before in
-    let start = at .before .before .before .before .before .before .before .before .before .before .before in
+    let start = at .before .before .before .before .before .before .before .before .before .before in
     length-set (at .loop .lsns) (at .loop .i) _ ∙ at .loop .inv .2 ∙ sym (start .pre .1 .1 .1)
 
 returns : tie.Need-returns Inv-loop μ-loop
@@ -119,9 +119,9 @@ returns c =
     let done = c .before .before .before in
     let chosen = done .before .before in
     let at = chosen .before .before .before .before .before .before in
-    let start = at .before .before .before .before .before .before .before .before .before .before .before in
+    let start = at .before .before .before .before .before .before .before .before .before .before in
     let a = start .args in
-    let from = source (a .group .settings .«slot_bytes») (a .heap .now) (a .t3 .records) (used (a .ids .now) (a .locations .now)) in
+    let from = source (a .group .settings .«slot_bytes») (a .heap .now) (a .t3 .records) (usedEntries (a .table .now)) in
     let i = at .loop .i in (
       sym (
           ap (λ (ks : List ℕ). decide (groupChecks (a .group .settings .«max_object_size») from ks)) (planned-here (a .plan .now) (a .group .generation) i (omega (arith, start .pre .0 .slots, chosen .before .before .before .before .before .loop-test .taken)) (chosen .if1 .taken))
@@ -145,7 +145,7 @@ mark-file-requires c κs =
     let chosen = done .before .before in
     let at = chosen .before .before .before .before .before .before in
     let blank = at .before .before .before in
-    let start = blank .before .before .before .before .before .before .before .before in
+    let start = blank .before .before .before .before .before .before .before in
     let a = start .args in
     let i = at .loop .i in
     let l = recordAt (a .t3 .records) i .label in
@@ -153,7 +153,7 @@ mark-file-requires c κs =
     let whole : length (done .before .slot-at .result .now) ≡ a .group .settings .«slot_bytes» =
     ap length bytes ∙ slot-length (a .group .settings .«slot_bytes») (a .heap .now) i (start .pre .0 .standing i (chosen .if1 .taken)) in
     let clear =
-    file-clear (a .group .settings .«max_object_size») (used (a .ids .now) (a .locations .now)) l (slotBytes (a .group .settings .«slot_bytes») (a .heap .now) i) (checked done ∙ c .before .enum-told .given .1) in (
+    file-clear (a .group .settings .«max_object_size») (usedEntries (a .table .now)) l (slotBytes (a .group .settings .«slot_bytes») (a .heap .now) i) (checked done ∙ c .before .enum-told .given .1) in (
       subst (λ (n : ℕ). Lies n l) (sym whole) (start .pre .0 .files i),
       (
         subst (Clear l) (sym bytes) clear,
@@ -170,10 +170,10 @@ loop-less c = search needs
 loop-again : tie.Need-loop-again Inv-loop μ-loop
 loop-again c =
     let at = c .before .before .before .before .before .before in
-    let start = at .before .before .before .before .before .before .before .before .before .before .before in
+    let start = at .before .before .before .before .before .before .before .before .before .before in
     let a = start .args in
     let i = at .loop .i in
-    let table = used (a .ids .now) (a .locations .now) in
+    let table = usedEntries (a .table .now) in
     let from = source (a .group .settings .«slot_bytes») (a .heap .now) (a .t3 .records) table in
     let rs = a .t3 .records in
     let l = recordAt rs i .label in
@@ -221,9 +221,9 @@ returns-2 : tie.Need-returns-2 Inv-loop μ-loop
 returns-2 c =
     let at = c .before in
     let blank = at .before .before .before in
-    let start = blank .before .before .before .before .before .before .before .before in
+    let start = blank .before .before .before .before .before .before .before in
     let a = start .args in
-    let from = source (a .group .settings .«slot_bytes») (a .heap .now) (a .t3 .records) (used (a .ids .now) (a .locations .now)) in
+    let from = source (a .group .settings .«slot_bytes») (a .heap .now) (a .t3 .records) (usedEntries (a .table .now)) in
     let rs = a .t3 .records in
     let all = all-records start in
     let past = planned-end (a .plan .now) (a .group .generation) (at .loop .i) (omega (arith, start .pre .0 .slots)) in (

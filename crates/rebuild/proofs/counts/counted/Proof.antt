@@ -20,7 +20,7 @@ recorded-requires : tie.Need-recorded-requires
 recorded-requires c κs = search needs
 
 returns-2 : tie.Need-returns-2
-returns-2 c = rw (sym (c .before .before .before .no-file .ensures) ∙ c .before .before .if1 .left) (c .recorded .ensures ∙ ap (recorded (c .before .before .before .before .before .before .args .l)) (c .before .mapped-into .ensures))
+returns-2 c = rw (sym (c .before .before .before .no-file .ensures) ∙ c .before .before .if1 .left) (c .recorded .ensures ∙ ap (recorded (c .before .before .before .before .before .args .l)) (c .before .mapped-into .ensures))
 
 pub counted-spec : {M : Type 1} → statement M
 counted-spec =

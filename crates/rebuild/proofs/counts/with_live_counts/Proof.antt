@@ -3,7 +3,7 @@ use mathlib.Core.Path.{ap, refl, _∙_, _≡_}
 use mathlib.Core.List.{List}
 use Prim.Native.Nat.{zero-le, _≤_, _-_}
 use Rattle.rules.specs.declared.Record.{Record}
-use Rattle.location_table.specs.LayoutLaws.{used}
+use Rattle.rules.specs.Layout.{usedEntries}
 use Rattle.rebuild.specs.Records.{counted}
 use Rattle.rebuild.proofs.CountTurns.{mapTo, map-next, map-end}
 use native.Mathlib.Omega.{arith}
@@ -13,10 +13,10 @@ use Rattle.rebuild.proofs.counts.with_live_counts.Statement.{statement}
 use Rattle.rebuild.proofs.counts.with_live_counts.Tie as tie
 
 abbrev Inv-loop : tie.InvT-loop
-Inv-loop ids locations slots m₀ k₀ m k = (k ≤ 256) × (length (m₀ .records) ≡ 256) × (m .records ≡ mapTo (counted (used ids locations)) k (slots .labels) (m₀ .records))
+Inv-loop table slots m₀ k₀ m k = (k ≤ 256) × (length (m₀ .records) ≡ 256) × (m .records ≡ mapTo (counted (usedEntries table)) k (slots .labels) (m₀ .records))
 
 abbrev μ-loop : tie.MeasureT-loop
-μ-loop ids locations slots m₀ k₀ m k = 256 - k
+μ-loop table slots m₀ k₀ m k = 256 - k
 
 no-files-requires : tie.Need-no-files-requires Inv-loop μ-loop
 no-files-requires c κs = search needs
@@ -35,8 +35,8 @@ element-copy-out-counted c = search needs
 counted-requires : tie.Need-counted-requires Inv-loop μ-loop
 counted-requires c κs = search needs
 
-mul-t14 : tie.Need-mul-t14 Inv-loop μ-loop
-mul-t14 c = search needs
+mul-t13 : tie.Need-mul-t13 Inv-loop μ-loop
+mul-t13 c = search needs
 
 element-set-from-m : tie.Need-element-set-from-m Inv-loop μ-loop
 element-set-from-m c = search needs
@@ -49,11 +49,11 @@ loop-less c = search needs
 
 loop-again : tie.Need-loop-again Inv-loop μ-loop
 loop-again c =
-    let a = c .before .before .before .before .before .before .before .args in
+    let a = c .before .before .before .before .before .before .args in
     let none = c .before .before .before .before .no-files .result .records in
-    let ls = a .t3 .labels in
+    let ls = a .t2 .labels in
     let len : length ls ≡ 256 = search (mapped-length, needs) in
-    let f = counted (used (a .ids .now) (a .locations .now)) in
+    let f = counted (usedEntries (a .table .now)) in
     let l = c .before .before .before .loop in (
       omega arith,
       l .inv .1,
@@ -62,12 +62,12 @@ loop-again c =
 
 returns : tie.Need-returns Inv-loop μ-loop
 returns c =
-    let a = c .before .before .before .before .before .args in
+    let a = c .before .before .before .before .args in
     let none = c .before .before .no-files .result .records in
-    let ls = a .t3 .labels in
+    let ls = a .t2 .labels in
     let len : length ls ≡ 256 = search (mapped-length, needs) in
     let l = c .before .loop in
-    l .inv .2 ∙ map-end (counted (used (a .ids .now) (a .locations .now))) ls none (l .k) (omega arith) (omega (arith, l .inv .1))
+    l .inv .2 ∙ map-end (counted (usedEntries (a .table .now))) ls none (l .k) (omega arith) (omega (arith, l .inv .1))
 
 pub with-live-counts-spec : {M : Type 1} → statement M
 with-live-counts-spec =
@@ -80,7 +80,7 @@ with-live-counts-spec =
     mul-counted
     element-copy-out-counted
     counted-requires
-    mul-t14
+    mul-t13
     element-set-from-m
     add-k
     loop-less

@@ -9,7 +9,6 @@ use Rattle.rules.specs.SlotFile.{View, viewIn, viewsIn}
 use Rattle.rules.specs.SlotLaws.{slots-apart, views-length, views-at}
 use Rattle.rules.specs.Reopen.{fileOf, filesIn}
 use Rattle.rules.specs.BaseLaws.{all-take}
-use Rattle.rules.specs.Layout.{table}
 use Rattle.reopen_tests.specs.Shown.{Sound, shown-at, sound-views}
 use Rattle.rebuild.specs.Filled.{rowsOf, Filled, filled-none, filled-formed}
 use Rattle.rebuild.proofs.FillTurns.{rowsIn, filled-as, chunk-in, chunk-out, slot-in, slot-out, slot-end, views-in-use}
@@ -19,22 +18,22 @@ use Rattle.rebuild.proofs.table.fill.Statement.{statement}
 use Rattle.rebuild.proofs.table.fill.Tie as tie
 
 abbrev Inv-loop : tie.InvT-loop
-Inv-loop heap size n ids₀ locations₀ slots k₀ ids locations k =
-    (k ≤ n) × (length ids ≡ length ids₀) × (length locations ≡ length locations₀)
-    × Filled (table ids₀ locations₀) (rowsIn (take k (viewsIn n size heap))) true (table ids locations)
+Inv-loop heap size n table₀ slots k₀ table k =
+    (k ≤ n) × (length table ≡ length table₀)
+    × Filled table₀ (rowsIn (take k (viewsIn n size heap))) true table
 
 abbrev μ-loop : tie.MeasureT-loop
-μ-loop heap size n ids₀ locations₀ slots k₀ ids locations k = n - k
+μ-loop heap size n table₀ slots k₀ table k = n - k
 
 loop-holds : tie.Need-loop-holds Inv-loop μ-loop
 unfolding each filesIn
 loop-holds c =
-    let start = c .before .before .before in
-    (zero-le, refl, refl, filled-none (table (start .args .ids .now) (start .args .locations .now)) (start .pre .0))
+    let start = c .before .before in
+    (zero-le, refl, filled-none (start .args .table .now) (start .pre .0))
 
 slot-at-requires : tie.Need-slot-at-requires Inv-loop μ-loop
 slot-at-requires c κs =
-    let start = c .before .before .before .before .before in
+    let start = c .before .before .before .before in
     let a = start .args in
     omega (arith, start .pre .1 .within, slots-apart (a .size) (c .before .loop .k) (a .n) (c .loop-test .taken))
 
@@ -46,13 +45,13 @@ element-copy-out-fill-slot c = search needs
 
 fill-slot-requires : tie.Need-fill-slot-requires Inv-loop μ-loop
 fill-slot-requires c κs =
-    let start = c .before .before .before .before .before .before .before .before .before in
+    let start = c .before .before .before .before .before .before .before in
     let a = start .args in
-    let l = c .before .before .before .before .before .loop in
+    let l = c .before .before .before .before .loop in
     let views = viewsIn (a .n) (a .size) (a .heap .now) in
     let sound = all-take (Sound (a .size)) (l .k) views (sound-views (a .n) (a .size) (a .heap .now) (a .t4 .labels) (start .pre .1)) in (
-      filled-formed (table (a .ids .now) (a .locations .now)) (start .pre .0) (rowsIn (take (l .k) views)) (table (l .ids) (l .locations)) (views-in-use (a .size) (take (l .k) views) sound) (l .inv .3),
-      rw (c .before .before .before .slot-at .ensures) (shown-at (a .n) (a .size) (a .heap .now) (a .t4 .labels) (start .pre .1) (l .k) (c .before .before .before .before .loop-test .taken)),
+      filled-formed (a .table .now) (start .pre .0) (rowsIn (take (l .k) views)) (l .table) (views-in-use (a .size) (take (l .k) views) sound) (l .inv .2),
+      rw (c .before .before .slot-at .ensures) (shown-at (a .n) (a .size) (a .heap .now) (a .t4 .labels) (start .pre .1) (l .k) (c .before .before .before .loop-test .taken)),
     )
 
 same-length : tie.Need-same-length Inv-loop μ-loop
@@ -63,16 +62,16 @@ same-length-2 c = search needs
 
 returns : tie.Need-returns Inv-loop μ-loop
 returns c =
-    let start = c .before .before .before .before .before .before .before .before .before .before .before .before .before .before .before in
+    let start = c .before .before .before .before .before .before .before .before .before .before .before in
     let a = start .args in
-    let l = c .before .before .before .before .before .before .before .before .before .before .before .loop in
-    let low = c .before .before .before .before .before .before .before .before .before .before .loop-test .taken in
+    let l = c .before .before .before .before .before .before .before .before .loop in
+    let low = c .before .before .before .before .before .before .before .loop-test .taken in
     let views = viewsIn (a .n) (a .size) (a .heap .now) in
     let many = views-length (a .n) (a .size) (a .heap .now) in
     let sound = all-take (Sound (a .size)) (l .k) views (sound-views (a .n) (a .size) (a .heap .now) (a .t4 .labels) (start .pre .1)) in
-    let view = ap viewIn (c .before .before .before .before .before .before .before .before .before .slot-at .ensures) ∙ sym (views-at (a .n) (a .size) (a .heap .now) (l .k) low) in
+    let view = ap viewIn (c .before .before .before .before .before .before .slot-at .ensures) ∙ sym (views-at (a .n) (a .size) (a .heap .now) (l .k) low) in
     let rows = slot-out views (l .k) (omega arith) ∙ ap (λ (v : View). (rowsIn (take (l .k) views) ++ each rowsOf (fileOf v)) ++ rowsIn (drop (l .k + 1) views)) (sym view) in
-    chunk-out (table (a .ids .now) (a .locations .now)) (start .pre .0) (rowsIn (take (l .k) views)) _ (views-in-use (a .size) (take (l .k) views) sound) _ (l .inv .3) _ _ (c .before .before .before .before .before .fill-slot .ensures) (not-true _ (c .if1 .taken)) (rowsIn views) _ rows
+    chunk-out (a .table .now) (start .pre .0) (rowsIn (take (l .k) views)) _ (views-in-use (a .size) (take (l .k) views) sound) _ (l .inv .2) _ _ (c .before .before .before .fill-slot .ensures) (not-true _ (c .if1 .taken)) (rowsIn views) _ rows
 
 add-k : tie.Need-add-k Inv-loop μ-loop
 add-k c = search needs
@@ -82,34 +81,27 @@ loop-less c = search needs
 
 loop-again : tie.Need-loop-again Inv-loop μ-loop
 loop-again c =
-    let start = c .before .before .before .before .before .before .before .before .before .before .before .before .before .before .before in
+    let start = c .before .before .before .before .before .before .before .before .before .before .before in
     let a = start .args in
-    let l = c .before .before .before .before .before .before .before .before .before .before .before .loop in
-    let low = c .before .before .before .before .before .before .before .before .before .before .loop-test .taken in
+    let l = c .before .before .before .before .before .before .before .before .loop in
+    let low = c .before .before .before .before .before .before .before .loop-test .taken in
     let views = viewsIn (a .n) (a .size) (a .heap .now) in
     let many = views-length (a .n) (a .size) (a .heap .now) in
     let sound = all-take (Sound (a .size)) (l .k) views (sound-views (a .n) (a .size) (a .heap .now) (a .t4 .labels) (start .pre .1)) in
-    let view = ap viewIn (c .before .before .before .before .before .before .before .before .before .slot-at .ensures) ∙ sym (views-at (a .n) (a .size) (a .heap .now) (l .k) low) in
+    let view = ap viewIn (c .before .before .before .before .before .before .slot-at .ensures) ∙ sym (views-at (a .n) (a .size) (a .heap .now) (l .k) low) in
     let rows = slot-in views (l .k) (omega arith) ∙ ap (λ (v : View). rowsIn (take (l .k) views) ++ each rowsOf (fileOf v)) (sym view) in (
       omega arith,
-      c .before .before .before .before .before .fill-slot .kept .1 .1 .0 ∙ l .inv .1,
-      c .before .before .before .before .before .fill-slot .kept .1 .1 .1 .0 ∙ l .inv .2,
-      chunk-in (table (a .ids .now) (a .locations .now)) (start .pre .0) (rowsIn (take (l .k) views)) _ (views-in-use (a .size) (take (l .k) views) sound) _ (l .inv .3) _ _ (c .before .before .before .before .before .fill-slot .ensures) (not-false _ (c .if1 .left)) (rowsIn (take (l .k + 1) views)) rows,
+      c .before .before .before .fill-slot .kept .1 .1 .0 ∙ l .inv .1,
+      chunk-in (a .table .now) (start .pre .0) (rowsIn (take (l .k) views)) _ (views-in-use (a .size) (take (l .k) views) sound) _ (l .inv .2) _ _ (c .before .before .before .fill-slot .ensures) (not-false _ (c .if1 .left)) (rowsIn (take (l .k + 1) views)) rows,
     )
-
-same-length-3 : tie.Need-same-length-3 Inv-loop μ-loop
-same-length-3 c = search needs
-
-same-length-4 : tie.Need-same-length-4 Inv-loop μ-loop
-same-length-4 c = search needs
 
 returns-2 : tie.Need-returns-2 Inv-loop μ-loop
 returns-2 c =
-    let start = c .before .before .before .before .before in
+    let start = c .before .before .before .before in
     let a = start .args in
     let l = c .before .loop in
     let views = viewsIn (a .n) (a .size) (a .heap .now) in
-    filled-as (slot-end views (l .k) (omega (arith, l .inv, views-length (a .n) (a .size) (a .heap .now), c .loop-test .left))) (l .inv .3)
+    filled-as (slot-end views (l .k) (omega (arith, l .inv, views-length (a .n) (a .size) (a .heap .now), c .loop-test .left))) (l .inv .2)
 
 pub fill-spec : {M : Type 1} → statement M
 fill-spec =
@@ -123,11 +115,9 @@ fill-spec =
     element-copy-out-fill-slot
     fill-slot-requires
     same-length
-    same-length-2
     returns
     add-k
     loop-less
     loop-again
-    same-length-3
-    same-length-4
+    same-length-2
     returns-2)

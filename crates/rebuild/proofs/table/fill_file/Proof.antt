@@ -13,34 +13,33 @@ use lib.ListN.{take, length}
 use Rattle.rules.specs.Trailer.{absolute, countIn, entriesIn}
 use Rattle.rules.specs.Table.{noEntry}
 use Rattle.rules.specs.BaseLaws.{all-at, all-take}
-use Rattle.rules.specs.Layout.{table}
 use native.Mathlib.Omega.{arith}
 use borrow.Author.Needs.{needs}
 use Rattle.rebuild.proofs.table.fill_file.Statement.{statement}
 use Rattle.rebuild.proofs.table.fill_file.Tie as tie
 
 abbrev Inv-loop : tie.InvT-loop
-Inv-loop trailer lsn ids₀ locations₀ n k₀ ids locations k =
-    (n ≡ countIn trailer) × (k ≤ n) × (length ids ≡ length ids₀) × (length locations ≡ length locations₀)
-    × Filled (table ids₀ locations₀) (take k (map (absolute lsn) (entriesIn trailer))) true (table ids locations)
+Inv-loop trailer lsn table₀ n k₀ table k =
+    (n ≡ countIn trailer) × (k ≤ n) × (length table ≡ length table₀)
+    × Filled table₀ (take k (map (absolute lsn) (entriesIn trailer))) true table
 
 abbrev μ-loop : tie.MeasureT-loop
-μ-loop trailer lsn ids₀ locations₀ n k₀ ids locations k = n - k
+μ-loop trailer lsn table₀ n k₀ table k = n - k
 
 count-requires : tie.Need-count-requires Inv-loop μ-loop
 count-requires c κs = search needs
 
 loop-holds : tie.Need-loop-holds Inv-loop μ-loop
 loop-holds c =
-    let start = c .before .before .before .before in
-    (c .count .ensures, zero-le, refl, refl, filled-none (table (start .args .ids .now) (start .args .locations .now)) (start .pre .0))
+    let start = c .before .before .before in
+    (c .count .ensures, zero-le, refl, filled-none (start .args .table .now) (start .pre .0))
 
 entry-requires : tie.Need-entry-requires Inv-loop μ-loop
 entry-requires c κs = search needs
 
 absolute-requires : tie.Need-absolute-requires Inv-loop μ-loop
 absolute-requires c κs =
-    let start = c .before .before .before .before .before .before .before in
+    let start = c .before .before .before .before .before .before in
     let lsn = start .args .lsn in
     let t = start .args .trailer .now in
     let l = c .before .before .loop in
@@ -49,13 +48,13 @@ absolute-requires c κs =
 
 meet-requires : tie.Need-meet-requires Inv-loop μ-loop
 meet-requires c κs =
-    let start = c .before .before .before .before .before .before .before .before .before .before in
+    let start = c .before .before .before .before .before .before .before .before in
     let lsn = start .args .lsn in
-    let l = c .before .before .before .before .before .loop in
+    let l = c .before .before .before .before .loop in
     let rows = map (absolute lsn) (entriesIn (start .args .trailer .now)) in
     let used = rows-in-use lsn (entriesIn (start .args .trailer .now)) (start .pre .2 .some) in (
-      filled-formed (table (start .args .ids .now) (start .args .locations .now)) (start .pre .0) (take (l .k) rows) (table (l .ids) (l .locations)) (all-take InUse (l .k) rows used) (l .inv .4),
-      subst InUse (sym (c .before .before .absolute .ensures)) (rows-in-use lsn (c .before .before .before .entry .result ∷ []) (start .pre .2 .some) .0),
+      filled-formed (start .args .table .now) (start .pre .0) (take (l .k) rows) (l .table) (all-take InUse (l .k) rows used) (l .inv .3),
+      subst InUse (sym (c .before .absolute .ensures)) (rows-in-use lsn (c .before .before .entry .result ∷ []) (start .pre .2 .some) .0),
     )
 
 same-length : tie.Need-same-length Inv-loop μ-loop
@@ -66,16 +65,16 @@ same-length-2 c = search needs
 
 returns : tie.Need-returns Inv-loop μ-loop
 returns c =
-    let start = c .before .before .before .before .before .before .before .before .before .before .before .before .before .before .before .before in
+    let start = c .before .before .before .before .before .before .before .before .before .before .before .before in
     let lsn = start .args .lsn in
     let t = start .args .trailer .now in
     let es = entriesIn t in
-    let l = c .before .before .before .before .before .before .before .before .before .before .before .loop in
+    let l = c .before .before .before .before .before .before .before .before .loop in
     let rows = map (absolute lsn) es in
     let used = all-take InUse (l .k) rows (rows-in-use lsn es (start .pre .2 .some)) in
-    let is = c .before .before .before .before .before .before .before .before .absolute .ensures ∙ ap (absolute lsn) (c .before .before .before .before .before .before .before .before .before .entry .ensures) in
-    let low : l .k < length es = omega (arith, l .inv, entries-count t (start .pre .1), c .before .before .before .before .before .before .before .before .before .before .loop-test .taken) in
-    chunk-out (table (start .args .ids .now) (start .args .locations .now)) (start .pre .0) (take (l .k) rows) _ used _ (l .inv .4) _ _ (c .before .before .before .before .before .meet .ensures) (not-true _ (c .if1 .taken)) rows _
+    let is = c .before .before .before .before .before .absolute .ensures ∙ ap (absolute lsn) (c .before .before .before .before .before .before .entry .ensures) in
+    let low : l .k < length es = omega (arith, l .inv, entries-count t (start .pre .1), c .before .before .before .before .before .before .before .loop-test .taken) in
+    chunk-out (start .args .table .now) (start .pre .0) (take (l .k) rows) _ used _ (l .inv .3) _ _ (c .before .before .before .meet .ensures) (not-true _ (c .if1 .taken)) rows _
     (entry-out lsn es (l .k) _ low is)
 
 add-k : tie.Need-add-k Inv-loop μ-loop
@@ -86,36 +85,29 @@ loop-less c = search needs
 
 loop-again : tie.Need-loop-again Inv-loop μ-loop
 loop-again c =
-    let start = c .before .before .before .before .before .before .before .before .before .before .before .before .before .before .before .before in
+    let start = c .before .before .before .before .before .before .before .before .before .before .before .before in
     let lsn = start .args .lsn in
     let t = start .args .trailer .now in
     let es = entriesIn t in
-    let l = c .before .before .before .before .before .before .before .before .before .before .before .loop in
+    let l = c .before .before .before .before .before .before .before .before .loop in
     let rows = map (absolute lsn) es in
     let used = all-take InUse (l .k) rows (rows-in-use lsn es (start .pre .2 .some)) in
-    let is = c .before .before .before .before .before .before .before .before .absolute .ensures ∙ ap (absolute lsn) (c .before .before .before .before .before .before .before .before .before .entry .ensures) in
-    let low : l .k < length es = omega (arith, l .inv, entries-count t (start .pre .1), c .before .before .before .before .before .before .before .before .before .before .loop-test .taken) in (
+    let is = c .before .before .before .before .before .absolute .ensures ∙ ap (absolute lsn) (c .before .before .before .before .before .before .entry .ensures) in
+    let low : l .k < length es = omega (arith, l .inv, entries-count t (start .pre .1), c .before .before .before .before .before .before .before .loop-test .taken) in (
       l .inv .0,
       omega arith,
-      c .before .before .before .before .before .meet .kept .0 ∙ l .inv .2,
-      c .before .before .before .before .before .meet .kept .1 .0 ∙ l .inv .3,
-      chunk-in (table (start .args .ids .now) (start .args .locations .now)) (start .pre .0) (take (l .k) rows) _ used _ (l .inv .4) _ _ (c .before .before .before .before .before .meet .ensures) (not-false _ (c .if1 .left)) (take (l .k + 1) rows)
+      c .before .before .before .meet .kept .0 ∙ l .inv .2,
+      chunk-in (start .args .table .now) (start .pre .0) (take (l .k) rows) _ used _ (l .inv .3) _ _ (c .before .before .before .meet .ensures) (not-false _ (c .if1 .left)) (take (l .k + 1) rows)
           (entry-in lsn es (l .k) _ low is),
     )
 
-same-length-3 : tie.Need-same-length-3 Inv-loop μ-loop
-same-length-3 c = search needs
-
-same-length-4 : tie.Need-same-length-4 Inv-loop μ-loop
-same-length-4 c = search needs
-
 returns-2 : tie.Need-returns-2 Inv-loop μ-loop
 returns-2 c =
-    let start = c .before .before .before .before .before .before in
+    let start = c .before .before .before .before .before in
     let lsn = start .args .lsn in
     let t = start .args .trailer .now in
     let l = c .before .loop in
-    filled-as (entry-end lsn (entriesIn t) (l .k) (omega (arith, l .inv, entries-count t (start .pre .1), c .loop-test .left))) (l .inv .4)
+    filled-as (entry-end lsn (entriesIn t) (l .k) (omega (arith, l .inv, entries-count t (start .pre .1), c .loop-test .left))) (l .inv .3)
 
 pub fill-file-spec : {M : Type 1} → statement M
 fill-file-spec =
@@ -129,11 +121,9 @@ fill-file-spec =
     absolute-requires
     meet-requires
     same-length
-    same-length-2
     returns
     add-k
     loop-less
     loop-again
-    same-length-3
-    same-length-4
+    same-length-2
     returns-2)

@@ -4,7 +4,6 @@ use lib.ListN.{length}
 use Rattle.rules.specs.declared.State.{State}
 use Rattle.rules.specs.Condition1.{conditionOne}
 use Rattle.rules.specs.World.{world}
-use Rattle.rules.specs.Layout.{table}
 use Rattle.writepath.specs.Decisions.{decisionOf}
 use Rattle.writepath.specs.DecisionLaws.{decision-1, decision-batch}
 use Rattle.writepath.proofs.decision.decided.Statement.{statement}
@@ -12,12 +11,12 @@ use Rattle.writepath.proofs.decision.decided.Tie as tie
 
 -- ---- what 1 says
 abbrev begun : tie.After-refused-apart → tie.Start
-begun p = p .before .before .before .before .before .before .before .before
+begun p = p .before .before .before .before .before .before .before
 
-one : (p : tie.After-refused-apart) → let a = begun p .args in p .refused-apart .result ≡ conditionOne (a .settings) (length (a .heap .now)) (table (a .ids .now) (a .locations .now)) (a .state)
+one : (p : tie.After-refused-apart) → let a = begun p .args in p .refused-apart .result ≡ conditionOne (a .settings) (length (a .heap .now)) (a .table .now) (a .state)
 one p =
     let a = begun p .args in
-    p .refused-apart .ensures .0 (a .state .files) (p .before .before .bad-files .ensures) ∙ ap (conditionOne (a .settings) (length (a .heap .now)) (table (a .ids .now) (a .locations .now))) (p .before .rest-of .ensures)
+    p .refused-apart .ensures .0 (a .state .files) (p .before .before .bad-files .ensures) ∙ ap (conditionOne (a .settings) (length (a .heap .now)) (a .table .now)) (p .before .rest-of .ensures)
 
 -- ---- the call
 bad-files-requires : tie.Need-bad-files-requires
@@ -32,7 +31,7 @@ refused-apart-requires c κs = search needs
 returns : tie.Need-returns
 returns c =
     let a = begun (c .before) .args in
-    λ w. decision-1 (world (a .settings) (a .state) w (a .heap .now) (table (a .ids .now) (a .locations .now))) (a .batch .now) (sym (one (c .before)) ∙ c .if1 .taken)
+    λ w. decision-1 (world (a .settings) (a .state) w (a .heap .now) (a .table .now)) (a .batch .now) (sym (one (c .before)) ∙ c .if1 .taken)
 
 check-requires : tie.Need-check-requires
 check-requires c κs = search needs
@@ -56,13 +55,13 @@ returns-2 c =
     let t = r .before .before in
     let p = t .before .before in
     let a = begun p .args in
-    λ w. decision-batch (world (a .settings) (a .state) w (a .heap .now) (table (a .ids .now) (a .locations .now))) (a .batch .now) (sym (one p) ∙ t .before .if1 .left) _ (sym (t .check .ensures) ∙ r .r .given .1)
+    λ w. decision-batch (world (a .settings) (a .state) w (a .heap .now) (a .table .now)) (a .batch .now) (sym (one p) ∙ t .before .if1 .left) _ (sym (t .check .ensures) ∙ r .r .given .1)
 
 returns-3 : tie.Need-returns-3
 returns-3 c =
     let p = c .before .before .before .before .before in
     let a = begun p .args in
-    λ w. c .room .ensures w ∙ ap (λ (t : State). decisionOf (world (a .settings) t w (a .heap .now) (table (a .ids .now) (a .locations .now))) (a .batch .now)) (p .before .rest-of .ensures)
+    λ w. c .room .ensures w ∙ ap (λ (t : State). decisionOf (world (a .settings) t w (a .heap .now) (a .table .now)) (a .batch .now)) (p .before .rest-of .ensures)
 
 pub decided-spec : {M : Type 1} → statement M
 decided-spec =

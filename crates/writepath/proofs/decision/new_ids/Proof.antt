@@ -4,7 +4,7 @@ use Prim.Native.Nat.{_+_, _≤_}
 use native.Mathlib.Omega.{arith}
 use borrow.Author.Needs.{needs}
 use lib.ListN.{length}
-use Rattle.rules.specs.Layout.{table, usedEntries}
+use Rattle.rules.specs.Layout.{usedEntries}
 use Rattle.rules.specs.Table.{lookup}
 use Rattle.rules.specs.Ops.{Op, settled}
 use Rattle.batch.specs.Reading.{opsIn}
@@ -17,22 +17,22 @@ use Rattle.writepath.proofs.decision.new_ids.Statement.{statement}
 use Rattle.writepath.proofs.decision.new_ids.Tie as tie
 
 abbrev Inv-loop : tie.InvT-loop
-Inv-loop ids locations batch count₀ cursor₀ count cursor =
-    (count + newIds (usedEntries (table ids locations)) (idsOf (left batch cursor)) ≡ newIds (usedEntries (table ids locations)) (idsOf (settled (opsIn batch))))
+Inv-loop table batch count₀ cursor₀ count cursor =
+    (count + newIds (usedEntries table) (idsOf (left batch cursor)) ≡ newIds (usedEntries table) (idsOf (settled (opsIn batch))))
     × (count + length (left batch cursor) ≤ length batch)
 
 abbrev μ-loop : tie.MeasureT-loop
-μ-loop ids locations batch count₀ cursor₀ count cursor = length (left batch cursor)
+μ-loop table batch count₀ cursor₀ count cursor = length (left batch cursor)
 
 start-requires : tie.Need-start-requires Inv-loop μ-loop
 start-requires c κs = search needs
 
 loop-holds : tie.Need-loop-holds Inv-loop μ-loop
 loop-holds c =
-    let a = c .before .before .before .before .args in
+    let a = c .before .before .before .args in
     let s = a .batch .now in
     let e = c .start .ensures in (
-      omega (arith, ap (λ (os : List Op). newIds (usedEntries (table (a .ids .now) (a .locations .now))) (idsOf os)) e),
+      omega (arith, ap (λ (os : List Op). newIds (usedEntries (a .table .now)) (idsOf os)) e),
       omega (arith, ap length e, settled-length (opsIn s), ops-length s),
     )
 
@@ -49,8 +49,8 @@ returns : tie.Need-returns Inv-loop μ-loop
 returns c =
     let n = c .before .before in
     let l = n .before in
-    let a = l .before .before .before .before .before .args in
-    let t = usedEntries (table (a .ids .now) (a .locations .now)) in
+    let a = l .before .before .before .before .args in
+    let t = usedEntries (a .table .now) in
     let none = stepped-end (a .batch .now) (n .next .ensures .0) (c .enum-told .given .1) in
     (omega (arith, l .loop .inv .0, ap (λ (os : List Op). newIds t (idsOf os)) none, new-end t), omega (arith, l .loop .inv .1))
 
@@ -62,10 +62,10 @@ add-count c =
     let o = c .before .before in
     let n = o .before .before in
     let l = n .before in
-    let a = l .before .before .before .before .before .args in
+    let a = l .before .before .before .before .args in
     let e = stepped (n .next .ensures) (o .o .given .1) in
-    let t = usedEntries (table (a .ids .now) (a .locations .now)) in
-    omega (arith, c .is-new .ensures, new-one (lookup t (o .o .given .0 .0 .id)), ap length (e .next), l .loop .inv .1, l .before .before .before .before .before .good)
+    let t = usedEntries (a .table .now) in
+    omega (arith, c .is-new .ensures, new-one (lookup t (o .o .given .0 .0 .id)), ap length (e .next), l .loop .inv .1, l .before .before .before .before .good)
 
 loop-less : tie.Need-loop-less Inv-loop μ-loop
 loop-less c =
@@ -78,10 +78,10 @@ loop-again c =
     let o = c .before .before in
     let n = o .before .before in
     let l = n .before in
-    let a = l .before .before .before .before .before .args in
+    let a = l .before .before .before .before .args in
     let e = stepped (n .next .ensures) (o .o .given .1) in
     let op = o .o .given .0 .0 in
-    let t = usedEntries (table (a .ids .now) (a .locations .now)) in
+    let t = usedEntries (a .table .now) in
     let more = ap (λ (os : List Op). newIds t (idsOf os)) (e .next) in
     let next = new-next t (op .id) (idsOf (left (a .batch .now) (o .o .given .0 .1 .0))) in (
       omega (arith, c .is-new .ensures, more, next, l .loop .inv .0),

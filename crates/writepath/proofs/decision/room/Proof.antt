@@ -11,7 +11,6 @@ use Rattle.rules.specs.Install.{newSlot}
 use Rattle.rules.specs.Ops.{Op, settled}
 use Rattle.rules.specs.OpsLaws.{file-length}
 use Rattle.rules.specs.World.{World, world, slotsOf}
-use Rattle.rules.specs.Layout.{table}
 use Rattle.limits.specs.Settled.{stateOf, passed-formed}
 use Rattle.batch.specs.Reading.{opsIn}
 use Rattle.batch.specs.Sizes.{sizesOf}
@@ -24,7 +23,7 @@ use Rattle.writepath.proofs.decision.room.Tie as tie
 
 -- ---- the call, as each place has it
 abbrev begun : tie.After-sizes → tie.Start
-begun z = z .before .before .before .before .before
+begun z = z .before .before .before .before
 
 abbrev counted : tie.Else1 → tie.After-count
 counted e = e .before .before
@@ -42,7 +41,7 @@ abbrev given : tie.After-sizes → State
 given z = let a = begun z .args in stateOf (a .rest) (a .files)
 
 abbrev seen : tie.After-sizes → Claims → World
-seen z claims = let a = begun z .args in world (a .settings) (given z) claims (a .heap .now) (table (a .ids .now) (a .locations .now))
+seen z claims = let a = begun z .args in world (a .settings) (given z) claims (a .heap .now) (a .table .now)
 
 abbrev ops : tie.After-sizes → List Op
 ops z = settled (opsIn (begun z .args .batch .now))
@@ -54,8 +53,8 @@ abbrev total : tie.After-count → ℕ
 total k = k .count .given .0 .1 .0
 
 -- ---- what is known there
-clear : (z : tie.After-sizes) → let a = begun z .args in Passed (a .settings) (length (a .heap .now)) (table (a .ids .now) (a .locations .now)) (given z)
-clear z = let a = begun z .args in passed (a .settings) (length (a .heap .now)) (table (a .ids .now) (a .locations .now)) (given z) (begun z .pre .passed)
+clear : (z : tie.After-sizes) → let a = begun z .args in Passed (a .settings) (length (a .heap .now)) (a .table .now) (given z)
+clear z = let a = begun z .args in passed (a .settings) (length (a .heap .now)) (a .table .now) (given z) (begun z .pre .passed)
 
 fits : (k : tie.After-count) → sizesOf (begun (sized k) .args .settings .«slot_bytes») (ops (sized k)) ≡ Fits (count k) (total k)
 fits k = sym (sized k .sizes .ensures) ∙ k .count .given .1
@@ -105,7 +104,7 @@ too-many-requires : tie.Need-too-many-requires
 too-many-requires c κs =
     let z = sized (counted (free c)) in
     let a = begun z .args in
-    passed-formed (a .settings) _ (table (a .ids .now) (a .locations .now)) (given z) (clear z)
+    passed-formed (a .settings) _ (a .table .now) (given z) (clear z)
 
 returns-4 : tie.Need-returns-4
 returns-4 c =

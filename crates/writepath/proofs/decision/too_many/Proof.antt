@@ -4,7 +4,7 @@ use native.Mathlib.Omega.{arith}
 use borrow.Author.Needs.{needs}
 use lib.ListN.{length}
 use lib.Dec.{ltb}
-use Rattle.rules.specs.Layout.{table, usedEntries}
+use Rattle.rules.specs.Layout.{usedEntries}
 use Rattle.rules.specs.LayoutLaws.{used-length, form-rising}
 use Rattle.rules.specs.Table.{insertAll}
 use Rattle.rules.specs.Ops.{entriesOf, settled}
@@ -28,16 +28,16 @@ add-result : tie.Need-add-result
 add-result c =
     let n = c .before in
     let u = n .before in
-    let start = u .before .before .before .before in
-    omega (arith, u .used .ensures, n .new-ids .ensures .1, used-length (table (start .args .ids .now) (start .args .locations .now)), start .good)
+    let start = u .before .before .before in
+    omega (arith, u .used .ensures, n .new-ids .ensures .1, used-length (start .args .table .now), start .good)
 
 returns : tie.Need-returns
 unfolding tooManyIds
 returns c =
     let n = c .before in
     let u = n .before in
-    let start = u .before .before .before .before in
-    let b = table (start .args .ids .now) (start .args .locations .now) in
+    let start = u .before .before .before in
+    let b = start .args .table .now in
     let ops = settled (opsIn (start .args .batch .now)) in
     let all : u .used .result + n .new-ids .result ≡ length (insertAll (usedEntries b) (entriesOf 0 ops)) =
     omega (arith, u .used .ensures, n .new-ids .ensures .0, entries-new (usedEntries b) ops (form-rising b (start .pre .form)) (settled-rising (opsIn (start .args .batch .now)))) in

@@ -1,17 +1,17 @@
-use Prim.Native.Nat.{_≤_, _-_}
+use Prim.Native.Nat.{_-_}
 use borrow.Author.Needs.{needs}
 use lib.ListN.{length}
-use Rattle.test_host.proofs.places.Statement.{statement}
-use Rattle.test_host.proofs.places.Tie as tie
+use Rattle.test_host.proofs.every_second.Statement.{statement}
+use Rattle.test_host.proofs.every_second.Tie as tie
 
 abbrev Inv-loop : tie.InvT-loop
-Inv-loop s i₀ i = i ≤ length s
+Inv-loop table from i₀ i = Unit {0}
 
 abbrev μ-loop : tie.MeasureT-loop
-μ-loop s i₀ i = length s - i
+μ-loop table from i₀ i = length table - i
 
 loop-holds : tie.Need-loop-holds Inv-loop μ-loop
-loop-holds c = search needs
+loop-holds c = tt
 
 mul-number : tie.Need-mul-number Inv-loop μ-loop
 mul-number c = search needs
@@ -29,12 +29,12 @@ loop-less : tie.Need-loop-less Inv-loop μ-loop
 loop-less c = search needs
 
 loop-again : tie.Need-loop-again Inv-loop μ-loop
-loop-again c = search needs
+loop-again c = tt
 
 returns : tie.Need-returns Inv-loop μ-loop
 returns c = search needs
 
-pub places-spec : {M : Type 1} → statement M
-places-spec =
+pub every-second-spec : {M : Type 1} → statement M
+every-second-spec =
     tie.close
     (tie.spec Inv-loop μ-loop loop-holds mul-number shared-slice-read-number number-requires add-i loop-less loop-again returns)
