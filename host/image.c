@@ -356,18 +356,18 @@ static size_t entries_of(const marble_loss *loss, uint8_t first, version *to) {
 
 /* what became of an id that stood in a slot that was given up */
 static void told_id(const version *lost) {
-    uint64_t raw, offset, size, position;
+    uint64_t kind, raw, offset, size, position;
     const char *was = lost->deletes ? "deleted here" : "put here";
     printf("  id %llu: ", (word)lost->id);
-    if (marble_load(table, MARBLE_TABLE_WORDS(table_len), lost->id, &raw) != MARBLE_OK || raw == 0) {
+    if (marble_load(table, MARBLE_TABLE_WORDS(table_len), lost->id, &kind, &raw) != MARBLE_OK || kind == MARBLE_NEVER_WRITTEN) {
         printf("%s, nothing reads now\n", was);
         return;
     }
     position = MARBLE_LOCATION_POSITION(raw) & ~BATCH_BIT;
-    uint64_t refusal = marble_read(s, &state, heap, heap_len, table, MARBLE_TABLE_WORDS(table_len), lost->id, &offset, &size);
+    uint64_t refusal = marble_read(s, &state, heap, heap_len, table, MARBLE_TABLE_WORDS(table_len), lost->id, &kind, &offset, &size);
     if (position > lost->position) printf("a newer version is kept\n");
     else if (position == lost->position) printf("kept in another slot, at the same position\n");
-    else if (MARBLE_LOCATION_IS_DELETE(raw)) printf("%s, %san older delete counts now%s\n", was, YELLOW, PLAIN);
+    else if (kind == MARBLE_DELETED) printf("%s, %san older delete counts now%s\n", was, YELLOW, PLAIN);
     else if (refusal != MARBLE_OK) printf("%s, %san older version is kept, and its read is refused with %llu%s\n", was, RED, (word)refusal, PLAIN);
     else printf("%s, %san older version reads now%s\n", was, YELLOW, PLAIN);
 }

@@ -14,7 +14,7 @@
        const marble_settings s = MARBLE_DEFAULTS;
        uint8_t batch[MARBLE_BATCH_LENGTH_MAX(1, 5, 1)];  // one put, its 5 bytes, one delete
        size_t len = 0;
-       uint64_t offset, size;
+       uint64_t kind, offset, size;
        if (marble_version() != MARBLE_VERSION)
            return 1;                          // the archive is another than this header's
        if (marble_reopen(s, &state, &claims, heap, sizeof heap, table, WORDS) != MARBLE_OK)
@@ -23,9 +23,9 @@
            return 3;                          // the batch is full
        if (marble_write(s, &state, heap, sizeof heap, table, WORDS, batch, len) != MARBLE_OK)
            return 4;
-       if (marble_read(s, &state, heap, sizeof heap, table, WORDS, 7, &offset, &size) != MARBLE_OK)
+       if (marble_read(s, &state, heap, sizeof heap, table, WORDS, 7, &kind, &offset, &size) != MARBLE_OK)
            return 5;
-       return offset != 0 && size == 5 && heap[offset] == 'h' ? 0 : 6;
+       return kind == MARBLE_OBJECT && size == 5 && heap[offset] == 'h' ? 0 : 6;
    }
 
    End of the example.
@@ -70,7 +70,7 @@ extern "C" {
 #endif
 
 /* ---- version: the header's. marble_version() is the archive's; a host stops where they differ. A new major number: a host must change. */
-#define MARBLE_VERSION_MAJOR 2
+#define MARBLE_VERSION_MAJOR 3
 #define MARBLE_VERSION_MINOR 0
 #define MARBLE_VERSION (MARBLE_VERSION_MAJOR * 1000 + MARBLE_VERSION_MINOR)
 
@@ -132,7 +132,7 @@ extern "C" {
 #define MARBLE_STACK_TABLE 128 /* each of the four table calls */
 
 /* ---- answers: success, and the refusal numbers */
-#define MARBLE_OK 0                      /* accepted; nothing found is a success too */
+#define MARBLE_OK 0                      /* accepted; a delete, or nothing, found is a success too */
 #define MARBLE_E_LIMITS 1                /* settings, lengths, table or state out of their ranges, or not those of the state */
 #define MARBLE_E_BATCH_BYTES 2           /* batch bytes malformed */
 #define MARBLE_E_OBJECT_SIZE 3           /* a put of max_object_size or more */
@@ -154,6 +154,11 @@ extern "C" {
 #define MARBLE_E_EQUAL_LOCATION 19       /* equal location */
 #define MARBLE_E_LOCATION 20             /* a table call: raw location 0 given; maintenance: a delete's position + lsn is 2^63 or more */
 #define MARBLE_E_CLAIM 21                /* claim or release of a slot that cannot be */
+
+/* ---- the kind: what a read or a load found of the id. A refused call leaves 0 there, so look at its number first. */
+#define MARBLE_NEVER_WRITTEN 0 /* no put and no delete of it */
+#define MARBLE_DELETED 1       /* a delete came last, also of an id never put */
+#define MARBLE_OBJECT 2
 
 /* ---- an answer that nobody looks at is a warning, where the compiler can */
 #if defined(__GNUC__)
@@ -255,10 +260,10 @@ MARBLE_MUST_USE uint64_t marble_reopen(marble_settings settings, marble_state *s
 MARBLE_MUST_USE uint64_t marble_write(marble_settings settings, marble_state *state, uint8_t *heap, size_t heap_len, uint64_t *table,
                                       size_t words, const uint8_t *batch, size_t batch_len);
 
-/* "Read": the object is size bytes from heap + offset on, until the next call that changes the heap. Unmapped or deleted: offset 0,
-   which no object has. 1, 18, 16, 10, 17; refused: offset and size 0. */
+/* "Read": the kind; an object is size bytes from heap + offset on, until the next call that changes the heap. Deleted or never written:
+   offset 0, which no object has, and size 0. 1, 18, 16, 10, 17; refused: kind, offset and size 0. */
 MARBLE_MUST_USE uint64_t marble_read(marble_settings settings, const marble_state *state, const uint8_t *heap, size_t heap_len,
-                                     const uint64_t *table, size_t words, uint64_t id, uint64_t *offset, uint64_t *size);
+                                     const uint64_t *table, size_t words, uint64_t id, uint64_t *kind, uint64_t *offset, uint64_t *size);
 
 /* "Claim": the slot's file is left alone by prune and maintenance. 21 for a slot out of range, an empty one or a claimed one. */
 MARBLE_MUST_USE uint64_t marble_claim(marble_settings settings, const marble_state *state, marble_claims *claims, const uint8_t *heap,
@@ -315,8 +320,8 @@ MARBLE_MUST_USE uint64_t marble_salvage(marble_settings settings, uint8_t *heap,
                                         marble_loss report[MARBLE_SLOTS_MAX], uint64_t *lost);
 
 /* ---- the table alone: raw locations by id. A held location is never 0. Order: 1, 20 (a given raw 0), 18, 19, 6. */
-/* "Load": the location, or 0 for an unmapped id. 1; refused: location 0 too, so look at the number. */
-MARBLE_MUST_USE uint64_t marble_load(const uint64_t *table, size_t words, uint64_t id, uint64_t *location);
+/* "Load": the kind, and the location of the object or of the delete, or 0 where never written. 1; refused: kind and location 0 too. */
+MARBLE_MUST_USE uint64_t marble_load(const uint64_t *table, size_t words, uint64_t id, uint64_t *kind, uint64_t *location);
 
 /* "Store". 1, 20, 6. */
 MARBLE_MUST_USE uint64_t marble_store(uint64_t *table, size_t words, uint64_t id, uint64_t location);
@@ -326,8 +331,8 @@ MARBLE_MUST_USE uint64_t marble_store(uint64_t *table, size_t words, uint64_t id
 MARBLE_MUST_USE uint64_t marble_compare_and_store(uint64_t *table, size_t words, uint64_t id, uint64_t old, uint64_t location,
                                                   uint64_t *current);
 
-/* "Store-if-greater": held is the location before or 0; a lower one is not stored. 1, 20, 19 (equal), 6; refused: held 0 too, and nothing
-   is stored. */
+/* "Store-if-greater": held is the location before, a delete's too, or 0; a lower one is not stored. 1, 20, 19 (equal), 6; refused: held 0
+   too, and nothing is stored. */
 MARBLE_MUST_USE uint64_t marble_store_if_greater(uint64_t *table, size_t words, uint64_t id, uint64_t location, uint64_t *held);
 
 /* ---- a batch made: operations put behind each other into a buffer of room bytes, of which *len are used, 0 at first. The host's compiler

@@ -50,8 +50,8 @@ uint64_t load(uint64_t id);
 uint64_t store_at(uint64_t id, uint64_t location);
 uint64_t compare_and_store(uint64_t id, uint64_t old, uint64_t location);
 uint64_t store_if_greater(uint64_t id, uint64_t location);
-/* the out-parameters of the last call */
-extern uint64_t out[2];
+/* the out-parameters of the last call; the kind of a read or a load has its own */
+extern uint64_t out[2], kind;
 extern marble_totals totals;
 /* the lines of the last check */
 extern const marble_fault *listed;
@@ -61,9 +61,10 @@ extern const marble_loss *given_up;
 /* put of len bytes, all of them b; delete */
 uint64_t put(uint64_t id, size_t len, uint8_t b);
 uint64_t drop(uint64_t id);
-/* the object is there, len bytes of b */
+/* the object is there, len bytes of b; a delete is; nothing ever was: by load and by read */
 void holds(uint64_t id, size_t len, uint8_t b);
-void holds_nothing(uint64_t id);
+void deleted(uint64_t id);
+void never_written(uint64_t id);
 
 /* ---- bytes */
 uint32_t crc(const uint8_t *bytes, size_t len);

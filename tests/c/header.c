@@ -92,11 +92,8 @@ static void parsed(void) {
     expect("written", write_batch(batch, len), MARBLE_OK);
     for (size_t k = 0; k < 4; k++) holds(ids[k], sizes[k], 'q');
     for (unsigned k = 2; k < 64; k++)
-        for (uint64_t d = 0; d < 2; d++) {
-            expect("load", load((1ull << k) + 1 + d), MARBLE_OK);
-            expect("a delete", MARBLE_LOCATION_IS_DELETE(out[0]), 1);
-        }
-    holds_nothing(UINT64_MAX);
+        for (uint64_t d = 0; d < 2; d++) deleted((1ull << k) + 1 + d);
+    deleted(UINT64_MAX);
     expect("all its ids", w.state->records[0].present_objects, deletes + 4);
     expect("file_size", w.state->records[0].file_size, MARBLE_FILE_SIZE(4, 127 + 128 + 300, deletes));
 }

@@ -12,7 +12,7 @@ static void whole_life(void) {
     holds(1, 3, 'a');
     holds(2, 4, 'b');
     holds(3, 2, 'c');
-    holds_nothing(4);
+    never_written(4);
     expect("counts", counts(), MARBLE_OK);
     expect("files", totals.files, 1);
     expect("bytes", totals.bytes, 3 * 20 + 9 + 12 + 3 * 16);
@@ -38,7 +38,7 @@ static void whole_life(void) {
     expect("record emptied", w.state->records[0].lsn | w.state->records[0].present_objects, 0);
     holds(1, 1000, 'A');
     holds(2, 1, 'B');
-    holds_nothing(3);
+    deleted(3);
     expect("counts", counts(), MARBLE_OK);
     expect("files", totals.files, 3);
     expect("live", totals.live, 3);
@@ -51,16 +51,56 @@ static void whole_life(void) {
     expect("next not lower", w.state->next_position >= next, 1);
     holds(1, 1000, 'A');
     holds(2, 1, 'B');
-    holds_nothing(3);
+    deleted(3);
     expect("the lowest empty slot", put(5, 2, 'e'), MARBLE_OK);
     expect("it is slot 0", w.state->records[0].lsn & ~BATCH_BIT, w.state->next_position - 23);
     holds(5, 2, 'e');
 }
 
+/* an object, an empty one, a delete of an object, a delete of an id never put, and an id in no batch */
+static void each_kind(void) {
+    holds(1, 10, 'a');
+    holds(5, 0, 0);
+    deleted(2);
+    deleted(3);
+    never_written(4);
+}
+
+/* request P1: told apart by load and read, and neither prune nor maintenance nor a reopening from the heap alone changes it */
+static void kinds(void) {
+    fresh(defaults(), 8, 16);
+    w.s.small_file_cleanup_threshold = 0;
+    expect("reopen", reopen(), MARBLE_OK);
+    for (uint64_t id = 1; id < 6; id++) never_written(id);
+    expect("put", put(1, 10, 'a'), MARBLE_OK);
+    expect("an empty body", put(5, 0, 0), MARBLE_OK);
+    expect("put", put(2, 10, 'b'), MARBLE_OK);
+    expect("deleted", drop(2), MARBLE_OK);
+    expect("deleted, never put", drop(3), MARBLE_OK);
+    expect("refused", put(4, 2000, 'd'), MARBLE_E_OBJECT_SIZE);
+    each_kind();
+    expect("prune", prune(), MARBLE_OK);
+    expect("the file of the deleted object is gone", w.state->records[2].lsn, 0);
+    each_kind();
+    for (int again = 0; again < 2; again++) {
+        memset(w.state, 0, sizeof *w.state);
+        memset(w.table, 0, 8 * w.words);
+        expect("reopen", reopen(), MARBLE_OK);
+        each_kind();
+        expect("maintain", maintain(), MARBLE_OK);
+        expect("objects and deletes moved", out[1], 4);
+        each_kind();
+    }
+    expect("put again", put(3, 1, 'c'), MARBLE_OK);
+    holds(3, 1, 'c');
+    expect("deleted again", drop(3), MARBLE_OK);
+    each_kind();
+}
+
 static void table_calls(void) {
     fresh(defaults(), 1, 2);
     expect("load of nothing", load(9), MARBLE_OK);
-    expect("0", out[0], 0);
+    expect("never written", kind | out[0], 0);
     expect("store", store_at(9, 30), MARBLE_OK);
     expect("store before it", store_at(4, 20), MARBLE_OK);
     expect("id and location by turns", w.table[0] == 4 && w.table[1] == 20 && w.table[2] == 9 && w.table[3] == 30, 1);
@@ -75,6 +115,13 @@ static void table_calls(void) {
     expect("held before", out[0], 60);
     expect("load", load(9), MARBLE_OK);
     expect("the greatest", out[0], 60);
+    expect("an object", kind, MARBLE_OBJECT);
+    expect("a delete above it", store_if_greater(9, 61), MARBLE_OK);
+    expect("held before", out[0], 60);
+    expect("load", load(9), MARBLE_OK);
+    expect("a delete, with its location", kind == MARBLE_DELETED && out[0] == 61, 1);
+    expect("above the delete", store_if_greater(9, 70), MARBLE_OK);
+    expect("held before, a delete's too", out[0], 61);
     expect("full", store_if_greater(5, 40), MARBLE_E_TABLE_ROOM);
     expect("full", store_at(5, 40), MARBLE_E_TABLE_ROOM);
 }
@@ -139,6 +186,7 @@ static void bad_hosts(void) {
 
 void life(void) {
     whole_life();
+    kinds();
     table_calls();
     bad_hosts();
 }

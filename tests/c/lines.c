@@ -14,7 +14,7 @@ static void p1(void) {
     expect("line P1 load", load(2), MARBLE_OK);
     expect("line P1 delete at 5", out[0], 11);
     holds(1, 1, 'x');
-    holds_nothing(2);
+    deleted(2);
 }
 
 /* Line P2: absolute position 0, object: 20; position 0, delete: raw 1. */
@@ -24,6 +24,7 @@ static void p2(void) {
     expect("line P2 delete at 0", store_at(4, 1), MARBLE_OK);
     expect("line P2 load", load(4), MARBLE_OK);
     expect("line P2 raw 1", out[0], 1);
+    expect("line P2 a delete", kind, MARBLE_DELETED);
 }
 
 /* Line P3: position 2^63 - 1, delete: raw 2^64 - 1; 2^63: refused, here as a label's lsn. */
@@ -33,6 +34,7 @@ static void p3(void) {
     expect("line P3 greatest", store_at(4, UINT64_MAX), MARBLE_OK);
     expect("line P3 load", load(4), MARBLE_OK);
     expect("line P3 raw", out[0], UINT64_MAX);
+    expect("line P3 a delete", kind, MARBLE_DELETED);
     fresh(defaults(), 2, 8);
     file_in(0, sound(1ull << 63, 0, NULL, 0, &e, 1));
     expect("line P3 2^63", reopen(), MARBLE_E_LABEL);
@@ -88,11 +90,11 @@ static void p10(void) {
     expect("line P10 second location", from_le(trailer + 36, 8), 43);
     holds(7, 1, 0x41);
     expect("line P10 the part's start", out[0], 84);
-    holds_nothing(9);
+    deleted(9);
     expect("line P10 again", reopen(), MARBLE_OK);
     expect("line P10 next after reopening", w.state->next_position, 67);
     holds(7, 1, 0x41);
-    holds_nothing(9);
+    deleted(9);
 }
 
 void lines(void) {

@@ -171,7 +171,7 @@ static void gathered(void) {
     expect("live", totals.live, 4);
     holds(1, 10, 'a');
     holds(2, 10, 'b');
-    holds_nothing(3);
+    deleted(3);
     holds(4, 10, 'd');
 }
 

@@ -37,7 +37,7 @@ static void clean(void) {
     expect("write", put(2, 0, 'b'), MARBLE_OK);
     expect("deleted", drop(1), MARBLE_OK);
     gives_up("a store of these calls", NULL, 0, MARBLE_OK);
-    holds_nothing(1);
+    deleted(1);
     holds(2, 0, 'b');
     /* of the table only the number of words counts, and it need not be in form */
     MARBLE_TABLE_ID(w.table, 0) = 9, MARBLE_TABLE_ID(w.table, 1) = 3, MARBLE_TABLE_LOCATION(w.table, 1) = 7;
@@ -72,7 +72,7 @@ static void by_themselves(void) {
     put_one(0, 1, 7);
     w.heap[MARBLE_LABEL_BYTES + 21 + 12] ^= 1;
     GIVES_UP("a bit of a trailer", {0, MARBLE_E_CHECKSUM});
-    holds_nothing(7);
+    never_written(7);
 }
 
 /* files whose ranges meet: by position, not by slot */
@@ -115,7 +115,7 @@ static void older(void) {
     expect("write", put(7, 1, 41), MARBLE_OK);
     expect("write", put(7, 1, 42), MARBLE_OK);
     expect("write", drop(7), MARBLE_OK);
-    holds_nothing(7);
+    deleted(7);
     w.heap[2 * 4096 + 8] = 0xFF;
     expect("scratched", reopen(), MARBLE_E_LABEL);
     GIVES_UP("the delete", {2, MARBLE_E_LABEL});

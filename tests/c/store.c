@@ -22,7 +22,7 @@ GUARDED(table_area, 8 * MARBLE_TABLE_WORDS(TABLE_MOST));
 GUARDED(batch_area, BATCH_MOST);
 GUARDED(state_area, sizeof(marble_state));
 GUARDED(claims_area, sizeof(marble_claims));
-GUARDED(out_area, 3 * GUARD);
+GUARDED(out_area, 4 * GUARD);
 GUARDED(totals_area, sizeof(marble_totals));
 GUARDED(listing_area, 8 * LISTING_MOST);
 GUARDED(report_area, MARBLE_SLOTS_MAX * sizeof(marble_loss));
@@ -32,13 +32,14 @@ static uint8_t heap_was[HEAP_MOST], table_was[8 * MARBLE_TABLE_WORDS(TABLE_MOST)
 store w;
 /* how much of the areas is the store's, whatever lengths a test then gives */
 static size_t heap_room, table_room;
-uint64_t out[2];
+uint64_t out[2], kind;
 marble_totals totals;
 const marble_fault *listed = (const marble_fault *)(listing_area + GUARD);
 const marble_loss *given_up = (const marble_loss *)(report_area + GUARD);
 #define BATCH (batch_area + GUARD)
-/* the two out-parameters, with guards between them too */
+/* the out-parameters, with guards between them too; the third is the kind */
 #define OUT(k) ((uint64_t *)(out_area + GUARD + (k) * (8 + GUARD)))
+#define KIND OUT(2)
 #define TOTALS ((marble_totals *)(totals_area + GUARD))
 #define LISTING ((uint64_t *)(listing_area + GUARD))
 #define REPORT ((marble_loss *)(report_area + GUARD))
@@ -149,7 +150,7 @@ static void before(void) {
     memcpy(table_was, table_area + GUARD, table_room);
     memcpy(state_was, w.state, sizeof *w.state);
     memcpy(claims_was, w.claims, sizeof *w.claims);
-    *OUT(0) = *OUT(1) = 77;
+    *OUT(0) = *OUT(1) = *KIND = 77;
 }
 
 static void same(const char *call, const char *name, const void *now, const void *was, size_t len) {
@@ -169,12 +170,14 @@ static void behind(int call, unsigned kept) {
     guard(name, "totals", totals_area, sizeof totals, sizeof totals_area);
     guard(name, "first out-parameter", out_area, 8, 8 + 2 * GUARD);
     guard(name, "second out-parameter", out_area + 8 + GUARD, 8, 8 + 2 * GUARD);
+    guard(name, "the kind", out_area + 2 * (8 + GUARD), 8, 8 + 2 * GUARD);
     if (kept & HEAP) same(name, "heap", heap_area + GUARD, heap_was, heap_room);
     if (kept & TABLE) same(name, "table", table_area + GUARD, table_was, table_room);
     if (kept & STATE) same(name, "state", w.state, state_was, sizeof *w.state);
     if (kept & CLAIMS) same(name, "claims", w.claims, claims_was, sizeof *w.claims);
     out[0] = *OUT(0);
     out[1] = *OUT(1);
+    kind = *KIND;
 }
 
 /* ---- the calls */
@@ -217,10 +220,10 @@ uint64_t write_batch(const uint8_t *batch, size_t len) {
 uint64_t read_id(uint64_t id) {
     before();
     stack_below(READ, 1);
-    uint64_t n = marble_read(w.s, w.state, w.heap, w.heap_len, w.table, w.words, id, OUT(0), OUT(1));
+    uint64_t n = marble_read(w.s, w.state, w.heap, w.heap_len, w.table, w.words, id, KIND, OUT(0), OUT(1));
     stack_below(READ, 0);
     behind(READ, ALL);
-    if (n != MARBLE_OK) expect("refused read: no part", out[0] | out[1], 0);
+    if (n != MARBLE_OK) expect("refused read: kind 0, no part", kind | out[0] | out[1], 0);
     return n;
 }
 
@@ -302,10 +305,10 @@ uint64_t salvage(void) {
 uint64_t load(uint64_t id) {
     before();
     stack_below(LOAD, 1);
-    uint64_t n = marble_load(w.table, w.words, id, OUT(0));
+    uint64_t n = marble_load(w.table, w.words, id, KIND, OUT(0));
     stack_below(LOAD, 0);
     behind(LOAD, ALL);
-    if (n != MARBLE_OK) expect("refused load: 0", out[0], 0);
+    if (n != MARBLE_OK) expect("refused load: kind 0, location 0", kind | out[0], 0);
     return n;
 }
 
@@ -355,8 +358,18 @@ uint64_t drop(uint64_t id) {
     return write_batch(batch, n);
 }
 
-void holds(uint64_t id, size_t len, uint8_t b) {
+/* load and read of an id tell this kind */
+static void told(uint64_t id, uint64_t want) {
+    expect("load", load(id), MARBLE_OK);
+    expect("kind loaded", kind, want);
+    expect("a location", out[0] != 0, want != MARBLE_NEVER_WRITTEN);
+    expect("its delete mark", MARBLE_LOCATION_IS_DELETE(out[0]), want == MARBLE_DELETED);
     expect("read", read_id(id), MARBLE_OK);
+    expect("kind read", kind, want);
+}
+
+void holds(uint64_t id, size_t len, uint8_t b) {
+    told(id, MARBLE_OBJECT);
     expect("found", out[0] != 0, 1);
     expect("length read", out[1], len);
     expect("within the heap", out[0] + out[1] <= w.heap_len, 1);
@@ -365,9 +378,14 @@ void holds(uint64_t id, size_t len, uint8_t b) {
     expect("other bytes read", other, 0);
 }
 
-void holds_nothing(uint64_t id) {
-    expect("read", read_id(id), MARBLE_OK);
-    expect("nothing found", out[0] | out[1], 0);
+void deleted(uint64_t id) {
+    told(id, MARBLE_DELETED);
+    expect("no part", out[0] | out[1], 0);
+}
+
+void never_written(uint64_t id) {
+    told(id, MARBLE_NEVER_WRITTEN);
+    expect("no part", out[0] | out[1], 0);
 }
 
 /* ---- bytes */

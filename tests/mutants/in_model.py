@@ -277,21 +277,19 @@ IN_MODEL = {
          '        refuse_if(object_sum(stored, body) != le(header, 0, 4), 10)\n'),
     ],
     'deleted-refused': [
-        ('        if raw % 2 == 1:\n'
-         '            return None\n',
-         '        refuse_if(raw % 2 == 1 and ident in self.table(), 18)\n'
-         '        if raw % 2 == 1:\n'
-         '            return None\n'),
+        ('        if kind != OBJECT:\n',
+         '        refuse_if(kind == DELETED, 18)\n'
+         '        if kind != OBJECT:\n'),
     ],
     'unmapped-refused': [
-        ('        raw = self.table().get(ident, 1)\n',
-         '        refuse_if(ident not in self.table(), 18)\n'
-         '        raw = self.table().get(ident, 1)\n'),
+        ('        if kind != OBJECT:\n',
+         '        refuse_if(kind == NEVER, 18)\n'
+         '        if kind != OBJECT:\n'),
     ],
     'no-file-nothing': [
         ('        refuse_if(slot is None, 18)\n',
          '        if slot is None:\n'
-         '            return None\n'),
+         '            return NEVER, None\n'),
     ],
     'read-body-not-tested': [
         ('        refuse_if(at + HEADER + length > file_size, 16)\n'
@@ -313,13 +311,13 @@ IN_MODEL = {
          ''),
     ],
     'deleted-read': [
-        ('        if raw % 2 == 1:\n',
-         '        if ident not in self.table():\n'),
+        ('        if kind != OBJECT:\n',
+         '        if kind == NEVER:\n'),
     ],
     'read-1-not-asked': [
         ('        self.check_state()\n'
-         '        raw = ',
-         '        raw = '),
+         '        kind, raw = ',
+         '        kind, raw = '),
     ],
     'claim-of-claimed': [
         ('refuse_if(slot >= self.slots() or self.records[slot] == EMPTY or self.claimed(slot) == wanted, 21)',
@@ -1036,10 +1034,10 @@ IN_MODEL = {
     ],
     'load-of-unmapped-18': [
         ('        self.check_table()\n'
-         '        return self.table().get(ident)',
+         '        return self.told(ident)',
          '        self.check_table()\n'
          '        refuse_if(ident not in self.table(), 18)\n'
-         '        return self.table().get(ident)'),
+         '        return self.told(ident)'),
     ],
     'table-lengths-not-asked': [
         ('refuse_if(not self.table_lengths() or not self.table_in_form(), 1)',

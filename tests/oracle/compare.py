@@ -21,7 +21,7 @@ from foreseen import replacing, rewriting
 from known import FAILS, GROUP_FAILURES, KNOWN, NOT_MADE, READ_FAILURES, TABLE_FAILURES, WRITE_DIFFERS, directed
 from limits import OFTEN, RARELY, SELDOM, limit
 from model import BATCH_BIT, HEADER, LABEL, Console, batch_operations, label_numbers, le, masked, trailer_entries, Refused
-from port import Difference, Ended, Model, Port, Rust, Stored, store_answers
+from port import Difference, Ended, Model, Port, Rust, Stored, in_the_originals_words, store_answers
 from scenarios import from_files, scenario
 
 File = collections.namedtuple('File', 'lsn trailer_offset file_size present generation live claimed')
@@ -299,7 +299,7 @@ class Comparison:
                     must(view.answer == 'ok' and got.startswith(WRITE_DIFFERS[step.differs]), 'write', view.answer, got)
                     read = dict(zip(self.ids, view.reads))
                     for ident, body in last.items():
-                        wanted = 'nothing' if body is None else f'ok {body.hex() or "-"}'
+                        wanted = 'deleted' if body is None else f'ok {body.hex() or "-"}'
                         must(read[ident] == wanted, f'read {ident} after the write of {wanted}', read[ident], 'known to differ')
                     return
                 if too_long:
@@ -369,7 +369,7 @@ class Comparison:
             self.met('limits')
             return
         got = self.one(step.line)
-        must(answer == got or got in TABLE_FAILURES.get(answer, ()), step.line, answer, got)
+        must(in_the_originals_words(answer) == got or got in TABLE_FAILURES.get(answer, ()), step.line, answer, got)
         self.reached['table calls among writes'] += step.mixed
 
     # what must be alike
@@ -402,7 +402,7 @@ class Comparison:
         got = self.one('read ' + ' '.join(map(str, self.ids))).split(',')
         for ident, port, rust in zip(self.ids, view.reads, got):
             self.calls['read'] += 1
-            must(port == rust or rust in READ_FAILURES.get(port, ()), f'read {ident}', port, rust)
+            must(in_the_originals_words(port) == rust or rust in READ_FAILURES.get(port, ()), f'read {ident}', port, rust)
 
 
 def ids_of(steps):

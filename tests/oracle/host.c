@@ -83,10 +83,10 @@ static void found(uint64_t refusal, const char *words, const char *none, uint64_
 }
 
 static void read(uint64_t id) {
-    uint64_t offset, size, refusal = marble_read(s, &state, LENT, id, &offset, &size);
-    if (refusal != 0 || offset == 0) {
+    uint64_t kind, offset, size, refusal = marble_read(s, &state, LENT, id, &kind, &offset, &size);
+    if (refusal != 0 || kind != MARBLE_OBJECT) {
         if (refusal != 0) said(refusal);
-        else printf("nothing\n");
+        else printf(kind == MARBLE_DELETED ? "deleted\n" : "never\n");
         return;
     }
     printf(size == 0 ? "ok -" : "ok ");
@@ -145,8 +145,8 @@ static void line(const char *word) {
         if (refusal != 0) said(refusal);
         else printf("ok %llu %llu %llu %llu\n", (unsigned long long)t.files, (unsigned long long)t.bytes, (unsigned long long)t.present, (unsigned long long)t.live);
     } else if (is(word, "load")) {
-        a = number(), refusal = marble_load(TABLE, a, &b);
-        found(refusal, "ok", "nothing", b);
+        a = number(), refusal = marble_load(TABLE, a, &c, &b);
+        found(refusal, c == MARBLE_DELETED ? "deleted" : "ok", "never", b);
     } else if (is(word, "store")) {
         a = number(), b = number();
         said(marble_store(TABLE, a, b));

@@ -25,10 +25,10 @@ REFUSED = r'refused ([1-9]|1[0-9]|2[01])'
 FORMS = {word: re.compile(f'({form})$') for words, form in {
     'settings heap table poke entry state record claims': 'ok',
     'reopen write claim release prune store': f'ok|{REFUSED}',
-    'read': f'ok (-|([0-9a-f][0-9a-f])+)|nothing|{REFUSED}',
+    'read': f'ok (-|([0-9a-f][0-9a-f])+)|deleted|never|{REFUSED}',
     'maintain': f'ok {NUMBER}|{REFUSED} [0-3] {NUMBER}',
     'counts': f'ok {NUMBER} {NUMBER} {NUMBER} {NUMBER}|{REFUSED}',
-    'load': f'ok {NUMBER}|nothing|{REFUSED}',
+    'load': f'ok {NUMBER}|deleted {NUMBER}|never|{REFUSED}',
     'cas': f'ok|differs {NUMBER}|{REFUSED}',
     'max': f'ok {NUMBER}|ok nothing|{REFUSED}',
 }.items() for word in words.split()}

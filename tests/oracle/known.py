@@ -119,8 +119,8 @@ def directed():
     three_there = 'write ' + ' '.join(f'{i}=' + '41' * 60 for i in (1, 2, 4)) + ' 9=-'
     return [
         # both sides the same: positions and table, document 01's lines P1 to P3; claims
-        case(None, 'line P1', nothing, ['store 1 11', 'load 1'], 'ok 11', ['absolute 5 1'], 'ok 11'),
-        case(None, 'line P3', nothing, ['store 1 18446744073709551615', 'load 1'], 'ok 18446744073709551615',
+        case(None, 'line P1', nothing, ['store 1 11', 'load 1'], 'deleted 11', ['absolute 5 1'], 'ok 11'),
+        case(None, 'line P3', nothing, ['store 1 18446744073709551615', 'load 1'], 'deleted 18446744073709551615',
              ['absolute 9223372036854775807 1'], 'ok 18446744073709551615'),
         case(None, 'maintenance', Made(one()), ['maintain'], 'ok 1', ['maintain'], 'ok 1 73'),
         case(None, '.. on a claimed file', Made(one()), ['claim 0', 'maintain'], 'ok 0', ['claim 1', 'maintain'], 'ok 0 51'),
@@ -128,7 +128,7 @@ def directed():
         case(None, '.. of a claimed file', Made(one()), ['write 01010142', 'claim 0', 'prune', 'counts'], 'ok 2 98 2 1',
              ['write 1=42', 'claim 1', 'prune', 'counts'], 'ok 2 98 2 1'),
         # inside the domain
-        case(1, 'delete position', nothing, ['write 070101410900', 'load 9'], f'ok {2 * (BATCH_BIT + 22) + 1}',
+        case(1, 'delete position', nothing, ['write 070101410900', 'load 9'], f'deleted {2 * (BATCH_BIT + 22) + 1}',
              ['write 7=41 9', 'load 9'], f'ok {first + 1}'),
         case(2, 'order of ids', nothing, ['write 0101014104010142', 'load 1'], f'ok {first}',
              ['write 1=41 4=42', 'load 1'], f'ok {first + 42}', f'ok {first}'),
@@ -199,7 +199,7 @@ def directed():
         case(23, '.. 2^60 + 1, which wraps to 1', counted(2 ** 60 + 1), ['reopen'], 'refused 11', ['read 1'], 'ok 41'),
         case(24, '12', Made((1, 21, body + trailer((1, 44)), 1, 0)), ['reopen'], 'refused 12', [], 'ok 51'),
         case(24, '.. an object at T', Made((1, 21, body + trailer((1, 42)), 1, 0)), ['reopen'], 'refused 12', [], 'ok 51'),
-        case(24, '.. which the original reads from the trailer', Made((1, 21, body + trailer((1, 42)), 1, 0)), ['reopen', 'read 1'], 'nothing', ['read 1'], 'err InvalidData'),
+        case(24, '.. which the original reads from the trailer', Made((1, 21, body + trailer((1, 42)), 1, 0)), ['reopen', 'read 1'], 'never', ['read 1'], 'err InvalidData'),
         case(24, '.. an object whose header passes T', Made((1, 21, body + trailer((1, 4)), 1, 0)), ['reopen'], 'refused 12', [], 'ok 51'),
         case(24, '.. a delete at T, which is none', Made((1, 21, body + trailer((1, 43)), 1, 0)), ['reopen'], 'ok', [], 'ok 51'),
         case(24, '13', Made((1, 21, body + listed, 2, 0)), ['reopen'], 'refused 13', [], 'ok 51'),
@@ -222,6 +222,10 @@ def directed():
              [Made.raw(two(1, 1)), 'reopen'], 'panic recovery.rs:102'),
         case(31, '.. by writes near 2^62', Made(one(BATCH_BIT + 22), two(BATCH_BIT - 50)), ['write 01010142', 'write 01010142'], 'refused 7',
              ['write 1=42', 'write 1=42'], 'panic file_map.rs:164'),
+        case(32, 'deleted', nothing, ['write 0900', 'read 9'], 'deleted', ['write 9', 'read 9'], 'nothing'),
+        case(32, '.. and never written', nothing, ['write 0900', 'read 8'], 'never', ['write 9', 'read 8'], 'nothing'),
+        case(32, '.. as the table has them', nothing, ['store 9 11', 'load 9'], 'deleted 11', ['store 9 11', 'load 9'], 'ok 11'),
+        case(32, '.. and has not', nothing, ['store 9 11', 'load 8'], 'never', ['store 9 11', 'load 8'], 'nothing'),
     ]
 
 

@@ -1,6 +1,6 @@
 #!/usr/bin/env python3
-"""Document 01 as plain Python, read from the paper alone: a second opinion beside the port. Of document 02: request P5's
-checker, request P9's salvage.
+"""Document 01 as plain Python, read from the paper alone: a second opinion beside the port. Of document 02: request P1's
+kinds, request P5's checker, request P9's salvage.
 
 Reads the console's script on standard input and prints its answers. Nothing here is taken from crates/;
 where the paper leaves a choice, the reading D1..D15 of docs/DECISIONS.md is named at the line. 12 is as document 02's request P2 mends it."""
@@ -16,6 +16,7 @@ BATCH_BIT = 1 << 62
 LABEL = 64
 HEADER = 20
 MAX_RECORDS = 256
+NEVER, DELETED, OBJECT = 'never', 'deleted', 'ok'  # what a read or a load tells of an id
 EMPTY = (0, 0, 0, 0, 0, 0)  # lsn, trailer_offset, file_size, present_objects, generation, live
 # a line of the checker's list; position is None where it has none; of: what the fault is of, which the call does not give
 Fault = namedtuple('Fault', 'slot number position of')
@@ -288,12 +289,17 @@ class Store:
 
     # -- read
 
+    def told(self, ident):
+        """the kind, never written, deleted or an object, and the raw location"""
+        raw = self.table().get(ident)
+        return NEVER if raw is None else DELETED if raw % 2 == 1 else OBJECT, raw
+
     def read(self, ident):
-        """the body, or None for nothing"""
+        """the kind, and an object's body"""
         self.check_state()
-        raw = self.table().get(ident, 1)
-        if raw % 2 == 1:
-            return None
+        kind, raw = self.told(ident)
+        if kind != OBJECT:
+            return kind, None
         slot = self.found(raw)
         refuse_if(slot is None, 18)
         lsn, _, file_size, *_ = self.records[slot]
@@ -305,7 +311,7 @@ class Store:
         body = self.file_part(slot, at + HEADER, at + HEADER + length)
         refuse_if(object_sum(stored, body) != le(header, 0, 4), 10)
         refuse_if(stored != ident, 17)
-        return body
+        return kind, body
 
     # -- claims, prune, counts
 
@@ -534,7 +540,7 @@ class Store:
 
     def load(self, ident):
         self.check_table()
-        return self.table().get(ident)
+        return self.told(ident)
 
     def store(self, ident, raw):
         self.check_table()
@@ -676,8 +682,8 @@ class Console:
         self.store.prune()
 
     def do_read(self, ident):
-        body = self.store.read(number(ident))
-        return 'nothing' if body is None else f'ok {body.hex() or "-"}'
+        kind, body = self.store.read(number(ident))
+        return kind if body is None else f'{kind} {body.hex() or "-"}'
 
     def do_maintain(self):
         return f'ok {self.store.maintain()}'
@@ -686,8 +692,8 @@ class Console:
         return 'ok %d %d %d %d' % self.store.counts()
 
     def do_load(self, ident):
-        raw = self.store.load(number(ident))
-        return 'nothing' if raw is None else f'ok {raw}'
+        kind, raw = self.store.load(number(ident))
+        return kind if raw is None else f'{kind} {raw}'
 
     def do_store(self, ident, raw):
         self.store.store(number(ident), number(raw))

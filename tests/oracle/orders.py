@@ -11,13 +11,14 @@ import zlib
 
 from hostile import RESET
 from known import trailer
-from model import BATCH_BIT, label_bytes, object_bytes, object_sum
+from model import BATCH_BIT, DELETED, NEVER, OBJECT, label_bytes, object_bytes, object_sum
 from port import Model, Port
 
 TABLE = pathlib.Path(__file__).resolve().parents[2] / 'crates/orders/specs/Orders.antt'
 SETTINGS = '128 0 1 1048576 0 17'
 OTHER = '128 1 1 1048576 0 17'  # not the state's
 LAST = 2 ** 64 - 1
+KINDS = NEVER, DELETED, OBJECT
 
 
 # ---- the worlds, as in crates/orders/specs/Worlds.antt -------------------------------------------
@@ -126,7 +127,7 @@ def tables(call, *cases):
 HELD, NONE = [(5, 40)], [(0, 0)]
 COUNT_1 = u64(1)
 ROWS = [
-    tables('load', (NO_FORM, [5]), (HELD, [6]), (HELD, [5])),
+    tables('load', (NO_FORM, [5]), (HELD, [6]), (HELD, [5]), ([(5, 41)], [5])),
     tables('store', (NO_FORM, [6, 0]), (HELD, [6, 0]), (HELD, [6, 42]), (HELD, [5, 42])),
     tables('cas', (NO_FORM, [6, 0, 0]), (HELD, [6, 0, 42]), (HELD, [6, 40, 0]), (HELD, [6, 40, 42]), (HELD, [5, 41, 42]), (HELD, [5, 40, 42])),
     tables('max', (NO_FORM, [6, 0]), (HELD, [6, 0]), (HELD, [5, 40]), (HELD, [6, 42]), (HELD, [5, 38]), (HELD, [5, 42]), (NONE, [5, 42])),
@@ -162,10 +163,12 @@ ROWS = [
 # ---- what is answered ----------------------------------------------------------------------------
 
 def numbers(call, answer):
-    """the refusal number or 0, then the values; of what a read finds, its place in these worlds and its length"""
+    """the refusal number or 0, then the values: of a read and a load first the kind, of what a read finds its place in these worlds and its length"""
     first, *words = answer.split()
-    if call.startswith('read') and first == 'ok':
-        return [0, 84, len(bytes.fromhex(words[0].replace('-', '')))]
+    if call.startswith('read') and first == OBJECT:
+        words = [84, len(bytes.fromhex(words[0].replace('-', '')))]
+    if call.split()[0] in ('read', 'load') and first in KINDS:
+        return [0, KINDS.index(first)] + [int(w) for w in words]
     values = [int(w) for w in words if w != 'nothing']
     return values if first == 'refused' else [0] + values
 

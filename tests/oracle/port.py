@@ -5,7 +5,7 @@ import sys
 import tempfile
 import zlib
 
-from model import Console
+from model import DELETED, NEVER, OBJECT, Console
 
 BLOCK_END = {'dump': 'end', 'list': 'ids ', 'check': 'ok ', 'salvage': 'ok '}
 
@@ -138,6 +138,13 @@ class Stored:
 
     def close(self):
         pass
+
+
+def in_the_originals_words(answer):
+    """to the original a delete is a location as any other to load, and nothing to read, as what was never written is to both"""
+    if answer in (NEVER, DELETED):
+        return 'nothing'
+    return answer.replace(f'{DELETED} ', f'{OBJECT} ')
 
 
 def question(command):

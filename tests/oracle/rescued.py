@@ -15,7 +15,7 @@ from collections import Counter
 from compare import File
 from known import READ_FAILURES
 from model import LABEL, label_bytes, label_numbers
-from port import Difference, Model, Port, Rust, Stored, store_answers
+from port import Difference, Model, Port, Rust, Stored, in_the_originals_words, store_answers
 from scenarios import operation
 
 SETTINGS = ('file_compaction_percent', 'min_compaction_files', 'target_file_size', 'small_file_cleanup_threshold', 'max_object_size')
@@ -174,7 +174,7 @@ def same(what, port, rust):
 def same_reads(ids, port, rust):
     for ident, mine, theirs in zip(ids, port, rust):
         if theirs not in READ_FAILURES.get(mine, ()):
-            same(f'read {ident}', mine, theirs)
+            same(f'read {ident}', in_the_originals_words(mine), theirs)
 
 
 def rescue(port, rust, seed, number):

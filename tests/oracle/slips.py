@@ -33,6 +33,9 @@ SLIPS = {  # name: (text of the model, the wrong text)
     'checksum over id, length, body': ("return zlib.crc32(len(body).to_bytes(8, 'little') + ident.to_bytes(8, 'little') + body)",
                                        "return zlib.crc32(ident.to_bytes(8, 'little') + len(body).to_bytes(8, 'little') + body)"),
     'a lower location stored by store-if-greater': ('if current is None or current < raw:', 'if current != raw:'),
+    'a delete told as never written': ('DELETED if raw % 2 == 1', 'NEVER if raw % 2 == 1'),
+    'never written told as deleted': ('NEVER if raw is None', 'DELETED if raw is None'),
+    'a delete loaded as an object': ('return self.told(ident)\n', 'kind, raw = self.told(ident)\n        return OBJECT if kind == DELETED else kind, raw\n'),
     'next after reopening by trailer_offset': ('max(n[2] for n in heads) + 1', 'max(n[1] for n in heads) + 1'),
 }
 # these need a store at a limit: name: (text, wrong text, kind of limits.py)
@@ -112,8 +115,9 @@ IN_THE_SALVAGE = {
         for slot in range(min(self.slots(), 255)):"""),
 }
 # masked ranges are disjoint in the oracle's domain and every location is in a file, so both lookups find the same file there: this one is
-# noticed beside the right model on arbitrary states
-ON_ARBITRARY_STATES = {'files looked up by masked location': ['--count', '300']}
+# noticed beside the right model on arbitrary states; so are the kinds of a read and a load, of which the original has fewer
+ON_ARBITRARY_STATES = {name: ['--count', '300'] for name in (
+    'files looked up by masked location', 'a delete told as never written', 'never written told as deleted', 'a delete loaded as an object')}
 
 
 def noticed(folder, name, words):

@@ -4,16 +4,16 @@
     vectors.py FOLDER [--seed S] [--count N]      writes FOLDER/stdin and FOLDER/stdout
 
 First checksums known from outside, then small scenarios, each followed by one on the files that the original left of it, labelled and
-put into slots. After every call each id's read and the counts. The answers are the original's, in the console's words (TOLD); `ok` to
-what changes settings, buffers and heap by hand. A call that the original is not asked (known.py) is left out: refused, it changes
-nothing. Needs oracle/target/release/oracle (oracle/prepare.sh)."""
+put into slots. After every call each id's read and the counts. The answers are the original's, in the console's words (TOLD), and where it
+has one word for never written and deleted the model's; `ok` to what changes settings, buffers and heap by hand. A call that the original
+is not asked (known.py) is left out: refused, it changes nothing. Needs oracle/target/release/oracle (oracle/prepare.sh)."""
 import argparse
 import os
 import zlib
 
 from compare import CALLS, TABLE_CALLS, Comparison, Generated, Ports, compare
 from known import READ_FAILURES, TABLE_FAILURES
-from port import Rust
+from port import Rust, in_the_originals_words
 
 ORACLE = os.path.join(os.path.dirname(__file__), '..', '..', 'oracle', 'target', 'release', 'oracle')
 # text and CRC-32 as published: the check value, RFC 1321's test texts, 32 bytes of zeros and of ones
@@ -22,9 +22,9 @@ CHECKSUMS = [(b'123456789', 0xcbf43926), (b'', 0), (b'a', 0xe8b7be43), (b'abc', 
 TOLD = {rust: port for failures in (READ_FAILURES, TABLE_FAILURES) for port, rusts in failures.items() for rust in rusts}
 
 
-def told(answer):
-    """the original's answer in the console's words"""
-    return TOLD.get(answer, answer)
+def told(answer, model):
+    """the original's answer in the console's words; the model's where it says the same and tells a delete apart"""
+    return model if in_the_originals_words(model) == answer else TOLD.get(answer, answer)
 
 
 class Recorder(Comparison):
@@ -50,24 +50,24 @@ class Recorder(Comparison):
         # a refused maintenance may have moved groups that the original did not: what follows is left out
         self.ended = self.ended or word == 'maintain' and view.answer.startswith('refused')
         if not self.ended:
-            self.list += self.lines(step.line, word)
+            self.list += self.lines(step.line, word, view)
 
-    def lines(self, line, word):
+    def lines(self, line, word, view):
         if word not in CALLS + TABLE_CALLS:
             return [(line, 'ok')]
         said = self.asked.get('open' if 'open' in self.asked else word)
-        lines = [] if said is None else [(line, call_told(word, said))]
+        lines = [] if said is None else [(line, call_told(word, said, view))]
         if 'read' in self.asked:
-            lines += [(f'read {i}', told(answer)) for i, answer in zip(self.ids, self.asked['read'].split(','))]
+            lines += [(f'read {i}', told(answer, model)) for i, answer, model in zip(self.ids, self.asked['read'].split(','), view.reads)]
         if 'counts' in self.asked:
             lines.append(('counts', self.asked['counts']))
         return lines
 
 
-def call_told(word, said):
+def call_told(word, said, view):
     """what the original said to a call: the port has no next position in it, and refuses a too long put with 3"""
     if word in TABLE_CALLS:
-        return told(said)
+        return told(said, view)  # of a table call the answer alone
     if said == 'err Unsupported':
         return 'refused 3'
     return ' '.join(said.split()[:2]) if word == 'maintain' else said.split()[0]

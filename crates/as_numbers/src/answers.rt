@@ -4,7 +4,10 @@ use rules::Answer;
 use rules::CompareAnswer;
 use rules::Counts;
 use rules::CountsAnswer;
+use rules::GreaterAnswer;
+use rules::Held;
 use rules::LoadAnswer;
+use rules::Loaded;
 use rules::MaintainAnswer;
 use rules::ReadAnswer;
 use rules::Refusal;
@@ -12,7 +15,8 @@ ghost use mathlib.Core.Path.{_≡_};
 ghost use mathlib.Core.List.{[], _∷_};
 ghost use lib.ListN.{length};
 ghost use Rattle.rules.specs.Refusal.{numberOf};
-ghost use Rattle.rules.specs.World.{answerGiven, readGiven, maintainGiven, countsGiven, loadGiven, compareGiven};
+ghost use Rattle.rules.specs.World.{answerGiven, readGiven, maintainGiven, countsGiven, compareGiven};
+ghost use Rattle.rules.specs.World.{loadedGiven, loadGiven, heldGiven, greaterGiven};
 ghost use Rattle.as_numbers.specs.Numbered.{numbered};
 ghost use Rattle.as_numbers.specs.Shown.{given, shown, stopShown};
 
@@ -68,26 +72,87 @@ pub struct Two {
     pub second: u64,
 }
 
+// A number and three places.
+pub struct Three {
+    pub number: u64,
+    pub first: u64,
+    pub second: u64,
+    pub third: u64,
+}
+
 // A number and the four counts.
 pub struct Four {
     pub number: u64,
     pub counts: Counts,
 }
 
-// The location or 0: load, and what a store-if-greater held before.
-pub fn load_shown(a: LoadAnswer) -> One
-    ensures { λ r. ⌜ given (r .number) (r .value ∷ []) ≡ shown 1 (loadGiven a) ⌝ }
+// What a read or a load found of an id, as a number.
+pub const NEVER_WRITTEN: u64 = 0;
+
+pub const DELETED: u64 = 1;
+
+pub const OBJECT: u64 = 2;
+
+// The kind, and the raw location or 0.
+fn loaded_shown(l: Loaded) -> Two
+    ensures { λ r. ⌜ given (r .number) (r .first ∷ r .second ∷ []) ≡ shown 2 (loadedGiven l) ⌝ }
+{
+    match l {
+        Loaded::At(raw) => Two {
+            number: 0,
+            first: OBJECT,
+            second: raw,
+        },
+        Loaded::DeletedAt(raw) => Two {
+            number: 0,
+            first: DELETED,
+            second: raw,
+        },
+        Loaded::Never => Two {
+            number: 0,
+            first: NEVER_WRITTEN,
+            second: 0,
+        },
+    }
+}
+
+// The kind, and the raw location or 0.
+pub fn load_shown(a: LoadAnswer) -> Two
+    ensures { λ r. ⌜ given (r .number) (r .first ∷ r .second ∷ []) ≡ shown 2 (loadGiven a) ⌝ }
 {
     match a {
-        LoadAnswer::At(l) => One {
+        LoadAnswer::Loads(l) => loaded_shown(l),
+        LoadAnswer::LoadRefused(r) => Two {
+            number: refusal_number(r),
+            first: 0,
+            second: 0,
+        },
+    }
+}
+
+// The location or 0.
+fn held_shown(h: Held) -> One
+    ensures { λ r. ⌜ given (r .number) (r .value ∷ []) ≡ shown 1 (heldGiven h) ⌝ }
+{
+    match h {
+        Held::Mapped(l) => One {
             number: 0,
             value: l,
         },
-        LoadAnswer::NoLocation => One {
+        Held::Unmapped => One {
             number: 0,
             value: 0,
         },
-        LoadAnswer::LoadRefused(r) => One {
+    }
+}
+
+// What a store-if-greater held before, or 0.
+pub fn greater_shown(a: GreaterAnswer) -> One
+    ensures { λ r. ⌜ given (r .number) (r .value ∷ []) ≡ shown 1 (greaterGiven a) ⌝ }
+{
+    match a {
+        GreaterAnswer::Before(h) => held_shown(h),
+        GreaterAnswer::GreaterRefused(r) => One {
             number: refusal_number(r),
             value: 0,
         },
@@ -114,25 +179,34 @@ pub fn compare_shown(a: CompareAnswer) -> One
     }
 }
 
-// The part's start and length, or two zeros.
-pub fn read_shown(a: ReadAnswer) -> Two
-    ensures { λ r. ⌜ given (r .number) (r .first ∷ r .second ∷ []) ≡ shown 2 (readGiven a) ⌝ }
+// The kind, and the part's start and length or two zeros.
+pub fn read_shown(a: ReadAnswer) -> Three
+    ensures { λ r. ⌜ given (r .number) (r .first ∷ r .second ∷ r .third ∷ []) ≡ shown 3 (readGiven a) ⌝ }
 {
     match a {
-        ReadAnswer::Found(start, size) => Two {
+        ReadAnswer::Found(start, size) => Three {
             number: 0,
-            first: start,
-            second: size,
+            first: OBJECT,
+            second: start,
+            third: size,
         },
-        ReadAnswer::Nothing => Two {
+        ReadAnswer::Deleted => Three {
             number: 0,
-            first: 0,
+            first: DELETED,
             second: 0,
+            third: 0,
         },
-        ReadAnswer::ReadRefused(r) => Two {
+        ReadAnswer::NeverWritten => Three {
+            number: 0,
+            first: NEVER_WRITTEN,
+            second: 0,
+            third: 0,
+        },
+        ReadAnswer::ReadRefused(r) => Three {
             number: refusal_number(r),
             first: 0,
             second: 0,
+            third: 0,
         },
     }
 }

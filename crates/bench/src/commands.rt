@@ -7,7 +7,10 @@ use desk::Reply;
 use desk::Turn;
 use rules::CompareAnswer;
 use rules::CountsAnswer;
+use rules::GreaterAnswer;
+use rules::Held;
 use rules::LoadAnswer;
+use rules::Loaded;
 use rules::ReadAnswer;
 ghost use mathlib.Core.Path.{_≡_};
 ghost use lib.ListN.{length};
@@ -36,7 +39,8 @@ fn found(b: Bench, heap: &[u8], table: &[u64], id: u64) {
 fn read(answer: ReadAnswer, b: Bench, heap: &[u8], table: &[u64], id: u64) {
     match answer {
         ReadAnswer::Found(_, _) => found(b, heap, table, id),
-        ReadAnswer::Nothing => say::text(b"nothing\n"),
+        ReadAnswer::Deleted => say::text(b"deleted\n"),
+        ReadAnswer::NeverWritten => say::text(b"never\n"),
         ReadAnswer::ReadRefused(r) => say::refused(r),
     }
 }
@@ -55,10 +59,17 @@ fn counted(answer: CountsAnswer) {
     }
 }
 
+fn told(loaded: Loaded) {
+    match loaded {
+        Loaded::At(raw) => say::named(b"ok", raw),
+        Loaded::DeletedAt(raw) => say::named(b"deleted", raw),
+        Loaded::Never => say::text(b"never\n"),
+    }
+}
+
 fn loaded(answer: LoadAnswer) {
     match answer {
-        LoadAnswer::At(raw) => say::named(b"ok", raw),
-        LoadAnswer::NoLocation => say::text(b"nothing\n"),
+        LoadAnswer::Loads(l) => told(l),
         LoadAnswer::LoadRefused(r) => say::refused(r),
     }
 }
@@ -71,12 +82,17 @@ fn compared(answer: CompareAnswer) {
     }
 }
 
-// What was held before.
-fn raised(answer: LoadAnswer) {
+fn held_before(held: Held) {
+    match held {
+        Held::Mapped(raw) => say::named(b"ok", raw),
+        Held::Unmapped => say::text(b"ok nothing\n"),
+    }
+}
+
+fn raised(answer: GreaterAnswer) {
     match answer {
-        LoadAnswer::At(held) => say::named(b"ok", held),
-        LoadAnswer::NoLocation => say::text(b"ok nothing\n"),
-        LoadAnswer::LoadRefused(r) => say::refused(r),
+        GreaterAnswer::Before(held) => held_before(held),
+        GreaterAnswer::GreaterRefused(r) => say::refused(r),
     }
 }
 

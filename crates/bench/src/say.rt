@@ -123,8 +123,10 @@ pub fn help() {
     );
     text(b"# list   dump   help\n");
     text(
-        b"# Answers: ok .., nothing, differs RAW, refused NUMBER ..; bad line for anything else, and nothing changes.\n",
+        b"# Answers: ok .., differs RAW, refused NUMBER ..; bad line for anything else, and nothing changes.\n",
     );
+    text(b"# A read answers ok HEX, deleted (the last operation on the id is a delete) or never ");
+    text(b"(there is none); a load ok RAW, deleted RAW or never.\n");
     text(
         b"# A check answers fault SLOT NUMBER, or fault SLOT NUMBER POSITION, for each fault that fits, then ok FAULTS.\n",
     );

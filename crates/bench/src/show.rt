@@ -10,6 +10,7 @@ use rules::Record;
 ghost use mathlib.Core.Path.{_≡_};
 ghost use lib.ListN.{length};
 ghost use Rattle.rules.specs.Layout.{usedEntries};
+ghost use Rattle.rules.specs.Listing.{writtenIn};
 
 // "slot lsn gen present live size"
 fn file_line(slot: u64, r: Record) {
@@ -34,9 +35,9 @@ fn file_lines(files: FileMap) {
     }
 }
 
-// Entries up to the first location 0.
+// Ids whose load is not never: the entries up to the first location 0.
 fn used(table: &[u64]) -> usize
-    ensures { λ r. ⌜ r ≡ length (usedEntries (now (table .entry))) ⌝ }
+    ensures { λ r. ⌜ r ≡ length (writtenIn (usedEntries (now (table .entry)))) ⌝ }
 {
     let n = location_table::capacity(table);
     let mut k: usize = 0;

@@ -27,7 +27,7 @@ use Rattle.rules.specs.Write.{newFiles, writeTests, written, writeCall}
 use Rattle.rules.specs.Prune.{isDead, pruneStores, pruned, pruneCall}
 use Rattle.rules.specs.Condition1.{refused1}
 use Rattle.rules.specs.FileMap.{recordAt, slotsWhere}
-use Rattle.rules.specs.Table.{lookup, mappedTo}
+use Rattle.rules.specs.Table.{load, currentAt}
 use Rattle.rules.specs.Maintenance.{objectsFound, deletesFound, deletesOf, slotOf, foundIn, found, filesOf, Stop, going, stopped, Course, group, groupTests, rewriteGroup, onward, groupsFrom, courseOf, ended, finished, maintainCall}
 use Rattle.rules.specs.World.{World, recordsOf, mappings, accepted, maintainGiven, After, unchanged}
 use Rattle.theory.specs.Types.{Entry, Label, Refusal, Limits, Answer, Done, Refused, Stopped}
@@ -231,10 +231,10 @@ module _ (w : World) (h : All Byte (w .heap)) where
       let part = take (r .«trailer_offset») file in
       all-append OpBytes (objectsFound (mappings w) r (slotOf w k)) (deletesFound (mappings w) r (slotOf w k))
       (all-kept (λ (o : Stored). All Byte (o .body)) OpBytes
-      (λ (o : Stored). mappedTo (lookup (mappings w) (o .id)) (rawOf (r .lsn + o .position) false)) (λ (o : Stored). record { id = o .id; content = put (o .body) })
+      (λ (o : Stored). currentAt (load (mappings w) (o .id)) (rawOf (r .lsn + o .position) false)) (λ (o : Stored). record { id = o .id; content = put (o .body) })
       (objectsIn part) (λ o b q. b) (bodies-bytes (length part) 0 part (all-take Byte (r .«trailer_offset») file file-part)))
       (all-kept (λ (e : Entry). Unit {0}) OpBytes
-      (λ (e : Entry). mappedTo (lookup (mappings w) (e .id)) (absolute (r .lsn) e .location)) (λ (e : Entry). record { id = e .id; content = delete })
+      (λ (e : Entry). currentAt (load (mappings w) (e .id)) (absolute (r .lsn) e .location)) (λ (e : Entry). record { id = e .id; content = delete })
       (deletesOf r (slotOf w k)) (λ e b q. tt) (of-every (λ (e : Entry). Unit {0}) (deletesOf r (slotOf w k)) (λ e. tt)))
 
   found-files-bytes : (ks : List ℕ) (target : ℕ) → All (All OpBytes) (filesOf target (found w ks))

@@ -2,7 +2,7 @@
 use Rattle.rules.specs.Base.{List, [], _++_, ℕ, take, drop}
 use Rattle.rules.specs.Layout.{Table}
 use Rattle.rules.specs.TableCalls.{TableAfter}
-use Rattle.rules.specs.World.{World, world, Given, accepted, answerGiven, readGiven, maintainGiven, countsGiven, loadGiven, compareGiven, After}
+use Rattle.rules.specs.World.{World, world, Given, accepted, answerGiven, readGiven, maintainGiven, countsGiven, loadGiven, compareGiven, greaterGiven, After}
 use Rattle.salvage.specs.Answers.{salvageGiven}
 use Rattle.desk.specs.Types.{Done, Bench, Look, Reply, BadLine, Answered, Read, Maintained, Counted, Loaded, Compared, Raised, Salvaged, Shown, Turn}
 
@@ -44,7 +44,7 @@ said (Maintained a) = gave moved (maintainGiven a)
 said (Counted a) = gave counted (countsGiven a)
 said (Loaded a) = gave located (loadGiven a)
 said (Compared a) = gave compared (compareGiven a)
-said (Raised a) = gave raised (loadGiven a)
+said (Raised a) = gave raised (greaterGiven a)
 said (Salvaged a) = gave emptied (salvageGiven a)
 said (Shown look) = shows look
 

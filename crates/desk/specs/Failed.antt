@@ -16,8 +16,8 @@ use Rattle.rules.specs.Read.{readCall}
 use Rattle.rules.specs.Reopen.{reopenCall, reopenTests, givenUp}
 use Rattle.rules.specs.SlotFile.{viewsIn}
 use Rattle.rules.specs.Table.{lookup, unmapped, mappedTo, full}
-use Rattle.rules.specs.TableCalls.{TableAfter, notForm, same, heldGiven, below, withStored, loadCall, storeCall, compareCall, greaterCall}
-use Rattle.rules.specs.World.{World, Given, accepted, refused, slotsOf, After}
+use Rattle.rules.specs.TableCalls.{TableAfter, notForm, same, below, withStored, loadCall, storeCall, compareCall, greaterCall}
+use Rattle.rules.specs.World.{World, Given, accepted, refused, heldGiven, slotsOf, After}
 use Rattle.location_table.specs.Tables.{withPair}
 use Rattle.numbers.specs.Parts.{putAt}
 use Rattle.history_theory.specs.History.{Call, write, prune, quiet}

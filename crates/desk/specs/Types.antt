@@ -12,6 +12,7 @@ pub use Rattle.rules.specs.declared.MaintainAnswer.{MaintainAnswer}
 pub use Rattle.rules.specs.declared.CountsAnswer.{CountsAnswer}
 pub use Rattle.rules.specs.declared.LoadAnswer.{LoadAnswer}
 pub use Rattle.rules.specs.declared.CompareAnswer.{CompareAnswer}
+pub use Rattle.rules.specs.declared.GreaterAnswer.{GreaterAnswer}
 pub use Rattle.salvage.specs.declared.SalvageAnswer.{SalvageAnswer}
 pub use Rattle.script.specs.declared.Keyword.{Keyword}
 pub use Rattle.desk.specs.declared.Bench.{Bench}

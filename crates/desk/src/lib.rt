@@ -9,6 +9,7 @@ use rules::Answer;
 use rules::Claims;
 use rules::CompareAnswer;
 use rules::CountsAnswer;
+use rules::GreaterAnswer;
 use rules::LoadAnswer;
 use rules::MaintainAnswer;
 use rules::ReadAnswer;
@@ -55,7 +56,7 @@ pub enum Reply {
     Counted(CountsAnswer),
     Loaded(LoadAnswer),
     Compared(CompareAnswer),
-    Raised(LoadAnswer),
+    Raised(GreaterAnswer),
     Salvaged(SalvageAnswer),
     Shown(Look),
 }

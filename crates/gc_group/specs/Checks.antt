@@ -18,7 +18,7 @@ use Rattle.disk_location.specs.declared.Located.{Located}
 use Rattle.disk_location.specs.Locations.{positionOf, deleteOf, told, locatedAt}
 use Rattle.disk_location.specs.LocationLaws.{located-large, located-at}
 use Rattle.rules.specs.Refusal.{Test, decide, NoneHolds, clear-when, decide-none, decide-early, decide-late}
-use Rattle.rules.specs.Table.{lookup, unmapped}
+use Rattle.rules.specs.Table.{load, neverWritten}
 use Rattle.slot_file.specs.declared.Header.{Header}
 use Rattle.slot_file.specs.Objects.{objectsAt, objects-next, objects-end, Walked, CutOff, header-size, header-id, header-room, header-begins, header-fits}
 use Rattle.rules.specs.Trailer.{trailerTests, entriesIn}
@@ -70,7 +70,7 @@ file-tests limit table r slot =
 -- ---- what an object that passes is
 pub record Whole (limit : ℕ) (table : List Entry) (o : Stored) : Type 0 where
   pub size : o .size < limit
-  pub mapped : unmapped (lookup table (o .id)) ≡ false
+  pub written : neverWritten (load table (o .id)) ≡ false
   pub room : 20 + o .size ≤ o .room
   pub sum : badChecksum o ≡ false
 
@@ -78,7 +78,7 @@ pub moved-whole : (limit : ℕ) (table : List Entry) (o : Stored) → decide (mo
 unfolding movedTests NoneHolds
 moved-whole limit table o e =
     let n = clear-when (movedTests limit table o) e in
-    record { size = leb-false _ _ (n .1 .0); mapped = n .1 .1 .0; room = ltb-false _ _ (n .1 .1 .1 .0); sum = n .1 .1 .1 .1 .0 }
+    record { size = leb-false _ _ (n .1 .0); written = n .1 .1 .0; room = ltb-false _ _ (n .1 .1 .1 .0); sum = n .1 .1 .1 .1 .0 }
 
 -- ---- an object whose header is whole, test by test
 module _ (limit : ℕ) (table : List Entry) (objects : List ℕ) (position : ℕ) (h : Header) (w : Walked objects position h) where
@@ -89,17 +89,17 @@ module _ (limit : ℕ) (table : List Entry) (objects : List ℕ) (position : ℕ
   unfolding movedTests decide
   moved-large a = rw (le-ltb (here .room) 20 (omega (arith, header-room objects position h w, header-fits objects position h w .0)), le-leb limit (here .size) (omega (arith, header-size objects position h w))) refl
 
-  pub moved-unmapped : h .size < limit → unmapped (lookup table (h .id)) ≡ true → decide (movedTests limit table here) ≡ Refused NotThere
+  pub moved-never : h .size < limit → neverWritten (load table (h .id)) ≡ true → decide (movedTests limit table here) ≡ Refused NotThere
   unfolding movedTests decide
-  moved-unmapped a b =
-      let u : unmapped (lookup table (here .id)) ≡ true = rw (header-id objects position h w) at b in
+  moved-never a b =
+      let u : neverWritten (load table (here .id)) ≡ true = rw (header-id objects position h w) at b in
       rw (le-ltb (here .room) 20 (omega (arith, header-room objects position h w, header-fits objects position h w .0)), lt-leb limit (here .size) (omega (arith, header-size objects position h w)), u) refl
 
-  module _ (a : h .size < limit) (b : unmapped (lookup table (h .id)) ≡ false) where
+  module _ (a : h .size < limit) (b : neverWritten (load table (h .id)) ≡ false) where
     pub moved-short : h .room < 20 + h .size → decide (movedTests limit table here) ≡ Refused CutShort
     unfolding movedTests decide
     moved-short d =
-        let u : unmapped (lookup table (here .id)) ≡ false = rw (header-id objects position h w) at b in
+        let u : neverWritten (load table (here .id)) ≡ false = rw (header-id objects position h w) at b in
         rw (
           le-ltb (here .room) 20 (omega (arith, header-room objects position h w, header-fits objects position h w .0)),
           lt-leb limit (here .size) (omega (arith, header-size objects position h w)),
@@ -111,7 +111,7 @@ module _ (limit : ℕ) (table : List Entry) (objects : List ℕ) (position : ℕ
     pub moved-sum : 20 + h .size ≤ h .room → decide (movedTests limit table here) ≡ pick (badChecksum here) (Refused Checksum) Done
     unfolding movedTests decide
     moved-sum d =
-        let u : unmapped (lookup table (here .id)) ≡ false = rw (header-id objects position h w) at b in
+        let u : neverWritten (load table (here .id)) ≡ false = rw (header-id objects position h w) at b in
         rw (
           le-ltb (here .room) 20 (omega (arith, header-room objects position h w, header-fits objects position h w .0)),
           lt-leb limit (here .size) (omega (arith, header-size objects position h w)),
@@ -175,7 +175,7 @@ module _ (lsn : ℕ) (table : List Entry) (e : Entry) where
     entry-great h = rw (d, le-leb (2 ^ 63) (positionOf (e .location) + lsn) h) refl
 
     -- the table decides
-    pub entry-mapped : positionOf (e .location) + lsn < 2 ^ 63 → decide (entryTests lsn table e) ≡ pick (unmapped (lookup table (e .id))) (Refused NotThere) Done
+    pub entry-mapped : positionOf (e .location) + lsn < 2 ^ 63 → decide (entryTests lsn table e) ≡ pick (neverWritten (load table (e .id))) (Refused NotThere) Done
     unfolding entryTests deleteTests decide
     entry-mapped h = rw (d, lt-leb (2 ^ 63) (positionOf (e .location) + lsn) h) refl
 

@@ -20,12 +20,12 @@ use Rattle.slot_file.specs.Objects.{objectsAt, objects-start, objects-next, obj
 use Rattle.numbers.specs.GroupLaws.{either-way}
 use Rattle.rules.specs.Trailer.{absolute}
 use Rattle.rules.specs.SlotFile.{objectPart, trailerEntries}
-use Rattle.rules.specs.Table.{lookup, mappedTo, noEntry}
+use Rattle.rules.specs.Table.{lookup, load, mappedTo, currentAt, noEntry}
 use Rattle.rules.specs.Ops.{Content, put, delete, Op, settled}
 use Rattle.rules.specs.OpsLaws.{RisingOps, ops-end, ops-rise, ops-lower}
 use Rattle.rules.specs.SettledLaws.{Last, silent, last, orEarlier, saidBy, lastOn, settled-rising, settled-last, last-below, ops-ext, or-silent, last-append, said-other, or-assoc}
 use Rattle.rules.specs.Maintenance.{objectsFound, deletesOf, deletesFound, found}
-use Rattle.rules.specs.TableLaws.{Rising, rise, lookup-here, lookup-next, mapped-to}
+use Rattle.rules.specs.TableLaws.{Rising, rise, lookup-here, lookup-next, current-mapped, current-is}
 use Rattle.rules.specs.World.{World, mappings}
 use Rattle.location_table.specs.EntryLaws.{rising-lt}
 use Rattle.gc_group.specs.Source.{Source, sourceIn, fileAt, bytesAt}
@@ -63,7 +63,7 @@ module _ (s : Source) (k : ℕ) (P : Op → Type 0) (Q : Stored → Type 0) wher
   slot = bytesAt s k
 
   abbrev isCurrent : Stored → Bool
-  isCurrent o = mappedTo (lookup table (o .id)) (rawOf (r .lsn + o .position) false)
+  isCurrent o = currentAt (load table (o .id)) (rawOf (r .lsn + o .position) false)
 
   abbrev moved : Stored → Op
   moved o = record { id = o .id; content = put (o .body) }
@@ -72,7 +72,7 @@ module _ (s : Source) (k : ℕ) (P : Op → Type 0) (Q : Stored → Type 0) wher
   isDelete e = deleteOf (e .location)
 
   abbrev isHeld : Entry → Bool
-  isHeld e = mappedTo (lookup table (e .id)) (absolute (r .lsn) e .location)
+  isHeld e = currentAt (load table (e .id)) (absolute (r .lsn) e .location)
 
   abbrev deleted : Entry → Op
   deleted e = record { id = e .id; content = delete }
@@ -118,7 +118,7 @@ objects-stand objects = subst (All (AtPosition objects)) (objects-start objects)
 
 -- "Objects .. at their id's current location"
 found-object : (s : Source) (k : ℕ) (o : Stored) → AtPosition (objectPart (fileAt s k) (bytesAt s k)) o
-    → mappedTo (lookup (s .table) (o .id)) (rawOf (fileAt s k .lsn + o .position) false) ≡ true → Stands s k (record { id = o .id; content = put (o .body) })
+    → currentAt (load (s .table) (o .id)) (rawOf (fileAt s k .lsn + o .position) false) ≡ true → Stands s k (record { id = o .id; content = put (o .body) })
 unfolding contentAt
 found-object s k o at e =
     let lsn = fileAt s k .lsn in
@@ -126,19 +126,19 @@ found-object s k o at e =
     let p : positionOf (rawOf (lsn + o .position) false) - lsn ≡ o .position = omega arith in
     record {
       location = rawOf (lsn + o .position) false;
-      mapped = mapped-to (lookup (s .table) (o .id)) (rawOf (lsn + o .position) false) e;
+      mapped = current-is (lookup (s .table) (o .id)) (rawOf (lsn + o .position) false) e;
       content = rw (delete-raw (lsn + o .position) false, p) (ap (λ (x : Stored). put (x .body)) at);
     }
 
 -- ".. and deletes at their id's current location"
 found-delete : (s : Source) (k : ℕ) (e : Entry) → deleteOf (e .location) ≡ true
-    → mappedTo (lookup (s .table) (e .id)) (absolute (fileAt s k .lsn) e .location) ≡ true → Stands s k (record { id = e .id; content = delete })
+    → currentAt (load (s .table) (e .id)) (absolute (fileAt s k .lsn) e .location) ≡ true → Stands s k (record { id = e .id; content = delete })
 unfolding contentAt
 found-delete s k e d h =
     let location = rawOf (positionOf (e .location) + fileAt s k .lsn) (deleteOf (e .location)) in
     record {
       location = location;
-      mapped = mapped-to (lookup (s .table) (e .id)) location h;
+      mapped = current-is (lookup (s .table) (e .id)) location h;
       content = rw (delete-raw (positionOf (e .location) + fileAt s k .lsn) (deleteOf (e .location)), d) refl;
     }
 
@@ -403,14 +403,14 @@ ids-kept f g (x ∷ xs) = go (f x) (ids-kept f g xs)
 
 pub object-ids : (table : List Entry) (r : Label) (slot : List ℕ) → idsOf (objectsFound table r slot) ≡ each (objectId (r .lsn) table) (objectsIn (objectPart r slot))
 unfolding objectsFound objectId current
-object-ids table r slot = ids-kept (λ (o : Stored). mappedTo (lookup table (o .id)) (rawOf (r .lsn + o .position) false)) (λ (o : Stored). record { id = o .id; content = put (o .body) }) (objectsIn (objectPart r slot))
+object-ids table r slot = ids-kept (λ (o : Stored). currentAt (load table (o .id)) (rawOf (r .lsn + o .position) false)) (λ (o : Stored). record { id = o .id; content = put (o .body) }) (objectsIn (objectPart r slot))
 
 pub delete-ids : (table : List Entry) (r : Label) (slot : List ℕ) → idsOf (deletesFound table r slot) ≡ each (deleteId (r .lsn) table) (trailerEntries r slot)
 unfolding deletesFound deletesOf deleteId current
 delete-ids table r slot =
-    ids-kept (λ (e : Entry). mappedTo (lookup table (e .id)) (absolute (r .lsn) e .location)) (λ (e : Entry). record { id = e .id; content = delete })
+    ids-kept (λ (e : Entry). currentAt (load table (e .id)) (absolute (r .lsn) e .location)) (λ (e : Entry). record { id = e .id; content = delete })
     (keep (λ (e : Entry). deleteOf (e .location)) (trailerEntries r slot))
-    ∙ each-keep (λ (e : Entry). deleteOf (e .location)) (λ (e : Entry). pick (mappedTo (lookup table (e .id)) (absolute (r .lsn) e .location)) (e .id ∷ []) []) (trailerEntries r slot)
+    ∙ each-keep (λ (e : Entry). deleteOf (e .location)) (λ (e : Entry). pick (currentAt (load table (e .id)) (absolute (r .lsn) e .location)) (e .id ∷ []) []) (trailerEntries r slot)
 
 ids-append : (xs ys : List Op) → idsOf (xs ++ ys) ≡ idsOf xs ++ idsOf ys
 ids-append [] ys = refl
@@ -440,17 +440,19 @@ marks-start s n slots = refl
 
 -- ---- the clauses, by facts in the place of tests
 module _ (table : List Entry) (id location : ℕ) where
-  pub current-here : lookup table id ≡ Mapped location → current table id location ≡ id ∷ []
+  -- by what the table holds
+  by-held : (h : Held) → lookup table id ≡ h → current table id location ≡ pick (mappedTo h location) (id ∷ []) []
   unfolding current
-  current-here h = rw (h, eq-eqb location location refl) refl
+  by-held h e = ap (λ (t : Bool). pick t (id ∷ []) []) (current-mapped (lookup table id) location ∙ ap (λ (x : Held). mappedTo x location) e)
+
+  pub current-here : lookup table id ≡ Mapped location → current table id location ≡ id ∷ []
+  current-here h = by-held (Mapped location) h ∙ rw (eq-eqb location location refl) refl
 
   pub current-other : (l : ℕ) → lookup table id ≡ Mapped l → (l ≡ location → ⊥) → current table id location ≡ []
-  unfolding current
-  current-other l h n = rw (h, ne-eqb l location n) refl
+  current-other l h n = by-held (Mapped l) h ∙ rw (ne-eqb l location n) refl
 
   pub current-none : lookup table id ≡ Unmapped → current table id location ≡ []
-  unfolding current
-  current-none h = rw h refl
+  current-none h = by-held Unmapped h
 
 module _ (lsn : ℕ) (table : List Entry) (e : Entry) where
   pub delete-here : deleteOf (e .location) ≡ true → deleteId lsn table e ≡ current table (e .id) (absolute lsn e .location)

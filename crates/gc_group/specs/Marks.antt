@@ -3,7 +3,7 @@ use Rattle.rules.specs.Base.{Bool, false, List, [], _∷_, _++_, map, ℕ, suc,
 use Rattle.rules.specs.declared.Entry.{Entry}
 use Rattle.rules.specs.declared.Label.{Label}
 use Rattle.disk_location.specs.Locations.{positionOf, deleteOf, rawOf}
-use Rattle.rules.specs.Table.{lookup, mappedTo}
+use Rattle.rules.specs.Table.{load, currentAt}
 use Rattle.rules.specs.Trailer.{absolute}
 use Rattle.rules.specs.Object.{Stored, storedAt}
 use Rattle.rules.specs.Ops.{Content, put, delete, Op}
@@ -29,7 +29,7 @@ among x ids = any (λ (n : ℕ). eqb n x) ids
 
 -- the id, where this is its current location
 unfoldable pub current : List Entry → ℕ → ℕ → List ℕ
-current table id location = pick (mappedTo (lookup table id) location) (id ∷ []) []
+current table id location = pick (currentAt (load table id) location) (id ∷ []) []
 
 -- an object's, in a file of that lsn
 unfoldable pub objectId : ℕ → List Entry → Stored → List ℕ

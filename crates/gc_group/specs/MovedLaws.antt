@@ -20,8 +20,8 @@ use Rattle.rules.specs.Refusal.{decide}
 use Rattle.rules.specs.Object.{Stored, storedAt, objectsIn}
 use Rattle.rules.specs.Trailer.{absolute}
 use Rattle.rules.specs.SlotFile.{objectPart}
-use Rattle.rules.specs.Table.{lookup, mappedTo, noEntry}
-use Rattle.rules.specs.TableLaws.{Rising, mapped-one, mapped-to}
+use Rattle.rules.specs.Table.{lookup, load, currentAt, noEntry}
+use Rattle.rules.specs.TableLaws.{Rising, mapped-one, current-is}
 use Rattle.rules.specs.Ops.{put, delete, Op}
 use Rattle.rules.specs.Maintenance.{fileTests}
 use Rattle.location_table.specs.EntryLaws.{rising-lt, place-found, found-tells}
@@ -71,7 +71,7 @@ record Found (limit : ℕ) (s : Source) (k : ℕ) (o : Op) : Type 0 where
   backed : Backed limit s (record { id = o .id; location = location }) k
 
 found-object : (limit : ℕ) (s : Source) (k : ℕ) (o : Stored) → AtPosition (objectPart (fileAt s k) (bytesAt s k)) o → Whole limit (s .table) o
-    → mappedTo (lookup (s .table) (o .id)) (rawOf (fileAt s k .lsn + o .position) false) ≡ true → Found limit s k (record { id = o .id; content = put (o .body) })
+    → currentAt (load (s .table) (o .id)) (rawOf (fileAt s k .lsn + o .position) false) ≡ true → Found limit s k (record { id = o .id; content = put (o .body) })
 found-object limit s k o at w e =
     let lsn = fileAt s k .lsn in
     let part = objectPart (fileAt s k) (bytesAt s k) in
@@ -80,17 +80,17 @@ found-object limit s k o at w e =
     let there : objectOf s location k ≡ o = ap (λ (n : ℕ). storedAt n (drop n part)) p ∙ sym at in
     record {
       location = location;
-      mapped = mapped-to (lookup (s .table) (o .id)) location e;
+      mapped = current-is (lookup (s .table) (o .id)) location e;
       backed = λ d. record { low = omega arith; whole = subst (Whole limit (s .table)) (sym there) w; same = ap (λ (x : Stored). x .id) there };
     }
 
 found-delete : (limit : ℕ) (s : Source) (k : ℕ) (e : Entry) → deleteOf (e .location) ≡ true
-    → mappedTo (lookup (s .table) (e .id)) (absolute (fileAt s k .lsn) e .location) ≡ true → Found limit s k (record { id = e .id; content = delete })
+    → currentAt (load (s .table) (e .id)) (absolute (fileAt s k .lsn) e .location) ≡ true → Found limit s k (record { id = e .id; content = delete })
 found-delete limit s k e d h =
     let location = rawOf (positionOf (e .location) + fileAt s k .lsn) (deleteOf (e .location)) in
     record {
       location = location;
-      mapped = mapped-to (lookup (s .table) (e .id)) location h;
+      mapped = current-is (lookup (s .table) (e .id)) location h;
       backed = λ n. absurd (true≢false (sym (delete-raw (positionOf (e .location) + fileAt s k .lsn) (deleteOf (e .location)) ∙ d) ∙ n));
     }
 

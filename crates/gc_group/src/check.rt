@@ -1,9 +1,8 @@
 use disk_location::RelativeDiskLocation;
-use location_table::load_in;
 use rules::Answer;
 use rules::Entry;
-use rules::Held;
 use rules::Label;
+use rules::Loaded;
 use rules::OBJECT_HEADER;
 use rules::Refusal;
 use slot_file::Header;
@@ -18,7 +17,7 @@ ghost use Rattle.rules.specs.Base.{each};
 ghost use Rattle.rules.specs.Refusal.{decide};
 ghost use Rattle.rules.specs.Object.{storedAt, objectsIn};
 ghost use Rattle.rules.specs.Trailer.{countIn, entriesIn};
-ghost use Rattle.rules.specs.Table.{lookup, unmapped};
+ghost use Rattle.rules.specs.Table.{load, neverWritten};
 ghost use Rattle.rules.specs.Maintenance.{movedTests, fileTests};
 ghost use Rattle.slot_file.specs.Objects.{Walked};
 ghost use Rattle.location_table.specs.Tables.{Formed};
@@ -27,13 +26,14 @@ ghost use Rattle.gc_group.specs.Source.{Lies};
 ghost use Rattle.gc_group.specs.Checks.{entryTests};
 
 // "id unmapped"
-fn unmapped(table: &[u64], id: u64) -> bool
+fn never_written(table: &[u64], id: u64) -> bool
     requires { ⌜ Formed (now table) ⌝ }
-    ensures { λ r. ⌜ r ≡ unmapped (lookup (usedEntries (now (table .entry))) id) ⌝ }
+    ensures { λ r. ⌜ r ≡ neverWritten (load (usedEntries (now (table .entry))) id) ⌝ }
 {
-    match load_in(table, id) {
-        Held::Mapped(_) => false,
-        Held::Unmapped => true,
+    match location_table::load(table, id) {
+        Loaded::At(_) => false,
+        Loaded::DeletedAt(_) => false,
+        Loaded::Never => true,
     }
 }
 
@@ -48,7 +48,7 @@ fn check_object(objects: &[u8], position: u64, h: Header, table: &[u64], limit: 
     if limit <= h.size {
         return Answer::Refused(Refusal::ObjectSize);
     }
-    if unmapped(table, h.id) {
+    if never_written(table, h.id) {
         return Answer::Refused(Refusal::NotThere);
     }
     if (h.room - OBJECT_HEADER as u64) < h.size {
@@ -94,7 +94,7 @@ fn check_entry(e: Entry, lsn: u64, table: &[u64]) -> Answer
     if location.to_absolute(lsn).number() != 0 {
         return Answer::Refused(Refusal::Location);
     }
-    if unmapped(table, e.id) {
+    if never_written(table, e.id) {
         return Answer::Refused(Refusal::NotThere);
     }
     Answer::Done

@@ -8,7 +8,7 @@ use lib.ListN.{length-take}
 use lib.Seq.{getD-drop}
 use borrow.Author.Tests.{eq-eqb, ne-eqb, eqb-false}
 use Rattle.rules.specs.Base.{Bool, true, false, List, [], _∷_, map, ℕ, zero, suc, _+_, _-_, _*_, _%_, _^_, length, take, drop, eqb, pick}
-use Rattle.theory.specs.Types.{Entry, Record, ReadAnswer, Found, Nothing, ReadRefused, Answer, Held, Mapped, Unmapped, Slot}
+use Rattle.theory.specs.Types.{Entry, Record, ReadAnswer, Found, Deleted, NeverWritten, ReadRefused, Answer, Held, Mapped, Unmapped, Slot}
 use Rattle.numbers.specs.LittleEndian.{Bytes, le-below}
 use Rattle.disk_location.specs.Locations.{positionOf, deleteOf}
 use Rattle.rules.specs.BaseLaws.{All, same?}
@@ -52,7 +52,8 @@ pub record Clean (w : World) : Type 0 where
 -- what a read gives, as the content of an operation
 abbrev pub contentBy : ReadAnswer → List ℕ → Content
 contentBy (Found start size) part = put part
-contentBy Nothing part = delete
+contentBy Deleted part = delete
+contentBy NeverWritten part = delete
 contentBy (ReadRefused r) part = delete
 
 -- of an id

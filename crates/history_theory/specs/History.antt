@@ -62,7 +62,7 @@ lived l (c ∷ cs) = lived (record { world = called (l .world) c .world; history
 
 -- what demand 3 asks of a store and the engine
 pub record Kept (w : World) (history : List Op) : Type 0 where
-  -- a read gives the body of the last accepted put, or nothing after a delete or where there was none
+  -- a read gives the body of the last accepted put, "deleted" after a delete, "never written" where there was neither
   pub reads : (id : ℕ) → Reads w (readOf w id) (lastOn history id)
   -- a reopening is accepted, with the same location for each id, and the same record and live count for each slot
   pub reopens : reopenCall w .answer ≡ accepted []

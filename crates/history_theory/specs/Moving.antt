@@ -14,8 +14,8 @@ use Rattle.rules.specs.Trailer.{absolute}
 use Rattle.rules.specs.Ops.{put, delete, Op}
 use Rattle.rules.specs.SettledLaws.{Last, last, lastOn, settled-all}
 use Rattle.rules.specs.SlotFile.{slotBytes, fileIn, objectPart, trailerEntries, File, View, empty, damaged, holds}
-use Rattle.rules.specs.Table.{lookup, mappedTo}
-use Rattle.rules.specs.TableLaws.{lookup-has, mapped-to}
+use Rattle.rules.specs.Table.{lookup, load, currentAt}
+use Rattle.rules.specs.TableLaws.{lookup-has, current-is}
 use Rattle.rules.specs.FileMap.{emptyLabel, recordAt, fileFor}
 use Rattle.rules.specs.Read.{objectTests}
 use Rattle.rules.specs.Maintenance.{storedObjects, deletesOf, objectsFound, deletesFound, slotOf, foundIn, found}
@@ -129,10 +129,10 @@ module _ (w : World) (history : List Op) (s : SoundWorld w (engine history)) whe
   unfolding objectsFound
   objects-movable k f h r e =
       all-kept (StandsIn (f .objects)) (Movable (engine history))
-      (λ (o : Stored). mappedTo (lookup (mappings w) (o .id)) (rawOf (r .lsn + o .position) false)) (λ (o : Stored). record { id = o .id; content = put (o .body) })
+      (λ (o : Stored). currentAt (load (mappings w) (o .id)) (rawOf (r .lsn + o .position) false)) (λ (o : Stored). record { id = o .id; content = put (o .body) })
       (storedObjects r (slotOf w k))
       (λ o t q.
-      let m = mapped-to (lookup (mappings w) (o .id)) (rawOf (r .lsn + o .position) false) q in
+      let m = current-is (lookup (mappings w) (o .id)) (rawOf (r .lsn + o .position) false) q in
       (current-object k f o h t (m ∙ ap (λ (c : Label). Mapped (rawOf (c .lsn + o .position) false)) e), narrow (o .id) (rawOf (r .lsn + o .position) false) m))
       (subst (λ (bs : List ℕ). All (StandsIn (f .objects)) (objectsIn bs)) same (objects-stand (f .objects)))
     where
@@ -145,10 +145,10 @@ module _ (w : World) (history : List Op) (s : SoundWorld w (engine history)) whe
   unfolding deletesFound deletesOf
   deletes-movable r slot =
       all-kept (λ (e : Entry). deleteOf (e .location) ≡ true) (Movable (engine history))
-      (λ (e : Entry). mappedTo (lookup (mappings w) (e .id)) (absolute (r .lsn) e .location)) (λ (e : Entry). record { id = e .id; content = delete })
+      (λ (e : Entry). currentAt (load (mappings w) (e .id)) (absolute (r .lsn) e .location)) (λ (e : Entry). record { id = e .id; content = delete })
       (keep (λ (e : Entry). deleteOf (e .location)) (trailerEntries r slot))
       (λ e d q.
-      let m = mapped-to (lookup (mappings w) (e .id)) (absolute (r .lsn) e .location) q in
+      let m = current-is (lookup (mappings w) (e .id)) (absolute (r .lsn) e .location) q in
       (current-delete (e .id) (absolute (r .lsn) e .location) (delete-absolute (r .lsn) e ∙ d) m, narrow (e .id) (absolute (r .lsn) e .location) m))
       (all-pass (λ (e : Entry). deleteOf (e .location)) (trailerEntries r slot))
 

@@ -6,7 +6,7 @@ use lib.ListN.{length-take, length-drop}
 use lib.Seq.{take-take, drop-drop, length-take-le}
 use borrow.Author.Tests.{ltb-false, le-ltb}
 use Rattle.rules.specs.Base.{Bool, true, false, List, ℕ, _+_, _-_, _*_, length, take, drop, pick}
-use Rattle.theory.specs.Types.{Record, Refusal, Answer, Done, Refused, ReadAnswer, Found, Nothing, ReadRefused, Held, Mapped, Unmapped, Slot, Is, NoSlot}
+use Rattle.theory.specs.Types.{Record, Refusal, Answer, Done, Refused, ReadAnswer, Found, Deleted, NeverWritten, ReadRefused, Held, Mapped, Unmapped, At, DeletedAt, Slot, Is, NoSlot}
 use Rattle.disk_location.specs.Locations.{positionOf, deleteOf}
 use Rattle.rules.specs.Refusal.{decide, after, NoneHolds, clear-when, decide-clear}
 use Rattle.numbers.specs.LittleEndian.{leValue}
@@ -16,19 +16,19 @@ use Rattle.rules.specs.Ops.{put, delete, Op}
 use Rattle.rules.specs.SettledLaws.{Last, silent, last, lastOn}
 use Rattle.rules.specs.PartLaws.{drop-take}
 use Rattle.rules.specs.SlotFile.{slotBytes, fileIn, File, View, empty, damaged, holds}
-use Rattle.rules.specs.Table.{lookup}
+use Rattle.rules.specs.Table.{lookup, loadedOf}
 use Rattle.rules.specs.FileMap.{recordAt, fileFor}
-use Rattle.rules.specs.Read.{objectTests, objectIn, readObject, readFile, readHeld, readOf, partOf}
+use Rattle.rules.specs.Read.{objectTests, objectIn, readObject, readFile, readLoaded, readOf, partOf}
 use Rattle.rules.specs.World.{World, recordsOf, mappings}
 use Rattle.theory.specs.Places.{viewAt, record-holds}
 use Rattle.theory.specs.Picture.{viewsOf, pictureOf, Said, unheard, gone, body, broken, objectSays, placeSays, viewSays, slotSays, heldSays, pictureSays, lastSays}
 use Rattle.theory.specs.SoundWorld.{SoundWorld, sound-fine, shown}
 use Rattle.history_theory.specs.Writing.{engine}
 
--- what a read answers, by the last operation on the id
+-- what a read answers, by the last operation on the id: never written where there is none, deleted after a delete
 abbrev pub Reads : World → ReadAnswer → Last → Type 0
-Reads w answer silent = answer ≡ Nothing
-Reads w answer (last delete) = answer ≡ Nothing
+Reads w answer silent = answer ≡ NeverWritten
+Reads w answer (last delete) = answer ≡ Deleted
 Reads w answer (last (put b)) = (start : ℕ) × (answer ≡ Found start (length b)) × (partOf answer (w .heap) ≡ b)
 
 -- ---- a part of a part
@@ -201,15 +201,15 @@ module _ (w : World) (told : ℕ → Said) (s : SoundWorld w told) where
   slot-read x l NoSlot t e = absurd (not-broken t e)
   slot-read x l (Is k) t e = view-read x l k (viewAt (viewsOf w) k) refl t e
 
-  held-read : (x : ℕ) (o : Held) (t : Last) → heldSays (pictureOf w) o x ≡ lastSays t → Reads w (readHeld w x o) t
+  held-read : (x : ℕ) (o : Held) (t : Last) → heldSays (pictureOf w) o x ≡ lastSays t → Reads w (readLoaded w x (loadedOf o)) t
   held-read x Unmapped silent e = refl
   held-read x Unmapped (last (put b)) e = absurd (let z : _≡_ {A = ℕ} 0 1 = cc in omega arith)
-  held-read x Unmapped (last delete) e = refl
+  held-read x Unmapped (last delete) e = absurd (let z : _≡_ {A = ℕ} 0 1 = cc in omega arith)
   held-read x (Mapped l) t e = go (deleteOf l) t e
     where
       go : (d : Bool) (t : Last) → pick d gone (slotSays (pictureOf w) (fileFor (recordsOf w) l) l x) ≡ lastSays t
-          → Reads w (pick d Nothing (readFile w x l (fileFor (recordsOf w) l))) t
-      go true silent e = refl
+          → Reads w (readLoaded w x (pick d (DeletedAt l) (At l))) t
+      go true silent e = absurd (let z : _≡_ {A = ℕ} 0 1 = cc in omega arith)
       go true (last delete) e = refl
       go true (last (put b)) e = absurd (let z : _≡_ {A = ℕ} 0 1 = cc in omega arith)
       go false t e = slot-read x l (fileFor (recordsOf w) l) t e
@@ -219,6 +219,6 @@ pub told-read : (w : World) (told : ℕ → Said) → SoundWorld w told → (x :
 unfolding readOf decide pictureSays
 told-read w told s x t e = rw (sound-fine w told s) (held-read w told s x (lookup (mappings w) x) t (s .sound .says x ∙ e))
 
--- LAW: so the body of the last accepted put; nothing after a delete, or of an id never written
+-- LAW: so the body of the last accepted put; deleted after a delete; never written where there was neither
 pub sound-read : (w : World) (history : List Op) → SoundWorld w (engine history) → (x : ℕ) → Reads w (readOf w x) (lastOn history x)
 sound-read w history s x = told-read w (engine history) s x (lastOn history x) refl

@@ -15,7 +15,7 @@ use Rattle.rules.specs.Ops.{put, delete, Op, settled}
 use Rattle.rules.specs.SettledLaws.{settled-all}
 use Rattle.rules.specs.Batch.{batchIn, opsOf, tooLarge, anyTooLarge}
 use Rattle.rules.specs.Trailer.{absolute}
-use Rattle.rules.specs.Table.{lookup, mappedTo}
+use Rattle.rules.specs.Table.{load, currentAt}
 use Rattle.rules.specs.SlotFile.{objectPart, trailerEntries, File, View, empty, damaged, holds, viewsIn}
 use Rattle.rules.specs.WrittenLaws.{fileOfOps}
 use Rattle.rules.specs.FileMap.{recordAt}
@@ -111,7 +111,7 @@ module _ (w : World) (history : List Op) (s : SoundWorld w (engine history)) (sm
   unfolding objectsFound
   objects-fine k f h r same =
       all-kept (λ (o : Stored). StandsIn (f .objects) o × (leb (w .settings .«max_object_size») (o .size) ≡ false)) (Fine (w .settings .«max_object_size»))
-      (λ (o : Stored). mappedTo (lookup (mappings w) (o .id)) (rawOf (r .lsn + o .position) false)) (λ (o : Stored). record { id = o .id; content = put (o .body) })
+      (λ (o : Stored). currentAt (load (mappings w) (o .id)) (rawOf (r .lsn + o .position) false)) (λ (o : Stored). record { id = o .id; content = put (o .body) })
       (storedObjects r (slotOf w k))
       (λ o t q. let a = body-short (f .objects) o (t .0) in let b = leb-false (w .settings .«max_object_size») (o .size) (t .1) in lt-leb (w .settings .«max_object_size») (length (o .body)) (omega arith))
       (subst (λ (bs : List ℕ). All (λ (o : Stored). StandsIn (f .objects) o × (leb (w .settings .«max_object_size») (o .size) ≡ false)) (objectsIn bs)) same
@@ -123,7 +123,7 @@ module _ (w : World) (history : List Op) (s : SoundWorld w (engine history)) (sm
       all-append (Fine (w .settings .«max_object_size»)) (objectsFound (mappings w) (recordAt (recordsOf w) k .label) (slotOf w k)) (deletesFound (mappings w) (recordAt (recordsOf w) k .label) (slotOf w k))
       (go (viewAt (viewsOf w) k) refl)
       (all-kept (λ (e : Entry). deleteOf (e .location) ≡ true) (Fine (w .settings .«max_object_size»))
-      (λ (e : Entry). mappedTo (lookup (mappings w) (e .id)) (absolute (recordAt (recordsOf w) k .label .lsn) e .location)) (λ (e : Entry). record { id = e .id; content = delete })
+      (λ (e : Entry). currentAt (load (mappings w) (e .id)) (absolute (recordAt (recordsOf w) k .label .lsn) e .location)) (λ (e : Entry). record { id = e .id; content = delete })
       (keep (λ (e : Entry). deleteOf (e .location)) (trailerEntries (recordAt (recordsOf w) k .label) (slotOf w k))) (λ e d q. refl)
       (all-pass (λ (e : Entry). deleteOf (e .location)) (trailerEntries (recordAt (recordsOf w) k .label) (slotOf w k))))
     where

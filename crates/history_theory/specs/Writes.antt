@@ -3,7 +3,7 @@ use mathlib.Core.Path.{_≡_, refl, sym, ap, _∙_, subst}
 use Prim.Native.Nat.{_<_}
 use native.Mathlib.Omega.{arith}
 use Rattle.rules.specs.Base.{false, List, [], _∷_, _++_, ℕ, _^_, length}
-use Rattle.theory.specs.Types.{Refusal, Limits, Answer, Done, Refused, ReadAnswer, Found, Nothing, ReadRefused}
+use Rattle.theory.specs.Types.{Refusal, Limits, Answer, Done, Refused, ReadAnswer, Found, Deleted, NeverWritten, ReadRefused}
 use Rattle.rules.specs.Refusal.{_gives_, decide, after}
 use Rattle.rules.specs.Condition1.{outOfRange, refused1}
 use Rattle.rules.specs.Prune.{pruned, pruneCall}
@@ -26,16 +26,18 @@ use Rattle.history_theory.specs.Quiet.{undisturbed}
 use Rattle.history_theory.specs.Fresh.{Blank}
 use Rattle.history_theory.specs.History.{Call, write, maintain, prune, reopen, quiet, called, hears, Life, lived, Starts, sound-called, sound-lived, born, born-starts}
 
--- what a read gives a host: nothing, the bytes of a part of the heap, or a refusal
+-- what a read gives a host: never written, deleted, the bytes of a part of the heap, or a refusal
 pub data Got : Type 0 where
-  nothing : Got
+  never : Got
+  deleted : Got
   bytes : List ℕ → Got
   unread : Refusal → Got
 
 -- by the answer
 abbrev pub gotBy : ReadAnswer → List ℕ → Got
 gotBy (Found start size) part = bytes part
-gotBy Nothing part = nothing
+gotBy Deleted part = deleted
+gotBy NeverWritten part = never
 gotBy (ReadRefused r) part = unread r
 
 -- of an id
@@ -46,13 +48,13 @@ got w id = gotBy (readOf w id) (partOf (readOf w id) (w .heap))
 abbrev pub leftBy : Last → Got → Got
 leftBy silent before = before
 leftBy (last (put body)) before = bytes body
-leftBy (last delete) before = nothing
+leftBy (last delete) before = deleted
 
 -- what an accepted write leaves
 pub record Wrote (w : World) (batch : List ℕ) : Type 0 where
   -- the batch's file, unless it is empty, stands in the lowest empty slot
   pub stands : 0 < length (opsIn batch) → (writeCall w batch .world ≡ installed (2 ^ 62) 0 w (opsIn batch)) × Stood (2 ^ 62) 0 w (opsIn batch)
-  -- each id of the batch reads as its last put or as nothing, every other id as before
+  -- each id of the batch reads as its last put or as deleted, every other id as before
   pub reads : (id : ℕ) → got (writeCall w batch .world) id ≡ leftBy (lastOn (opsOf (batchIn batch)) id) (got w id)
   -- a reopening is accepted, with the table, the records and the live counts that the write left
   pub reopens : reopenCall (writeCall w batch .world) .answer ≡ accepted []
@@ -60,16 +62,16 @@ pub record Wrote (w : World) (batch : List ℕ) : Type 0 where
   pub same-records : recordsOf (reopenCall (writeCall w batch .world) .world) ≡ recordsOf (writeCall w batch .world)
 
 -- a read by the engine's last word
-pub got-last : (w : World) (history : List Op) → SoundWorld w (engine history) → (id : ℕ) → got w id ≡ leftBy (lastOn history id) nothing
+pub got-last : (w : World) (history : List Op) → SoundWorld w (engine history) → (id : ℕ) → got w id ≡ leftBy (lastOn history id) never
 got-last w history s id = go (lastOn history id) (readOf w id) (sound-read w history s id)
   where
-    go : (l : Last) (a : ReadAnswer) → Reads w a l → gotBy a (partOf a (w .heap)) ≡ leftBy l nothing
+    go : (l : Last) (a : ReadAnswer) → Reads w a l → gotBy a (partOf a (w .heap)) ≡ leftBy l never
     go silent a e = ap (λ (b : ReadAnswer). gotBy b (partOf b (w .heap))) e
     go (last delete) a e = ap (λ (b : ReadAnswer). gotBy b (partOf b (w .heap))) e
     go (last (put body)) a e = ap (λ (b : ReadAnswer). gotBy b (partOf a (w .heap))) (e .1) ∙ ap bytes (e .2)
 
 -- the later word over the earlier
-left-over : (a b : Last) → leftBy (orEarlier a b) nothing ≡ leftBy a (leftBy b nothing)
+left-over : (a b : Last) → leftBy (orEarlier a b) never ≡ leftBy a (leftBy b never)
 left-over silent b = refl
 left-over (last (put body)) b = refl
 left-over (last delete) b = refl
@@ -104,7 +106,7 @@ write-means w history s batch e =
       stands = file-stands w history s batch (accepted-done w batch e);
       reads = λ id.
           got-last (writeCall w batch .world) (history ++ ops) after-write id
-          ∙ ap (λ (l : Last). leftBy l nothing) (last-append history ops id)
+          ∙ ap (λ (l : Last). leftBy l never) (last-append history ops id)
           ∙ left-over (lastOn ops id) (lastOn history id)
           ∙ ap (leftBy (lastOn ops id)) (sym (got-last w history s id));
       reopens = ap (λ (a : After). a .answer) again;

@@ -7,12 +7,12 @@ use Prim.Native.Nat.{_<_, _≤_}
 use lib.ListN.{length-map}
 use Rattle.rules.specs.declared.Entry.{Entry}
 use Rattle.rules.specs.declared.Record.{Record}
-use Rattle.rules.specs.declared.Held.{Held}
-use Rattle.rules.specs.declared.Held.the-variants.{Mapped, Unmapped}
+use Rattle.rules.specs.declared.Loaded.{Loaded}
+use Rattle.rules.specs.declared.Loaded.the-variants.{At, DeletedAt, Never}
 use Rattle.rules.specs.declared.Slot.{Slot}
 use Rattle.rules.specs.declared.Slot.the-variants.{Is, NoSlot}
 use Rattle.rules.specs.Ops.{Op, entriesOf, sizeOf}
-use Rattle.rules.specs.Table.{lookup}
+use Rattle.rules.specs.Table.{load}
 use Rattle.rules.specs.FileMap.{Lead, lessLive}
 use Rattle.rules.specs.Install.{fileHolding, losing}
 use Rattle.rules.specs.TurnLaws.{left-next, left-none}
@@ -22,36 +22,38 @@ use Rattle.file_map.specs.ListLaws.{file-for-with-lives, less-with-lives, lengt
 -- "each replaced location's file, found before the new one is added, loses one live", for a trailer's entries
 unfoldable pub losingBy : List Entry → List Entry → List Record → List Record
 losingBy table [] rs = rs
-losingBy table (e ∷ es) rs = losingBy table es (lessLive (fileHolding rs (lookup table (e .id))) rs)
+losingBy table (e ∷ es) rs = losingBy table es (lessLive (fileHolding rs (load table (e .id))) rs)
 
--- the slot of a location held, by the lsns alone
-abbrev pub slotHolding : List ℕ → Held → Slot
-slotHolding lsns (Mapped l) = lsnAt lsns l
-slotHolding lsns Unmapped = NoSlot
+-- the slot of a location loaded, by the lsns alone
+abbrev pub slotHolding : List ℕ → Loaded → Slot
+slotHolding lsns (At l) = lsnAt lsns l
+slotHolding lsns (DeletedAt l) = lsnAt lsns l
+slotHolding lsns Never = NoSlot
 
 -- the same on the list of live counts
 unfoldable pub losingLives : List ℕ → List Entry → List Entry → List ℕ → List ℕ
 losingLives lsns table [] lives = lives
-losingLives lsns table (e ∷ es) lives = losingLives lsns table es (lessAt (slotHolding lsns (lookup table (e .id))) lives)
+losingLives lsns table (e ∷ es) lives = losingLives lsns table es (lessAt (slotHolding lsns (load table (e .id))) lives)
 
 -- the entries of operations lose what the operations lose
 pub losing-entries : (table : List Entry) (position : ℕ) (ops : List Op) (rs : List Record) → losing table ops rs ≡ losingBy table (entriesOf position ops) rs
 unfolding losing losingBy entriesOf
 losing-entries table position [] rs = refl
 losing-entries table position (o ∷ os) rs =
-    losing-entries table (position + sizeOf (o .content)) os (lessLive (fileHolding rs (lookup table (o .id))) rs)
+    losing-entries table (position + sizeOf (o .content)) os (lessLive (fileHolding rs (load table (o .id))) rs)
 
-holding-lives : (rs : List Record) (ls : List ℕ) (h : Held) → fileHolding (withLives rs ls) h ≡ slotHolding (lsnsOf rs) h
-holding-lives rs ls (Mapped l) = file-for-with-lives rs ls l
-holding-lives rs ls Unmapped = refl
+holding-lives : (rs : List Record) (ls : List ℕ) (h : Loaded) → fileHolding (withLives rs ls) h ≡ slotHolding (lsnsOf rs) h
+holding-lives rs ls (At l) = file-for-with-lives rs ls l
+holding-lives rs ls (DeletedAt l) = file-for-with-lives rs ls l
+holding-lives rs ls Never = refl
 
 losing-with-lives : (table es : List Entry) (rs : List Record) (ls : List ℕ) → length ls ≡ length rs
     → losingBy table es (withLives rs ls) ≡ withLives rs (losingLives (lsnsOf rs) table es ls)
 unfolding losingBy losingLives
 losing-with-lives table [] rs ls e = refl
 losing-with-lives table (d ∷ es) rs ls e =
-    let slot = slotHolding (lsnsOf rs) (lookup table (d .id)) in
-    ap (λ (k : Slot). losingBy table es (lessLive k (withLives rs ls))) (holding-lives rs ls (lookup table (d .id)))
+    let slot = slotHolding (lsnsOf rs) (load table (d .id)) in
+    ap (λ (k : Slot). losingBy table es (lessLive k (withLives rs ls))) (holding-lives rs ls (load table (d .id)))
     ∙ ap (losingBy table es) (less-with-lives slot rs ls e)
     ∙ losing-with-lives table es rs (lessAt slot ls) (length-less slot ls ∙ e)
 
@@ -63,7 +65,7 @@ losing-lives table es rs =
 -- a turn of the loop over the entries, and its end
 module _ (lsns : List ℕ) (table es : List Entry) (lives : List ℕ) (k : ℕ) where
   pub losing-next : (d : Entry) → k < length es
-      → losingLives lsns table (drop k es) lives ≡ losingLives lsns table (drop (k + 1) es) (lessAt (slotHolding lsns (lookup table (getD es k d .id))) lives)
+      → losingLives lsns table (drop k es) lives ≡ losingLives lsns table (drop (k + 1) es) (lessAt (slotHolding lsns (load table (getD es k d .id))) lives)
   unfolding losingLives
   losing-next d h = ap (λ (xs : List Entry). losingLives lsns table xs lives) (left-next es k d h)
 

@@ -2,9 +2,9 @@
 use disk_location::RelativeDiskLocation;
 use rules::Entry;
 use rules::FileMap;
-use rules::Held;
 use rules::LABEL_BYTES;
 use rules::Label;
+use rules::Loaded;
 use rules::State;
 use rules::TRAILER_ENTRY;
 use rules::TRAILER_HEAD;
@@ -14,29 +14,36 @@ ghost use Prim.Native.Nat.{_+_, _*_, _^_, _≤_, _<_};
 ghost use lib.ListN.{length, set};
 ghost use Rattle.disk_location.specs.Locations.{positionOf};
 ghost use Rattle.rules.specs.Trailer.{absolute, countIn, entriesIn};
-ghost use Rattle.rules.specs.Table.{lookup, insertAll, full};
+ghost use Rattle.rules.specs.Table.{load, insertAll, full};
 ghost use Rattle.rules.specs.TableCalls.{withStored};
 ghost use Rattle.rules.specs.Layout.{usedEntries, laidOut, capacityOf};
 ghost use Rattle.rules.specs.World.{stateWith};
 ghost use Rattle.location_table.specs.Tables.{Formed};
-ghost use Rattle.file_map.specs.Lists.{lessAt, withLives};
+ghost use Rattle.file_map.specs.Lists.{lsnAt, lessAt, withLives};
 ghost use Rattle.install.specs.Losing.{slotHolding, losingLives};
 ghost use Rattle.file_map.specs.Records.{labelled, fresh};
 ghost use Rattle.install.specs.Adding.{taken, Placed, trailerAt, Installable};
 
-// "loses one live": the file of the location that the table has for the id.
+// "loses one live": the file of a location, an object's or a delete's.
+fn lose_at(lsns: &[u64], lives: &mut [u64], location: u64)
+    requires { ⌜ length (now lsns) ≤ length (now lives) ⌝ }
+    ensures { λ _. ⌜ now (lives .exit) ≡ lessAt (lsnAt (now (lsns .entry)) location) (now (lives .entry)) ⌝ }
+{
+    let slot = file_map::lsn_at(lsns, location);
+    file_map::less_at(lives, slot);
+}
+
+// The file of the location that the table has for the id.
 fn lose_one(lsns: &[u64], lives: &mut [u64], table: &[u64], id: u64)
     requires { ⌜ Formed (now table) × (length (now lsns) ≤ length (now lives)) ⌝ }
     ensures { λ _. ⌜ now (lives .exit) ≡ lessAt
-        (slotHolding (now (lsns .entry)) (lookup (usedEntries (now (table .entry))) id))
+        (slotHolding (now (lsns .entry)) (load (usedEntries (now (table .entry))) id))
         (now (lives .entry)) ⌝ }
 {
-    match location_table::load_in(table, id) {
-        Held::Mapped(location) => {
-            let slot = file_map::lsn_at(lsns, location);
-            file_map::less_at(lives, slot);
-        }
-        Held::Unmapped => {}
+    match location_table::load(table, id) {
+        Loaded::At(location) => lose_at(lsns, lives, location),
+        Loaded::DeletedAt(location) => lose_at(lsns, lives, location),
+        Loaded::Never => {}
     }
 }
 

@@ -15,8 +15,8 @@ use Rattle.rules.specs.Trailer.{trailerTests}
 use Rattle.rules.specs.Ops.{Op}
 use Rattle.rules.specs.SlotFile.{objectPart, trailerPart, trailerEntries, File, holds}
 use Rattle.rules.specs.Read.{objectTests}
-use Rattle.rules.specs.Table.{lookup, unmapped}
-use Rattle.rules.specs.TableLaws.{Has}
+use Rattle.rules.specs.Table.{lookup, loadedOf, load, neverWritten}
+use Rattle.rules.specs.TableLaws.{never-unmapped, Has}
 use Rattle.rules.specs.FileMap.{recordAt}
 use Rattle.rules.specs.FileMapLaws.{Among, not-empty}
 use Rattle.rules.specs.Maintenance.{movedTests, deleteTests, deletesOf, fileTests, slotOf}
@@ -78,7 +78,7 @@ only-decides X (true gives q ∷ ts) us r a e = go (a .0)
 only-decides X (false gives q ∷ ts) us r a e = only-decides X ts us r (a .1) e
 
 -- a whole object of a mapped id
-moved-only : (X : Type 0) (limit : ℕ) (table : List Entry) (o : Stored) → NoneHolds (objectTests (o .id) o) → unmapped (lookup table (o .id)) ≡ false → (leb limit (o .size) ≡ true → X)
+moved-only : (X : Type 0) (limit : ℕ) (table : List Entry) (o : Stored) → NoneHolds (objectTests (o .id) o) → neverWritten (load table (o .id)) ≡ false → (leb limit (o .size) ≡ true → X)
     → All (OnlySize X) (movedTests limit table o)
 unfolding movedTests objectTests NoneHolds
 moved-only X limit table o n mapped large = (inl (n .0), (size (leb limit (o .size)) refl, (inl mapped, (inl (n .1 .0), (inl (n .1 .1 .0), tt)))))
@@ -88,13 +88,13 @@ moved-only X limit table o n mapped large = (inl (n .0), (size (leb limit (o .si
     size false e = inl e
 
 -- delete entries: of a mapped id, with a sum below 2^63
-deletes-clear : (lsn : ℕ) (table : List Entry) (es : List Entry) → ((x l : ℕ) → Has es x l → (positionOf l + lsn < 2 ^ 63) × (unmapped (lookup table x) ≡ false))
+deletes-clear : (lsn : ℕ) (table : List Entry) (es : List Entry) → ((x l : ℕ) → Has es x l → (positionOf l + lsn < 2 ^ 63) × (neverWritten (load table x) ≡ false))
     → All (λ (e : Entry). NoneHolds (deleteTests lsn table e)) (keep (λ (e : Entry). deleteOf (e .location)) es)
 unfolding keep deleteTests NoneHolds
 deletes-clear lsn table [] h = tt
 deletes-clear lsn table (e ∷ es) h = go (deleteOf (e .location)) (h (e .id) (e .location) (inl (refl, refl))) (deletes-clear lsn table es (λ x l a. h x l (inr a)))
   where
-    go : (b : Bool) → (positionOf (e .location) + lsn < 2 ^ 63) × (unmapped (lookup table (e .id)) ≡ false)
+    go : (b : Bool) → (positionOf (e .location) + lsn < 2 ^ 63) × (neverWritten (load table (e .id)) ≡ false)
         → All (λ (d : Entry). NoneHolds (deleteTests lsn table d)) (keep (λ (d : Entry). deleteOf (d .location)) es)
         → All (λ (d : Entry). NoneHolds (deleteTests lsn table d)) (pick b (e ∷ keep (λ (d : Entry). deleteOf (d .location)) es) (keep (λ (d : Entry). deleteOf (d .location)) es))
     go true w ih = ((lt-leb (2 ^ 63) (positionOf (e .location) + lsn) (w .0), (w .1, tt)), ih)
@@ -102,11 +102,11 @@ deletes-clear lsn table (e ∷ es) h = go (deleteOf (e .location)) (h (e .id) (e
 
 module _ (w : World) (history : List Op) (s : SoundWorld w (engine history)) where
   -- an id that a trailer mentions is mapped
-  mentioned-mapped : (k : ℕ) (f : File) → viewAt (viewsOf w) k ≡ holds f → (x l : ℕ) → Has (f .entries) x l → unmapped (lookup (mappings w) x) ≡ false
+  mentioned-mapped : (k : ℕ) (f : File) → viewAt (viewsOf w) k ≡ holds f → (x l : ℕ) → Has (f .entries) x l → neverWritten (load (mappings w) x) ≡ false
   mentioned-mapped k f h x l a = go (lookup (mappings w) x) (table-newest (boundsOf w) (pictureOf w) (engine history) (s .sound) x)
     where
-      go : (o : Held) → Newest (Has (rowsOf (viewsOf w)) x) o → unmapped o ≡ false
-      go (Mapped m) n = refl
+      go : (o : Held) → Newest (Has (rowsOf (viewsOf w)) x) o → neverWritten (loadedOf o) ≡ false
+      go (Mapped m) n = never-unmapped (Mapped m)
       go Unmapped n =
           absurd (n (l + 2 * f .label .lsn) (stands-has (viewsOf w) x (l + 2 * f .label .lsn) k (record { file = f; raw = l; shows = h; entry = a; located = refl })))
 

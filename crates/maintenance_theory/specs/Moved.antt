@@ -15,8 +15,8 @@ use Rattle.rules.specs.Trailer.{absolute}
 use Rattle.rules.specs.Ops.{put, delete, Op}
 use Rattle.rules.specs.SettledLaws.{Last, silent, last, lastOn, settled-rising, settled-last}
 use Rattle.rules.specs.SlotFile.{objectPart, trailerEntries, File, View, empty, damaged, holds}
-use Rattle.rules.specs.Table.{lookup, unmapped, mappedTo}
-use Rattle.rules.specs.TableLaws.{Rising, Has, mapped-one, has-lookup, mapped-to}
+use Rattle.rules.specs.Table.{lookup, load, currentAt, unmapped, mappedTo}
+use Rattle.rules.specs.TableLaws.{current-mapped, Rising, Has, mapped-one, has-lookup, current-is}
 use Rattle.rules.specs.FileMap.{emptyLabel, recordAt}
 use Rattle.rules.specs.Maintenance.{deletesOf, objectsFound, deletesFound, slotOf, foundIn, found}
 use Rattle.rules.specs.Reopen.{inRange, mappedInto}
@@ -54,36 +54,36 @@ empty-range m h = rw (lt-leb m (maskedOf 0 + 0) (let z = masked-plain 0 (omega a
 
 -- ---- what stands in a file at its id's location is found
 -- an object, among those of the walk
-object-found : (table : List Entry) (lsn : ℕ) (os : List Stored) (x p : ℕ) → StartsAt os x p → mappedTo (lookup table x) (rawOf (lsn + p) false) ≡ true
-    → heardIn (map (λ (o : Stored). record { id = o .id; content = put (o .body) }) (keep (λ (o : Stored). mappedTo (lookup table (o .id)) (rawOf (lsn + o .position) false)) os)) x ≡ true
+object-found : (table : List Entry) (lsn : ℕ) (os : List Stored) (x p : ℕ) → StartsAt os x p → currentAt (load table x) (rawOf (lsn + p) false) ≡ true
+    → heardIn (map (λ (o : Stored). record { id = o .id; content = put (o .body) }) (keep (λ (o : Stored). currentAt (load table (o .id)) (rawOf (lsn + o .position) false)) os)) x ≡ true
 unfolding keep
 object-found table lsn [] x p h m = absurd h
 object-found table lsn (o ∷ os) x p (inl (i, e)) m =
-    let y : mappedTo (lookup table (o .id)) (rawOf (lsn + o .position) false) ≡ true
-    = ap (λ (n : ℕ). mappedTo (lookup table n) (rawOf (lsn + o .position) false)) i ∙ ap (λ (n : ℕ). mappedTo (lookup table x) (rawOf (lsn + n) false)) e ∙ m in
+    let y : currentAt (load table (o .id)) (rawOf (lsn + o .position) false) ≡ true
+    = ap (λ (n : ℕ). currentAt (load table n) (rawOf (lsn + o .position) false)) i ∙ ap (λ (n : ℕ). currentAt (load table x) (rawOf (lsn + n) false)) e ∙ m in
     rw y (heard-cons (record { id = o .id; content = put (o .body) }) _ x (inl i))
-object-found table lsn (o ∷ os) x p (inr h) m = go (mappedTo (lookup table (o .id)) (rawOf (lsn + o .position) false)) (object-found table lsn os x p h m)
+object-found table lsn (o ∷ os) x p (inr h) m = go (currentAt (load table (o .id)) (rawOf (lsn + o .position) false)) (object-found table lsn os x p h m)
   where
-    go : (b : Bool) → heardIn (map (λ (o : Stored). record { id = o .id; content = put (o .body) }) (keep (λ (o : Stored). mappedTo (lookup table (o .id)) (rawOf (lsn + o .position) false)) os)) x ≡ true
-        → heardIn (map (λ (o : Stored). record { id = o .id; content = put (o .body) }) (pick b (o ∷ keep (λ (o : Stored). mappedTo (lookup table (o .id)) (rawOf (lsn + o .position) false)) os) (keep (λ (o : Stored). mappedTo (lookup table (o .id)) (rawOf (lsn + o .position) false)) os))) x ≡ true
+    go : (b : Bool) → heardIn (map (λ (o : Stored). record { id = o .id; content = put (o .body) }) (keep (λ (o : Stored). currentAt (load table (o .id)) (rawOf (lsn + o .position) false)) os)) x ≡ true
+        → heardIn (map (λ (o : Stored). record { id = o .id; content = put (o .body) }) (pick b (o ∷ keep (λ (o : Stored). currentAt (load table (o .id)) (rawOf (lsn + o .position) false)) os) (keep (λ (o : Stored). currentAt (load table (o .id)) (rawOf (lsn + o .position) false)) os))) x ≡ true
     go true ih = heard-cons (record { id = o .id; content = put (o .body) }) _ x (inr ih)
     go false ih = ih
 
 -- a delete entry
-delete-found : (table : List Entry) (lsn : ℕ) (es : List Entry) (x r : ℕ) → Has es x r → deleteOf r ≡ true → mappedTo (lookup table x) (r + 2 * lsn) ≡ true
-    → heardIn (map (λ (e : Entry). record { id = e .id; content = delete }) (keep (λ (e : Entry). mappedTo (lookup table (e .id)) (absolute lsn e .location)) (keep (λ (e : Entry). deleteOf (e .location)) es))) x ≡ true
+delete-found : (table : List Entry) (lsn : ℕ) (es : List Entry) (x r : ℕ) → Has es x r → deleteOf r ≡ true → currentAt (load table x) (r + 2 * lsn) ≡ true
+    → heardIn (map (λ (e : Entry). record { id = e .id; content = delete }) (keep (λ (e : Entry). currentAt (load table (e .id)) (absolute lsn e .location)) (keep (λ (e : Entry). deleteOf (e .location)) es))) x ≡ true
 unfolding keep
 delete-found table lsn [] x r h d m = absurd h
 delete-found table lsn (e ∷ es) x r (inl (i, c)) d m =
     let y : deleteOf (e .location) ≡ true = ap deleteOf c ∙ d in
-    let z : mappedTo (lookup table (e .id)) (absolute lsn e .location) ≡ true
-    = ap (λ (n : ℕ). mappedTo (lookup table n) (absolute lsn e .location)) i ∙ ap (mappedTo (lookup table x)) (absolute-location lsn e ∙ ap (λ (n : ℕ). n + 2 * lsn) c) ∙ m in
+    let z : currentAt (load table (e .id)) (absolute lsn e .location) ≡ true
+    = ap (λ (n : ℕ). currentAt (load table n) (absolute lsn e .location)) i ∙ ap (currentAt (load table x)) (absolute-location lsn e ∙ ap (λ (n : ℕ). n + 2 * lsn) c) ∙ m in
     rw (y, z) (heard-cons (record { id = e .id; content = delete }) _ x (inl i))
-delete-found table lsn (e ∷ es) x r (inr h) d m = go (deleteOf (e .location)) (mappedTo (lookup table (e .id)) (absolute lsn e .location)) refl (delete-found table lsn es x r h d m)
+delete-found table lsn (e ∷ es) x r (inr h) d m = go (deleteOf (e .location)) (currentAt (load table (e .id)) (absolute lsn e .location)) refl (delete-found table lsn es x r h d m)
   where
-    go : (a b : Bool) → mappedTo (lookup table (e .id)) (absolute lsn e .location) ≡ b
-        → heardIn (map (λ (e : Entry). record { id = e .id; content = delete }) (keep (λ (e : Entry). mappedTo (lookup table (e .id)) (absolute lsn e .location)) (keep (λ (e : Entry). deleteOf (e .location)) es))) x ≡ true
-        → heardIn (map (λ (e : Entry). record { id = e .id; content = delete }) (keep (λ (e : Entry). mappedTo (lookup table (e .id)) (absolute lsn e .location)) (pick a (e ∷ keep (λ (e : Entry). deleteOf (e .location)) es) (keep (λ (e : Entry). deleteOf (e .location)) es)))) x ≡ true
+    go : (a b : Bool) → currentAt (load table (e .id)) (absolute lsn e .location) ≡ b
+        → heardIn (map (λ (e : Entry). record { id = e .id; content = delete }) (keep (λ (e : Entry). currentAt (load table (e .id)) (absolute lsn e .location)) (keep (λ (e : Entry). deleteOf (e .location)) es))) x ≡ true
+        → heardIn (map (λ (e : Entry). record { id = e .id; content = delete }) (keep (λ (e : Entry). currentAt (load table (e .id)) (absolute lsn e .location)) (pick a (e ∷ keep (λ (e : Entry). deleteOf (e .location)) es) (keep (λ (e : Entry). deleteOf (e .location)) es)))) x ≡ true
     go false b q ih = ih
     go true true q ih = rw q (heard-cons (record { id = e .id; content = delete }) _ x (inr ih))
     go true false q ih = rw q ih
@@ -111,18 +111,18 @@ module _ (w : World) (history : List Op) (s : SoundWorld w (engine history)) whe
       let t = objects-inside w history s k f h in
       all-append (InRangeOf (mappings w) (f .label)) (objectsFound (mappings w) (f .label) (slotOf w k)) (deletesFound (mappings w) (f .label) (slotOf w k))
       (all-kept (StandsIn (f .objects)) (InRangeOf (mappings w) (f .label))
-      (λ (o : Stored). mappedTo (lookup (mappings w) (o .id)) (rawOf (f .label .lsn + o .position) false)) (λ (o : Stored). record { id = o .id; content = put (o .body) })
+      (λ (o : Stored). currentAt (load (mappings w) (o .id)) (rawOf (f .label .lsn + o .position) false)) (λ (o : Stored). record { id = o .id; content = put (o .body) })
       (objectsIn (objectPart (f .label) (slotOf w k)))
       (λ o a q l e.
-      let z : l ≡ rawOf (f .label .lsn + o .position) false = mapped-one (sym e ∙ mapped-to (lookup (mappings w) (o .id)) (rawOf (f .label .lsn + o .position) false) q) in
+      let z : l ≡ rawOf (f .label .lsn + o .position) false = mapped-one (sym e ∙ current-is (lookup (mappings w) (o .id)) (rawOf (f .label .lsn + o .position) false) q) in
       let i = a .1 in
       in-range-at f m (o .position) l (omega arith) (omega arith))
       (subst (λ (bs : List ℕ). All (StandsIn (f .objects)) (objectsIn bs)) (sym (shown w k f h .1 .objects)) (objects-stand (f .objects))))
       (all-kept (λ (e : Entry). positionOf (e .location) ≤ f .label .«trailer_offset») (InRangeOf (mappings w) (f .label))
-      (λ (e : Entry). mappedTo (lookup (mappings w) (e .id)) (absolute (f .label .lsn) e .location)) (λ (e : Entry). record { id = e .id; content = delete })
+      (λ (e : Entry). currentAt (load (mappings w) (e .id)) (absolute (f .label .lsn) e .location)) (λ (e : Entry). record { id = e .id; content = delete })
       (keep (λ (e : Entry). deleteOf (e .location)) (trailerEntries (f .label) (slotOf w k)))
       (λ e a q l b.
-      let z : l ≡ absolute (f .label .lsn) e .location = mapped-one (sym b ∙ mapped-to (lookup (mappings w) (e .id)) (absolute (f .label .lsn) e .location) q) in
+      let z : l ≡ absolute (f .label .lsn) e .location = mapped-one (sym b ∙ current-is (lookup (mappings w) (e .id)) (absolute (f .label .lsn) e .location) q) in
       let y = absolute-location (f .label .lsn) e in
       in-range-at f m (positionOf (e .location)) l a (omega arith))
       (subst (λ (es : List Entry). All (λ (e : Entry). positionOf (e .location) ≤ f .label .«trailer_offset») (keep (λ (e : Entry). deleteOf (e .location)) es)) (sym (shown w k f h .1 .entries))
@@ -136,8 +136,8 @@ module _ (w : World) (history : List Op) (s : SoundWorld w (engine history)) whe
       heard-append (objectsFound (mappings w) (f .label) (slotOf w k)) (deletesFound (mappings w) (f .label) (slotOf w k)) x
       ∙ go (deleteOf r) refl
     where
-      mapped : (m : ℕ) → l ≡ m → mappedTo (lookup (mappings w) x) m ≡ true
-      mapped m z = ap (λ (c : Held). mappedTo c m) e ∙ eq-eqb l m z
+      mapped : (m : ℕ) → l ≡ m → currentAt (load (mappings w) x) m ≡ true
+      mapped m z = current-mapped (lookup (mappings w) x) m ∙ ap (λ (c : Held). mappedTo c m) e ∙ eq-eqb l m z
 
       or-right : (a b : Bool) → b ≡ true → (a || b) ≡ true
       or-right true b e = refl
@@ -148,11 +148,11 @@ module _ (w : World) (history : List Op) (s : SoundWorld w (engine history)) whe
       go false d =
           let z = eqb-false (r % 2) 1 d in
           or-right (heardIn (deletesFound (mappings w) (f .label) (slotOf w k)) x) (heardIn (objectsFound (mappings w) (f .label) (slotOf w k)) x)
-          (subst (λ (bs : List ℕ). heardIn (map (λ (o : Stored). record { id = o .id; content = put (o .body) }) (keep (λ (o : Stored). mappedTo (lookup (mappings w) (o .id)) (rawOf (f .label .lsn + o .position) false)) (objectsIn bs))) x ≡ true) (sym (shown w k f h .1 .objects))
+          (subst (λ (bs : List ℕ). heardIn (map (λ (o : Stored). record { id = o .id; content = put (o .body) }) (keep (λ (o : Stored). currentAt (load (mappings w) (o .id)) (rawOf (f .label .lsn + o .position) false)) (objectsIn bs))) x ≡ true) (sym (shown w k f h .1 .objects))
           (object-found (mappings w) (f .label .lsn) (objectsIn (f .objects)) x (positionOf r) (s .sound .whole k f h .stored x r a d) (mapped (rawOf (f .label .lsn + positionOf r) false) (omega arith))))
       go true d =
           ap (λ (c : Bool). c || heardIn (objectsFound (mappings w) (f .label) (slotOf w k)) x)
-          (subst (λ (es : List Entry). heardIn (map (λ (e : Entry). record { id = e .id; content = delete }) (keep (λ (e : Entry). mappedTo (lookup (mappings w) (e .id)) (absolute (f .label .lsn) e .location)) (keep (λ (e : Entry). deleteOf (e .location)) es))) x ≡ true)
+          (subst (λ (es : List Entry). heardIn (map (λ (e : Entry). record { id = e .id; content = delete }) (keep (λ (e : Entry). currentAt (load (mappings w) (e .id)) (absolute (f .label .lsn) e .location)) (keep (λ (e : Entry). deleteOf (e .location)) es))) x ≡ true)
           (sym (shown w k f h .1 .entries))
           (delete-found (mappings w) (f .label .lsn) (f .entries) x r a d (mapped (r + 2 * f .label .lsn) q)))
 

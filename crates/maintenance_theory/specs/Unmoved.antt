@@ -11,7 +11,7 @@ use Rattle.rules.specs.BaseLaws.{All, all-map}
 use Rattle.rules.specs.Ops.{Op, objectsOf, entriesOf, fileBytes}
 use Rattle.rules.specs.OpsLaws.{entries-of-rising}
 use Rattle.rules.specs.SlotFile.{File, empty, holds}
-use Rattle.rules.specs.Table.{lookup}
+use Rattle.rules.specs.Table.{lookup, loadedOf, load}
 use Rattle.rules.specs.TableLaws.{lookup-has, orElse, lookup-insert-all, mapped-one}
 use Rattle.rules.specs.FileMap.{emptyRecord, recordAt, withLive, lessLive}
 use Rattle.rules.specs.FileMapLaws.{not-empty}
@@ -19,7 +19,7 @@ use Rattle.rules.specs.Install.{newRecord, fileHolding, losing, newSlot, newLsn
 use Rattle.rules.specs.Reopen.{inRange}
 use Rattle.rules.specs.World.{World, recordsOf, mappings}
 use Rattle.rules.specs.WrittenLaws.{fileOfOps}
-use Rattle.rules.specs.InstallLaws.{isAt, less-at}
+use Rattle.rules.specs.InstallLaws.{holding-mapped, isAt, less-at}
 use Rattle.theory.specs.Entries.{rising-absolute}
 use Rattle.theory.specs.Newest.{maskedAt}
 use Rattle.theory.specs.Places.{viewAt, record-holds, in-no-other, found-in-range}
@@ -38,19 +38,20 @@ abbrev pub Elsewhere : World → ℕ → Op → Type 0
 Elsewhere w k o = (l : ℕ) → lookup (mappings w) (o .id) ≡ Mapped l → inRange (recordAt (recordsOf w) k .label) (maskedAt l) ≡ false
 
 -- a file from which no id leaves keeps its record
-losing-other : (t : List Entry) (os : List Op) (rs : List Record) (k : ℕ) → All (λ (o : Op). isAt k (fileHolding rs (lookup t (o .id))) ≡ false) os → recordAt (losing t os rs) k ≡ recordAt rs k
+losing-other : (t : List Entry) (os : List Op) (rs : List Record) (k : ℕ) → All (λ (o : Op). isAt k (fileHolding rs (load t (o .id))) ≡ false) os → recordAt (losing t os rs) k ≡ recordAt rs k
 unfolding losing
 losing-other t [] rs k a = refl
 losing-other t (o ∷ os) rs k a =
-    losing-other t os (lessLive (fileHolding rs (lookup t (o .id))) rs) k
-    (all-map (λ (p : Op). isAt k (fileHolding rs (lookup t (p .id))) ≡ false) (λ (p : Op). isAt k (fileHolding (lessLive (fileHolding rs (lookup t (o .id))) rs) (lookup t (p .id))) ≡ false) os
+    losing-other t os (lessLive (fileHolding rs (load t (o .id))) rs) k
+    (all-map (λ (p : Op). isAt k (fileHolding rs (load t (p .id))) ≡ false) (λ (p : Op). isAt k (fileHolding (lessLive (fileHolding rs (load t (o .id))) rs) (load t (p .id))) ≡ false) os
     (λ p h. ap (isAt k) (holding (lookup t (p .id))) ∙ h) (a .1))
-    ∙ less-at (fileHolding rs (lookup t (o .id))) rs k
+    ∙ less-at (fileHolding rs (load t (o .id))) rs k
     ∙ ap (λ (b : Bool). withLive (recordAt rs k) (liveAt rs k - bitOf b)) (a .0) ∙ ap (withLive (recordAt rs k)) (sub-zero (liveAt rs k))
   where
-    holding : (h : Held) → fileHolding (lessLive (fileHolding rs (lookup t (o .id))) rs) h ≡ fileHolding rs h
+    holding : (h : Held) → fileHolding (lessLive (fileHolding rs (load t (o .id))) rs) (loadedOf h) ≡ fileHolding rs (loadedOf h)
     holding Unmapped = refl
-    holding (Mapped l) = less-file (fileHolding rs (lookup t (o .id))) rs l
+    holding (Mapped l) =
+        holding-mapped (lessLive (fileHolding rs (load t (o .id))) rs) l ∙ less-file (fileHolding rs (load t (o .id))) rs l ∙ sym (holding-mapped rs l)
 
 module _ (history : List Op) where
   module _ (w : World) (s : SoundWorld w (engine history)) (k : ℕ) (some : 0 < recordAt (recordsOf w) k .label .lsn) (g : ℕ) (os : List Op) (f : Fitting 0 g w os) where
@@ -67,13 +68,14 @@ module _ (history : List Op) where
     unfolding installed recordsWith
     record-same a =
         getD-set-other (losing (mappings w) os (recordsOf w)) (newSlot w) k (newRecord (newLsn 0 w) g os) emptyRecord not-new
-        ∙ losing-other (mappings w) os (recordsOf w) k (all-map (Elsewhere w k) (λ (o : Op). isAt k (fileHolding (recordsOf w) (lookup (mappings w) (o .id))) ≡ false) os (λ o h. at (o .id) (lookup (mappings w) (o .id)) refl h) a)
+        ∙ losing-other (mappings w) os (recordsOf w) k (all-map (Elsewhere w k) (λ (o : Op). isAt k (fileHolding (recordsOf w) (load (mappings w) (o .id))) ≡ false) os (λ o h. at (o .id) (lookup (mappings w) (o .id)) refl h) a)
       where
-        at : (x : ℕ) (h : Held) → lookup (mappings w) x ≡ h → ((l : ℕ) → lookup (mappings w) x ≡ Mapped l → inRange (recordAt (recordsOf w) k .label) (maskedAt l) ≡ false) → isAt k (fileHolding (recordsOf w) h) ≡ false
+        at : (x : ℕ) (h : Held) → lookup (mappings w) x ≡ h → ((l : ℕ) → lookup (mappings w) x ≡ Mapped l → inRange (recordAt (recordsOf w) k .label) (maskedAt l) ≡ false) → isAt k (fileHolding (recordsOf w) (loadedOf h)) ≡ false
         at x Unmapped e p = refl
         at x (Mapped l) e p =
             let z = table-stands (boundsOf w) (pictureOf w) (engine history) (s .sound) x l e in
-            found-in-range (viewsOf w) (recordsOf w) (s .sound .filed) x l (z .0) k (z .1) (file .0) (file .1)
+            ap (isAt k) (holding-mapped (recordsOf w) l)
+            ∙ found-in-range (viewsOf w) (recordsOf w) (s .sound .filed) x l (z .0) k (z .1) (file .0) (file .1)
             ∙ sym (ap (λ (r : Record). inRange (r .label) (maskedAt l)) (record-holds (viewsOf w) (recordsOf w) (s .sound .filed) k (file .0) (file .1))) ∙ p l e
 
     -- an id that was elsewhere is so after, at its new location too

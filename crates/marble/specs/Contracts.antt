@@ -11,10 +11,11 @@ use Rattle.rules.specs.declared.Answer.{Answer}
 use Rattle.rules.specs.declared.ReadAnswer.{ReadAnswer}
 use Rattle.rules.specs.declared.CountsAnswer.{CountsAnswer}
 use Rattle.rules.specs.declared.LoadAnswer.{LoadAnswer}
+use Rattle.rules.specs.declared.GreaterAnswer.{GreaterAnswer}
 use Rattle.rules.specs.declared.CompareAnswer.{CompareAnswer}
 use Rattle.rules.specs.TableCalls.{loadCall, storeCall, compareCall, greaterCall}
 use Rattle.rules.specs.Read.{readOf}
-use Rattle.rules.specs.World.{world, answerGiven, loadGiven, compareGiven}
+use Rattle.rules.specs.World.{world, answerGiven, loadGiven, compareGiven, greaterGiven}
 use Rattle.recovery.specs.declared.Reopened.{Reopened}
 use Rattle.recovery.proofs.reopen.Reads as reopen
 use Rattle.writepath.specs.declared.Written.{Written}
@@ -128,7 +129,7 @@ module _ (κs : Lfts 1) (table : Lent) (id : ℕ) where
         ≡ (tableLeaving (compareGiven r) (now table′) ≡ compareCall (now table) id old location)
     compare-contract old r = refl
 
-    pub greater-contract : (r : LoadAnswer)
+    pub greater-contract : (r : GreaterAnswer)
         → greater.Learnt κs (table, (id, (location, tt))) r (table′, (id, (location, tt)))
-        ≡ (tableLeaving (loadGiven r) (now table′) ≡ greaterCall (now table) id location)
+        ≡ (tableLeaving (greaterGiven r) (now table′) ≡ greaterCall (now table) id location)
     greater-contract r = refl

@@ -16,7 +16,7 @@ use Rattle.theory.specs.Reopened.{Opened, reopened-means}
 use Rattle.history_theory.specs.Quiet.{claim, release}
 use Rattle.history_theory.specs.History.{Call, write, maintain, prune, reopen, quiet, called, hears, Life, lived, Starts, Kept, sound-kept}
 use Rattle.history_theory.specs.Clean.{heardAt, resumed, clean-starts}
-use Rattle.history_theory.specs.Writes.{nothing, got, leftBy, got-last, write-means}
+use Rattle.history_theory.specs.Writes.{never, got, leftBy, got-last, write-means}
 use Rattle.power_cuts.specs.Runs.{runOf}
 use Rattle.power_cuts.specs.Cuts.{CutAt, Survived, hearsCut, done, happened, livedOn}
 use Rattle.power_cuts.specs.Cuts as cuts
@@ -201,7 +201,7 @@ module _ (l : Lived) where
   pub life-kept : Kept (reached l .world) (reached l .history)
   life-kept = sound-kept (reached l .world) (reached l .history) life-sound
 
-  -- what `read_answer` and `read` give on it
+  -- what `read_answer` and `read` give on it: never written, deleted or the body, by the last operation heard
   pub life-answers : (id : ℕ) (a : ReadAnswer) → Admitted (reached l .world) (answered id a) → Reads (reached l .world) a (lastOn (reached l .history) id)
   life-answers id a p = subst (λ (b : ReadAnswer). Reads (reached l .world) b (lastOn (reached l .history) id)) (sym p) (life-kept .reads id)
 
@@ -217,14 +217,14 @@ module _ (l : Lived) where
   pub life-resumes : (id : ℕ) → got (reached l .world) id ≡ leftBy (lastOn (since l) id) (got (left (l .start) (reopened (l .opening) (l .table))) id)
   life-resumes id =
       got-last (reached l .world) (reached l .history) life-sound id
-      ∙ ap (λ (h : List Op). leftBy (lastOn h id) nothing) (lives-behind (l .events) first (heardAt first))
-      ∙ ap (λ (t : Last). leftBy t nothing) (last-append (heardAt first) (since l) id)
+      ∙ ap (λ (h : List Op). leftBy (lastOn h id) never) (lives-behind (l .events) first (heardAt first))
+      ∙ ap (λ (t : Last). leftBy t never) (last-append (heardAt first) (since l) id)
       ∙ go (lastOn (since l) id)
     where
       first : World
       first = left (l .start) (reopened (l .opening) (l .table))
 
-      go : (t : Last) → leftBy (orEarlier t (lastOn (heardAt first) id)) nothing ≡ leftBy t (got first id)
+      go : (t : Last) → leftBy (orEarlier t (lastOn (heardAt first) id)) never ≡ leftBy t (got first id)
       go silent = sym (got-last first (heardAt first) (subst Starts (sym resumed-as) (clean-starts (l .start) (l .clean))) id)
       go (last delete) = refl
       go (last (put body)) = refl

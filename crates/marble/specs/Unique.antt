@@ -7,10 +7,11 @@ use Rattle.rules.specs.declared.Claims.{Claims}
 use Rattle.rules.specs.declared.Answer.{Answer}
 use Rattle.rules.specs.declared.CountsAnswer.{CountsAnswer}
 use Rattle.rules.specs.declared.LoadAnswer.{LoadAnswer}
+use Rattle.rules.specs.declared.GreaterAnswer.{GreaterAnswer}
 use Rattle.rules.specs.declared.CompareAnswer.{CompareAnswer}
-use Rattle.rules.specs.Answers.{inverse-one, known, byNumber, valueAt, answer-one, counts-one, load-one, compare-one}
+use Rattle.rules.specs.Answers.{inverse-one, known, byNumber, valueAt, answer-one, counts-one, load-one, compare-one, greater-one}
 use Rattle.rules.specs.Counts.{countsCall}
-use Rattle.rules.specs.World.{World, Given, After, world, leaving, answerGiven, countsGiven, loadGiven, compareGiven}
+use Rattle.rules.specs.World.{World, Given, After, world, leaving, answerGiven, countsGiven, loadGiven, compareGiven, greaterGiven}
 use Rattle.rules.specs.TableCalls.{TableAfter}
 use Rattle.location_table.specs.Tables.{leaving as tableLeaving}
 use Rattle.claims.specs.declared.ClaimAnswer.{ClaimAnswer}
@@ -69,7 +70,7 @@ module _ {A : Type 0} (given : A → Given) (one : (a b : A) → given a ≡ giv
       let e = p ∙ sym q in
       (one a b (ap (λ (x : TableAfter). x .answer) e), ap (λ (x : TableAfter). x .table) e)
 
--- load and store-if-greater, store, compare-and-store
+-- load, store, compare-and-store, store-if-greater
 pub load-call-one : (after : TableAfter) (a b : LoadAnswer) (t u : List ℕ) → tableLeaving (loadGiven a) t ≡ after
     → tableLeaving (loadGiven b) u ≡ after → (a ≡ b) × (t ≡ u)
 load-call-one = table-call-one loadGiven load-one
@@ -81,3 +82,7 @@ store-call-one = table-call-one answerGiven answer-one
 pub compare-call-one : (after : TableAfter) (a b : CompareAnswer) (t u : List ℕ) → tableLeaving (compareGiven a) t ≡ after
     → tableLeaving (compareGiven b) u ≡ after → (a ≡ b) × (t ≡ u)
 compare-call-one = table-call-one compareGiven compare-one
+
+pub greater-call-one : (after : TableAfter) (a b : GreaterAnswer) (t u : List ℕ) → tableLeaving (greaterGiven a) t ≡ after
+    → tableLeaving (greaterGiven b) u ≡ after → (a ≡ b) × (t ≡ u)
+greater-call-one = table-call-one greaterGiven greater-one

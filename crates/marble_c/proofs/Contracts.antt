@@ -44,10 +44,11 @@ module _ (settings : Settings) (state claims heap table : Lent) (r : ℕ) (state
       ≡ Writes settings (now state) (now heap) (now table) (now batch) r (now state′) (now heap′) (now table′)
   write-contract κs batch = refl
 
-  pub read-contract : (κs : Lfts 5) (id : ℕ) (offset size offset′ size′ : Place)
-      → read.Learnt κs (settings, (state, (heap, (table, (id, (offset, (size, tt))))))) r (settings, (state, (heap, (table, (id, (offset′, (size′, tt)))))))
-      ≡ ReadsOut settings (now state) (now heap) (now table) id r (now offset′ ∷ now size′ ∷ [])
-  read-contract κs id offset size offset′ size′ = refl
+  pub read-contract : (κs : Lfts 6) (id : ℕ) (kind offset size kind′ offset′ size′ : Place)
+      → read.Learnt κs (settings, (state, (heap, (table, (id, (kind, (offset, (size, tt)))))))) r
+      (settings, (state, (heap, (table, (id, (kind′, (offset′, (size′, tt))))))))
+      ≡ ReadsOut settings (now state) (now heap) (now table) id r (now kind′ ∷ now offset′ ∷ now size′ ∷ [])
+  read-contract κs id kind offset size kind′ offset′ size′ = refl
 
   pub claim-contract : (κs : Lfts 4) (slot : ℕ)
       → claim.Learnt κs (settings, (state, (claims, (heap, (table, (slot, tt)))))) r (settings, (state, (claims′, (heap, (table, (slot, tt))))))
@@ -95,10 +96,10 @@ module _ (settings : Settings) (heap table report : Lent) (count : Place) (r : �
 
 -- ---- the table's calls
 module _ (table : Lent) (id location r : ℕ) (table′ : Lent) where
-  pub load-contract : (κs : Lfts 2) (held held′ : Place)
-      → load.Learnt κs (table, (id, (held, tt))) r (table, (id, (held′, tt)))
-      ≡ Loads (now table) id r (now held′ ∷ [])
-  load-contract κs held held′ = refl
+  pub load-contract : (κs : Lfts 3) (kind held kind′ held′ : Place)
+      → load.Learnt κs (table, (id, (kind, (held, tt)))) r (table, (id, (kind′, (held′, tt))))
+      ≡ Loads (now table) id r (now kind′ ∷ now held′ ∷ [])
+  load-contract κs kind held kind′ held′ = refl
 
   pub store-contract : (κs : Lfts 1)
       → store.Learnt κs (table, (id, (location, tt))) r (table′, (id, (location, tt)))

@@ -1,4 +1,4 @@
--- Why a host needs no flag beside an out-parameter: no object starts at byte 0 of the heap, and no held location is 0.
+-- What number and out-parameters tell a host: the kind which of three answers a read or a load gave; a location 0 that none is held.
 use mathlib.Core.Path.{_≡_, refl, subst}
 use Prim.Native.Nat.{_≤_, _<_}
 use native.Mathlib.Omega.{arith}
@@ -8,25 +8,40 @@ use Rattle.rules.specs.declared.Slot.{Slot}
 use Rattle.rules.specs.declared.Slot.the-variants.{Is, NoSlot}
 use Rattle.rules.specs.declared.Held.{Held}
 use Rattle.rules.specs.declared.Held.the-variants.{Mapped, Unmapped}
+use Rattle.rules.specs.declared.Loaded.{Loaded}
+use Rattle.rules.specs.declared.Loaded.the-variants.{At, DeletedAt, Never}
 use Rattle.rules.specs.declared.Answer.{Answer}
 use Rattle.rules.specs.declared.Answer.the-variants.{Done, Refused}
 use Rattle.rules.specs.declared.ReadAnswer.{ReadAnswer}
-use Rattle.rules.specs.declared.ReadAnswer.the-variants.{Found, Nothing, ReadRefused}
-use Rattle.disk_location.specs.Locations.{deleteOf}
-use Rattle.rules.specs.Answers.{known, valueAt}
+use Rattle.rules.specs.declared.ReadAnswer.the-variants.{Found, Deleted, NeverWritten, ReadRefused}
+use Rattle.rules.specs.declared.Refusal.the-variants.{Limits}
+use Rattle.rules.specs.Answers.{known, readValues, loadValues}
 use Rattle.rules.specs.FileMap.{fileFor}
 use Rattle.rules.specs.Layout.{Table, tableIds, tableLocations, usedIn, usedEntries}
-use Rattle.rules.specs.Read.{objectTests, readFile, readHeld, readOf, readCall}
-use Rattle.rules.specs.Refusal.{decide, after}
-use Rattle.rules.specs.Table.{lookup}
-use Rattle.rules.specs.World.{World, recordsOf, mappings, readGiven}
+use Rattle.rules.specs.Read.{objectTests, readFile, readLoaded, readOf, readCall}
+use Rattle.rules.specs.Refusal.{_gives_, decide, after}
+use Rattle.rules.specs.Table.{lookup, load}
+use Rattle.rules.specs.TableCalls.{notForm, loadCall}
+use Rattle.rules.specs.World.{World, Given, refused, recordsOf, mappings, readGiven, loadedGiven}
 use Rattle.as_numbers.specs.Shown.{shown}
 
 -- ---- read
+-- number 0: the three places say which answer it is
+pub read-told : (w : World) (id : ℕ) → readCall w id .answer .number ≡ 0 → readOf w id ≡ readValues (shown 3 (readCall w id .answer))
+unfolding readCall padded
+read-told w id = go (readOf w id)
+  where
+    go : (a : ReadAnswer) → readGiven a .number ≡ 0 → a ≡ readValues (shown 3 (readGiven a))
+    go (Found start size) e = refl
+    go Deleted e = refl
+    go NeverWritten e = refl
+    go (ReadRefused r) e = absurd (eqb-false _ 0 (known r .some) e)
+
 -- where a found part starts
 abbrev startOf : ReadAnswer → ℕ
 startOf (Found start size) = start
-startOf Nothing = 84
+startOf Deleted = 84
+startOf NeverWritten = 84
 startOf (ReadRefused r) = 84
 
 -- what is behind tests starts no earlier than what they let through
@@ -39,31 +54,29 @@ late-file : (w : World) (id l : ℕ) (s : Slot) → 84 ≤ startOf (readFile w i
 late-file w id l NoSlot = omega arith
 late-file w id l (Is k) = late (decide (objectTests id _)) _ (omega arith)
 
--- deleted, unmapped, or there
-late-held : (w : World) (id : ℕ) (h : Held) → 84 ≤ startOf (readHeld w id h)
-late-held w id Unmapped = omega arith
-late-held w id (Mapped l) = go (deleteOf l)
-  where
-    go : (b : Bool) → 84 ≤ startOf (pick b Nothing (readFile w id l (fileFor (recordsOf w) l)))
-    go true = omega arith
-    go false = late-file w id l (fileFor (recordsOf w) l)
+-- never written, deleted, or there
+late-loaded : (w : World) (id : ℕ) (l : Loaded) → 84 ≤ startOf (readLoaded w id l)
+late-loaded w id Never = omega arith
+late-loaded w id (DeletedAt l) = omega arith
+late-loaded w id (At l) = late-file w id l (fileFor (recordsOf w) l)
 
 -- a part that a read finds starts at byte 84 or later
 pub found-late : (w : World) (id start size : ℕ) → readOf w id ≡ Found start size → 84 ≤ start
 unfolding readOf
-found-late w id start size e = subst (λ (a : ReadAnswer). 84 ≤ startOf a) e (late (decide _) (readHeld w id (lookup (mappings w) id)) (late-held w id (lookup (mappings w) id)))
-
--- so number 0 and offset 0 say that nothing is there
-pub nothing-read : (w : World) (id : ℕ) → readCall w id .answer .number ≡ 0 → valueAt (shown 2 (readCall w id .answer)) 0 ≡ 0 → readOf w id ≡ Nothing
-unfolding readCall padded
-nothing-read w id = go (readOf w id) refl
-  where
-    go : (a : ReadAnswer) → readOf w id ≡ a → readGiven a .number ≡ 0 → valueAt (shown 2 (readGiven a)) 0 ≡ 0 → a ≡ Nothing
-    go (Found start size) e p q = absurd (omega (arith, found-late w id start size e, q))
-    go Nothing e p q = refl
-    go (ReadRefused r) e p q = absurd (eqb-false _ 0 (known r .some) p)
+found-late w id start size e = subst (λ (a : ReadAnswer). 84 ≤ startOf a) e (late (decide _) (readLoaded w id (load (mappings w) id)) (late-loaded w id (load (mappings w) id)))
 
 -- ---- the table
+-- number 0: the two places say what load told
+pub load-told : (b : Table) (id : ℕ) → loadCall b id .answer .number ≡ 0 → load (usedEntries b) id ≡ loadValues (shown 2 (loadCall b id .answer))
+unfolding loadCall padded
+load-told b id = go (decide (notForm b gives Limits ∷ [])) (load (usedEntries b) id)
+  where
+    go : (a : Answer) (l : Loaded) → after {A = Given} a refused (loadedGiven l) .number ≡ 0 → l ≡ loadValues (shown 2 (after {A = Given} a refused (loadedGiven l)))
+    go Done (At l) e = refl
+    go Done (DeletedAt l) e = refl
+    go Done Never e = refl
+    go (Refused r) l e = absurd (eqb-false _ 0 (known r .some) e)
+
 -- the location held
 abbrev heldAt : Held → ℕ
 heldAt (Mapped l) = l

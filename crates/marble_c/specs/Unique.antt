@@ -105,7 +105,7 @@ module _ (s : Settings) (state heap table : List ℕ) where
 
   -- number and out-parameters
   abbrev pub ReadsOut : ℕ → ℕ → List ℕ → Type 0
-  ReadsOut id r values = (c : Claims) → given r values ≡ shown 2 (readCall (world s (stateIn state) c heap table) id .answer)
+  ReadsOut id r values = (c : Claims) → given r values ≡ shown 3 (readCall (world s (stateIn state) c heap table) id .answer)
 
   abbrev pub CountsOut : ℕ → List ℕ → Type 0
   CountsOut r values = (c : Claims) → given r values ≡ shown 4 (countsCall (world s (stateIn state) c heap table) .answer)
@@ -136,7 +136,7 @@ module _ (s : Settings) (heap table report : List ℕ) where
 -- ---- the table's calls: its buffer before
 module _ (table : List ℕ) (id : ℕ) where
   abbrev pub Loads : ℕ → List ℕ → Type 0
-  Loads r values = given r values ≡ shown 1 (loadCall table id .answer)
+  Loads r values = given r values ≡ shown 2 (loadCall table id .answer)
 
   abbrev pub Stores : ℕ → TableAfter → Type 0
   Stores location t = t ≡ storeCall table id location

@@ -1,6 +1,6 @@
 -- The version of the interface for C, which include/marble.h has as MARBLE_VERSION.
 use Prim.Native.Nat.{ℕ}
 
--- 1,000 times the major number plus the minor one: major 1, minor 2
+-- 1,000 times the major number plus the minor one: major 3, minor 0
 abbrev pub version : ℕ
-version = 2000
+version = 3000

@@ -3,6 +3,7 @@
 use as_numbers::answers::One;
 use as_numbers::answers::compare_shown;
 use as_numbers::answers::counts_shown;
+use as_numbers::answers::greater_shown;
 use as_numbers::answers::load_shown;
 use as_numbers::answers::maintain_shown;
 use as_numbers::answers::number;
@@ -45,7 +46,7 @@ ghost use Rattle.marble_c.specs.Version.{version};
 pub extern "C" fn marble_version() -> u64
     ensures { λ r. ⌜ r ≡ version ⌝ }
 {
-    2000
+    3000
 }
 
 // ---- the store
@@ -99,7 +100,7 @@ pub extern "C" fn marble_write(
     number(answer)
 }
 
-// "Read": where the part of the heap starts, and its length; an object never starts at 0.
+// "Read": what is there of the id, and an object's part of the heap by its start and length.
 #[no_mangle]
 pub extern "C" fn marble_read(
     settings: Settings,
@@ -107,18 +108,20 @@ pub extern "C" fn marble_read(
     heap: &[u8],
     table: &[u64],
     id: u64,
+    kind: &mut u64,
     offset: &mut u64,
     size: &mut u64,
 ) -> u64
-    ensures { λ r. ⌜ ((c : Claims) → given r (now (offset .exit) ∷ now (size .exit) ∷ [])
-        ≡ shown 2 (readCall
+    ensures { λ r. ⌜ ((c : Claims) → given r (now (kind .exit) ∷ now (offset .exit) ∷ now (size .exit) ∷ [])
+        ≡ shown 3 (readCall
         (world settings (stateIn (now (state .entry))) c (now (heap .entry)) (now (table .entry)))
         id .answer)) ⌝ }
 {
     let was = state_in(state);
     let found = read_shown(marble::read_answer(settings, was, heap, table, id));
-    *offset = found.first;
-    *size = found.second;
+    *kind = found.first;
+    *offset = found.second;
+    *size = found.third;
     found.number
 }
 
@@ -321,14 +324,15 @@ pub extern "C" fn marble_salvage(
 }
 
 // ---- the table
-// "Load (nothing for an unmapped id)": a held location is never 0.
+// "Load": what is there of the id, and where. A held location is never 0.
 #[no_mangle]
-pub extern "C" fn marble_load(table: &[u64], id: u64, location: &mut u64) -> u64
-    ensures { λ r. ⌜ given r (now (location .exit) ∷ [])
-        ≡ shown 1 (loadCall (now (table .entry)) id .answer) ⌝ }
+pub extern "C" fn marble_load(table: &[u64], id: u64, kind: &mut u64, location: &mut u64) -> u64
+    ensures { λ r. ⌜ given r (now (kind .exit) ∷ now (location .exit) ∷ [])
+        ≡ shown 2 (loadCall (now (table .entry)) id .answer) ⌝ }
 {
     let held = load_shown(marble::load(table, id));
-    *location = held.value;
+    *kind = held.first;
+    *location = held.second;
     held.number
 }
 
@@ -369,7 +373,7 @@ pub extern "C" fn marble_store_if_greater(
     ensures { λ r. ⌜ tableLeaving (given r (now (held .exit) ∷ [])) (now (table .exit))
         ≡ shownTable 1 (greaterCall (now (table .entry)) id location) ⌝ }
 {
-    let was = load_shown(marble::store_if_greater(table, id, location));
+    let was = greater_shown(marble::store_if_greater(table, id, location));
     *held = was.value;
     was.number
 }

@@ -4,7 +4,10 @@ use libc::STDOUT_FILENO;
 use rules::Answer;
 use rules::CompareAnswer;
 use rules::FileMap;
+use rules::GreaterAnswer;
+use rules::Held;
 use rules::LoadAnswer;
+use rules::Loaded;
 use rules::Refusal;
 use rules::Slot;
 
@@ -29,11 +32,32 @@ fn say_answer(a: Answer) {
     }
 }
 
+fn say_loaded(loaded: Loaded) {
+    match loaded {
+        Loaded::At(l) => say(b"at ", l),
+        Loaded::DeletedAt(l) => say(b"deleted at ", l),
+        Loaded::Never => say_word(b"never\n"),
+    }
+}
+
 fn say_load(a: LoadAnswer) {
     match a {
-        LoadAnswer::At(l) => say(b"at ", l),
-        LoadAnswer::NoLocation => say_word(b"nothing\n"),
+        LoadAnswer::Loads(l) => say_loaded(l),
         LoadAnswer::LoadRefused(r) => say_refused(r),
+    }
+}
+
+fn say_held(held: Held) {
+    match held {
+        Held::Mapped(l) => say(b"before ", l),
+        Held::Unmapped => say_word(b"nothing before\n"),
+    }
+}
+
+fn say_greater(a: GreaterAnswer) {
+    match a {
+        GreaterAnswer::Before(held) => say_held(held),
+        GreaterAnswer::GreaterRefused(r) => say_refused(r),
     }
 }
 
@@ -52,7 +76,8 @@ fn say_slot(s: Slot) {
     }
 }
 
-// A table of two entries: 20 and 6, a compare that differs, 18, 19, a lower location not stored.
+// A table of two entries: 20 and 6, an object, a delete, an id never written, a compare that differs, 18, 19, a lower
+// location not stored, a delete held before.
 fn stores(table: &mut [u64]) {
     say_load(table_calls::load(table, 7));
     say_answer(table_calls::store(table, 7, 10));
@@ -60,6 +85,8 @@ fn stores(table: &mut [u64]) {
     say_answer(table_calls::store(table, 3, 11));
     say_answer(table_calls::store(table, 9, 12));
     say_load(table_calls::load(table, 7));
+    say_load(table_calls::load(table, 3));
+    say_load(table_calls::load(table, 9));
 }
 
 fn compares(table: &mut [u64]) {
@@ -70,10 +97,11 @@ fn compares(table: &mut [u64]) {
 }
 
 fn greaters(table: &mut [u64]) {
-    say_load(table_calls::store_if_greater(table, 7, 14));
-    say_load(table_calls::store_if_greater(table, 7, 12));
-    say_load(table_calls::store_if_greater(table, 7, 20));
-    say_load(table_calls::store_if_greater(table, 9, 20));
+    say_greater(table_calls::store_if_greater(table, 7, 14));
+    say_greater(table_calls::store_if_greater(table, 7, 12));
+    say_greater(table_calls::store_if_greater(table, 7, 20));
+    say_greater(table_calls::store_if_greater(table, 9, 20));
+    say_greater(table_calls::store_if_greater(table, 3, 10));
     say_load(table_calls::load(table, 7));
 }
 
@@ -90,7 +118,7 @@ fn odd() {
     say_load(table_calls::load(&table, 3));
     say_answer(table_calls::store(&mut table, 3, 12));
     say_compare(table_calls::compare_and_store(&mut table, 3, 11, 12));
-    say_load(table_calls::store_if_greater(&mut table, 3, 12));
+    say_greater(table_calls::store_if_greater(&mut table, 3, 12));
     say(b"last word ", table[2]);
 }
 

@@ -33,15 +33,16 @@ use Rattle.orders.specs.Worlds.{none, one, noForm, summed, misSummed, ba
 -- "Table. .. Order: 1, 20 (a given raw 0), 18, 19, 6 (a new id in a full table)." Held: id 5 at 40, and no room for another.
 unfoldable pub tableOrders : List Line
 tableOrders =
-    -- load: 1; nothing; the location
+    -- load: 1; never written; an object's location; a delete's
     record {
       ours =
           each told
           (loadCall noForm 5 .answer
           ∷ loadCall (one 5 40) 6 .answer
           ∷ loadCall (one 5 40) 5 .answer
+          ∷ loadCall (one 5 41) 5 .answer
           ∷ []);
-      paper = 1 ∷ 0 ∷ 0 ∷ 40 ∷ [];
+      paper = 1 ∷ 0 ∷ 0 ∷ 0 ∷ 2 ∷ 40 ∷ 0 ∷ 1 ∷ 41 ∷ [];
     }
     -- store: 1 before 20; 20 before 6; 6; an id that is there
     ∷ record {
@@ -144,16 +145,16 @@ readOrders =
           ∷ readCall (filed (objectBytes 6 []) 20) 5 .answer
           ∷ readCall (filed (objectBytes 5 []) 20) 5 .answer
           ∷ []);
-      paper = 1 ∷ 18 ∷ 16 ∷ 16 ∷ 10 ∷ 17 ∷ 0 ∷ 84 ∷ 0 ∷ [];
+      paper = 1 ∷ 18 ∷ 16 ∷ 16 ∷ 10 ∷ 17 ∷ 0 ∷ 2 ∷ 84 ∷ 0 ∷ [];
     }
-    -- unmapped, or deleted: nothing, though no file is at or below
+    -- never written, and deleted, though no file is at or below
     ∷ record {
       ours =
           each told
           (readCall (filed (badHeader 6 100) 18) 6 .answer
           ∷ readCall (filed (badHeader 6 100) 19) 5 .answer
           ∷ []);
-      paper = 0 ∷ 0 ∷ [];
+      paper = 0 ∷ 0 ∷ 0 ∷ 1 ∷ [];
     }
     ∷ []
 

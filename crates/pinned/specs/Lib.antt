@@ -15,3 +15,5 @@ pub mod Reopening
 pub mod Write
 pub mod Shards
 pub mod Maintenance
+-- demand 3: a delete told from an id never written
+pub mod Deletes

@@ -1,7 +1,6 @@
--- "Read. Unmapped or deleted: nothing. Else the found bytes are a part of the lent heap itself. Checks in order: 18, 16 (header or body past file_size), 10, 17."
+-- "Reading now gives "never written" or "deleted"" (request P1). "Else the found bytes are a part of the lent heap itself. Checks in order: 18, 16 (header or body past file_size), 10, 17."
 use mathlib.Core.Path.{_≡_, refl, sym, ap, ap₂, _∙_}
 use mathlib.Core.Bool.{true≢false}
-use mathlib.Core.Logic.{_⊎_, inl, inr}
 use Prim.Native.Nat.{_≤_, _<_}
 use native.Mathlib.Omega.{arith}
 use lib.ListN.{length-take, length-drop, take-append-drop}
@@ -10,21 +9,21 @@ use borrow.Author.Tests.{ltb-false, le-ltb, eqb-true, eq-eqb, not-false}
 use Rattle.numbers.specs.LittleEndian.{Bytes}
 use Rattle.disk_location.specs.Locations.{positionOf, deleteOf}
 use Rattle.rules.specs.Base.{Bool, true, false, not, List, [], _∷_, _++_, ℕ, _+_, _-_, _*_, _^_, length, take, drop, ltb, eqb, pick}
-use Rattle.theory.specs.Types.{Record, Refusal, Answer, Done, Refused, ReadAnswer, Found, Nothing, ReadRefused, Held, Mapped, Unmapped, Slot, Is, NoSlot, Limits, NotThere, CutShort, Checksum, OtherId}
+use Rattle.theory.specs.Types.{Record, Refusal, Answer, Done, Refused, ReadAnswer, Found, Deleted, NeverWritten, ReadRefused, Held, Mapped, Unmapped, Slot, Is, NoSlot, Limits, NotThere, CutShort, Checksum, OtherId}
 use Rattle.rules.specs.Refusal.{_gives_, decide, after, NoneHolds, decide-none, decide-first, decide-next, decide-clear, clear-when, only-when}
 use Rattle.rules.specs.PartLaws.{drop-take}
 use Rattle.rules.specs.Object.{objectBytes, Stored, storedAt, badChecksum}
 use Rattle.rules.specs.ObjectLaws.{stored-position, stored-room, object-length}
 use Rattle.rules.specs.SlotFile.{slotBytes, fileIn}
 use Rattle.rules.specs.SlotLaws.{slot-length}
-use Rattle.rules.specs.Table.{lookup}
+use Rattle.rules.specs.Table.{lookup, loadedOf}
 use Rattle.rules.specs.TableLaws.{mapped-one, mapped-not}
 use Rattle.rules.specs.FileMap.{recordAt, isEmpty, fileFor}
 use Rattle.rules.specs.FileMapLaws.{IsFile, file-at, file-is, file-none, not-empty}
 use Rattle.rules.specs.SettingsLaws.{slot-within}
 use Rattle.rules.specs.Condition1.{refused1}
 use Rattle.rules.specs.Condition1Laws.{passed}
-use Rattle.rules.specs.Read.{objectTests, objectIn, readObject, readFile, readHeld, readOf, readCall}
+use Rattle.rules.specs.Read.{objectTests, objectIn, readObject, readFile, readLoaded, readOf, readCall}
 use Rattle.rules.specs.World.{World, recordsOf, mappings, unchanged}
 use Rattle.pinned.specs.Parts.{part-bytes}
 use Rattle.pinned.specs.Object.{Reads, Begins, object-exactly}
@@ -58,21 +57,31 @@ pub record Whole (w : World) (id start size : ℕ) : Type 0 where
 
 -- ---- by cases
 -- what is no answer of this kind
-nothing-found : {A : Type 0} {a b : ℕ} → Nothing ≡ Found a b → A
-nothing-found e = absurd (let z : _≡_ {A = ℕ} 0 1 = cc in omega arith)
+never-found : {A : Type 0} {a b : ℕ} → NeverWritten ≡ Found a b → A
+never-found e = absurd (let z : _≡_ {A = ℕ} 0 1 = cc in omega arith)
+
+deleted-found : {A : Type 0} {a b : ℕ} → Deleted ≡ Found a b → A
+deleted-found e = absurd (let z : _≡_ {A = ℕ} 0 1 = cc in omega arith)
+
+never-deleted : {A : Type 0} → NeverWritten ≡ Deleted → A
+never-deleted e = absurd (let z : _≡_ {A = ℕ} 0 1 = cc in omega arith)
 
 refused-found : {A : Type 0} {a b : ℕ} {r : Refusal} → ReadRefused r ≡ Found a b → A
 refused-found e = absurd (let z : _≡_ {A = ℕ} 0 1 = cc in omega arith)
 
-nothing-refused : {A : Type 0} {r : Refusal} → Nothing ≡ ReadRefused r → A
-nothing-refused e = absurd (let z : _≡_ {A = ℕ} 0 1 = cc in omega arith)
+never-refused : {A : Type 0} {r : Refusal} → NeverWritten ≡ ReadRefused r → A
+never-refused e = absurd (let z : _≡_ {A = ℕ} 0 1 = cc in omega arith)
+
+deleted-refused : {A : Type 0} {r : Refusal} → Deleted ≡ ReadRefused r → A
+deleted-refused e = absurd (let z : _≡_ {A = ℕ} 0 1 = cc in omega arith)
 
 found-refused : {A : Type 0} {a b : ℕ} {r : Refusal} → Found a b ≡ ReadRefused r → A
 found-refused e = absurd (let z : _≡_ {A = ℕ} 0 1 = cc in omega arith)
 
-read-held : (w : World) (id : ℕ) → refused1 w ≡ false → readOf w id ≡ readHeld w id (heldIn w id)
+-- not 1: by what is held
+read-held : (w : World) (id : ℕ) (h : Held) → refused1 w ≡ false → heldIn w id ≡ h → readOf w id ≡ readLoaded w id (loadedOf h)
 unfolding readOf
-read-held w id f = rw (decide-next (refused1 w) Limits [] f, decide-none)
+read-held w id h f e = rw (decide-next (refused1 w) Limits [] f, decide-none, e)
 
 -- LAW: 1, and nothing changes
 pub read-limits : (w : World) (id : ℕ) → refused1 w ≡ true → readCall w id ≡ unchanged w Limits
@@ -81,9 +90,9 @@ read-limits w id f = rw (decide-first (refused1 w) Limits [] f)
 
 -- mapped and not deleted
 read-mapped : (w : World) (id l : ℕ) → refused1 w ≡ false → heldIn w id ≡ Mapped l → deleteOf l ≡ false → readOf w id ≡ readFile w id l (fileFor (recordsOf w) l)
-read-mapped w id l f h d = read-held w id f ∙ rw (h, d)
+read-mapped w id l f h d = read-held w id (Mapped l) f h ∙ rw d
 
--- nothing, or where it is sought
+-- never written, deleted, or where it is sought
 pub data Sought (w : World) (id : ℕ) : Type 0 where
   unmapped : heldIn w id ≡ Unmapped → Sought w id
   deleted : (l : ℕ) → heldIn w id ≡ Mapped l → deleteOf l ≡ true → Sought w id
@@ -100,11 +109,46 @@ sought w id = go (heldIn w id) refl
         by true q = deleted l e q
         by false q = stands l e q
 
--- ---- nothing
--- LAW: unmapped or deleted: nothing, whatever the files are
-pub read-nothing : (w : World) (id : ℕ) → refused1 w ≡ false → (heldIn w id ≡ Unmapped) ⊎ ((l : ℕ) × (heldIn w id ≡ Mapped l) × (deleteOf l ≡ true)) → readOf w id ≡ Nothing
-read-nothing w id f (inl e) = read-held w id f ∙ rw e
-read-nothing w id f (inr (l, e, d)) = read-held w id f ∙ rw (e, d)
+-- ---- never written, deleted
+-- what has a file's answer is neither
+object-loud : (w : World) (id k : ℕ) (o : Stored) → (readObject w id k o ≡ NeverWritten → ⊥) × (readObject w id k o ≡ Deleted → ⊥)
+object-loud w id k o = go (decide (objectTests id o))
+  where
+    go : (a : Answer) → (after {A = ReadAnswer} a ReadRefused (Found (k * w .settings .«slot_bytes» + 64 + o .position + 20) (o .size)) ≡ NeverWritten → ⊥)
+        × (after {A = ReadAnswer} a ReadRefused (Found (k * w .settings .«slot_bytes» + 64 + o .position + 20) (o .size)) ≡ Deleted → ⊥)
+    go Done = (λ e. never-found (sym e), λ e. deleted-found (sym e))
+    go (Refused r) = (λ e. never-refused (sym e), λ e. deleted-refused (sym e))
+
+file-loud : (w : World) (id l : ℕ) (s : Slot) → (readFile w id l s ≡ NeverWritten → ⊥) × (readFile w id l s ≡ Deleted → ⊥)
+file-loud w id l NoSlot = (λ e. never-refused (sym e), λ e. deleted-refused (sym e))
+file-loud w id l (Is k) = object-loud w id k (objectIn w k (positionIn w l k))
+
+-- unmapped: never written, whatever the files are
+read-never : (w : World) (id : ℕ) → refused1 w ≡ false → heldIn w id ≡ Unmapped → readOf w id ≡ NeverWritten
+read-never w id f e = read-held w id Unmapped f e
+
+-- mapped, with the delete mark: deleted, whatever the files are
+read-deleted : (w : World) (id l : ℕ) → refused1 w ≡ false → heldIn w id ≡ Mapped l → deleteOf l ≡ true → readOf w id ≡ Deleted
+read-deleted w id l f e d = read-held w id (Mapped l) f e ∙ rw d
+
+-- LAW: never written exactly if unmapped
+pub never-exactly : (w : World) (id : ℕ) → refused1 w ≡ false → (readOf w id ≡ NeverWritten → heldIn w id ≡ Unmapped) × (heldIn w id ≡ Unmapped → readOf w id ≡ NeverWritten)
+never-exactly w id f = (λ e. there (sought w id) e, read-never w id f)
+  where
+    there : Sought w id → readOf w id ≡ NeverWritten → heldIn w id ≡ Unmapped
+    there (unmapped h) e = h
+    there (deleted l h d) e = never-deleted (sym e ∙ read-deleted w id l f h d)
+    there (stands l h d) e = absurd (file-loud w id l (fileFor (recordsOf w) l) .0 (sym (read-mapped w id l f h d) ∙ e))
+
+-- LAW: deleted exactly if mapped to a location with the delete mark
+pub deleted-exactly : (w : World) (id : ℕ) → refused1 w ≡ false
+    → (readOf w id ≡ Deleted → (l : ℕ) × (heldIn w id ≡ Mapped l) × (deleteOf l ≡ true)) × ((l : ℕ) × (heldIn w id ≡ Mapped l) × (deleteOf l ≡ true) → readOf w id ≡ Deleted)
+deleted-exactly w id f = (λ e. there (sought w id) e, λ (l, h, d). read-deleted w id l f h d)
+  where
+    there : Sought w id → readOf w id ≡ Deleted → (l : ℕ) × (heldIn w id ≡ Mapped l) × (deleteOf l ≡ true)
+    there (unmapped h) e = never-deleted (sym (read-never w id f h) ∙ e)
+    there (deleted l h d) e = (l, h, d)
+    there (stands l h d) e = absurd (file-loud w id l (fileFor (recordsOf w) l) .1 (sym (read-mapped w id l f h d) ∙ e))
 
 -- ---- 18
 no-file : (w : World) (l : ℕ) → NoFileBelow w l → fileFor (recordsOf w) l ≡ NoSlot
@@ -135,8 +179,8 @@ pub not-there-exactly : (w : World) (id : ℕ) → refused1 w ≡ false
 not-there-exactly w id f = (λ e. there (sought w id) e, λ (l, h, d, n). read-mapped w id l f h d ∙ ap (readFile w id l) (no-file w l n))
   where
     there : Sought w id → readOf w id ≡ ReadRefused NotThere → (l : ℕ) × (heldIn w id ≡ Mapped l) × (deleteOf l ≡ false) × NoFileBelow w l
-    there (unmapped h) e = nothing-refused (sym (read-nothing w id f (inl h)) ∙ e)
-    there (deleted l h d) e = nothing-refused (sym (read-nothing w id f (inr (l, h, d))) ∙ e)
+    there (unmapped h) e = never-refused (sym (read-never w id f h) ∙ e)
+    there (deleted l h d) e = deleted-refused (sym (read-deleted w id l f h d) ∙ e)
     there (stands l h d) e = (l, h, d, by (fileFor (recordsOf w) l) refl (sym (read-mapped w id l f h d) ∙ e))
       where
         by : (s : Slot) → fileFor (recordsOf w) l ≡ s → readFile w id l (fileFor (recordsOf w) l) ≡ ReadRefused NotThere → NoFileBelow w l
@@ -295,8 +339,8 @@ pub found-exactly : (w : World) (id start size : ℕ) → refused1 w ≡ false �
 found-exactly w id start size f h fits = (λ e. there (sought w id) e, λ v. read-mapped w id (v .location) f (v .mapped) (v .object) ∙ ap (readFile w id (v .location)) (file-is (recordsOf w) (v .location) (v .slot) (v .file)) ∙ found-of w id start size f h fits v)
   where
     there : Sought w id → readOf w id ≡ Found start size → Whole w id start size
-    there (unmapped m) e = nothing-found (sym (read-nothing w id f (inl m)) ∙ e)
-    there (deleted l m d) e = nothing-found (sym (read-nothing w id f (inr (l, m, d))) ∙ e)
+    there (unmapped m) e = never-found (sym (read-never w id f m) ∙ e)
+    there (deleted l m d) e = deleted-found (sym (read-deleted w id l f m d) ∙ e)
     there (stands l m d) e = by (fileFor (recordsOf w) l) refl (sym (read-mapped w id l f m d) ∙ e)
       where
         by : (s : Slot) → fileFor (recordsOf w) l ≡ s → readFile w id l (fileFor (recordsOf w) l) ≡ Found start size → Whole w id start size

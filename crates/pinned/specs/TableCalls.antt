@@ -1,4 +1,4 @@
--- "Table. Load (nothing for an unmapped id), store, compare-and-store, store-if-greater.": of each call the answer, the refusal, and every load afterwards.
+-- "Table. Load .., store, compare-and-store, store-if-greater.", load in three ways (request P1): of each call the answer, the refusal, and every load afterwards.
 use mathlib.Core.Path.{_≡_, refl, sym, ap, _∙_}
 use mathlib.Core.Logic.{_⊎_, inl, inr}
 use Prim.Native.Nat.{_≤_, _<_}
@@ -6,14 +6,15 @@ use native.Mathlib.Omega.{arith}
 use borrow.Author.Tests.{leb-true, leb-false, eq-eqb, ne-eqb, lt-ltb, le-ltb, not-false}
 use Rattle.rules.specs.Base.{Bool, true, false, not, _&&_, _||_, List, [], _∷_, ℕ, _+_, length, leb, ltb, eqb, pick}
 use Rattle.rules.specs.BaseLaws.{and-true, and-holds, or-clear, same?}
-use Rattle.theory.specs.Types.{Entry, Held, Mapped, Unmapped, Refusal, Limits, TableRoom, NotThere, EqualLocation, Location}
+use Rattle.theory.specs.Types.{Entry, Held, Mapped, Unmapped, At, DeletedAt, Refusal, Limits, TableRoom, NotThere, EqualLocation, Location}
 use Rattle.rules.specs.Refusal.{Test, _gives_, decide, after, decide-none, decide-first, decide-next}
-use Rattle.rules.specs.Table.{lookup, insert, unmapped, mappedTo, full}
+use Rattle.disk_location.specs.Locations.{deleteOf}
+use Rattle.rules.specs.Table.{lookup, loadedOf, load, insert, unmapped, mappedTo, full}
 use Rattle.rules.specs.TableLaws.{Rising, Has, mapped-one, mapped-not, lookup-insert-same, lookup-insert-other, rising-insert, lookup-has, has-lookup, insert-new, insert-old, insert-length, full-when, full-mapped, full-room}
 use Rattle.rules.specs.Layout.{Table, lengthsInRange, inForm, capacityOf, usedEntries, laidOut}
 use Rattle.rules.specs.LayoutLaws.{LengthsInRange, lengths-in-range, range-lengths-in, laid-out-capacity, laid-out-even, Used, used-laid-out, form-laid-out, used-located, used-length, form-rising}
-use Rattle.rules.specs.World.{Given, accepted, refused}
-use Rattle.rules.specs.TableCalls.{TableAfter, notForm, same, withStored, heldGiven, loadCall, storeCall, compareCall, below, greaterCall}
+use Rattle.rules.specs.World.{Given, accepted, refused, loadedGiven}
+use Rattle.rules.specs.TableCalls.{TableAfter, notForm, same, withStored, loadCall, storeCall, compareCall, below, greaterCall}
 
 -- where an id is, if it is mapped
 abbrev pub heldIn : Table → ℕ → Held
@@ -23,33 +24,46 @@ heldIn b id = lookup (usedEntries b) id
 abbrev pub NewInFull : Table → ℕ → Type 0
 NewInFull b id = (heldIn b id ≡ Unmapped) × (capacityOf b ≤ length (usedEntries b))
 
+-- what a load gives of a location: its kind, 1 with the delete mark and 2 without, and the location
+abbrev pub kindAt : Bool → ℕ
+kindAt true = 1
+kindAt false = 2
+
 -- the table afterwards: in form and as long, this id at this location, every other where it was
 pub record Took (b : Table) (id raw : ℕ) (t : Table) : Type 0 where
   pub form : notForm t ≡ false
   pub capacity : capacityOf t ≡ capacityOf b
-  pub here : loadCall t id .answer ≡ accepted (raw ∷ [])
+  pub here : loadCall t id .answer ≡ accepted (kindAt (deleteOf raw) ∷ raw ∷ [])
   pub others : (y : ℕ) → (y ≡ id → ⊥) → loadCall t y .answer ≡ loadCall b y .answer
 
 -- ---- load
--- LAW: 1; else the location, or nothing for an unmapped id; the table stays
+-- LAW: 1; else kind 1 or 2 and the location of a mapped id, by its delete mark; kind 0 for an unmapped one; the table stays
 pub record Load (b : Table) (id : ℕ) : Type 0 where
   pub limits : notForm b ≡ true → loadCall b id ≡ same b (refused Limits)
-  pub mapped : notForm b ≡ false → (l : ℕ) → heldIn b id ≡ Mapped l → loadCall b id ≡ same b (accepted (l ∷ []))
-  pub nothing : notForm b ≡ false → heldIn b id ≡ Unmapped → loadCall b id ≡ same b (accepted [])
+  pub mapped : notForm b ≡ false → (l : ℕ) → heldIn b id ≡ Mapped l → loadCall b id ≡ same b (accepted (kindAt (deleteOf l) ∷ l ∷ []))
+  pub never : notForm b ≡ false → heldIn b id ≡ Unmapped → loadCall b id ≡ same b (accepted (0 ∷ []))
 
-load-held : (b : Table) (id : ℕ) → notForm b ≡ false → loadCall b id ≡ same b (heldGiven (heldIn b id))
+load-loaded : (b : Table) (id : ℕ) → notForm b ≡ false → loadCall b id ≡ same b (loadedGiven (load (usedEntries b) id))
 unfolding loadCall
-load-held b id f = rw (decide-next (notForm b) Limits [] f, decide-none)
+load-loaded b id f = rw (decide-next (notForm b) Limits [] f, decide-none)
 
 load-limits : (b : Table) (id : ℕ) → notForm b ≡ true → loadCall b id ≡ same b (refused Limits)
 unfolding loadCall
 load-limits b id f = rw (decide-first (notForm b) Limits [] f)
 
+-- what is given of a mapped id
+given-mapped : (l : ℕ) → loadedGiven (loadedOf (Mapped l)) ≡ accepted (kindAt (deleteOf l) ∷ l ∷ [])
+given-mapped l = go (deleteOf l)
+  where
+    go : (d : Bool) → loadedGiven (pick d (DeletedAt l) (At l)) ≡ accepted (kindAt d ∷ l ∷ [])
+    go true = refl
+    go false = refl
+
 pub load-facts : (b : Table) (id : ℕ) → Load b id
 load-facts b id = record {
   limits = load-limits b id;
-  mapped = λ f l h. load-held b id f ∙ ap (λ (x : Held). same b (heldGiven x)) h;
-  nothing = λ f h. load-held b id f ∙ ap (λ (x : Held). same b (heldGiven x)) h;
+  mapped = λ f l h. load-loaded b id f ∙ ap (λ (x : Held). same b (loadedGiven (loadedOf x))) h ∙ ap (same b) (given-mapped l);
+  never = λ f h. load-loaded b id f ∙ ap (λ (x : Held). same b (loadedGiven (loadedOf x))) h;
 }
 
 -- ---- a store
@@ -77,11 +91,11 @@ unfolding withStored
 took b id raw f some room = record {
   form = form-after;
   capacity = capacity-after;
-  here = ap (λ (x : TableAfter). x .answer) (load-held t id form-after) ∙ ap heldGiven (ap (λ (x : List Entry). lookup x id) entries-after ∙ lookup-insert-same (usedEntries b) n);
+  here = ap (λ (x : TableAfter). x .answer) (load-loaded t id form-after) ∙ ap (λ (h : Held). loadedGiven (loadedOf h)) (ap (λ (x : List Entry). lookup x id) entries-after ∙ lookup-insert-same (usedEntries b) n) ∙ given-mapped raw;
   others = λ y d.
-      ap (λ (x : TableAfter). x .answer) (load-held t y form-after)
-      ∙ ap heldGiven (ap (λ (x : List Entry). lookup x y) entries-after ∙ lookup-insert-other (usedEntries b) n y (λ e. d (sym e)))
-      ∙ sym (ap (λ (x : TableAfter). x .answer) (load-held b y f));
+      ap (λ (x : TableAfter). x .answer) (load-loaded t y form-after)
+      ∙ ap (λ (h : Held). loadedGiven (loadedOf h)) (ap (λ (x : List Entry). lookup x y) entries-after ∙ lookup-insert-other (usedEntries b) n y (λ e. d (sym e)))
+      ∙ sym (ap (λ (x : TableAfter). x .answer) (load-loaded b y f));
 }
   where
     n : Entry

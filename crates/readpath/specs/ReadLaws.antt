@@ -6,7 +6,7 @@ use native.Mathlib.Nat.{add-assoc}
 use borrow.Author.Tests.{ltb-false}
 use lib.ListN.{length-drop, length-take}
 use lib.Seq.{take-take, drop-drop, length-take-le}
-use Rattle.rules.specs.Base.{Bool, true, false, List, ℕ, _+_, _-_, _*_, length, take, drop, pick}
+use Rattle.rules.specs.Base.{Bool, true, false, List, ℕ, _+_, _-_, _*_, length, take, drop}
 use Rattle.rules.specs.declared.Settings.{Settings}
 use Rattle.rules.specs.declared.Label.{Label}
 use Rattle.rules.specs.declared.State.{State}
@@ -14,26 +14,26 @@ use Rattle.rules.specs.declared.Claims.{Claims}
 use Rattle.rules.specs.declared.Refusal.the-variants.{Limits}
 use Rattle.rules.specs.declared.Answer.{Answer}
 use Rattle.rules.specs.declared.Answer.the-variants.{Done, Refused}
-use Rattle.rules.specs.declared.Held.{Held}
-use Rattle.rules.specs.declared.Held.the-variants.{Mapped, Unmapped}
+use Rattle.rules.specs.declared.Loaded.{Loaded}
+use Rattle.rules.specs.declared.Loaded.the-variants.{At, DeletedAt, Never}
 use Rattle.rules.specs.declared.Slot.{Slot}
 use Rattle.rules.specs.declared.Slot.the-variants.{Is, NoSlot}
 use Rattle.rules.specs.declared.ReadAnswer.{ReadAnswer}
-use Rattle.rules.specs.declared.ReadAnswer.the-variants.{Found, Nothing, ReadRefused}
-use Rattle.disk_location.specs.Locations.{positionOf, deleteOf}
+use Rattle.rules.specs.declared.ReadAnswer.the-variants.{Found, ReadRefused}
+use Rattle.disk_location.specs.Locations.{positionOf}
 use Rattle.rules.specs.Refusal.{decide, after, NoneHolds, clear-when}
 use Rattle.rules.specs.Claims.{noClaims}
 use Rattle.rules.specs.Object.{Stored, storedAt}
 use Rattle.rules.specs.SlotFile.{slotBytes, fileIn}
 use Rattle.rules.specs.PartLaws.{drop-take}
 use Rattle.rules.specs.FileMap.{recordAt, fileFor}
-use Rattle.rules.specs.Table.{lookup}
+use Rattle.rules.specs.Table.{load}
 use Rattle.rules.specs.Layout.{Table}
 use Rattle.rules.specs.SettingsLaws.{slot-within}
 use Rattle.rules.specs.Condition1.{refused1}
 use Rattle.rules.specs.Condition1Laws.{Passed}
 use Rattle.rules.specs.World.{World, world, recordsOf, mappings}
-use Rattle.rules.specs.Read.{objectTests, objectIn, readObject, readFile, readHeld, readOf, partOf}
+use Rattle.rules.specs.Read.{objectTests, objectIn, readObject, readFile, readLoaded, readOf, partOf}
 use Rattle.slot_file.specs.declared.BodyAnswer.{BodyAnswer}
 use Rattle.slot_file.specs.declared.BodyAnswer.the-variants.{Body, Unread}
 use Rattle.slot_file.specs.Objects.{bodyOf}
@@ -116,10 +116,10 @@ module _ (w : World) (id : ℕ) where
   unfolding readOf decide
   read-refused e = rw e
 
-  -- not 1: what the table holds
-  pub read-held : refused1 w ≡ false → readOf w id ≡ readHeld w id (lookup (mappings w) id)
+  -- not 1: what load tells
+  pub read-loaded : refused1 w ≡ false → readOf w id ≡ readLoaded w id (load (mappings w) id)
   unfolding readOf decide
-  read-held e = rw e
+  read-loaded e = rw e
 
   -- ---- a part that a read names lies in the heap
   object-named : (k position : ℕ) (b : BodyAnswer) → bodyOf id (objectIn w k position) ≡ b → Within (inHeap (k * w .settings .«slot_bytes» + 64) b) (length (w .heap))
@@ -137,13 +137,10 @@ module _ (w : World) (id : ℕ) where
       let position = positionOf l - recordAt (recordsOf w) k .label .lsn in
       rw (read-object w id k (objectIn w k position)) (object-named k position (bodyOf id (objectIn w k position)) refl)
 
-  held-named : (h : Held) → Within (readHeld w id h) (length (w .heap))
-  held-named Unmapped = tt
-  held-named (Mapped l) = go (deleteOf l)
-    where
-      go : (t : Bool) → Within (pick t Nothing (readFile w id l (fileFor (recordsOf w) l))) (length (w .heap))
-      go true = tt
-      go false = file-named l (fileFor (recordsOf w) l)
+  loaded-named : (l : Loaded) → Within (readLoaded w id l) (length (w .heap))
+  loaded-named Never = tt
+  loaded-named (DeletedAt l) = tt
+  loaded-named (At l) = file-named l (fileFor (recordsOf w) l)
 
   -- "the found bytes are a part of the lent heap itself"
   pub read-named : Within (readOf w id) (length (w .heap))
@@ -151,7 +148,7 @@ module _ (w : World) (id : ℕ) where
     where
       go : (t : Bool) → refused1 w ≡ t → Within (readOf w id) (length (w .heap))
       go true e = rw (read-refused e) tt
-      go false e = rw (read-held e) (held-named (lookup (mappings w) id))
+      go false e = rw (read-loaded e) (loaded-named (load (mappings w) id))
 
 -- ---- any two answers that a read's contract admits are equal, and any two parts: their bytes, and where they begin in memory
 module _ (s : Settings) (t : State) (heap table : List ℕ) (id : ℕ) where

@@ -5,7 +5,7 @@ use Rattle.rules.specs.Base.{false, List, ℕ, _+_, _*_}
 use Rattle.rules.specs.declared.Label.{Label}
 use Rattle.rules.specs.declared.Record.{Record}
 use Rattle.rules.specs.declared.ReadAnswer.{ReadAnswer}
-use Rattle.rules.specs.declared.ReadAnswer.the-variants.{Found, Nothing, ReadRefused}
+use Rattle.rules.specs.declared.ReadAnswer.the-variants.{Found, Deleted, NeverWritten, ReadRefused}
 use Rattle.rules.specs.FileMap.{isEmpty, recordAt}
 use Rattle.slot_file.specs.declared.BodyAnswer.{BodyAnswer}
 use Rattle.slot_file.specs.declared.BodyAnswer.the-variants.{Body, Unread}
@@ -28,11 +28,13 @@ inHeap start (Unread r) = ReadRefused r
 -- a part that is named lies in the heap
 abbrev pub Within : ReadAnswer → ℕ → Type 0
 Within (Found start size) heapLen = start + size ≤ heapLen
-Within Nothing heapLen = Unit {0}
+Within Deleted heapLen = Unit {0}
+Within NeverWritten heapLen = Unit {0}
 Within (ReadRefused r) heapLen = Unit {0}
 
 -- "a part of the lent heap itself": where it begins, in the buffer whose first byte that place is; an empty part begins there
 abbrev pub placeOf : ReadAnswer → ℕ × ℕ → ℕ × ℕ
 placeOf (Found start size) heap = (heap .0, start + heap .1)
-placeOf Nothing heap = heap
+placeOf Deleted heap = heap
+placeOf NeverWritten heap = heap
 placeOf (ReadRefused r) heap = heap

@@ -3,9 +3,9 @@ use disk_location::DiskLocation;
 use limits::bad_files;
 use limits::refused_apart;
 use limits::rest_of;
-use rules::Held;
 use rules::LABEL_BYTES;
 use rules::Label;
+use rules::Loaded;
 use rules::ReadAnswer;
 use rules::Refusal;
 use rules::Settings;
@@ -74,20 +74,20 @@ pub fn read_answer(
     if refused_apart(settings, heap.len() as u64, table, rest_of(state), bad) {
         return ReadAnswer::ReadRefused(Refusal::Limits);
     }
-    let Held::Mapped(location) = location_table::load_in(table, id) else {
-        return ReadAnswer::Nothing;
-    };
-    if DiskLocation(location).is_delete() {
-        return ReadAnswer::Nothing;
+    match location_table::load(table, id) {
+        Loaded::Never => ReadAnswer::NeverWritten,
+        Loaded::DeletedAt(_) => ReadAnswer::Deleted,
+        Loaded::At(location) => {
+            let Slot::Is(slot) = file_map::lsn_at(&lsns, location) else {
+                return ReadAnswer::ReadRefused(Refusal::NotThere);
+            };
+            let i = slot as usize;
+            let r = files.records[i];
+            let l = r.label;
+            let position = DiskLocation(location).position() - l.lsn;
+            object_at(heap, settings.slot_bytes, slot, l, position, id)
+        }
     }
-    let Slot::Is(slot) = file_map::lsn_at(&lsns, location) else {
-        return ReadAnswer::ReadRefused(Refusal::NotThere);
-    };
-    let i = slot as usize;
-    let r = files.records[i];
-    let l = r.label;
-    let position = DiskLocation(location).position() - l.lsn;
-    object_at(heap, settings.slot_bytes, slot, l, position, id)
 }
 
 // The part of the heap that an answer names; an empty part where it names none.
@@ -102,7 +102,8 @@ fn part(heap: &[u8], answer: ReadAnswer) -> &[u8]
             let end = start + size as usize;
             &heap[start..end]
         }
-        ReadAnswer::Nothing => &heap[0..0],
+        ReadAnswer::Deleted => &heap[0..0],
+        ReadAnswer::NeverWritten => &heap[0..0],
         ReadAnswer::ReadRefused(_) => &heap[0..0],
     }
 }

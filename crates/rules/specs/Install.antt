@@ -1,11 +1,11 @@
 -- Adding files: what write and maintenance share.
 use Rattle.rules.specs.Base.{_&&_, List, [], _∷_, map, ℕ, _+_, _*_, _^_, length, set, ltb, any, sum}
-use Rattle.rules.specs.Types.{Entry, Label, Record, Slot, NoSlot, Held, Mapped, Unmapped, SlotRoom, NoEmptySlot, PositionsSpent}
+use Rattle.rules.specs.Types.{Entry, Label, Record, Slot, NoSlot, Loaded, At, DeletedAt, Never, SlotRoom, NoEmptySlot, PositionsSpent}
 use Rattle.rules.specs.Refusal.{Test, _gives_}
 use Rattle.rules.specs.Trailer.{absolute}
 use Rattle.rules.specs.Ops.{Op, objectsOf, entriesOf, fileBytes}
 use Rattle.rules.specs.Label.{labelBytes}
-use Rattle.rules.specs.Table.{lookup, insertAll}
+use Rattle.rules.specs.Table.{load, insertAll}
 use Rattle.rules.specs.Layout.{Table, laidOut, capacityOf}
 use Rattle.rules.specs.FileMap.{recorded, emptySlots, lowestEmpty, fileFor, lessLive}
 use Rattle.rules.specs.Stores.{Store, made, fileStores}
@@ -25,15 +25,16 @@ newLabel lsn generation ops = record {
 unfoldable pub newRecord : ℕ → ℕ → List Op → Record
 newRecord lsn generation ops = recorded (newLabel lsn generation ops) (length ops)
 
--- the file of a location held, if any
-abbrev pub fileHolding : List Record → Held → Slot
-fileHolding rs (Mapped l) = fileFor rs l
-fileHolding rs Unmapped = NoSlot
+-- the file of a location loaded, an object's or a delete's, if any
+abbrev pub fileHolding : List Record → Loaded → Slot
+fileHolding rs (At l) = fileFor rs l
+fileHolding rs (DeletedAt l) = fileFor rs l
+fileHolding rs Never = NoSlot
 
 -- "each replaced location's file, found before the new one is added, loses one live"
 unfoldable pub losing : List Entry → List Op → List Record → List Record
 losing table [] rs = rs
-losing table (o ∷ os) rs = losing table os (lessLive (fileHolding rs (lookup table (o .id))) rs)
+losing table (o ∷ os) rs = losing table os (lessLive (fileHolding rs (load table (o .id))) rs)
 
 -- "The file takes the lowest empty slot"
 abbrev pub newSlot : World → ℕ

@@ -7,14 +7,14 @@ use native.Mathlib.Omega.{arith}
 use borrow.Author.Tests.{ltb-false, lt-ltb, eq-eqb, ne-eqb}
 use lib.ListN.{List·getD-eq-default}
 use lib.Seq.{getD-set-same, getD-set-other, set-out}
-use Rattle.rules.specs.Base.{List, [], _∷_, ℕ, _+_, _-_, _*_, _^_, length, set, ltb, sum, Bool, false, eqb}
-use Rattle.rules.specs.Types.{Entry, Label, Record, Slot, Is, NoSlot}
+use Rattle.rules.specs.Base.{List, [], _∷_, ℕ, _+_, _-_, _*_, _^_, length, set, ltb, sum, Bool, true, false, eqb, pick}
+use Rattle.rules.specs.Types.{Entry, Label, Record, Slot, Is, NoSlot, Mapped, At, DeletedAt}
 use Rattle.rules.specs.BaseLaws.{All, all-map, any-false, same?}
 use Rattle.numbers.specs.GroupLaws.{either-way}
-use Rattle.disk_location.specs.Locations.{maskedOf, bitOf}
+use Rattle.disk_location.specs.Locations.{maskedOf, bitOf, deleteOf}
 use Rattle.disk_location.specs.LocationLaws.{masked-plain, masked-batch}
 use Rattle.rules.specs.Refusal.{NoneHolds}
-use Rattle.rules.specs.Table.{lookup}
+use Rattle.rules.specs.Table.{load, loadedOf}
 use Rattle.rules.specs.FileMap.{emptyRecord, recordAt, withLive, lessLive, fileFor}
 use Rattle.rules.specs.FileMapLaws.{less-live-length, file-same}
 use Rattle.rules.specs.Ops.{Op, objectsOf, fileBytes}
@@ -71,12 +71,21 @@ batch-lsn base h = (masked-batch base h, omega arith)
 pub plain-lsn : (base : ℕ) → base < 2 ^ 62 → (maskedOf (base + 0) ≡ base) × (base + 0 < 2 ^ 63)
 plain-lsn base h = let same : base + 0 ≡ base = omega arith in (ap maskedOf same ∙ masked-plain base h, omega arith)
 
+-- ---- the file of a location that is held
+-- an object's and a delete's alike
+pub holding-mapped : (rs : List Record) (l : ℕ) → fileHolding rs (loadedOf (Mapped l)) ≡ fileFor rs l
+holding-mapped rs l = go (deleteOf l)
+  where
+    go : (d : Bool) → fileHolding rs (pick d (DeletedAt l) (At l)) ≡ fileFor rs l
+    go true = refl
+    go false = refl
+
 -- ---- live counts alone change
 pub losing-length : (table : List Entry) (ops : List Op) (rs : List Record) → length (losing table ops rs) ≡ length rs
 unfolding losing
 losing-length table [] rs = refl
 losing-length table (o ∷ os) rs =
-    losing-length table os (lessLive (fileHolding rs (lookup table (o .id))) rs) ∙ less-live-length (fileHolding rs (lookup table (o .id))) rs
+    losing-length table os (lessLive (fileHolding rs (load table (o .id))) rs) ∙ less-live-length (fileHolding rs (load table (o .id))) rs
 
 -- slot k is the one found
 abbrev pub isAt : ℕ → Slot → Bool
@@ -112,7 +121,7 @@ pub losing-record : (table : List Entry) (ops : List Op) (rs : List Record) (j :
 unfolding losing
 losing-record table [] rs j = record { same = refl; less = omega arith }
 losing-record table (o ∷ os) rs j =
-    let slot = fileHolding rs (lookup table (o .id)) in
+    let slot = fileHolding rs (load table (o .id)) in
     step (recordAt rs j) (recordAt (lessLive slot rs) j) (recordAt (losing table os (lessLive slot rs)) j) (bitOf (isAt j slot)) (less-at slot rs j)
     (losing-record table os (lessLive slot rs) j)
   where

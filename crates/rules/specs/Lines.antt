@@ -28,7 +28,7 @@ use Rattle.rules.specs.Write.{tooManyIds, writeTests, written, writeCall
 use Rattle.rules.specs.Maintenance.{livePercent, worthIt, newGeneration, cutOff, joining, splitFrom, filesOf}
 use Rattle.rules.specs.Claims.{noClaims}
 use Rattle.rules.specs.Reopen.{filesIn, overlapping, notRising, latest, latestFrom, latestOf, tableOf, reopenTests, mappedInto, recordsFrom, nextAfter, opened, reopenCall}
-use Rattle.rules.specs.Listing.{decimal, listing}
+use Rattle.rules.specs.Listing.{decimal, writtenIn, listing}
 
 -- a line of the paper: what the definitions give, what it says
 pub record Line : Type 0 where
@@ -159,5 +159,5 @@ agree (m ∷ ms) (n ∷ ns) = eqb m n && agree ms ns
 
 -- no line differs
 pub lines-hold : any (λ (l : Line). not (agree (l .ours) (l .paper))) lines ≡ false
-unfolding lines relativeGiven absoluteGiven any zeros keep each sum greatest padded putOperation operationAt batchFrom batchIn anyTooLarge outOfRange notTheStates badRecord badFrom conditionOne isEmpty noFiles slotsWhere emptySlots lowestEmpty leads leadFrom fileFor fileCount newLabel newRecord losing recordsWith storesFor tableWith nextWith installed installedAll roomTests positionTests labelBytes fiveIn labelIn outOfBounds tableIds tableLocations alternating lengthsInRange formFrom inForm usedIn usedEntries laidOut decimal listing worthIt cutOff joining splitFrom filesOf objectBytes storedAt objectsOf entriesOf fileBytes joined settled decide filesIn overlapping notRising latest latestFrom tableOf reopenTests mappedInto recordsFrom nextAfter opened reopenCall inRanges heapInRange sameSettings slotBytes slotTests viewIn viewsIn made storesOf fileStores lookup insert insertAll listed trailerBytes trailerTests entriesFrom entriesIn misplaced tooManyIds writeTests written writeCall leBytes leValue groupsOf readGroups numberIn shiftBit shifts crcFrom crc32 objectSum maskedOf digitsIn
+unfolding lines relativeGiven absoluteGiven any zeros keep each sum greatest padded putOperation operationAt batchFrom batchIn anyTooLarge outOfRange notTheStates badRecord badFrom conditionOne isEmpty noFiles slotsWhere emptySlots lowestEmpty leads leadFrom fileFor fileCount newLabel newRecord losing recordsWith storesFor tableWith nextWith installed installedAll roomTests positionTests labelBytes fiveIn labelIn outOfBounds tableIds tableLocations alternating lengthsInRange formFrom inForm usedIn usedEntries laidOut decimal writtenIn listing worthIt cutOff joining splitFrom filesOf objectBytes storedAt objectsOf entriesOf fileBytes joined settled decide filesIn overlapping notRising latest latestFrom tableOf reopenTests mappedInto recordsFrom nextAfter opened reopenCall inRanges heapInRange sameSettings slotBytes slotTests viewIn viewsIn made storesOf fileStores lookup insert insertAll listed trailerBytes trailerTests entriesFrom entriesIn misplaced tooManyIds writeTests written writeCall leBytes leValue groupsOf readGroups numberIn shiftBit shifts crcFrom crc32 objectSum maskedOf digitsIn
 lines-hold = refl

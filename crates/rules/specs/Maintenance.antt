@@ -7,7 +7,7 @@ use Rattle.rules.specs.Object.{Stored, objectsIn, badChecksum}
 use Rattle.rules.specs.Trailer.{absolute, trailerTests}
 use Rattle.rules.specs.Ops.{put, delete, Op, sizeOf, shardFor, settled}
 use Rattle.rules.specs.SlotFile.{slotBytes, objectPart, trailerPart, trailerEntries}
-use Rattle.rules.specs.Table.{lookup, unmapped, mappedTo}
+use Rattle.rules.specs.Table.{load, neverWritten, currentAt}
 use Rattle.rules.specs.Claims.{isClaimed}
 use Rattle.rules.specs.FileMap.{isEmpty, recordAt, slotsWhere, fileCount}
 use Rattle.rules.specs.Condition1.{refused1}
@@ -47,7 +47,7 @@ unfoldable pub movedTests : ℕ → List Entry → Stored → List Test
 movedTests limit table o =
     ltb (o .room) 20 gives CutShort
     ∷ leb limit (o .size) gives ObjectSize
-    ∷ unmapped (lookup table (o .id)) gives NotThere
+    ∷ neverWritten (load table (o .id)) gives NotThere
     ∷ ltb (o .room) (20 + o .size) gives CutShort
     ∷ badChecksum o gives Checksum
     ∷ []
@@ -56,7 +56,7 @@ movedTests limit table o =
 unfoldable pub deleteTests : ℕ → List Entry → Entry → List Test
 deleteTests lsn table e =
     leb (2 ^ 63) (positionOf (e .location) + lsn) gives Location
-    ∷ unmapped (lookup table (e .id)) gives NotThere
+    ∷ neverWritten (load table (e .id)) gives NotThere
     ∷ []
 
 -- its objects, by the label's T
@@ -77,13 +77,13 @@ fileTests limit table l slot =
 unfoldable pub objectsFound : List Entry → Label → List ℕ → List Op
 objectsFound table l slot =
     map (λ (o : Stored). record { id = o .id; content = put (o .body) })
-    (keep (λ (o : Stored). mappedTo (lookup table (o .id)) (rawOf (l .lsn + o .position) false)) (storedObjects l slot))
+    (keep (λ (o : Stored). currentAt (load table (o .id)) (rawOf (l .lsn + o .position) false)) (storedObjects l slot))
 
 -- ".. and deletes at their id's current location"
 unfoldable pub deletesFound : List Entry → Label → List ℕ → List Op
 deletesFound table l slot =
     map (λ (e : Entry). record { id = e .id; content = delete })
-    (keep (λ (e : Entry). mappedTo (lookup table (e .id)) (absolute (l .lsn) e .location)) (deletesOf l slot))
+    (keep (λ (e : Entry). currentAt (load table (e .id)) (absolute (l .lsn) e .location)) (deletesOf l slot))
 
 -- ---- a group
 -- the bytes of slot k

@@ -1,11 +1,11 @@
 -- "Read." "Checks in order: 18, 16 (header or body past file_size), 10, 17."
-use Rattle.rules.specs.Base.{not, List, [], _∷_, ℕ, _+_, _-_, _*_, take, drop, ltb, eqb, pick}
-use Rattle.rules.specs.Types.{Held, Mapped, Unmapped, Slot, Is, NoSlot, ReadAnswer, Found, Nothing, ReadRefused, Limits, NotThere, CutShort, Checksum, OtherId}
-use Rattle.disk_location.specs.Locations.{positionOf, deleteOf}
+use Rattle.rules.specs.Base.{not, List, [], _∷_, ℕ, _+_, _-_, _*_, take, drop, ltb, eqb}
+use Rattle.rules.specs.Types.{Loaded, At, DeletedAt, Never, Slot, Is, NoSlot, ReadAnswer, Found, Deleted, NeverWritten, ReadRefused, Limits, NotThere, CutShort, Checksum, OtherId}
+use Rattle.disk_location.specs.Locations.{positionOf}
 use Rattle.rules.specs.Refusal.{Test, _gives_, decide, after}
 use Rattle.rules.specs.Object.{Stored, storedAt, badChecksum}
 use Rattle.rules.specs.SlotFile.{slotBytes, fileIn}
-use Rattle.rules.specs.Table.{lookup}
+use Rattle.rules.specs.Table.{load}
 use Rattle.rules.specs.FileMap.{recordAt, fileFor}
 use Rattle.rules.specs.Condition1.{refused1}
 use Rattle.rules.specs.World.{World, recordsOf, mappings, readGiven, After}
@@ -32,19 +32,21 @@ abbrev pub readFile : World → ℕ → ℕ → Slot → ReadAnswer
 readFile w id l NoSlot = ReadRefused NotThere
 readFile w id l (Is k) = readObject w id k (objectIn w k (positionOf l - recordAt (recordsOf w) k .label .lsn))
 
--- "Unmapped or deleted: nothing."
-abbrev pub readHeld : World → ℕ → Held → ReadAnswer
-readHeld w id Unmapped = Nothing
-readHeld w id (Mapped l) = pick (deleteOf l) Nothing (readFile w id l (fileFor (recordsOf w) l))
+-- request P1: "Reading now gives "never written" or "deleted"", else what stands at the location
+abbrev pub readLoaded : World → ℕ → Loaded → ReadAnswer
+readLoaded w id Never = NeverWritten
+readLoaded w id (DeletedAt l) = Deleted
+readLoaded w id (At l) = readFile w id l (fileFor (recordsOf w) l)
 
 -- 1 first
 unfoldable pub readOf : World → ℕ → ReadAnswer
-readOf w id = after (decide (refused1 w gives Limits ∷ [])) ReadRefused (readHeld w id (lookup (mappings w) id))
+readOf w id = after (decide (refused1 w gives Limits ∷ [])) ReadRefused (readLoaded w id (load (mappings w) id))
 
 -- "A refused read, or one that finds nothing, gives an empty part."
 abbrev pub partOf : ReadAnswer → List ℕ → List ℕ
 partOf (Found start size) heap = take size (drop start heap)
-partOf Nothing heap = []
+partOf Deleted heap = []
+partOf NeverWritten heap = []
 partOf (ReadRefused r) heap = []
 
 -- the call: nothing changes

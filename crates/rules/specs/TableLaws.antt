@@ -4,10 +4,11 @@ use mathlib.Core.Logic.{_⊎_, inl, inr}
 use Prim.Native.Nat.{_≤_, _<_, zero-le}
 use native.Mathlib.Omega.{arith}
 use borrow.Author.Tests.{lt-ltb, le-ltb, le-leb, lt-leb, eq-eqb, ne-eqb, eqb-true}
-use Rattle.rules.specs.Base.{Bool, true, false, _&&_, List, [], _∷_, ℕ, suc, _+_, length}
-use Rattle.rules.specs.Types.{Entry, Held, Mapped, Unmapped}
+use Rattle.rules.specs.Base.{Bool, true, false, _&&_, List, [], _∷_, ℕ, suc, _+_, length, eqb, pick}
+use Rattle.rules.specs.Types.{Entry, Held, Mapped, Unmapped, At, DeletedAt}
+use Rattle.disk_location.specs.Locations.{deleteOf}
 use Rattle.rules.specs.BaseLaws.{order, same?}
-use Rattle.rules.specs.Table.{lookup, insert, insertAll, unmapped, full, mappedTo}
+use Rattle.rules.specs.Table.{lookup, loadedOf, neverWritten, currentAt, insert, insertAll, unmapped, full, mappedTo}
 
 -- "ids strictly rising", from a least one on
 pub data Rising : ℕ → List Entry → Type 0 where
@@ -31,6 +32,29 @@ mapped-one h = cc
 pub mapped-to : (o : Held) (l : ℕ) → mappedTo o l ≡ true → o ≡ Mapped l
 mapped-to Unmapped l h = absurd (let z : _≡_ {A = ℕ} 0 1 = cc in omega arith)
 mapped-to (Mapped m) l h = ap Mapped (eqb-true m l h)
+
+-- ---- what load tells
+-- LAW: never written is unmapped
+pub never-unmapped : (h : Held) → neverWritten (loadedOf h) ≡ unmapped h
+never-unmapped Unmapped = refl
+never-unmapped (Mapped l) = go (deleteOf l)
+  where
+    go : (d : Bool) → neverWritten (pick d (DeletedAt l) (At l)) ≡ false
+    go true = refl
+    go false = refl
+
+-- LAW: at a location, an object or a delete, is mapped to it
+pub current-mapped : (h : Held) (m : ℕ) → currentAt (loadedOf h) m ≡ mappedTo h m
+current-mapped Unmapped m = refl
+current-mapped (Mapped l) m = go (deleteOf l)
+  where
+    go : (d : Bool) → currentAt (pick d (DeletedAt l) (At l)) m ≡ eqb l m
+    go true = refl
+    go false = refl
+
+-- the test as a fact
+pub current-is : (h : Held) (m : ℕ) → currentAt (loadedOf h) m ≡ true → h ≡ Mapped m
+current-is h m e = mapped-to h m (sym (current-mapped h m) ∙ e)
 
 -- an id and a location make one entry
 pub entry-ext : (e d : Entry) → e .id ≡ d .id → e .location ≡ d .location → e ≡ d

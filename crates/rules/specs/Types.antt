@@ -11,14 +11,18 @@ pub use Rattle.rules.specs.declared.Refusal.the-variants.{Limits, BatchB
 pub use Rattle.rules.specs.declared.Answer.{Answer}
 pub use Rattle.rules.specs.declared.Answer.the-variants.{Done, Refused}
 pub use Rattle.rules.specs.declared.ReadAnswer.{ReadAnswer}
-pub use Rattle.rules.specs.declared.ReadAnswer.the-variants.{Found, Nothing, ReadRefused}
+pub use Rattle.rules.specs.declared.ReadAnswer.the-variants.{Found, Deleted, NeverWritten, ReadRefused}
 pub use Rattle.rules.specs.declared.MaintainAnswer.{MaintainAnswer}
 pub use Rattle.rules.specs.declared.MaintainAnswer.the-variants.{Moved, Stopped}
 pub use Rattle.rules.specs.declared.Counts.{Counts}
 pub use Rattle.rules.specs.declared.CountsAnswer.{CountsAnswer}
 pub use Rattle.rules.specs.declared.CountsAnswer.the-variants.{Counted, CountsRefused}
 pub use Rattle.rules.specs.declared.LoadAnswer.{LoadAnswer}
-pub use Rattle.rules.specs.declared.LoadAnswer.the-variants.{At, NoLocation, LoadRefused}
+pub use Rattle.rules.specs.declared.LoadAnswer.the-variants.{Loads, LoadRefused}
+pub use Rattle.rules.specs.declared.Loaded.{Loaded}
+pub use Rattle.rules.specs.declared.Loaded.the-variants.{At, DeletedAt, Never}
+pub use Rattle.rules.specs.declared.GreaterAnswer.{GreaterAnswer}
+pub use Rattle.rules.specs.declared.GreaterAnswer.the-variants.{Before, GreaterRefused}
 pub use Rattle.rules.specs.declared.CompareAnswer.{CompareAnswer}
 pub use Rattle.rules.specs.declared.CompareAnswer.the-variants.{Swapped, Differs, CompareRefused}
 pub use Rattle.rules.specs.declared.Held.{Held}

@@ -1,6 +1,6 @@
 -- What a call is given and leaves: settings, state, claims and the lent buffers; and its answer as the paper's number and values.
 use Rattle.rules.specs.Base.{List, [], _∷_, ℕ, length}
-use Rattle.rules.specs.Types.{Entry, Settings, Record, State, Claims, Refusal, Answer, Done, Refused, ReadAnswer, Found, Nothing, ReadRefused, MaintainAnswer, Moved, Stopped, CountsAnswer, Counted, CountsRefused, LoadAnswer, At, NoLocation, LoadRefused, CompareAnswer, Swapped, Differs, CompareRefused}
+use Rattle.rules.specs.Types.{Entry, Settings, Record, State, Claims, Refusal, Answer, Done, Refused, ReadAnswer, Found, Deleted, NeverWritten, ReadRefused, MaintainAnswer, Moved, Stopped, CountsAnswer, Counted, CountsRefused, Held, Mapped, Unmapped, Loaded, At, DeletedAt, Never, LoadAnswer, Loads, LoadRefused, GreaterAnswer, Before, GreaterRefused, CompareAnswer, Swapped, Differs, CompareRefused}
 use Rattle.rules.specs.Refusal.{numberOf}
 use Rattle.rules.specs.Settings.{slotsIn}
 use Rattle.rules.specs.Layout.{Table, usedEntries}
@@ -69,10 +69,11 @@ abbrev pub answerGiven : Answer → Given
 answerGiven Done = accepted []
 answerGiven (Refused r) = refused r
 
--- where the part starts and its length; nothing
+-- the kind of what is read or loaded, the first value: 0 never written, 1 deleted, 2 an object; then where the part starts and its length
 abbrev pub readGiven : ReadAnswer → Given
-readGiven (Found start size) = accepted (start ∷ size ∷ [])
-readGiven Nothing = accepted []
+readGiven (Found start size) = accepted (2 ∷ start ∷ size ∷ [])
+readGiven Deleted = accepted (1 ∷ [])
+readGiven NeverWritten = accepted (0 ∷ [])
 readGiven (ReadRefused r) = refused r
 
 -- "the count of ids moved"; "number, generation and ids moved so far"
@@ -85,11 +86,26 @@ abbrev pub countsGiven : CountsAnswer → Given
 countsGiven (Counted c) = accepted (c .files ∷ c .bytes ∷ c .present ∷ c .live ∷ [])
 countsGiven (CountsRefused r) = refused r
 
--- the location or nothing
+-- the kind, then the raw location
+abbrev pub loadedGiven : Loaded → Given
+loadedGiven (At l) = accepted (2 ∷ l ∷ [])
+loadedGiven (DeletedAt l) = accepted (1 ∷ l ∷ [])
+loadedGiven Never = accepted (0 ∷ [])
+
+-- load
 abbrev pub loadGiven : LoadAnswer → Given
-loadGiven (At l) = accepted (l ∷ [])
-loadGiven NoLocation = accepted []
+loadGiven (Loads l) = loadedGiven l
 loadGiven (LoadRefused r) = refused r
+
+-- the location held, or nothing
+abbrev pub heldGiven : Held → Given
+heldGiven (Mapped l) = accepted (l ∷ [])
+heldGiven Unmapped = accepted []
+
+-- "Store-if-greater gives the location held before or nothing"
+abbrev pub greaterGiven : GreaterAnswer → Given
+greaterGiven (Before h) = heldGiven h
+greaterGiven (GreaterRefused r) = refused r
 
 -- nothing, or the current location that differs
 abbrev pub compareGiven : CompareAnswer → Given

@@ -111,10 +111,11 @@ pub enum Answer {
     Refused(Refusal),
 }
 
-// The body's start in the heap and its length.
+// The body's start in the heap and its length; or that the id is deleted, or never written.
 pub enum ReadAnswer {
     Found(u64, u64),
-    Nothing,
+    Deleted,
+    NeverWritten,
     ReadRefused(Refusal),
 }
 
@@ -137,11 +138,22 @@ pub enum CountsAnswer {
     CountsRefused(Refusal),
 }
 
-// Load, and the location held before a store-if-greater.
-pub enum LoadAnswer {
+// What a load tells of an id: its raw location, of an object or of a delete; or that it was never written.
+pub enum Loaded {
     At(u64),
-    NoLocation,
+    DeletedAt(u64),
+    Never,
+}
+
+pub enum LoadAnswer {
+    Loads(Loaded),
     LoadRefused(Refusal),
+}
+
+// What the table held before a store-if-greater.
+pub enum GreaterAnswer {
+    Before(Held),
+    GreaterRefused(Refusal),
 }
 
 pub enum CompareAnswer {

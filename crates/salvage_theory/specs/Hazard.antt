@@ -24,7 +24,7 @@ use Rattle.rules.specs.Trailer.{listed, trailerBytes, trailerTests, entriesFrom
 use Rattle.rules.specs.World.{World}
 use Rattle.rules.specs.Write.{tooManyIds, writeTests, written, writeCall}
 use Rattle.history_theory.specs.History.{write, called}
-use Rattle.history_theory.specs.Writes.{nothing, bytes, got}
+use Rattle.history_theory.specs.Writes.{deleted, bytes, got}
 use Rattle.numbers.specs.Parts.{front}
 use Rattle.theory.specs.Types.{Checksum}
 use Rattle.power_cuts.specs.Hidden.{withHeap}
@@ -43,8 +43,8 @@ abbrev newer : World
 newer = scratched (called first again .world)
 
 -- 7 put as 0x41 in slot 0, then deleted in slot 1, where the trailer begins the file
-abbrev deleted : World
-deleted = let w = called first (write (0x07 ∷ 0x00 ∷ [])) .world in withHeap w (set (w .heap) (128 + 64) 0xff)
+abbrev gone : World
+gone = let w = called first (write (0x07 ∷ 0x00 ∷ [])) .world in withHeap w (set (w .heap) (128 + 64) 0xff)
 
 -- LAW: 7 read 0x42; slot 1 is given up with 10, the checker lists nothing, and 7 reads 0x41 again
 pub older-again :
@@ -57,8 +57,8 @@ older-again = (refl, refl, refl, refl)
 
 -- LAW: 7 was deleted; slot 1 is given up, and 7 reads 0x41 again
 pub delete-undone :
-    (got (called first (write (0x07 ∷ 0x00 ∷ [])) .world) 7 ≡ nothing)
-    × (reportOf (deleted .settings) (deleted .heap) ≡ loss 1 Checksum ∷ [])
-    × (got (reopenCall (rescued deleted []) .world) 7 ≡ bytes (0x41 ∷ []))
+    (got (called first (write (0x07 ∷ 0x00 ∷ [])) .world) 7 ≡ deleted)
+    × (reportOf (gone .settings) (gone .heap) ≡ loss 1 Checksum ∷ [])
+    × (got (reopenCall (rescued gone []) .world) 7 ≡ bytes (0x41 ∷ []))
 unfolding any zeros keep each sum greatest padded putOperation operationAt batchFrom batchIn anyTooLarge outOfRange notTheStates badRecord badFrom conditionOne isEmpty noFiles slotsWhere emptySlots lowestEmpty leads leadFrom fileFor newRecord newLabel losing recordsWith storesFor tableWith nextWith installed installedAll roomTests positionTests labelBytes fiveIn labelIn outOfBounds tableIds tableLocations alternating lengthsInRange formFrom inForm usedIn usedEntries laidOut objectBytes storedAt objectsOf entriesOf fileBytes joined settled decide filesIn overlapping notRising latest latestFrom tableOf reopenTests mappedInto recordsFrom nextAfter opened reopenCall inRanges heapInRange sameSettings slotTests viewIn viewsIn made storesOf fileStores lookup insert insertAll listed trailerBytes trailerTests entriesFrom entriesIn misplaced tooManyIds writeTests written writeCall leBytes leValue groupsOf readGroups numberIn shiftBit shifts crcFrom crc32 objectSum maskedOf digitsIn objectsFrom objectsIn badChecksum objectTests readOf slotBytes givenUp firstKind theRest placed inOrder givenUpBehind secondKind lossesIn emptyingOf salvageCall front
 delete-undone = (refl, refl, refl)

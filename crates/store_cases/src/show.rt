@@ -38,7 +38,8 @@ pub fn read(a: ReadAnswer, body: &[u8]) {
             text(b" ok ");
             bytes(body);
         }
-        ReadAnswer::Nothing => text(b" nothing"),
+        ReadAnswer::Deleted => text(b" deleted"),
+        ReadAnswer::NeverWritten => text(b" never"),
         ReadAnswer::ReadRefused(r) => refused(r),
     }
 }

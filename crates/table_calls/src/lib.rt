@@ -4,6 +4,7 @@ use location_table::load_in;
 use location_table::store_in;
 use rules::Answer;
 use rules::CompareAnswer;
+use rules::GreaterAnswer;
 use rules::Held;
 use rules::LoadAnswer;
 use rules::Refusal;
@@ -12,11 +13,11 @@ ghost use mathlib.Core.Bool.{_||_};
 ghost use lib.Dec.{eqb};
 ghost use Rattle.rules.specs.Refusal.{decide};
 ghost use Rattle.rules.specs.TableCalls.{loadCall, storeCall, compareCall, greaterCall};
-ghost use Rattle.rules.specs.World.{answerGiven, loadGiven, compareGiven};
+ghost use Rattle.rules.specs.World.{answerGiven, loadGiven, compareGiven, greaterGiven};
 ghost use Rattle.location_table.specs.Tables.{leaving};
 ghost use Rattle.table_calls.specs.Front.{frontTests};
 
-// "Load (nothing for an unmapped id)"
+// "Load": never written, deleted at a raw location, or at one
 pub fn load(table: &[u64], id: u64) -> LoadAnswer
     ensures { λ r. ⌜ leaving (loadGiven r) (now (table .entry))
         ≡ loadCall (now (table .entry)) id ⌝ }
@@ -24,10 +25,7 @@ pub fn load(table: &[u64], id: u64) -> LoadAnswer
     if !formed(table) {
         return LoadAnswer::LoadRefused(Refusal::Limits);
     }
-    match load_in(table, id) {
-        Held::Mapped(l) => LoadAnswer::At(l),
-        Held::Unmapped => LoadAnswer::NoLocation,
-    }
+    LoadAnswer::Loads(location_table::load(table, id))
 }
 
 // "Order: 1, 20 (a given raw 0)": what each call that stores asks first.
@@ -84,24 +82,24 @@ pub fn compare_and_store(table: &mut [u64], id: u64, old: u64, location: u64) ->
 }
 
 // "Store-if-greater gives the location held before or nothing, and doesn't store a lower one; equal is 19."
-pub fn store_if_greater(table: &mut [u64], id: u64, location: u64) -> LoadAnswer
-    ensures { λ r. ⌜ leaving (loadGiven r) (now (table .exit))
+pub fn store_if_greater(table: &mut [u64], id: u64, location: u64) -> GreaterAnswer
+    ensures { λ r. ⌜ leaving (greaterGiven r) (now (table .exit))
         ≡ greaterCall (now (table .entry)) id location ⌝ }
 {
     if let Answer::Refused(r) = front(table, location == 0) {
-        return LoadAnswer::LoadRefused(r);
+        return GreaterAnswer::GreaterRefused(r);
     }
     let Held::Mapped(current) = load_in(table, id) else {
         if !store_in(table, id, location) {
-            return LoadAnswer::LoadRefused(Refusal::TableRoom);
+            return GreaterAnswer::GreaterRefused(Refusal::TableRoom);
         }
-        return LoadAnswer::NoLocation;
+        return GreaterAnswer::Before(Held::Unmapped);
     };
     if current == location {
-        return LoadAnswer::LoadRefused(Refusal::EqualLocation);
+        return GreaterAnswer::GreaterRefused(Refusal::EqualLocation);
     }
     if current < location {
         store_in(table, id, location);
     }
-    LoadAnswer::At(current)
+    GreaterAnswer::Before(Held::Mapped(current))
 }

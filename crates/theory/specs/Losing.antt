@@ -9,13 +9,13 @@ use Rattle.disk_location.specs.Locations.{bitOf, rawOf}
 use Rattle.rules.specs.Trailer.{absolute}
 use Rattle.rules.specs.Ops.{Op, isDelete, sizeOf, entriesOf}
 use Rattle.rules.specs.OpsLaws.{RisingOps, ops-rise}
-use Rattle.rules.specs.Table.{lookup, insert, insertAll}
+use Rattle.rules.specs.Table.{lookup, loadedOf, load, insert, insertAll}
 use Rattle.rules.specs.FileMap.{recordAt, fileFor, lessLive}
 use Rattle.rules.specs.Install.{fileHolding, losing}
 use Rattle.rules.specs.TableLaws.{Rising, Has, lookup-insert-other, rising-insert}
 use Rattle.theory.specs.Counting.{count, had, count-insert}
 use Rattle.rules.specs.FileMapLaws.{file-same, less-live-length}
-use Rattle.rules.specs.InstallLaws.{isAt, less-at}
+use Rattle.rules.specs.InstallLaws.{holding-mapped, isAt, less-at}
 
 -- the live count of a slot
 abbrev pub liveAt : List Record → ℕ → ℕ
@@ -37,9 +37,9 @@ less-file o rs l = file-same (lessLive o rs) rs (less-live-length o rs) (λ j. a
 -- ---- all that are replaced
 -- p: being in slot j, said of locations. t is the table before, u what it has become; the ids still to come have not changed.
 module _ (p : ℕ → Bool) (j lsn : ℕ) (t : List Entry) where
-  held-share : (rs : List Record) (o : Held) → ((m : ℕ) → o ≡ Mapped m → isAt j (fileFor rs m) ≡ p m) → bitOf (isAt j (fileHolding rs o)) ≡ had p o
+  held-share : (rs : List Record) (o : Held) → ((m : ℕ) → o ≡ Mapped m → isAt j (fileFor rs m) ≡ p m) → bitOf (isAt j (fileHolding rs (loadedOf o))) ≡ had p o
   held-share rs Unmapped h = refl
-  held-share rs (Mapped m) h = ap bitOf (h m refl)
+  held-share rs (Mapped m) h = ap (λ (s : Slot). bitOf (isAt j s)) (holding-mapped rs m) ∙ ap bitOf (h m refl)
 
   -- LAW: a live count stays the number of ids in the slot, as ids leave it for another
   pub losing-live : (f position : ℕ) (u : List Entry) (os : List Op) (rs : List Record) → Rising 0 u → RisingOps f os
@@ -51,17 +51,17 @@ module _ (p : ℕ → Bool) (j lsn : ℕ) (t : List Entry) where
   unfolding losing insertAll entriesOf
   losing-live f position u [] rs r s same found new c = c
   losing-live f position u (o ∷ os) rs r (ops-rise a s) same found new c =
-      losing-live (suc (o .id)) (position + sizeOf (o .content)) (insert u (rowAt lsn position o)) os (lessLive (fileHolding rs (lookup t (o .id))) rs)
+      losing-live (suc (o .id)) (position + sizeOf (o .content)) (insert u (rowAt lsn position o)) os (lessLive (fileHolding rs (load t (o .id))) rs)
       (rising-insert 0 u (rowAt lsn position o) zero-le r) s
       (λ x h. lookup-insert-other u (rowAt lsn position o) x (λ q. omega arith) ∙ same x (omega arith))
-      (λ x m h. ap (isAt j) (less-file (fileHolding rs (lookup t (o .id))) rs m) ∙ found x m h)
+      (λ x m h. ap (isAt j) (less-file (fileHolding rs (load t (o .id))) rs m) ∙ found x m h)
       (λ x l h. new x l (inr h))
       turn
     where
-      turn : liveAt (lessLive (fileHolding rs (lookup t (o .id))) rs) j ≡ count p (insert u (rowAt lsn position o))
+      turn : liveAt (lessLive (fileHolding rs (load t (o .id))) rs) j ≡ count p (insert u (rowAt lsn position o))
       turn =
-          let v : liveAt (lessLive (fileHolding rs (lookup t (o .id))) rs) j ≡ liveAt rs j - bitOf (isAt j (fileHolding rs (lookup t (o .id))))
-          = ap (λ (r : Record). r .live) (less-at (fileHolding rs (lookup t (o .id))) rs j) in
+          let v : liveAt (lessLive (fileHolding rs (load t (o .id))) rs) j ≡ liveAt rs j - bitOf (isAt j (fileHolding rs (load t (o .id))))
+          = ap (λ (r : Record). r .live) (less-at (fileHolding rs (load t (o .id))) rs j) in
           let w = held-share rs (lookup t (o .id)) (found (o .id)) in
           let q : had p (lookup u (o .id)) ≡ had p (lookup t (o .id)) = ap (had p) (same (o .id) a) in
           let y = count-insert 0 p u r (rowAt lsn position o) in

@@ -71,7 +71,7 @@ abbrev pub heldSays : Picture → Held → ℕ → Said
 heldSays p Unmapped x = unheard
 heldSays p (Mapped l) x = pick (deleteOf l) gone (slotSays p (fileFor (p .records) l) l x)
 
--- by the store: what a read gives, but that both unheard and gone are nothing to it
+-- by the store: what a read gives
 unfoldable pub pictureSays : Picture → ℕ → Said
 pictureSays p x = heldSays p (lookup (p .table) x) x
 

@@ -11,11 +11,11 @@ use Rattle.rules.specs.declared.Refusal.the-variants.{Limits, TableRoom, NotThe
 use Rattle.rules.specs.declared.Answer.{Answer}
 use Rattle.rules.specs.declared.Answer.the-variants.{Done, Refused}
 use Rattle.rules.specs.Refusal.{Test, _gives_, decide, decide-first, after}
-use Rattle.rules.specs.Table.{lookup, insert, unmapped, mappedTo, full}
+use Rattle.rules.specs.Table.{lookup, loadedOf, insert, unmapped, mappedTo, full}
 use Rattle.rules.specs.Layout.{Table, tableIds, tableLocations, alternating, capacityOf, lengthsInRange, inForm, usedEntries, laidOut}
 use Rattle.rules.specs.LayoutLaws.{ids-count, locations-count, ids-alternating, locations-alternating, alternating-length, laid-out-ids, laid-out-locations, same-table}
-use Rattle.rules.specs.TableCalls.{TableAfter, notForm, same, withStored, heldGiven, below, loadCall, storeCall, compareCall, greaterCall}
-use Rattle.rules.specs.World.{Given, accepted, refused}
+use Rattle.rules.specs.TableCalls.{TableAfter, notForm, same, withStored, below, loadCall, storeCall, compareCall, greaterCall}
+use Rattle.rules.specs.World.{Given, accepted, refused, loadedGiven, heldGiven}
 use Rattle.two_buffers.specs.TwoBuffers as two
 use Rattle.two_buffers.specs.TwoBuffers.{Buffers}
 
@@ -103,7 +103,7 @@ module _ (b : Table) (even : length b % 2 ≡ 0) where
   load-apart : (id : ℕ) → Same (two.loadCall apart id) (loadCall b id)
   unfolding two.loadCall loadCall
   load-apart id = record {
-    answer = ap₂ (λ (t : Bool) (h : Held). after (decide (t gives Limits ∷ [])) refused (heldGiven h)) same-form (same-held id);
+    answer = ap₂ (λ (t : Bool) (h : Held). after (decide (t gives Limits ∷ [])) refused (loadedGiven (loadedOf h))) same-form (same-held id);
     table = parted b even;
   }
 

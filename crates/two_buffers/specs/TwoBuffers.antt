@@ -1,15 +1,15 @@
 -- The table as document 01 has it, "two equal-length u64 buffers: ids, locations", and the four calls on it: the definitions that were proved of
--- the code before request P12.
+-- the code before request P12, with what load tells since request P1.
 use Rattle.rules.specs.Base.{Bool, not, _&&_, _||_, List, [], _∷_, map, ℕ, length, eqb, pick, padded, within}
 use Rattle.rules.specs.declared.Entry.{Entry}
 use Rattle.rules.specs.declared.Held.{Held}
 use Rattle.rules.specs.declared.Refusal.{Refusal}
 use Rattle.rules.specs.declared.Refusal.the-variants.{Limits, TableRoom, NotThere, EqualLocation, Location}
 use Rattle.rules.specs.Refusal.{_gives_, decide, after}
-use Rattle.rules.specs.Table.{lookup, insert, unmapped, mappedTo, full}
+use Rattle.rules.specs.Table.{lookup, load, insert, unmapped, mappedTo, full}
 use Rattle.rules.specs.Layout.{formFrom, usedIn}
-use Rattle.rules.specs.TableCalls.{heldGiven, below}
-use Rattle.rules.specs.World.{Given, accepted, refused}
+use Rattle.rules.specs.TableCalls.{below}
+use Rattle.rules.specs.World.{Given, accepted, refused, loadedGiven, heldGiven}
 
 -- "two equal-length u64 buffers: ids, locations"
 pub record Buffers : Type 0 where
@@ -56,9 +56,9 @@ same b g = record { answer = g; table = b }
 unfoldable pub withStored : Buffers → ℕ → ℕ → Buffers
 withStored b id raw = laidOut (capacityOf b) (insert (usedEntries b) (record { id = id; location = raw }))
 
--- "Load (nothing for an unmapped id)"
+-- "Load": never written, deleted at a raw location, or at one
 unfoldable pub loadCall : Buffers → ℕ → TableAfter
-loadCall b id = same b (after (decide (notForm b gives Limits ∷ [])) refused (heldGiven (lookup (usedEntries b) id)))
+loadCall b id = same b (after (decide (notForm b gives Limits ∷ [])) refused (loadedGiven (load (usedEntries b) id)))
 
 -- "store"
 unfoldable pub storeCall : Buffers → ℕ → ℕ → TableAfter

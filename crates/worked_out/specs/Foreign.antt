@@ -22,7 +22,7 @@ use Rattle.theory.specs.Places.{viewAt, holds-inj, not-empty}
 use Rattle.theory.specs.Picture.{viewsOf}
 use Rattle.theory.specs.Sound.{StartsAt, WholeFile}
 use Rattle.history_theory.specs.Clean.{Clean}
-use Rattle.history_theory.specs.Writes.{nothing, bytes, got}
+use Rattle.history_theory.specs.Writes.{never, deleted, bytes, got}
 use Rattle.checksum.specs.Checksum.{shiftBit, shifts, crcFrom, crc32, objectSum}
 use Rattle.disk_location.specs.Locations.{digitsIn}
 use Rattle.numbers.specs.Groups.{groupsOf, readGroups, numberIn}
@@ -117,7 +117,7 @@ foreign-clean = record { bytes = all-bytes (foreign .heap) refl; reopens = reope
 -- what ids 3, 4, 5 and 6 read as, and that maintenance stops with 3 and a write with 7
 pub foreign-answers :
     (got (reopenCall foreign .world) 3 ∷ got (reopenCall foreign .world) 4 ∷ got (reopenCall foreign .world) 5 ∷ got (reopenCall foreign .world) 6 ∷ []
-    ≡ bytes (0x42 ∷ 0x43 ∷ []) ∷ nothing ∷ bytes (0x44 ∷ []) ∷ nothing ∷ [])
+    ≡ bytes (0x42 ∷ 0x43 ∷ []) ∷ deleted ∷ bytes (0x44 ∷ []) ∷ never ∷ [])
     × (maintainCall (reopenCall foreign .world) .answer ≡ maintainGiven (Stopped ObjectSize 3 0))
     × (writeCall (reopenCall foreign .world) (0x03 ∷ 0x00 ∷ []) .answer ≡ refused PositionsSpent)
 unfolding any zeros keep each sum greatest padded operationAt batchFrom batchIn anyTooLarge outOfRange notTheStates badRecord badFrom conditionOne isEmpty noFiles slotsWhere emptySlots leads leadFrom fileFor fileCount roomTests positionTests labelBytes fiveIn labelIn outOfBounds tableIds tableLocations alternating lengthsInRange formFrom inForm usedIn usedEntries laidOut worthIt cutOff joining splitFrom filesOf objectBytes storedAt objectsOf entriesOf fileBytes joined settled decide filesIn overlapping notRising latest latestFrom tableOf reopenTests mappedInto recordsFrom nextAfter opened reopenCall inRanges heapInRange sameSettings slotTests viewIn viewsIn lookup insert insertAll listed trailerBytes trailerTests entriesFrom entriesIn misplaced tooManyIds writeTests writeCall leBytes leValue groupsOf readGroups numberIn shiftBit shifts crcFrom crc32 objectSum maskedOf digitsIn isClaimed isCandidate group movedTests deleteTests deletesOf fileTests objectsFound deletesFound found groupTests rewriteGroup groupsFrom courseOf maintainCall objectsFrom objectsIn badChecksum objectTests readOf slotBytes givenUp

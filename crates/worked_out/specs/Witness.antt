@@ -33,7 +33,7 @@ use Rattle.rules.specs.Stores.{made, storesOf, fileStores}
 use Rattle.rules.specs.Table.{lookup, insert, insertAll}
 use Rattle.rules.specs.Trailer.{listed, trailerBytes, trailerTests, entriesFrom, entriesIn, misplaced}
 use Rattle.rules.specs.Write.{tooManyIds, writeTests, written, writeCall}
-use Rattle.history_theory.specs.Writes.{Got, nothing, bytes, got}
+use Rattle.history_theory.specs.Writes.{Got, never, deleted, bytes, got}
 
 -- four slots of 256 bytes, of zeros
 abbrev pub small : World
@@ -42,10 +42,10 @@ small = record {
   state = noState;
   claims = noClaims;
   heap = replicate 1024 0;
-  table = replicate 6 0;
+  table = replicate 8 0;
 }
 
--- a call's answer, which of the four slots hold a file after it, and what ids 7, 8 and 9 read as
+-- a call's answer, which of the four slots hold a file after it, and what ids 6, 7, 8 and 9 read as
 pub record Stage : Type 0 where
   pub answer : Given
   pub files : List Bool
@@ -56,7 +56,7 @@ unfoldable pub seen : After → Stage
 seen a = record {
   answer = a .answer;
   files = map (λ (r : Record). not (isEmpty r)) (take 4 (recordsOf (a .world)));
-  reads = got (a .world) 7 ∷ got (a .world) 8 ∷ got (a .world) 9 ∷ [];
+  reads = got (a .world) 6 ∷ got (a .world) 7 ∷ got (a .world) 8 ∷ got (a .world) 9 ∷ [];
 }
 
 -- call by call
@@ -64,12 +64,12 @@ unfoldable pub stages : After → List Call → List Stage
 stages a [] = seen a ∷ []
 stages a (c ∷ cs) = seen a ∷ stages (called (a .world) c) cs
 
--- "maintain" moves the delete of 7 out of slot 1, which it prunes; 7 stays deleted for the reopening, though its put stands in slot 0. That
--- reopening cleared the claim, so the release is refused, and the next maintenance moves 8 out of slot 0, which it prunes.
+-- "maintain" moves the deletes of 6, never put, and of 7 out of slot 1, which it prunes; both stay deleted for the reopening, though 7's put stands
+-- in slot 0. That reopening cleared the claim, so the release is refused, and the next maintenance moves 8 out of slot 0, which it prunes.
 pub moves :
     stages (reopenCall small) (
     write (0x07 ∷ 0x01 ∷ 0x01 ∷ 0x41 ∷ 0x08 ∷ 0x01 ∷ 0x01 ∷ 0x42 ∷ [])
-    ∷ write (0x07 ∷ 0x00 ∷ 0x09 ∷ 0x01 ∷ 0x01 ∷ 0x43 ∷ [])
+    ∷ write (0x06 ∷ 0x00 ∷ 0x07 ∷ 0x00 ∷ 0x09 ∷ 0x01 ∷ 0x01 ∷ 0x43 ∷ [])
     ∷ write (0x09 ∷ 0x01 ∷ 0x01 ∷ 0x44 ∷ [])
     ∷ quiet (claim 0)
     ∷ maintain
@@ -81,18 +81,18 @@ pub moves :
     ∷ reopen
     ∷ []
     )
-    ≡ record { answer = accepted []; files = false ∷ false ∷ false ∷ false ∷ []; reads = nothing ∷ nothing ∷ nothing ∷ [] }
-    ∷ record { answer = accepted []; files = true ∷ false ∷ false ∷ false ∷ []; reads = bytes (0x41 ∷ []) ∷ bytes (0x42 ∷ []) ∷ nothing ∷ [] }
-    ∷ record { answer = accepted []; files = true ∷ true ∷ false ∷ false ∷ []; reads = nothing ∷ bytes (0x42 ∷ []) ∷ bytes (0x43 ∷ []) ∷ [] }
-    ∷ record { answer = accepted []; files = true ∷ true ∷ true ∷ false ∷ []; reads = nothing ∷ bytes (0x42 ∷ []) ∷ bytes (0x44 ∷ []) ∷ [] }
-    ∷ record { answer = accepted []; files = true ∷ true ∷ true ∷ false ∷ []; reads = nothing ∷ bytes (0x42 ∷ []) ∷ bytes (0x44 ∷ []) ∷ [] }
-    ∷ record { answer = maintainGiven (Moved 1); files = true ∷ false ∷ true ∷ true ∷ []; reads = nothing ∷ bytes (0x42 ∷ []) ∷ bytes (0x44 ∷ []) ∷ [] }
-    ∷ record { answer = accepted []; files = true ∷ false ∷ true ∷ true ∷ []; reads = nothing ∷ bytes (0x42 ∷ []) ∷ bytes (0x44 ∷ []) ∷ [] }
-    ∷ record { answer = refused Claim; files = true ∷ false ∷ true ∷ true ∷ []; reads = nothing ∷ bytes (0x42 ∷ []) ∷ bytes (0x44 ∷ []) ∷ [] }
-    ∷ record { answer = maintainGiven (Moved 1); files = false ∷ true ∷ true ∷ true ∷ []; reads = nothing ∷ bytes (0x42 ∷ []) ∷ bytes (0x44 ∷ []) ∷ [] }
-    ∷ record { answer = accepted []; files = true ∷ true ∷ true ∷ true ∷ []; reads = nothing ∷ bytes (0x42 ∷ []) ∷ bytes (0x45 ∷ []) ∷ [] }
-    ∷ record { answer = accepted []; files = true ∷ true ∷ false ∷ true ∷ []; reads = nothing ∷ bytes (0x42 ∷ []) ∷ bytes (0x45 ∷ []) ∷ [] }
-    ∷ record { answer = accepted []; files = true ∷ true ∷ false ∷ true ∷ []; reads = nothing ∷ bytes (0x42 ∷ []) ∷ bytes (0x45 ∷ []) ∷ [] }
+    ≡ record { answer = accepted []; files = false ∷ false ∷ false ∷ false ∷ []; reads = never ∷ never ∷ never ∷ never ∷ [] }
+    ∷ record { answer = accepted []; files = true ∷ false ∷ false ∷ false ∷ []; reads = never ∷ bytes (0x41 ∷ []) ∷ bytes (0x42 ∷ []) ∷ never ∷ [] }
+    ∷ record { answer = accepted []; files = true ∷ true ∷ false ∷ false ∷ []; reads = deleted ∷ deleted ∷ bytes (0x42 ∷ []) ∷ bytes (0x43 ∷ []) ∷ [] }
+    ∷ record { answer = accepted []; files = true ∷ true ∷ true ∷ false ∷ []; reads = deleted ∷ deleted ∷ bytes (0x42 ∷ []) ∷ bytes (0x44 ∷ []) ∷ [] }
+    ∷ record { answer = accepted []; files = true ∷ true ∷ true ∷ false ∷ []; reads = deleted ∷ deleted ∷ bytes (0x42 ∷ []) ∷ bytes (0x44 ∷ []) ∷ [] }
+    ∷ record { answer = maintainGiven (Moved 2); files = true ∷ false ∷ true ∷ true ∷ []; reads = deleted ∷ deleted ∷ bytes (0x42 ∷ []) ∷ bytes (0x44 ∷ []) ∷ [] }
+    ∷ record { answer = accepted []; files = true ∷ false ∷ true ∷ true ∷ []; reads = deleted ∷ deleted ∷ bytes (0x42 ∷ []) ∷ bytes (0x44 ∷ []) ∷ [] }
+    ∷ record { answer = refused Claim; files = true ∷ false ∷ true ∷ true ∷ []; reads = deleted ∷ deleted ∷ bytes (0x42 ∷ []) ∷ bytes (0x44 ∷ []) ∷ [] }
+    ∷ record { answer = maintainGiven (Moved 1); files = false ∷ true ∷ true ∷ true ∷ []; reads = deleted ∷ deleted ∷ bytes (0x42 ∷ []) ∷ bytes (0x44 ∷ []) ∷ [] }
+    ∷ record { answer = accepted []; files = true ∷ true ∷ true ∷ true ∷ []; reads = deleted ∷ deleted ∷ bytes (0x42 ∷ []) ∷ bytes (0x45 ∷ []) ∷ [] }
+    ∷ record { answer = accepted []; files = true ∷ true ∷ false ∷ true ∷ []; reads = deleted ∷ deleted ∷ bytes (0x42 ∷ []) ∷ bytes (0x45 ∷ []) ∷ [] }
+    ∷ record { answer = accepted []; files = true ∷ true ∷ false ∷ true ∷ []; reads = deleted ∷ deleted ∷ bytes (0x42 ∷ []) ∷ bytes (0x45 ∷ []) ∷ [] }
     ∷ []
 unfolding any zeros keep each sum greatest padded putOperation operationAt batchFrom batchIn anyTooLarge outOfRange notTheStates badRecord badFrom conditionOne isEmpty noFiles slotsWhere emptySlots lowestEmpty leads leadFrom fileFor fileCount newRecord newLabel losing recordsWith storesFor tableWith nextWith installed installedAll roomTests positionTests labelBytes fiveIn labelIn outOfBounds tableIds tableLocations alternating lengthsInRange formFrom inForm usedIn usedEntries laidOut worthIt cutOff joining splitFrom filesOf objectBytes storedAt objectsOf entriesOf fileBytes joined settled decide filesIn overlapping notRising latest latestFrom tableOf reopenTests mappedInto recordsFrom nextAfter opened reopenCall inRanges heapInRange sameSettings slotTests viewIn viewsIn made storesOf fileStores lookup insert insertAll listed trailerBytes trailerTests entriesFrom entriesIn misplaced tooManyIds writeTests written writeCall leBytes leValue groupsOf readGroups numberIn shiftBit shifts crcFrom crc32 objectSum maskedOf digitsIn isDead emptiedFrom pruneStores pruned pruneCall isClaimed isCandidate group movedTests deleteTests deletesOf fileTests objectsFound deletesFound found groupTests rewriteGroup groupsFrom courseOf maintainCall objectsFrom objectsIn badChecksum objectTests readOf slotBytes lastOn givenUp claimSet claimCleared claimCall releaseCall seen stages
 moves = refl

@@ -5,7 +5,7 @@ use borrow.Author.Needs.{needs}
 use lib.ListN.{length, drop, getD}
 use Rattle.rules.specs.declared.Entry.{Entry}
 use Rattle.rules.specs.Trailer.{countIn, entriesIn}
-use Rattle.rules.specs.Table.{lookup, noEntry}
+use Rattle.rules.specs.Table.{load, noEntry}
 use Rattle.rules.specs.Layout.{usedEntries}
 use Rattle.trailer.specs.Entries.{entries-count}
 use Rattle.file_map.specs.Lists.{lessAt}
@@ -51,11 +51,11 @@ loop-again c =
     let es = entriesIn (a .trailer .now) in
     let t = usedEntries (a .table .now) in
     let h : l .k < length es = omega (arith, l .inv .0, entries-count (a .trailer .now) (start .pre .2), w .before .before .before .loop-test .taken) in
-    let lost : w .lose-one .last .1 .0 ≡ lessAt (slotHolding (a .lsns .now) (lookup t (getD es (l .k) noEntry .id))) (l .lives) =
-    w .lose-one .ensures ∙ ap (λ (e : Entry). lessAt (slotHolding (a .lsns .now) (lookup t (e .id))) (l .lives)) (w .before .before .entry .ensures) in (
+    let lost : w .lose-one .last .1 .0 ≡ lessAt (slotHolding (a .lsns .now) (load t (getD es (l .k) noEntry .id))) (l .lives) =
+    w .lose-one .ensures ∙ ap (λ (e : Entry). lessAt (slotHolding (a .lsns .now) (load t (e .id))) (l .lives)) (w .before .before .entry .ensures) in (
       l .inv .0,
       omega arith,
-      ap length lost ∙ length-less (slotHolding (a .lsns .now) (lookup t (getD es (l .k) noEntry .id))) (l .lives) ∙ l .inv .2,
+      ap length lost ∙ length-less (slotHolding (a .lsns .now) (load t (getD es (l .k) noEntry .id))) (l .lives) ∙ l .inv .2,
       ap (losingLives (a .lsns .now) t (drop (l .k + 1) es)) lost ∙ sym (losing-next (a .lsns .now) t es (l .lives) (l .k) noEntry h) ∙ l .inv .3,
     )
 

@@ -1,26 +1,35 @@
-use mathlib.Core.Path.{sym, ap, _∙_}
-use native.Mathlib.Omega.{arith}
+use mathlib.Core.Path.{_≡_, sym, ap, _∙_}
 use borrow.Author.Needs.{needs}
-use Rattle.rules.specs.declared.Slot.{Slot}
-use Rattle.rules.specs.declared.Held.{Held}
+use Rattle.rules.specs.declared.Loaded.{Loaded}
+use Rattle.rules.specs.Layout.{usedEntries}
+use Rattle.rules.specs.Table.{load}
 use Rattle.file_map.specs.Lists.{lessAt}
-use Rattle.install.specs.Losing.{slotHolding, found-within}
+use Rattle.install.specs.Losing.{slotHolding}
 use Rattle.install.proofs.lose_one.Statement.{statement}
 use Rattle.install.proofs.lose_one.Tie as tie
 
-load-in-requires : tie.Need-load-in-requires
-load-in-requires c κs = search needs
+-- what is loaded decides
+told : (li : tie.After-load) {l : Loaded} → li .load .result ≡ l
+    → let a = li .before .before .before .before .args in
+    lessAt (slotHolding (a .lsns .now) l) (a .lives .now) ≡ lessAt (slotHolding (a .lsns .now) (load (usedEntries (a .table .now)) (a .id))) (a .lives .now)
+told li e =
+    let a = li .before .before .before .before .args in
+    ap (λ (x : Loaded). lessAt (slotHolding (a .lsns .now) x) (a .lives .now)) (sym e ∙ li .load .ensures)
+
+load-requires : tie.Need-load-requires
+load-requires c κs = search needs
 
 enum-known-location : tie.Need-enum-known-location
 enum-known-location c = search needs
 
-lsn-at-requires : tie.Need-lsn-at-requires
-lsn-at-requires c κs = search needs
+lose-at-requires : tie.Need-lose-at-requires
+lose-at-requires c κs = search needs
 
-less-at-requires : tie.Need-less-at-requires
-less-at-requires c κs =
-    let start = c .before .before .before .before .before .before .before .before .before in
-    λ k e. omega (arith, found-within (start .args .lsns .now) _ k (sym (c .before .lsn-at .ensures) ∙ e), start .pre .1)
+enum-known-location-2 : tie.Need-enum-known-location-2
+enum-known-location-2 c = search needs
+
+lose-at-requires-2 : tie.Need-lose-at-requires-2
+lose-at-requires-2 c κs = search needs
 
 enum-told : tie.Need-enum-told
 enum-told c = search needs
@@ -28,30 +37,23 @@ enum-told c = search needs
 same-length : tie.Need-same-length
 same-length c = search needs
 
+same-length-2 : tie.Need-same-length-2
+same-length-2 c = search needs
+
 returns : tie.Need-returns
 returns c =
     let w = c .before .before in
-    let loaded = w .before .before .before .before .before .before in
-    let a = loaded .before .before .before .before .args in
-    w .less-at .ensures
-    ∙ ap (λ (s : Slot). lessAt s (a .lives .now))
-    (w .before .before .lsn-at .ensures ∙ ap (slotHolding (a .lsns .now)) (sym (w .before .before .before .before .location .given .1) ∙ loaded .load-in .ensures))
+    let x = w .before .before .before in
+    w .lose-at .ensures ∙ told (x .before .before) (x .location .given .1)
 
 returns-2 : tie.Need-returns-2
 returns-2 c =
-    let loaded = c .before .before in
-    let a = loaded .before .before .before .before .args in
-    ap (λ (h : Held). lessAt (slotHolding (a .lsns .now) h) (a .lives .now)) (sym (c .enum-told .given .1) ∙ loaded .load-in .ensures)
+    let w = c .before .before in
+    let x = w .before .before .before in
+    w .lose-at2 .ensures ∙ told (x .before .before) (x .location2 .given .1)
+
+returns-3 : tie.Need-returns-3
+returns-3 c = told (c .before .before) (c .enum-told .given .1)
 
 pub lose-one-spec : {M : Type 1} → statement M
-lose-one-spec =
-    tie.close
-    (tie.spec
-    load-in-requires
-    enum-known-location
-    lsn-at-requires
-    less-at-requires
-    enum-told
-    same-length
-    returns
-    returns-2)
+lose-one-spec = tie.close (tie.spec load-requires enum-known-location lose-at-requires enum-known-location-2 lose-at-requires-2 enum-told same-length returns same-length-2 returns-2 returns-3)

@@ -12,7 +12,7 @@ load-shown-requires : tie.Need-load-shown-requires
 load-shown-requires c κs = search needs
 
 returns : tie.Need-returns
-returns c = c .load-shown .ensures ∙ ap (λ (e : TableAfter). shown 1 (e .answer)) (c .before .load .ensures)
+returns c = c .load-shown .ensures ∙ ap (λ (e : TableAfter). shown 2 (e .answer)) (c .before .load .ensures)
 
 pub marble-load-spec : {M : Type 1} → statement M
 marble-load-spec = tie.close (tie.spec load-requires load-shown-requires returns)

@@ -20,7 +20,7 @@ returns : tie.Need-returns
 unfolding readCall
 returns c =
     let w = c .before in
-    λ claims. rw (← (w .before .state-in .ensures)) (c .read-shown .ensures ∙ ap (λ (a : ReadAnswer). shown 2 (readGiven a)) (w .read-answer .ensures claims))
+    λ claims. rw (← (w .before .state-in .ensures)) (c .read-shown .ensures ∙ ap (λ (a : ReadAnswer). shown 3 (readGiven a)) (w .read-answer .ensures claims))
 
 pub marble-read-spec : {M : Type 1} → statement M
 marble-read-spec =

@@ -53,6 +53,18 @@ part-result-start-3 c = search needs
 part-result-end-3 : tie.Need-part-result-end-3
 part-result-end-3 c = search needs
 
+enum-told-3 : tie.Need-enum-told-3
+enum-told-3 c = search needs
+
+sub-result-4 : tie.Need-sub-result-4
+sub-result-4 c = search needs
+
+part-result-start-4 : tie.Need-part-result-start-4
+part-result-start-4 c = search needs
+
+part-result-end-4 : tie.Need-part-result-end-4
+part-result-end-4 c = search needs
+
 returns : tie.Need-returns
 returns c =
     let m = c .before .before in
@@ -76,6 +88,12 @@ returns-3 c =
     let a = m .before .before .args in
     (search needs, rw (zero-add (a .heap .ptr .1)) (ap (λ (r : ReadAnswer). placeOf r (a .heap .ptr)) (sym (m .enum-told2 .given .1))))
 
+returns-4 : tie.Need-returns-4
+returns-4 c =
+    let m = c .before in
+    let a = m .before .before .args in
+    (search needs, rw (zero-add (a .heap .ptr .1)) (ap (λ (r : ReadAnswer). placeOf r (a .heap .ptr)) (sym (m .enum-told3 .given .1))))
+
 pub part-spec : {M : Type 1} → statement M
 part-spec =
     tie.close
@@ -93,6 +111,11 @@ part-spec =
     sub-result-3
     part-result-start-3
     part-result-end-3
+    enum-told-3
+    sub-result-4
+    part-result-start-4
+    part-result-end-4
     returns
     returns-2
-    returns-3)
+    returns-3
+    returns-4)

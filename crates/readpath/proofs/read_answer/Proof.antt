@@ -1,21 +1,17 @@
 use mathlib.Core.Path.{_≡_, sym, ap, _∙_}
-use mathlib.Core.Bool.{Bool}
 use mathlib.Core.List.{List}
 use Prim.Native.Nat.{ℕ, _+_, _-_, _*_}
 use native.Mathlib.Omega.{arith}
 use borrow.Author.Needs.{needs}
 use lib.ListN.{length, drop}
-use Rattle.numbers.specs.Choice.{pick}
 use Rattle.disk_location.specs.Locations.{positionOf}
 use Rattle.rules.specs.declared.Claims.{Claims}
-use Rattle.rules.specs.declared.ReadAnswer.{ReadAnswer}
-use Rattle.rules.specs.declared.ReadAnswer.the-variants.{Nothing}
 use Rattle.rules.specs.Condition1.{conditionOne}
 use Rattle.rules.specs.Condition1Laws.{Passed, passed}
 use Rattle.rules.specs.FileMap.{recordAt, fileFor}
 use Rattle.rules.specs.FileMapLaws.{IsFile, file-at, not-empty}
 use Rattle.rules.specs.Object.{storedAt}
-use Rattle.rules.specs.Read.{objectIn, readFile, readHeld, readOf}
+use Rattle.rules.specs.Read.{objectIn, readFile, readLoaded, readOf}
 use Rattle.rules.specs.SlotFile.{slotBytes, fileIn}
 use Rattle.rules.specs.World.{World, world, recordsOf}
 use Rattle.file_map.specs.Lists.{lsnAt}
@@ -23,7 +19,7 @@ use Rattle.file_map.specs.ListLaws.{file-for-lsns}
 use Rattle.limits.specs.Settled.{passed-formed}
 use Rattle.slot_file.specs.Objects.{bodyOf}
 use Rattle.readpath.specs.Reads.{Lies, inHeap}
-use Rattle.readpath.specs.ReadLaws.{passed-lie, read-refused, read-held, read-object}
+use Rattle.readpath.specs.ReadLaws.{passed-lie, read-refused, read-loaded, read-object}
 use Rattle.readpath.proofs.read_answer.Statement.{statement}
 use Rattle.readpath.proofs.read_answer.Tie as tie
 
@@ -52,33 +48,18 @@ given p claims =
 abbrev sought : tie.After-location → tie.After-refused-apart
 sought x = x .before .before .before .before
 
--- what the table holds decides
-loaded : (li : tie.After-load-in) (claims : Claims) → let p = li .before .before in
-    readOf (given p claims) (begun p .args .id) ≡ readHeld (given p claims) (begun p .args .id) (li .load-in .result)
+-- what load tells decides
+loaded : (li : tie.After-load) (claims : Claims) → let p = li .before .before in
+    readOf (given p claims) (begun p .args .id) ≡ readLoaded (given p claims) (begun p .args .id) (li .load .result)
 loaded li claims =
     let p = li .before .before in
     let w = given p claims in
     let id = begun p .args .id in
-    read-held w id (asked p ∙ li .before .if1 .left) ∙ ap (readHeld w id) (sym (li .load-in .ensures))
-
--- then a delete's mark
-abbrev unless : tie.After-location → Claims → Bool → ReadAnswer
-unless x claims delete =
-    let w = given (sought x) claims in
-    let l = x .location .given .0 .0 in
-    pick delete Nothing (readFile w (begun (sought x) .args .id) l (fileFor (recordsOf w) l))
-
-located : (d : tie.After-is-delete) (claims : Claims) → let x = d .before .before in
-    readOf (given (sought x) claims) (begun (sought x) .args .id) ≡ unless x claims (d .is-delete .result)
-located d claims =
-    let x = d .before .before in
-    loaded (x .before .before) claims
-    ∙ ap (readHeld (given (sought x) claims) (begun (sought x) .args .id)) (x .location .given .1)
-    ∙ ap (unless x claims) (sym (d .is-delete .ensures))
+    read-loaded w id (asked p ∙ li .before .if1 .left) ∙ ap (readLoaded w id) (sym (li .load .ensures))
 
 -- then the file
 abbrev met : tie.After-lsn-at → tie.After-location
-met f = f .before .before .before .before .before
+met f = f .before .before .before
 
 placed : (f : tie.After-lsn-at) → f .lsn-at .result ≡ fileFor (begun (sought (met f)) .args .state .files .records) (met f .location .given .0 .0)
 placed f =
@@ -91,8 +72,8 @@ filed : (f : tie.After-lsn-at) (claims : Claims) → let x = met f in
     readOf w (begun (sought x) .args .id) ≡ readFile w (begun (sought x) .args .id) (x .location .given .0 .0) (f .lsn-at .result)
 filed f claims =
     let x = met f in
-    located (f .before .before .before) claims
-    ∙ ap (unless x claims) (f .before .before .if2 .left)
+    loaded (x .before .before) claims
+    ∙ ap (readLoaded (given (sought x) claims) (begun (sought x) .args .id)) (x .location .given .1)
     ∙ ap (readFile (given (sought x) claims) (begun (sought x) .args .id) (x .location .given .0 .0)) (sym (placed f))
 
 -- ---- and where a file is found
@@ -127,28 +108,19 @@ refused-apart-requires c κs = search needs
 returns : tie.Need-returns
 returns c = λ claims. sym (read-refused (given (c .before) claims) (begun (c .before) .args .id) (asked (c .before) ∙ c .if1 .taken))
 
-load-in-requires : tie.Need-load-in-requires
-load-in-requires c κs =
+load-requires : tie.Need-load-requires
+load-requires c κs =
     let a = begun (c .before) .args in
     passed-formed (a .settings) (length (a .heap .now)) (a .table .now) (a .state) (through c)
-
-enum-known-location : tie.Need-enum-known-location
-enum-known-location c = search needs
 
 enum-told : tie.Need-enum-told
 enum-told c = search needs
 
-returns-2 : tie.Need-returns-2
-returns-2 c =
-    let li = c .before .before in
-    let p = li .before .before in
-    λ claims. sym (loaded li claims ∙ ap (readHeld (given p claims) (begun p .args .id)) (c .enum-told .given .1))
+enum-told-2 : tie.Need-enum-told-2
+enum-told-2 c = search needs
 
-is-delete-requires : tie.Need-is-delete-requires
-is-delete-requires c κs = search needs
-
-returns-3 : tie.Need-returns-3
-returns-3 c = λ claims. sym (located (c .before) claims ∙ ap (unless (c .before .before .before) claims) (c .if2 .taken))
+enum-known-location : tie.Need-enum-known-location
+enum-known-location c = search needs
 
 slice-aggregate-lsn-at : tie.Need-slice-aggregate-lsn-at
 slice-aggregate-lsn-at c = search needs
@@ -159,14 +131,14 @@ lsn-at-requires c κs = search needs
 enum-known-slot : tie.Need-enum-known-slot
 enum-known-slot c = search needs
 
-enum-told-2 : tie.Need-enum-told-2
-enum-told-2 c = search needs
+enum-told-3 : tie.Need-enum-told-3
+enum-told-3 c = search needs
 
-returns-4 : tie.Need-returns-4
-returns-4 c =
+returns-2 : tie.Need-returns-2
+returns-2 c =
     let f = c .before .before in
     let x = met f in
-    λ claims. sym (filed f claims ∙ ap (readFile (given (sought x) claims) (begun (sought x) .args .id) (x .location .given .0 .0)) (c .enum-told2 .given .1))
+    λ claims. sym (filed f claims ∙ ap (readFile (given (sought x) claims) (begun (sought x) .args .id) (x .location .given .0 .0)) (c .enum-told3 .given .1))
 
 mul-r : tie.Need-mul-r
 mul-r c =
@@ -189,6 +161,18 @@ sub-position c =
 
 object-at-requires : tie.Need-object-at-requires
 object-at-requires c κs = lies (c .before .before .before .before .before)
+
+returns-3 : tie.Need-returns-3
+returns-3 c =
+    let li = c .before .before in
+    let p = li .before .before in
+    λ claims. sym (loaded li claims ∙ ap (readLoaded (given p claims) (begun p .args .id)) (c .enum-told .given .1))
+
+returns-4 : tie.Need-returns-4
+returns-4 c =
+    let li = c .before .before in
+    let p = li .before .before in
+    λ claims. sym (loaded li claims ∙ ap (readLoaded (given p claims) (begun p .args .id)) (c .enum-told2 .given .1))
 
 returns-5 : tie.Need-returns-5
 returns-5 c =
@@ -216,20 +200,20 @@ read-answer-spec =
     rest-of-requires
     refused-apart-requires
     returns
-    load-in-requires
-    enum-known-location
+    load-requires
     enum-told
-    returns-2
-    is-delete-requires
-    returns-3
+    enum-told-2
+    enum-known-location
     slice-aggregate-lsn-at
     lsn-at-requires
     enum-known-slot
-    enum-told-2
-    returns-4
+    enum-told-3
+    returns-2
     mul-r
     element-copy-out-r
     position-requires
     sub-position
     object-at-requires
+    returns-3
+    returns-4
     returns-5)

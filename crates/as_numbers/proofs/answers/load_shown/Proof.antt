@@ -12,8 +12,8 @@ use Rattle.as_numbers.proofs.answers.load_shown.Tie as tie
 enum-known-a : tie.Need-enum-known-a
 enum-known-a c = search needs
 
-enum-told : tie.Need-enum-told
-enum-told c = search needs
+loaded-shown-requires : tie.Need-loaded-shown-requires
+loaded-shown-requires c κs = search needs
 
 enum-known-a-2 : tie.Need-enum-known-a-2
 enum-known-a-2 c = search needs
@@ -23,24 +23,19 @@ refusal-number-requires c κs = search needs
 
 returns : tie.Need-returns
 unfolding padded
-returns c = ap (λ (x : LoadAnswer). shown 1 (loadGiven x)) (sym (c .before .a .given .1))
+returns c = c .loaded-shown .ensures ∙ ap (λ (x : LoadAnswer). shown 2 (loadGiven x)) (sym (c .before .before .a .given .1))
 
 returns-2 : tie.Need-returns-2
 unfolding padded
-returns-2 c = ap (λ (x : LoadAnswer). shown 1 (loadGiven x)) (sym (c .enum-told .given .1))
-
-returns-3 : tie.Need-returns-3
-unfolding padded
-returns-3 c = ap (λ (n : ℕ). given n (0 ∷ [])) (c .refusal-number .ensures) ∙ ap (λ (x : LoadAnswer). shown 1 (loadGiven x)) (sym (c .before .before .a2 .given .1))
+returns-2 c = ap (λ (n : ℕ). given n (0 ∷ 0 ∷ [])) (c .refusal-number .ensures) ∙ ap (λ (x : LoadAnswer). shown 2 (loadGiven x)) (sym (c .before .before .a2 .given .1))
 
 pub load-shown-spec : {M : Type 1} → statement M
 load-shown-spec =
     tie.close
     (tie.spec
     enum-known-a
-    enum-told
+    loaded-shown-requires
     enum-known-a-2
     refusal-number-requires
     returns
-    returns-2
-    returns-3)
+    returns-2)

@@ -15,6 +15,9 @@ enum-known-a c = search needs
 enum-told : tie.Need-enum-told
 enum-told c = search needs
 
+enum-told-2 : tie.Need-enum-told-2
+enum-told-2 c = search needs
+
 enum-known-a-2 : tie.Need-enum-known-a-2
 enum-known-a-2 c = search needs
 
@@ -23,15 +26,19 @@ refusal-number-requires c κs = search needs
 
 returns : tie.Need-returns
 unfolding padded
-returns c = ap (λ (x : ReadAnswer). shown 2 (readGiven x)) (sym (c .before .a .given .1))
+returns c = ap (λ (x : ReadAnswer). shown 3 (readGiven x)) (sym (c .before .a .given .1))
 
 returns-2 : tie.Need-returns-2
 unfolding padded
-returns-2 c = ap (λ (x : ReadAnswer). shown 2 (readGiven x)) (sym (c .enum-told .given .1))
+returns-2 c = ap (λ (x : ReadAnswer). shown 3 (readGiven x)) (sym (c .enum-told .given .1))
 
 returns-3 : tie.Need-returns-3
 unfolding padded
-returns-3 c = ap (λ (n : ℕ). given n (0 ∷ 0 ∷ [])) (c .refusal-number .ensures) ∙ ap (λ (x : ReadAnswer). shown 2 (readGiven x)) (sym (c .before .before .a2 .given .1))
+returns-3 c = ap (λ (x : ReadAnswer). shown 3 (readGiven x)) (sym (c .enum-told2 .given .1))
+
+returns-4 : tie.Need-returns-4
+unfolding padded
+returns-4 c = ap (λ (n : ℕ). given n (0 ∷ 0 ∷ 0 ∷ [])) (c .refusal-number .ensures) ∙ ap (λ (x : ReadAnswer). shown 3 (readGiven x)) (sym (c .before .before .a2 .given .1))
 
 pub read-shown-spec : {M : Type 1} → statement M
 read-shown-spec =
@@ -39,8 +46,10 @@ read-shown-spec =
     (tie.spec
     enum-known-a
     enum-told
+    enum-told-2
     enum-known-a-2
     refusal-number-requires
     returns
     returns-2
-    returns-3)
+    returns-3
+    returns-4)

@@ -2,6 +2,7 @@ use native.Mathlib.Nat.{zero-add}
 use lib.ListN.{drop, length}
 use Rattle.rules.specs.Layout.{tableIds, tableLocations, usedIn, usedEntries}
 use Rattle.rules.specs.LayoutLaws.{ids-count, locations-count}
+use Rattle.rules.specs.ListingLaws.{written-length}
 use Rattle.bench.proofs.Entries.{used-end, unused, used-more}
 use Prim.Native.Nat.{_+_, _≤_, _-_}
 use mathlib.Core.Path.{_≡_, sym, _∙_}
@@ -33,6 +34,7 @@ returns c =
     let is = ids-count t in
     let ls = locations-count t in
     let over = unused (tableIds t) (tableLocations t) (l .loop .k) (omega arith) (omega arith) (sym (c .before .location-at .ensures) ∙ c .if1 .taken) in
+    let all = written-length (usedEntries t) in
     omega (arith, l .loop .inv .0)
 
 add-k : tie.Need-add-k Inv-loop μ-loop
@@ -56,6 +58,7 @@ returns-2 c =
     let t = l .before .before .before .args .table .now in
     let is = ids-count t in
     let over = used-end (tableIds t) (tableLocations t) (l .loop .k) (omega arith) in
+    let all = written-length (usedEntries t) in
     omega (arith, l .loop .inv .0)
 
 pub used-spec : {M : Type 1} → statement M

@@ -41,8 +41,8 @@ returns-2 c =
     let a = c .before .before .before .before .before .before .args in
     sym (entry-great (a .lsn) (usedEntries (a .table .now)) (a .e) (w .0) (located-number _ .1 (λ z. c .if2 .taken (w .1 ∙ z))))
 
-unmapped-requires : tie.Need-unmapped-requires
-unmapped-requires c κs = search needs
+never-written-requires : tie.Need-never-written-requires
+never-written-requires c κs = search needs
 
 returns-3 : tie.Need-returns-3
 returns-3 c =
@@ -51,7 +51,7 @@ returns-3 c =
     let a = low .before .before .before .before .before .before .args in
     sym (
     entry-mapped (a .lsn) (usedEntries (a .table .now)) (a .e) (w .0) (located-number _ .0 (sym (w .1) ∙ low .if2 .left))
-    ∙ ap (λ (t : Bool). pick t (Refused NotThere) Done) (sym (c .before .unmapped .ensures) ∙ c .if3 .taken))
+    ∙ ap (λ (t : Bool). pick t (Refused NotThere) Done) (sym (c .before .never-written .ensures) ∙ c .if3 .taken))
 
 returns-4 : tie.Need-returns-4
 returns-4 c =
@@ -60,7 +60,7 @@ returns-4 c =
     let a = low .before .before .before .before .before .before .args in
     sym (
     entry-mapped (a .lsn) (usedEntries (a .table .now)) (a .e) (w .0) (located-number _ .0 (sym (w .1) ∙ low .if2 .left))
-    ∙ ap (λ (t : Bool). pick t (Refused NotThere) Done) (sym (c .before .unmapped .ensures) ∙ c .if3 .left))
+    ∙ ap (λ (t : Bool). pick t (Refused NotThere) Done) (sym (c .before .never-written .ensures) ∙ c .if3 .left))
 
 pub check-entry-spec : {M : Type 1} → statement M
 check-entry-spec =
@@ -71,6 +71,6 @@ check-entry-spec =
     to-absolute-requires
     number-requires
     returns-2
-    unmapped-requires
+    never-written-requires
     returns-3
     returns-4)

@@ -10,7 +10,7 @@ use Rattle.rules.specs.declared.Answer.the-variants.{Done, Refused}
 use Rattle.rules.specs.declared.Refusal.the-variants.{Checksum}
 use Rattle.rules.specs.Layout.{usedEntries}
 use Rattle.slot_file.specs.Objects.{header-fits}
-use Rattle.gc_group.specs.Checks.{moved-large, moved-unmapped, moved-short, moved-sum}
+use Rattle.gc_group.specs.Checks.{moved-large, moved-never, moved-short, moved-sum}
 
 returns : tie.Need-returns
 returns c =
@@ -18,15 +18,15 @@ returns c =
     let a = start .args in
     sym (moved-large (a .limit) (usedEntries (a .table .now)) (a .objects .now) (a .position) (a .h) (start .pre .0) (omega arith))
 
-unmapped-requires : tie.Need-unmapped-requires
-unmapped-requires c κs = search needs
+never-written-requires : tie.Need-never-written-requires
+never-written-requires c κs = search needs
 
 returns-2 : tie.Need-returns-2
 returns-2 c =
     let small = c .before .before in
     let start = small .before .before .before .before in
     let a = start .args in
-    sym (moved-unmapped (a .limit) (usedEntries (a .table .now)) (a .objects .now) (a .position) (a .h) (start .pre .0) (small .if1 .left) (sym (c .before .unmapped .ensures) ∙ c .if2 .taken))
+    sym (moved-never (a .limit) (usedEntries (a .table .now)) (a .objects .now) (a .position) (a .h) (start .pre .0) (small .if1 .left) (sym (c .before .never-written .ensures) ∙ c .if2 .taken))
 
 sub-if3 : tie.Need-sub-if3
 sub-if3 c =
@@ -43,7 +43,7 @@ returns-3 c =
     let start = small .before .before .before .before in
     let a = start .args in
     let table = usedEntries (a .table .now) in
-    sym (moved-short (a .limit) table (a .objects .now) (a .position) (a .h) (start .pre .0) (small .if1 .left) (sym (known .before .unmapped .ensures) ∙ known .if2 .left)
+    sym (moved-short (a .limit) table (a .objects .now) (a .position) (a .h) (start .pre .0) (small .if1 .left) (sym (known .before .never-written .ensures) ∙ known .if2 .left)
     (omega (arith, header-fits (a .objects .now) (a .position) (a .h) (start .pre .0) .0)))
 
 bad-checksum-requires : tie.Need-bad-checksum-requires
@@ -62,7 +62,7 @@ returns-4 c =
     let a = start .args in
     let table = usedEntries (a .table .now) in
     sym (
-    moved-sum (a .limit) table (a .objects .now) (a .position) (a .h) (start .pre .0) (small .if1 .left) (sym (known .before .unmapped .ensures) ∙ known .if2 .left)
+    moved-sum (a .limit) table (a .objects .now) (a .position) (a .h) (start .pre .0) (small .if1 .left) (sym (known .before .never-written .ensures) ∙ known .if2 .left)
     (omega (arith, header-fits (a .objects .now) (a .position) (a .h) (start .pre .0) .0))
     ∙ ap (λ (t : Bool). pick t (Refused Checksum) Done) (sym (c .before .bad-checksum .ensures) ∙ c .if4 .taken))
 
@@ -74,7 +74,7 @@ returns-5 c =
     let a = start .args in
     let table = usedEntries (a .table .now) in
     sym (
-    moved-sum (a .limit) table (a .objects .now) (a .position) (a .h) (start .pre .0) (small .if1 .left) (sym (known .before .unmapped .ensures) ∙ known .if2 .left)
+    moved-sum (a .limit) table (a .objects .now) (a .position) (a .h) (start .pre .0) (small .if1 .left) (sym (known .before .never-written .ensures) ∙ known .if2 .left)
     (omega (arith, header-fits (a .objects .now) (a .position) (a .h) (start .pre .0) .0))
     ∙ ap (λ (t : Bool). pick t (Refused Checksum) Done) (sym (c .before .bad-checksum .ensures) ∙ c .if4 .left))
 
@@ -83,7 +83,7 @@ check-object-spec =
     tie.close
     (tie.spec
     returns
-    unmapped-requires
+    never-written-requires
     returns-2
     sub-if3
     returns-3
