@@ -12,7 +12,7 @@ unfoldable pub lookup : List Entry → ℕ → Held
 lookup [] x = Unmapped
 lookup (e ∷ es) x = pick (eqb (e .id) x) (Mapped (e .location)) (lookup es x)
 
--- a delete is told from an object here and nowhere above
+-- a delete told from an object, by the mark of what is held
 abbrev pub loadedOf : Held → Loaded
 loadedOf (Mapped l) = pick (deleteOf l) (DeletedAt l) (At l)
 loadedOf Unmapped = Never
