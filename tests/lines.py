@@ -1,24 +1,49 @@
 #!/usr/bin/env python3
-"""Lines that a person reads. lines.py: prints the lines of src/*.rt with more than 140 characters, and fails if there are any."""
+"""Code that a person reads. lines.py: prints the lines of src/*.rt with more than 140 characters and the functions there with more than 8
+parameters, and fails if there are any. lines.py FILE ..: those of these files."""
 import glob
 import os
+import re
 import sys
 
 ROOT = os.path.dirname(os.path.dirname(os.path.abspath(__file__)))
-LIMIT = 140
+LIMIT, MOST = 140, 8
+
+
+def functions(text):
+    """Each function: its name, its line, and how many parameters it has, `self` among them."""
+    code = re.sub('//.*', '', text)
+    for head in re.finditer(r'\bfn\s+(\w+)\s*(?:<[^>]*>)?\s*\(', code):
+        depth, count, some = 1, 0, False
+        for c in code[head.end():]:
+            if depth == 1 and c in ',)':
+                count, some = count + some, False
+            elif not c.isspace():
+                some = True
+            depth += (c in '([{<') - (c in ')]}>')
+            if depth == 0:
+                break
+        yield head.group(1), code.count('\n', 0, head.start()) + 1, count
 
 
 def main():
-    longest, wrong = 0, 0
-    for path in sorted(glob.glob(os.path.join(ROOT, 'crates/*/src/**/*.rt'), recursive=True)):
+    longest, wrong, largest, many = 0, 0, 0, 0
+    for path in sys.argv[1:] or sorted(glob.glob(os.path.join(ROOT, 'crates/*/src/**/*.rt'), recursive=True)):
         with open(path, encoding='utf-8') as source:
-            for number, line in enumerate(source.read().split('\n'), 1):
-                longest = max(longest, len(line))
-                if len(line) > LIMIT:
-                    wrong += 1
-                    print(f'lines: {os.path.relpath(path, ROOT)}:{number} has {len(line)} characters')
-    print(f'lines: {wrong} of over {LIMIT} characters in src/*.rt, the longest has {longest}')
-    sys.exit(wrong > 0)
+            text = source.read()
+        where = os.path.relpath(path, ROOT)
+        for number, line in enumerate(text.split('\n'), 1):
+            longest = max(longest, len(line))
+            if len(line) > LIMIT:
+                wrong += 1
+                print(f'lines: {where}:{number} has {len(line)} characters')
+        for name, number, count in functions(text):
+            largest = max(largest, count)
+            if count > MOST:
+                many += 1
+                print(f'lines: {where}:{number} {name} has {count} parameters')
+    print(f'lines: {wrong} of over {LIMIT} characters in src/*.rt, the longest has {longest}; {many} functions of over {MOST} parameters, the most has {largest}')
+    sys.exit(wrong + many > 0)
 
 
 main()

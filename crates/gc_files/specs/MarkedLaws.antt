@@ -1,5 +1,5 @@
 -- The marked entries of a group stand at their places: an object's bytes in the heap are those that its slot's object bytes have.
-use mathlib.Core.Path.{_≡_, refl, sym, ap, _∙_}
+use mathlib.Core.Path.{_≡_, refl, sym, ap, _∙_, subst}
 use mathlib.Core.List.{append-assoc}
 use Prim.Native.Nat.{_≤_, _<_}
 use native.Mathlib.Nat.{mul-le-mul}
@@ -8,13 +8,15 @@ use lib.ListN.{length-append, length-drop, take-append-drop}
 use lib.Seq.{take-append-le, drop-append-le, drop-drop, length-take-le}
 use Rattle.numbers.specs.LittleEndian.{leValue}
 use borrow.Author.Tests.{ne-eqb}
-use Rattle.disk_location.specs.Locations.{positionOf, deleteOf}
-use Rattle.rules.specs.Base.{true, false, List, _++_, ℕ, _+_, _-_, _*_, _^_, length, getD, take, drop}
+use Rattle.disk_location.specs.Locations.{positionOf}
+use Rattle.rules.specs.declared.Loaded.{Loaded}
+use Rattle.rules.specs.declared.Loaded.the-variants.{At, DeletedAt}
+use Rattle.rules.specs.Base.{List, _++_, ℕ, _+_, _-_, _*_, _^_, length, getD, take, drop}
 use Rattle.rules.specs.Ops.{put, delete}
 use Rattle.rules.specs.Object.{storedAt}
 use Rattle.rules.specs.SlotFile.{slotBytes, objectPart}
 use Rattle.rules.specs.declared.Label.{Label}
-use Rattle.gc_files.specs.Places.{lengthAt, movingAt, opAt, Whole, placeFor, Placeable}
+use Rattle.gc_files.specs.Places.{lengthAt, movingAt, opAt, Whole, placeFor, InFile, Placeable}
 
 -- n bytes of a part that stands in the heap from `at` on
 part-piece : (part rest heap : List ℕ) (at p n : ℕ) → part ++ rest ≡ drop at heap → p + n ≤ length part → take n (drop p part) ≡ take n (drop (at + p) heap)
@@ -66,33 +68,33 @@ object-part-stands r size heap k wide whole =
 
 -- ---- one marked entry
 -- its slot begins within 256 slots, and its object within a slot's bytes behind that
-module _ {size : ℕ} {lsns : List ℕ} {location mark : ℕ} (small : size ≤ 2 ^ 20) (p : Placeable lsns location mark) where
+module _ {size : ℕ} {lsns : List ℕ} {loaded : Loaded} {mark : ℕ} (small : size ≤ 2 ^ 20) (p : Placeable lsns loaded mark) where
   pub mark-far : (mark - 1) * size ≤ 255 * 2 ^ 20
   mark-far = let few : mark - 1 ≤ 255 = omega (arith, p .slot) in mul-le-mul few small
 
-  pub place-told : (mark ≡ 0 → ⊥) → deleteOf location ≡ false
-      → (getD lsns (mark - 1) 0 ≤ positionOf location) × ((mark - 1) * size + 64 + (positionOf location - getD lsns (mark - 1) 0) < 2 ^ 32)
-  place-told some object =
-      let marked : 0 < mark = omega (arith, some) in
-      (p .low marked object, omega (arith, mark-far, p .high marked object))
+  pub place-told : (mark ≡ 0 → ⊥) → (l : ℕ) → loaded ≡ At l
+      → (getD lsns (mark - 1) 0 ≤ positionOf l) × ((mark - 1) * size + 64 + (positionOf l - getD lsns (mark - 1) 0) < 2 ^ 32)
+  place-told some l object =
+      let within = subst (InFile (getD lsns (mark - 1) 0)) object (p .file (omega (arith, some))) in
+      (within .0, omega (arith, mark-far, within .1))
 
 module _ (size : ℕ) (heap lsns : List ℕ) (location k : ℕ) (mark : ℕ) (e : mark ≡ k + 1) where
   -- a delete
-  pub place-delete : (id : ℕ) → deleteOf location ≡ true → opAt heap id (placeFor size lsns location mark) ≡ record { id = id; content = delete }
+  pub place-delete : (id : ℕ) → opAt heap id (placeFor size lsns (DeletedAt location) mark) ≡ record { id = id; content = delete }
   unfolding placeFor movingAt
-  place-delete id d = rw (e, ne-eqb (k + 1) 0 (λ z. omega arith), d) refl
+  place-delete id = rw (e, ne-eqb (k + 1) 0 (λ z. omega arith)) refl
 
   -- an object of the file in slot k, which lies within its object bytes
-  pub place-object : (id : ℕ) (r : Label) → deleteOf location ≡ false → 64 ≤ size → k * size + size ≤ length heap
+  pub place-object : (id : ℕ) (r : Label) → 64 ≤ size → k * size + size ≤ length heap
       → let o = storedAt (positionOf location - getD lsns k 0) (drop (positionOf location - getD lsns k 0) (objectPart r (slotBytes size heap k))) in
       20 + o .size ≤ o .room → o .size < 2 ^ 20
-      → (opAt heap id (placeFor size lsns location mark) ≡ record { id = id; content = put (o .body) }) × Whole heap (placeFor size lsns location mark)
+      → (opAt heap id (placeFor size lsns (At location) mark) ≡ record { id = id; content = put (o .body) }) × Whole heap (placeFor size lsns (At location) mark)
   unfolding placeFor movingAt
-  place-object id r d wide whole room short =
+  place-object id r wide whole room short =
       let stands = object-part-stands r size heap k wide whole in
       let there = object-there (objectPart r (slotBytes size heap k)) (stands .0) heap (k * size + 64) (positionOf location - getD lsns k 0) (stands .1) room in
       let back : k + 1 - 1 ≡ k = omega arith in
-      rw (e, ne-eqb (k + 1) 0 (λ z. omega arith), d, back) (
+      rw (e, ne-eqb (k + 1) 0 (λ z. omega arith), back) (
         rw (ne-eqb (k * size + 64 + (positionOf location - getD lsns k 0)) 1 (λ z. omega arith)) (ap (λ (b : List ℕ). record { id = id; content = put b }) (there .body)),
         record { inside = there .inside; short = omega (arith, there .size) },
       )

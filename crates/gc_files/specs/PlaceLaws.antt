@@ -9,6 +9,8 @@ use borrow.Author.Tests.{eq-eqb, ne-eqb}
 use lib.Seq.{take-suc-set, drop-set-lt}
 use Rattle.rules.specs.Base.{Bool, true, false, List, [], _∷_, _++_, ℕ, _+_, _^_, length, getD, set, take, drop, eqb, pick, suc}
 use Rattle.rules.specs.TurnLaws.{left-next, left-none}
+use Rattle.rules.specs.declared.Held.the-variants.{Mapped}
+use Rattle.rules.specs.Table.{loadedOf}
 use Rattle.rules.specs.Ops.{put, delete, Op, sizeOf, shardFor}
 use Rattle.gc_split.specs.Tally.{Tally, taking, tallyFrom, pieceIn, piecesFrom, inPiece}
 use Rattle.disk_location.specs.Locations.{shardOf}
@@ -151,7 +153,7 @@ measured heap id place moved whole is shard size =
 -- ---- a turn over the entries that are placed, and the end
 module _ (size : ℕ) (lsns ls ms : List ℕ) (i : ℕ) where
   pub places-next : i < length ls → i < length ms
-      → placesFor size lsns (drop i ls) (drop i ms) ≡ placeFor size lsns (getD ls i 0) (getD ms i 0) ∷ placesFor size lsns (drop (i + 1) ls) (drop (i + 1) ms)
+      → placesFor size lsns (drop i ls) (drop i ms) ≡ placeFor size lsns (loadedOf (Mapped (getD ls i 0))) (getD ms i 0) ∷ placesFor size lsns (drop (i + 1) ls) (drop (i + 1) ms)
   unfolding placesFor
   places-next h g = ap₂ (placesFor size lsns) (left-next ls i 0 h) (left-next ms i 0 g)
 

@@ -4,7 +4,11 @@ use Prim.Native.Nat.{_≤_, _<_}
 use Rattle.numbers.specs.LittleEndian.{leValue}
 use Rattle.rules.specs.Base.{true, false, List, [], _∷_, ℕ, _+_, _-_, _*_, _^_, length, getD, take, drop, eqb, pick}
 use Rattle.rules.specs.Ops.{Op, sizeOf, shardFor}
-use Rattle.disk_location.specs.Locations.{positionOf, deleteOf}
+use Rattle.rules.specs.declared.Held.the-variants.{Mapped}
+use Rattle.rules.specs.declared.Loaded.{Loaded}
+use Rattle.rules.specs.declared.Loaded.the-variants.{At, DeletedAt, Never}
+use Rattle.rules.specs.Table.{loadedOf}
+use Rattle.disk_location.specs.Locations.{positionOf}
 use Rattle.batch.specs.declared.Operation.{Operation}
 use Rattle.batch.specs.Reading.{opIn}
 use Rattle.gc_split.specs.Tally.{Tally, taking, pieceIn}
@@ -78,26 +82,37 @@ pub record Splitting (heap xs ps gs : List ℕ) (entries : ℕ) : Type 0 where
   pub standing : Standing heap ps
   pub room : entries + length xs ≤ 65536
 
--- ---- where the operation of a marked entry stands, in the slot of its mark: slots of that size, files of these lsns
-unfoldable pub placeFor : ℕ → List ℕ → ℕ → ℕ → ℕ
-placeFor size lsns location mark =
-    pick (eqb mark 0) 0 (pick (deleteOf location) 1 ((mark - 1) * size + 64 + (positionOf location - getD lsns (mark - 1) 0)))
+-- ---- where the operation of an entry stands, by what load tells of the entry
+-- in slot k: slots of that size, files of these lsns
+abbrev pub placeIn : ℕ → List ℕ → Loaded → ℕ → ℕ
+placeIn size lsns (At l) k = k * size + 64 + (positionOf l - getD lsns k 0)
+placeIn size lsns (DeletedAt l) k = 1
+placeIn size lsns Never k = 0
 
--- of each entry
+-- in the slot of its mark, if it is marked
+unfoldable pub placeFor : ℕ → List ℕ → Loaded → ℕ → ℕ
+placeFor size lsns loaded mark = pick (eqb mark 0) 0 (placeIn size lsns loaded (mark - 1))
+
+-- of the entry at each location
 unfoldable pub placesFor : ℕ → List ℕ → List ℕ → List ℕ → List ℕ
 placesFor size lsns [] ms = []
 placesFor size lsns (l ∷ ls) [] = []
-placesFor size lsns (l ∷ ls) (m ∷ ms) = placeFor size lsns l m ∷ placesFor size lsns ls ms
+placesFor size lsns (l ∷ ls) (m ∷ ms) = placeFor size lsns (loadedOf (Mapped l)) m ∷ placesFor size lsns ls ms
 
--- a mark is of one of 256 slots, and an object's position is one of its file's
-pub record Placeable (lsns : List ℕ) (location mark : ℕ) : Type 0 where
+-- an object's position is one of a file of that lsn
+abbrev pub InFile : ℕ → Loaded → Type 0
+InFile lsn (At l) = (lsn ≤ positionOf l) × (positionOf l - lsn ≤ 2 ^ 20)
+InFile lsn (DeletedAt l) = Unit {0}
+InFile lsn Never = Unit {0}
+
+-- a mark is of one of 256 slots, and an object is in the file of its mark
+pub record Placeable (lsns : List ℕ) (loaded : Loaded) (mark : ℕ) : Type 0 where
   pub slots : length lsns ≡ 256
   pub slot : mark ≤ 256
-  pub low : 0 < mark → deleteOf location ≡ false → getD lsns (mark - 1) 0 ≤ positionOf location
-  pub high : 0 < mark → deleteOf location ≡ false → positionOf location - getD lsns (mark - 1) 0 ≤ 2 ^ 20
+  pub file : 0 < mark → InFile (getD lsns (mark - 1) 0) loaded
 
--- of every entry
+-- of the entry at every location
 pub record Placeables (lsns ls ms places : List ℕ) : Type 0 where
   pub marks : length ls ≤ length ms
   pub room : length ls ≤ length places
-  pub each : (i : ℕ) → i < length ls → Placeable lsns (getD ls i 0) (getD ms i 0)
+  pub each : (i : ℕ) → i < length ls → Placeable lsns (loadedOf (Mapped (getD ls i 0))) (getD ms i 0)

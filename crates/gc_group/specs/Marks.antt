@@ -2,8 +2,11 @@
 use Rattle.rules.specs.Base.{Bool, false, List, [], _∷_, _++_, map, ℕ, suc, _+_, _-_, drop, replicate, eqb, pick, any, sum}
 use Rattle.rules.specs.declared.Entry.{Entry}
 use Rattle.rules.specs.declared.Label.{Label}
+use Rattle.rules.specs.declared.Held.the-variants.{Mapped}
+use Rattle.rules.specs.declared.Loaded.{Loaded}
+use Rattle.rules.specs.declared.Loaded.the-variants.{At, DeletedAt, Never}
 use Rattle.disk_location.specs.Locations.{positionOf, deleteOf, rawOf}
-use Rattle.rules.specs.Table.{load, currentAt}
+use Rattle.rules.specs.Table.{loadedOf, load, currentAt}
 use Rattle.rules.specs.Trailer.{absolute}
 use Rattle.rules.specs.Object.{Stored, storedAt}
 use Rattle.rules.specs.Ops.{Content, put, delete, Op}
@@ -60,9 +63,15 @@ objectOf s location k =
     let position = positionOf location - fileAt s k .lsn in
     storedAt position (drop position (objectPart (fileAt s k) (bytesAt s k)))
 
--- its content
+-- the content of an entry in the file of slot k, by what load tells of the entry: of one that is held, not `Never`
+abbrev pub loadedContent : Source → Loaded → ℕ → Content
+loadedContent s (At l) k = put (objectOf s l k .body)
+loadedContent s (DeletedAt l) k = delete
+loadedContent s Never k = delete
+
+-- of the entry at a location
 unfoldable pub contentAt : Source → ℕ → ℕ → Content
-contentAt s location k = pick (deleteOf location) delete (put (objectOf s location k .body))
+contentAt s location k = loadedContent s (loadedOf (Mapped location)) k
 
 -- the marked entries in table order, each with its content in the slot of its mark
 unfoldable pub markedOps : Source → List Entry → List ℕ → List Op

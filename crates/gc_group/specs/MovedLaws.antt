@@ -13,6 +13,8 @@ use Rattle.rules.specs.Base.{Bool, true, false, List, [], _∷_, ℕ, zero, suc
 use Rattle.rules.specs.BaseLaws.{All, same?, all-both, replicate-at}
 use Rattle.rules.specs.declared.Entry.{Entry}
 use Rattle.rules.specs.declared.Held.the-variants.{Mapped}
+use Rattle.rules.specs.declared.Loaded.{Loaded}
+use Rattle.rules.specs.declared.Loaded.the-variants.{At, DeletedAt}
 use Rattle.rules.specs.declared.Answer.the-variants.{Done}
 use Rattle.disk_location.specs.Locations.{positionOf, deleteOf, rawOf}
 use Rattle.disk_location.specs.LocationLaws.{delete-raw}
@@ -20,11 +22,11 @@ use Rattle.rules.specs.Refusal.{decide}
 use Rattle.rules.specs.Object.{Stored, storedAt, objectsIn}
 use Rattle.rules.specs.Trailer.{absolute}
 use Rattle.rules.specs.SlotFile.{objectPart}
-use Rattle.rules.specs.Table.{lookup, load, currentAt, noEntry}
+use Rattle.rules.specs.Table.{lookup, loadedOf, load, currentAt, noEntry}
 use Rattle.rules.specs.TableLaws.{Rising, mapped-one, current-is}
 use Rattle.rules.specs.Ops.{put, delete, Op}
 use Rattle.rules.specs.Maintenance.{fileTests}
-use Rattle.location_table.specs.EntryLaws.{rising-lt, place-found, found-tells}
+use Rattle.location_table.specs.LoadLaws.{entry-lookup}
 use Rattle.gc_group.specs.Source.{Source, fileAt, bytesAt}
 use Rattle.gc_group.specs.Checks.{groupChecks, Whole}
 use Rattle.gc_group.specs.Clear.{clear-each, file-whole}
@@ -60,9 +62,9 @@ pub record Moves (limit : ℕ) (s : Source) (e : Entry) (k : ℕ) : Type 0 where
   pub whole : Whole limit (s .table) (objectOf s (e .location) k)
   pub same : objectOf s (e .location) k .id ≡ e .id
 
--- unless it is a delete
+-- if load tells of an object
 abbrev pub Backed : ℕ → Source → Entry → ℕ → Type 0
-Backed limit s e k = deleteOf (e .location) ≡ false → Moves limit s e k
+Backed limit s e k = loadedOf (Mapped (e .location)) ≡ At (e .location) → Moves limit s e k
 
 -- what is found, with where it stands
 record Found (limit : ℕ) (s : Source) (k : ℕ) (o : Op) : Type 0 where
@@ -88,10 +90,11 @@ found-delete : (limit : ℕ) (s : Source) (k : ℕ) (e : Entry) → deleteOf (e 
     → currentAt (load (s .table) (e .id)) (absolute (fileAt s k .lsn) e .location) ≡ true → Found limit s k (record { id = e .id; content = delete })
 found-delete limit s k e d h =
     let location = rawOf (positionOf (e .location) + fileAt s k .lsn) (deleteOf (e .location)) in
+    let told : loadedOf (Mapped location) ≡ DeletedAt location = rw (delete-raw (positionOf (e .location) + fileAt s k .lsn) (deleteOf (e .location)), d) refl in
     record {
       location = location;
       mapped = current-is (lookup (s .table) (e .id)) location h;
-      backed = λ n. absurd (true≢false (sym (delete-raw (positionOf (e .location) + fileAt s k .lsn) (deleteOf (e .location)) ∙ d) ∙ n));
+      backed = λ n. absurd (let z : _≡_ {A = Loaded} (DeletedAt location) (At location) = sym told ∙ n in let y : _≡_ {A = ℕ} 0 1 = cc in omega arith);
     }
 
 found-all : (limit : ℕ) (s : Source) (k : ℕ) → decide (fileTests limit (s .table) (fileAt s k) (bytesAt s k)) ≡ Done → All (Found limit s k) (foundAt s k)
@@ -110,12 +113,6 @@ among-one R (o ∷ os) x a e = go (among-one R os x (a .1)) (same? (o .id) x)
     go : (among x (idsOf os) ≡ true → (p : Op) × (p .id ≡ x) × R p) → (o .id ≡ x) ⊎ (o .id ≡ x → ⊥) → (p : Op) × (p .id ≡ x) × R p
     go ih (inl q) = (o, q, a .0)
     go ih (inr q) = ih (sym (among-next x (o .id) (idsOf os) q) ∙ e)
-
--- an entry in order is found by its id
-entry-lookup : (es : List Entry) → Rising 0 es → (i : ℕ) → i < length es → lookup es (getD es i noEntry .id) ≡ Mapped (getD es i noEntry .location)
-entry-lookup es r i h =
-    let e = getD es i noEntry in
-    found-tells es r e i (place-found es i (e .id) (λ j l. rising-lt 0 es r j i l h) h refl) .lookup-is
 
 found-backed : (limit : ℕ) (s : Source) (k : ℕ) → Rising 0 (s .table) → decide (fileTests limit (s .table) (fileAt s k) (bytesAt s k)) ≡ Done
     → (i : ℕ) → i < length (s .table) → among (getD (s .table) i noEntry .id) (idsOf (foundAt s k)) ≡ true → Backed limit s (getD (s .table) i noEntry) k

@@ -9,34 +9,38 @@ use lib.Seq.{getD-drop}
 use borrow.Author.Tests.{eq-eqb, ne-eqb}
 use Rattle.numbers.specs.GroupLaws.{either-way}
 use Rattle.numbers.specs.Parts.{front, front-length}
-use Rattle.disk_location.specs.Locations.{positionOf, deleteOf}
-use Rattle.rules.specs.Base.{Bool, true, false, List, [], _∷_, _++_, ℕ, zero, suc, _+_, _-_, _*_, _^_, length, getD, drop, replicate, each}
+use Rattle.disk_location.specs.Locations.{positionOf}
+use Rattle.rules.specs.Base.{List, [], _∷_, _++_, ℕ, zero, suc, _+_, _-_, _*_, _^_, length, getD, drop, replicate, each}
 use Rattle.rules.specs.TurnLaws.{left-next}
 use Rattle.rules.specs.declared.Entry.{Entry}
 use Rattle.rules.specs.declared.Label.{Label}
 use Rattle.rules.specs.declared.Record.{Record}
 use Rattle.rules.specs.declared.Settings.{Settings}
 use Rattle.rules.specs.declared.Answer.the-variants.{Done}
+use Rattle.rules.specs.declared.Held.the-variants.{Mapped}
+use Rattle.rules.specs.declared.Loaded.{Loaded}
+use Rattle.rules.specs.declared.Loaded.the-variants.{At, DeletedAt}
 use Rattle.rules.specs.Refusal.{decide}
 use Rattle.rules.specs.SettingsLaws.{InRanges}
 use Rattle.rules.specs.Object.{storedAt}
 use Rattle.rules.specs.SlotFile.{slotBytes, objectPart}
 use Rattle.rules.specs.FileMap.{emptyRecord, recordAt}
-use Rattle.rules.specs.Ops.{Op, settled}
+use Rattle.rules.specs.Ops.{Content, put, delete, Op, settled}
 use Rattle.rules.specs.BaseLaws.{replicate-at}
-use Rattle.rules.specs.Table.{noEntry}
+use Rattle.rules.specs.Table.{loadedOf, noEntry}
 use Rattle.rules.specs.Layout.{Table, tableIds, tableLocations, usedEntries}
 use Rattle.rules.specs.LayoutLaws.{ids-count, locations-count, used-length}
 use Rattle.location_table.specs.Tables.{Formed}
 use Rattle.location_table.specs.LayoutLaws.{used-id, used-location, used-rising}
+use Rattle.location_table.specs.LoadLaws.{either-kind}
 use Rattle.file_map.specs.Lists.{lsnsOf}
 use Rattle.gc_candidates.specs.Plan.{planned, planned-all}
 use Rattle.gc_group.specs.Source.{Source, source, Ready, part-length}
 use Rattle.gc_group.specs.Checks.{groupChecks}
-use Rattle.gc_group.specs.Marks.{foundAt, idsOf, marked, marksFrom, marksOf, contentAt, markedOps}
+use Rattle.gc_group.specs.Marks.{foundAt, idsOf, marked, marksFrom, marksOf, loadedContent, contentAt, markedOps}
 use Rattle.gc_group.specs.MarkLaws.{marked-length, marked-settled, from-past}
 use Rattle.gc_group.specs.MovedLaws.{Moves, marks-backed, marked-here, marked-next, marked-end}
-use Rattle.gc_files.specs.Places.{opAt, placedOps, InSlot, Standing, placeFor, placesFor, Placeable, Placeables}
+use Rattle.gc_files.specs.Places.{opAt, placedOps, InSlot, Standing, placeFor, placesFor, InFile, Placeable, Placeables}
 use Rattle.gc_files.specs.MarkedLaws.{object-there, object-part-stands, place-delete, place-object}
 use Rattle.gc_places.specs.Group.{Checked, OfUsed, Kept, InGroup}
 
@@ -57,7 +61,7 @@ places-length size lsns (l ∷ ls) [] h = absurd (not-suc-le-zero h)
 places-length size lsns (l ∷ ls) (m ∷ ms) h = ap suc (places-length size lsns ls ms (le-of-suc-le-suc h))
 
 -- that of entry i
-places-at : (size : ℕ) (lsns ls ms : List ℕ) (i : ℕ) → i < length ls → i < length ms → getD (placesFor size lsns ls ms) i 0 ≡ placeFor size lsns (getD ls i 0) (getD ms i 0)
+places-at : (size : ℕ) (lsns ls ms : List ℕ) (i : ℕ) → i < length ls → i < length ms → getD (placesFor size lsns ls ms) i 0 ≡ placeFor size lsns (loadedOf (Mapped (getD ls i 0))) (getD ms i 0)
 unfolding placesFor
 places-at size lsns [] ms i h g = absurd (not-suc-le-zero h)
 places-at size lsns (l ∷ ls) [] i h g = absurd (not-suc-le-zero g)
@@ -75,22 +79,21 @@ unfolding front
 front-zero ps n i = behind-zero ps (length ps) n i
 
 -- an entry without a mark has no place
-place-none : (size : ℕ) (lsns : List ℕ) (location : ℕ) → placeFor size lsns location 0 ≡ 0
+place-none : (size : ℕ) (lsns : List ℕ) (loaded : Loaded) → placeFor size lsns loaded 0 ≡ 0
 unfolding placeFor
-place-none size lsns location = refl
+place-none size lsns loaded = refl
 
 -- a delete's place
-place-gone : (size : ℕ) (lsns : List ℕ) (location k : ℕ) → deleteOf location ≡ true → placeFor size lsns location (suc k) ≡ 1
+place-gone : (size : ℕ) (lsns : List ℕ) (location k : ℕ) → placeFor size lsns (DeletedAt location) (suc k) ≡ 1
 unfolding placeFor
-place-gone size lsns location k d = rw (ne-eqb (suc k) 0 (λ z. omega arith), d) refl
+place-gone size lsns location k = rw (ne-eqb (suc k) 0 (λ z. omega arith)) refl
 
 -- an object's place
-place-object-is : (size : ℕ) (lsns : List ℕ) (location k : ℕ) → deleteOf location ≡ false
-    → placeFor size lsns location (suc k) ≡ k * size + 64 + (positionOf location - getD lsns k 0)
+place-object-is : (size : ℕ) (lsns : List ℕ) (location k : ℕ) → placeFor size lsns (At location) (suc k) ≡ k * size + 64 + (positionOf location - getD lsns k 0)
 unfolding placeFor
-place-object-is size lsns location k d =
+place-object-is size lsns location k =
     let back : suc k - 1 ≡ k = omega arith in
-    rw (ne-eqb (suc k) 0 (λ z. omega arith), d, back) refl
+    rw (ne-eqb (suc k) 0 (λ z. omega arith), back) refl
 
 -- ---- marks one by one
 from-length : (s : Source) (slots ms : List ℕ) → length (marksFrom s slots ms) ≡ length ms
@@ -182,43 +185,47 @@ module _ (limit size : ℕ) (heap : List ℕ) (records : List Record) (plan : Li
   abbrev entryAt : ℕ → Entry
   entryAt i = getD (usedEntries table) i noEntry
 
-  -- its place in slot k
-  abbrev place : ℕ → ℕ → ℕ
-  place i k = placeFor size lsns (getD ls i 0) (suc k)
+  -- what load tells of it
+  abbrev loaded : ℕ → Loaded
+  loaded i = loadedOf (Mapped (getD ls i 0))
 
-  -- entry i with the mark of slot k
-  record Stood (i k : ℕ) : Type 0 where
-    some : 0 < place i k
-    op : opAt heap (getD is i 0) (place i k) ≡ record { id = entryAt i .id; content = contentAt from (entryAt i .location) k }
+  -- the place in slot k of an entry of which load tells that
+  abbrev place : Loaded → ℕ → ℕ
+  place o k = placeFor size lsns o (suc k)
+
+  -- entry i with the mark of slot k, if load tells that of it
+  record Stood (i k : ℕ) (o : Loaded) : Type 0 where
+    some : 0 < place o k
+    op : opAt heap (getD is i 0) (place o k) ≡ record { id = entryAt i .id; content = contentAt from (entryAt i .location) k }
     slot : k < 256
-    low : deleteOf (getD ls i 0) ≡ false → getD lsns k 0 ≤ positionOf (getD ls i 0)
-    high : deleteOf (getD ls i 0) ≡ false → positionOf (getD ls i 0) - getD lsns k 0 ≤ 2 ^ 20
-    kept : 1 < place i k → Kept size heap plan generation (place i k)
+    file : InFile (getD lsns k 0) o
+    kept : 1 < place o k → Kept size heap plan generation (place o k)
 
   module _ (a : Checked limit size heap records plan generation table n) where
     fits : length (usedEntries table) ≤ n
     fits = omega (arith, used-length table, ids-count table, a .wide)
 
     -- a delete
-    stood-delete : (i k : ℕ) → i < length (usedEntries table) → k < 256 → deleteOf (getD ls i 0) ≡ true → Stood i k
+    stood-delete : (i k : ℕ) → i < length (usedEntries table) → k < 256 → loaded i ≡ DeletedAt (getD ls i 0) → Stood i k (DeletedAt (getD ls i 0))
     unfolding contentAt
-    stood-delete i k h few d =
-        let is-one = place-gone size lsns (getD ls i 0) k d in
+    stood-delete i k h few told =
+        let is-one = place-gone size lsns (getD ls i 0) k in
         let next : suc k ≡ k + 1 = omega arith in
-        let gone : deleteOf (entryAt i .location) ≡ true = rw (← used-location table i h) d in
+        let content : loadedContent from (loadedOf (Mapped (entryAt i .location))) k ≡ delete =
+        ap (λ (l : ℕ). loadedContent from (loadedOf (Mapped l)) k) (sym (used-location table i h)) ∙ ap (λ (o : Loaded). loadedContent from o k) told in
         record {
           some = omega (arith, is-one);
-          op = place-delete size heap lsns (getD ls i 0) k (suc k) next (getD is i 0) d ∙ rw (gone, used-id table i h) refl;
+          op = place-delete size heap lsns (getD ls i 0) k (suc k) next (getD is i 0) ∙ ap₂ (λ (x : ℕ) (c : Content). record { id = x; content = c }) (used-id table i h) (sym content);
           slot = few;
-          low = λ e. absurd (let z : true ≡ false = sym d ∙ e in let y : _≡_ {A = ℕ} 0 1 = cc in omega arith);
-          high = λ e. absurd (let z : true ≡ false = sym d ∙ e in let y : _≡_ {A = ℕ} 0 1 = cc in omega arith);
+          file = tt;
           kept = λ more. absurd (omega (arith, is-one));
         }
 
     -- an object
-    stood-object : (i k : ℕ) → i < length (usedEntries table) → k < 256 → getD plan k 0 ≡ generation → deleteOf (getD ls i 0) ≡ false → Moves limit from (entryAt i) k → Stood i k
+    stood-object : (i k : ℕ) → i < length (usedEntries table) → k < 256 → getD plan k 0 ≡ generation → loaded i ≡ At (getD ls i 0) → Moves limit from (entryAt i) k
+        → Stood i k (At (getD ls i 0))
     unfolding contentAt
-    stood-object i k h few chosen d moves =
+    stood-object i k h few chosen told moves =
         let location = getD ls i 0 in
         let r = recordAt records k .label in
         let lsn : getD lsns k 0 ≡ r .lsn = List·getD-map (λ (q : Record). q .label .lsn) records k emptyRecord in
@@ -231,44 +238,43 @@ module _ (limit size : ℕ) (heap : List ℕ) (records : List Record) (plan : Li
         let whole = a .ready .standing k chosen in
         let lies = object-lies size heap r k p (a .low) (a .high) whole (omega (arith, a .ready .files k .offset, a .ready .files k .inside)) room in
         let next : suc k ≡ k + 1 = omega arith in
-        let stands = place-object size heap lsns location k (suc k) next (getD is i 0) r d (a .low) whole room (lies .short) in
-        let is-at = place-object-is size lsns location k d in
-        let there : deleteOf (entryAt i .location) ≡ false = rw (← at) d in
+        let stands = place-object size heap lsns location k (suc k) next (getD is i 0) r (a .low) whole room (lies .short) in
+        let is-at = place-object-is size lsns location k in
+        let there : positionOf location - r .lsn ≡ p = ap (λ (m : ℕ). positionOf location - m) (sym lsn) in
+        let content : loadedContent from (loadedOf (Mapped (entryAt i .location))) k ≡ put (storedAt p (drop p part) .body) =
+        ap (λ (l : ℕ). loadedContent from (loadedOf (Mapped l)) k) (sym at) ∙ ap (λ (o : Loaded). loadedContent from o k) told
+        ∙ ap (λ (m : ℕ). put (storedAt m (drop m part) .body)) there in
         record {
           some = omega (arith, is-at);
-          op = stands .0 ∙ rw (there, same, used-id table i h) refl;
+          op = stands .0 ∙ ap₂ (λ (x : ℕ) (c : Content). record { id = x; content = c }) (used-id table i h) (sym content);
           slot = few;
-          low = λ e. omega (arith, lsn, ap positionOf at, moves .low);
-          high = λ e. lies .high;
+          file = (omega (arith, lsn, ap positionOf at, moves .low), lies .high);
           kept = λ more. (stands .1, (k, chosen, few, subst (InSlot size heap k) (sym is-at) (lies .inside)));
         }
 
     -- every mark is of a slot where the entry stands
-    stood : (i k : ℕ) → i < length (usedEntries table) → getD marks i 0 ≡ suc k → Stood i k
+    stood : (i k : ℕ) → i < length (usedEntries table) → getD marks i 0 ≡ suc k → Stood i k (loaded i)
     stood i k h e =
         let w = marks-backed limit from (λ (j : ℕ). (j < length plan) × (getD plan j 0 ≡ generation)) slots n (used-rising table (a .formed)) fits (a .clear) (planned-all plan generation) i k h e in
         let few : k < 256 = omega (arith, w .0 .0, a .ready .slots) in
-        go (deleteOf (getD ls i 0)) refl (w .0 .1) (w .1) few
-      where
-        go : (t : Bool) → deleteOf (getD ls i 0) ≡ t → getD plan k 0 ≡ generation → (deleteOf (entryAt i .location) ≡ false → Moves limit from (entryAt i) k) → k < 256 → Stood i k
-        go true d chosen backed few = stood-delete i k h few d
-        go false d chosen backed few = stood-object i k h few chosen d (backed (rw (← used-location table i h) d))
+        either-kind (λ (o : Loaded). loaded i ≡ o → Stood i k o) (getD ls i 0) (stood-delete i k h few)
+        (λ told. stood-object i k h few (w .0 .1) told (w .1 (subst (λ (l : ℕ). loadedOf (Mapped l) ≡ At l) (used-location table i h) told))) refl
 
     -- an entry behind the used ones has no mark
     unmarked : (i k : ℕ) → length (usedEntries table) ≤ i → getD marks i 0 ≡ suc k → ⊥
     unmarked i k past e = omega (arith, marks-behind from n slots i past, e)
 
     -- so every mark can be turned into a place
-    placeable : length lsns ≡ 256 → (i : ℕ) → Placeable lsns (getD ls i 0) (getD marks i 0)
+    placeable : length lsns ≡ 256 → (i : ℕ) → Placeable lsns (loaded i) (getD marks i 0)
     placeable all i = go (either-way i (length (usedEntries table))) (getD marks i 0) refl
       where
-        go : (i < length (usedEntries table)) ⊎ (length (usedEntries table) ≤ i) → (m : ℕ) → getD marks i 0 ≡ m → Placeable lsns (getD ls i 0) m
-        go w zero e = record { slots = all; slot = omega arith; low = λ some d. absurd (not-suc-le-zero some); high = λ some d. absurd (not-suc-le-zero some) }
+        go : (i < length (usedEntries table)) ⊎ (length (usedEntries table) ≤ i) → (m : ℕ) → getD marks i 0 ≡ m → Placeable lsns (loaded i) m
+        go w zero e = record { slots = all; slot = omega arith; file = λ some. absurd (not-suc-le-zero some) }
         go (inr past) (suc k) e = absurd (unmarked i k past e)
         go (inl inside) (suc k) e =
             let w = stood i k inside e in
             let back : suc k - 1 ≡ k = omega arith in
-            record { slots = all; slot = omega (arith, w .slot); low = λ some d. rw back (w .low d); high = λ some d. rw back (w .high d) }
+            record { slots = all; slot = omega (arith, w .slot); file = λ some. rw back (w .file) }
 
     -- by lists that are the lsns and the marks
     pub placeables : (ns ms old : List ℕ) → length ns ≡ 256 → ns ≡ lsns → ms ≡ marks → length is ≤ length old → Placeables ns ls ms old
@@ -283,7 +289,7 @@ module _ (limit size : ℕ) (heap : List ℕ) (records : List Record) (plan : Li
       abbrev places : List ℕ
       places = front (placesFor size lsns ls marks) (replicate m 0)
 
-      place-at : (i : ℕ) → i < length is → getD places i 0 ≡ placeFor size lsns (getD ls i 0) (getD marks i 0)
+      place-at : (i : ℕ) → i < length is → getD places i 0 ≡ placeFor size lsns (loaded i) (getD marks i 0)
       place-at i h =
           front-zero (placesFor size lsns ls marks) m i
           ∙ places-at size lsns ls marks i (omega (arith, same-count)) (omega (arith, a .wide, marks-length from n slots))
@@ -293,7 +299,7 @@ module _ (limit size : ℕ) (heap : List ℕ) (records : List Record) (plan : Li
       place-behind i past = go (either-way i (length is))
         where
           go : (i < length is) ⊎ (length is ≤ i) → getD places i 0 ≡ 0
-          go (inl h) = place-at i h ∙ ap (placeFor size lsns (getD ls i 0)) (marks-behind from n slots i past) ∙ place-none size lsns (getD ls i 0)
+          go (inl h) = place-at i h ∙ ap (placeFor size lsns (loaded i)) (marks-behind from n slots i past) ∙ place-none size lsns (loaded i)
           go (inr h) =
               let few : length (placesFor size lsns ls marks) ≤ i =
               omega (arith, places-length size lsns ls marks (omega (arith, same-count, a .wide, marks-length from n slots)), same-count) in
@@ -307,14 +313,14 @@ module _ (limit size : ℕ) (heap : List ℕ) (records : List Record) (plan : Li
           go (inr past) = absurd (omega (arith, place-behind i past))
 
       -- the place of entry i, by its mark
-      marked-place : (i k : ℕ) → i < length (usedEntries table) → getD marks i 0 ≡ k → getD places i 0 ≡ placeFor size lsns (getD ls i 0) k
-      marked-place i k h e = place-at i (omega (arith, used-length table, ids-count table)) ∙ ap (placeFor size lsns (getD ls i 0)) e
+      marked-place : (i k : ℕ) → i < length (usedEntries table) → getD marks i 0 ≡ k → getD places i 0 ≡ placeFor size lsns (loaded i) k
+      marked-place i k h e = place-at i (omega (arith, used-length table, ids-count table)) ∙ ap (placeFor size lsns (loaded i)) e
 
       pub places-kept : InGroup size heap plan generation places
       places-kept i more = go (places-used i (omega arith)) (getD marks i 0) refl
         where
           go : i < length (usedEntries table) → (k : ℕ) → getD marks i 0 ≡ k → Kept size heap plan generation (getD places i 0)
-          go h zero e = absurd (omega (arith, marked-place i 0 h e, place-none size lsns (getD ls i 0)))
+          go h zero e = absurd (omega (arith, marked-place i 0 h e, place-none size lsns (loaded i)))
           go h (suc k) e =
               let at = marked-place i (suc k) h e in
               subst (Kept size heap plan generation) (sym at) (stood i k h e .kept (omega (arith, at)))
@@ -356,7 +362,7 @@ module _ (limit size : ℕ) (heap : List ℕ) (records : List Record) (plan : Li
               → placedOps heap (drop i is) (drop i places) ≡ markedOps from (drop i (usedEntries table)) (drop i marks)
           go (inr past) k e ih = placed-past i past
           go (inl inside) zero e ih =
-              let none = marked-place i 0 inside e ∙ place-none size lsns (getD ls i 0) in
+              let none = marked-place i 0 inside e ∙ place-none size lsns (loaded i) in
               placed-next heap is places i (of-ids i inside) (of-places i inside) none ∙ ih ∙ sym (marked-next from (usedEntries table) marks i inside (of-marks i inside) e)
           go (inl inside) (suc k) e ih =
               let at = marked-place i (suc k) inside e in

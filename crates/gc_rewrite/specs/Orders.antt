@@ -1,14 +1,13 @@
--- The numbers of a group's files, as the code has them: what is left of the shards in one list of places, fragments in another.
-use mathlib.Core.Path.{_≡_, ap, ap₂, _∙_}
+-- The numbers of a group's files, as the code has them: what is left of the shards in one list, fragments in another.
+use mathlib.Core.Path.{_≡_, ap, _∙_}
 use mathlib.Core.Logic.{_⊎_, inl, inr}
 use Prim.Native.Nat.{_≤_, _<_}
 use native.Mathlib.Omega.{arith}
 use borrow.Author.Tests.{eq-eqb, ne-eqb}
 use lib.ListN.{length-append, length-replicate}
-use lib.Seq.{length-take-le, take-append-seam, take-append-add, getD-set-same, getD-set-other, set-out}
-use Rattle.numbers.specs.Parts.{front}
+use lib.Seq.{length-take-le, take-append-add, getD-set-same, getD-set-other, set-out}
 use Rattle.numbers.specs.GroupLaws.{either-way}
-use Rattle.rules.specs.Base.{Bool, true, false, List, [], _∷_, _++_, ℕ, zero, suc, _+_, _^_, length, getD, set, take, drop, ltb, eqb, pick}
+use Rattle.rules.specs.Base.{Bool, true, false, List, [], _∷_, _++_, ℕ, zero, suc, _+_, _^_, length, getD, set, take, ltb, eqb, pick}
 use Rattle.rules.specs.BaseLaws.{All, same?, zero-or-more, replicate-at}
 use Rattle.rules.specs.Ops.{Op, sizeOf, shardFor}
 use Rattle.rules.specs.OpsLaws.{shard-most}
@@ -148,27 +147,15 @@ order-small t w =
     (rests-small 0 (t .counts) (t .rounds) (omega (arith, w .within .countShards)) (λ k. omega (arith, w .within .rounds k, w .within .entries)))
     (front-small (t .totals .files) (t .cuts) (w .cuts))
 
--- what the two lists say, places holding whatever they held
-pub record InOrder (t : Tally) (places : List ℕ) (files : ℕ) : Type 0 where
-  pub order : orderIn files (length (restsFrom 0 (t .counts) (t .rounds))) (front (restsFrom 0 (t .counts) (t .rounds)) places) (t .cuts) ≡ orderOf t
-  pub left : length (restsFrom 0 (t .counts) (t .rounds)) ≤ length (front (restsFrom 0 (t .counts) (t .rounds)) places)
-  pub enough : files ≤ length (restsFrom 0 (t .counts) (t .rounds)) + length (t .cuts)
-
--- they give the order, and there is room for it
-pub in-order : (target slotSize : ℕ) (ops : List Op) (places : List ℕ) → Tallied (tallyOf target slotSize ops) → closedOf slotSize (tallyOf target slotSize ops) .files ≤ 256
-    → InOrder (tallyOf target slotSize ops) places (closedOf slotSize (tallyOf target slotSize ops) .files)
-unfolding orderOf front
-in-order target slotSize ops places w most =
+-- the two lists give the order
+pub in-order : (target slotSize : ℕ) (ops : List Op) → let t = tallyOf target slotSize ops in Tallied t → closedOf slotSize t .files ≤ 256
+    → orderIn (closedOf slotSize t .files) (restsFrom 0 (t .counts) (t .rounds)) (t .cuts) ≡ orderOf t
+unfolding orderOf
+in-order target slotSize ops w most =
     let t = tallyOf target slotSize ops in
     let rests = restsFrom 0 (t .counts) (t .rounds) in
     let few : t .totals .files ≤ 256 = omega (arith, fragments-among slotSize t) in
     let cut = length-take-le (t .totals .files) (t .cuts) (omega (arith, w .room)) in
     let count : closedOf slotSize t .files ≡ length rests + t .totals .files =
     omega (arith, order-counted target slotSize ops most, length-append rests (take (t .totals .files) (t .cuts)), cut) in
-    record {
-      order =
-          ap₂ (λ (n : ℕ) (xs : List ℕ). take n (xs ++ t .cuts)) count (take-append-seam rests (drop (length rests) places))
-          ∙ take-append-add rests (t .cuts) (t .totals .files);
-      left = omega (arith, length-append rests (drop (length rests) places));
-      enough = omega (arith, count, w .room);
-    }
+    ap (λ (n : ℕ). take n (rests ++ t .cuts)) count ∙ take-append-add rests (t .cuts) (t .totals .files)

@@ -1,12 +1,16 @@
 -- The files of a group, added one after the other.
 use mathlib.Core.Path.{_≡_, refl, sym, ap, _∙_, subst}
+use mathlib.Core.Logic.{_⊎_, inl, inr}
 use Prim.Native.Nat.{_≤_, _<_}
 use native.Mathlib.Omega.{arith}
+use borrow.Author.Tests.{lt-ltb, le-ltb}
 use lib.ListN.{length-append, length-drop}
-use lib.Seq.{length-take-le, getD-take, take-suc-set, append-snoc}
+use lib.Seq.{length-take-le, getD-take, take-suc-set, append-snoc, take-at, take-append-seam}
 use mathlib.Core.List.{append-nil}
 use native.Mathlib.Numerals.{add-one}
-use Rattle.rules.specs.Base.{false, List, [], _∷_, _++_, map, ℕ, _+_, _^_, length, getD, set, take, drop}
+use Rattle.numbers.specs.Parts.{front}
+use Rattle.numbers.specs.GroupLaws.{either-way}
+use Rattle.rules.specs.Base.{false, List, [], _∷_, _++_, map, ℕ, _+_, _^_, length, getD, set, take, drop, ltb, pick}
 use Rattle.rules.specs.TurnLaws.{left-next, left-none}
 use Rattle.rules.specs.declared.Settings.{Settings}
 use Rattle.rules.specs.declared.State.{State}
@@ -179,14 +183,40 @@ module _ (s : Settings) (generation : ℕ) (places pieces order : List ℕ) (t :
     kept = w .kept;
   }
 
--- the numbers of that many files, by the two lists of places
-abbrev pub orderIn : ℕ → ℕ → List ℕ → List ℕ → List ℕ
-orderIn files left rests cuts = take files (take left rests ++ cuts)
+-- the numbers of that many files: those of what is left of the shards, then those of the fragments
+abbrev pub orderIn : ℕ → List ℕ → List ℕ → List ℕ
+orderIn files rests cuts = take files (rests ++ cuts)
 
 -- that many
-pub order-long : (files left : ℕ) (rests cuts : List ℕ) → left ≤ length rests → files ≤ left + length cuts → length (orderIn files left rests cuts) ≡ files
-order-long files left rests cuts h g = length-take-le files (take left rests ++ cuts) (omega (arith, length-append (take left rests) cuts, length-take-le left rests h))
+pub order-long : (files : ℕ) (rests cuts : List ℕ) → files ≤ length cuts → length (orderIn files rests cuts) ≡ files
+order-long files rests cuts h = length-take-le files (rests ++ cuts) (omega (arith, length-append rests cuts))
 
--- file k's number
-pub order-piece : (files left : ℕ) (rests cuts : List ℕ) (k : ℕ) → k < files → getD (take left rests ++ cuts) k 0 ≡ getD (orderIn files left rests cuts) k 0
-order-piece files left rests cuts k h = sym (getD-take files (take left rests ++ cuts) k 0 h)
+-- they are read where they were put: in front of the fragments' list
+pub order-read : (files : ℕ) (rests cuts : List ℕ) → files ≤ length cuts → take files (front (orderIn files rests cuts) cuts) ≡ orderIn files rests cuts
+unfolding front
+order-read files rests cuts h = take-at (orderIn files rests cuts) (drop (length (orderIn files rests cuts)) cuts) files (order-long files rests cuts h)
+
+-- as many of them as there is room for
+abbrev pub atMost : ℕ → ℕ → ℕ
+atMost files room = pick (ltb files room) files room
+
+-- not more
+pub at-most-room : (many files room : ℕ) → many ≡ atMost files room → many ≤ room
+at-most-room many files room e = go (either-way files room)
+  where
+    go : (files < room) ⊎ (room ≤ files) → many ≤ room
+    go (inl h) = rw (e, lt-ltb files room h) (omega arith)
+    go (inr h) = rw (e, le-ltb files room h) (omega arith)
+
+-- all, where there is room
+pub at-most-all : (files room : ℕ) → files ≤ room → atMost files room ≡ files
+at-most-all files room few = go (either-way files room)
+  where
+    go : (files < room) ⊎ (room ≤ files) → atMost files room ≡ files
+    go (inl h) = rw (lt-ltb files room h) refl
+    go (inr h) = rw (le-ltb files room h) (omega arith)
+
+-- what is left of the shards is read where it was put
+pub rests-read : (rests blank lent : List ℕ) (left : ℕ) → lent ≡ front rests blank → left ≡ length rests → (left ≤ length lent) × (take left lent ≡ rests)
+unfolding front
+rests-read rests blank lent left e n = rw (e, n) (omega (arith, length-append rests (drop (length rests) blank)), take-append-seam rests (drop (length rests) blank))

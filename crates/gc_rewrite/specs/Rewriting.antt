@@ -3,7 +3,7 @@ use mathlib.Core.Path.{_≡_, sym, ap, _∙_, subst}
 use Prim.Native.Nat.{_≤_, _<_}
 use native.Mathlib.Omega.{arith}
 use Rattle.numbers.specs.Parts.{front}
-use Rattle.rules.specs.Base.{false, List, ℕ, _+_, length, getD}
+use Rattle.rules.specs.Base.{false, List, ℕ, _+_, length, getD, take}
 use Rattle.rules.specs.declared.Settings.{Settings}
 use Rattle.rules.specs.declared.State.{State}
 use Rattle.rules.specs.declared.Claims.{Claims}
@@ -32,8 +32,8 @@ use Rattle.gc_files.specs.PlaceLaws.{along-length}
 use Rattle.gc_install.specs.Placing.{Placing}
 use Rattle.gc_rewrite.specs.Courses.{courseGiven, filesTests, rewritten, files-refused, files-added}
 use Rattle.gc_rewrite.specs.Fitting.{Fitting, fitting-clear}
-use Rattle.gc_rewrite.specs.Putting.{filesIn, emptyIn, orderIn, Puttable, PutAll, Kept}
-use Rattle.gc_rewrite.specs.Orders.{Tallied, placed-short, placed-count, tallied, order-small, InOrder, in-order}
+use Rattle.gc_rewrite.specs.Putting.{filesIn, emptyIn, orderIn, order-read, atMost, at-most-room, at-most-all, Puttable, PutAll, Kept}
+use Rattle.gc_rewrite.specs.Orders.{Tallied, placed-short, placed-count, tallied, order-small, in-order}
 
 -- a group's operations stand at their places: those of used entries, each object in a slot that has a file
 pub record Moving (s : Settings) (t : State) (heap table places : List ℕ) : Type 0 where
@@ -59,14 +59,12 @@ module _ (s : Settings) (t : State) (heap table places : List ℕ) where
   abbrev whole : Tally
   whole = tallyOf (s .«target_file_size») (s .«slot_bytes») (placedOps heap (tableIds table) places)
 
-  -- what the split left: each entry's piece, the tally's lists and all files' totals
-  pub record SplitUp (pieces counts rounds cuts : List ℕ) (total : Totals) : Type 0 where
+  -- what the split left: each entry's piece, all files' totals, and their numbers in order, where there is room for them
+  pub record SplitUp (pieces order : List ℕ) (total : Totals) : Type 0 where
     pub placing : Placing s t heap table places pieces
-    pub counted : counts ≡ whole .counts
-    pub turned : rounds ≡ whole .rounds
-    pub cut : cuts ≡ whole .cuts
     pub closed : total ≡ closedOf (s .«slot_bytes») whole
     pub bounds : Tallied whole
+    pub ordered : total .files ≤ 256 → order ≡ orderOf whole
     pub files : whole .totals .files ≤ 256 → filesOf (s .«target_file_size») ops ≡ filesIn heap (tableIds table) places pieces (orderOf whole)
 
   module _ (m : Moving s t heap table places) where
@@ -96,29 +94,51 @@ module _ (s : Settings) (t : State) (heap table places : List ℕ) where
       pub split-closable : Closable (lent .counts) (lent .sizes) (lent .totals)
       split-closable = closable lent (subst Within (sym told) (moving-tallied .within))
 
-      -- closed
-      pub split-up : (old pieces : List ℕ) (total : Totals) → length (tableIds table) ≤ length old
-          → pieces ≡ piecesAlong (s .«target_file_size») (s .«slot_bytes») heap (tableIds table) places old emptyTally
-          → total ≡ closingRests (s .«slot_bytes») (lent .counts) (lent .sizes) (lent .totals) → SplitUp pieces (lent .counts) (lent .rounds) (lent .cuts) total
-      unfolding closedOf
-      split-up old pieces total wide p q = record {
-        placing = record { limits = m .limits; wide = m .wide; numbered = omega (arith, ap length p, along-length (s .«target_file_size») (s .«slot_bytes») heap (tableIds table) places old emptyTally); used = m .used; kept = m .kept };
-        counted = ap (λ (u : Tally). u .counts) told;
-        turned = ap (λ (u : Tally). u .rounds) told;
-        cut = ap (λ (u : Tally). u .cuts) told;
-        closed = q ∙ ap (λ (u : Tally). closingRests (s .«slot_bytes») (u .counts) (u .sizes) (u .totals)) told;
-        bounds = moving-tallied;
-        files = λ room.
-            files-filed (s .«target_file_size») (s .«slot_bytes») heap (tableIds table) places old wide room
-            ∙ ap (λ (gs : List ℕ). filesIn heap (tableIds table) places gs (orderOf whole)) (sym p);
-      }
+      -- what numbering its files asks for
+      pub split-numbered : (rests : List ℕ) → length rests ≡ 65 → Numbered (lent .counts) (lent .rounds) rests
+      split-numbered rests room = numbered lent rests (subst Within (sym told) (moving-tallied .within)) room
+
+      -- it has 256 places for fragments
+      split-room : length (lent .cuts) ≡ 256
+      split-room = ap (λ (u : Tally). length (u .cuts)) told ∙ moving-tallied .room
+
+      -- closed, and its files' numbers in order
+      module _ (total : Totals) (closed : total ≡ closingRests (s .«slot_bytes») (lent .counts) (lent .sizes) (lent .totals)) where
+        -- all files' totals
+        totals-are : total ≡ closedOf (s .«slot_bytes») whole
+        unfolding closedOf
+        totals-are = closed ∙ ap (λ (u : Tally). closingRests (s .«slot_bytes») (u .counts) (u .sizes) (u .totals)) told
+
+        -- as many numbers as there are places for
+        orders-are : (many : ℕ) → many ≡ atMost (total .files) (length (lent .cuts)) → total .files ≤ 256
+            → orderIn many (restsFrom 0 (lent .counts) (lent .rounds)) (lent .cuts) ≡ orderOf whole
+        orders-are many n few =
+            let all : many ≡ closedOf (s .«slot_bytes») whole .files =
+            n ∙ at-most-all (total .files) (length (lent .cuts)) (omega (arith, few, split-room)) ∙ ap (λ (u : Totals). u .files) totals-are in
+            ap (λ (k : ℕ). orderIn k (restsFrom 0 (lent .counts) (lent .rounds)) (lent .cuts)) all
+            ∙ ap (λ (u : Tally). orderIn (closedOf (s .«slot_bytes») whole .files) (restsFrom 0 (u .counts) (u .rounds)) (u .cuts)) told
+            ∙ in-order (s .«target_file_size») (s .«slot_bytes») ops moving-tallied (omega (arith, few, ap (λ (u : Totals). u .files) totals-are))
+
+        pub split-up : (old pieces numbers : List ℕ) (many : ℕ) → length (tableIds table) ≤ length old
+            → pieces ≡ piecesAlong (s .«target_file_size») (s .«slot_bytes») heap (tableIds table) places old emptyTally
+            → many ≡ atMost (total .files) (length (lent .cuts))
+            → numbers ≡ front (orderIn many (restsFrom 0 (lent .counts) (lent .rounds)) (lent .cuts)) (lent .cuts)
+            → SplitUp pieces (take many numbers) total
+        split-up old pieces numbers many wide p n o = record {
+          placing = record { limits = m .limits; wide = m .wide; numbered = omega (arith, ap length p, along-length (s .«target_file_size») (s .«slot_bytes») heap (tableIds table) places old emptyTally); used = m .used; kept = m .kept };
+          closed = totals-are;
+          bounds = moving-tallied;
+          ordered = λ few.
+              ap (take many) o
+              ∙ order-read many (restsFrom 0 (lent .counts) (lent .rounds)) (lent .cuts) (at-most-room many (total .files) (length (lent .cuts)) n)
+              ∙ orders-are many n few;
+          files = λ room.
+              files-filed (s .«target_file_size») (s .«slot_bytes») heap (tableIds table) places old wide room
+              ∙ ap (λ (gs : List ℕ). filesIn heap (tableIds table) places gs (orderOf whole)) (sym p);
+        }
 
   -- ---- the files
-  module _ (pieces counts rounds cuts : List ℕ) (total : Totals) (w : SplitUp pieces counts rounds cuts total) where
-    -- what numbering them asks for
-    pub split-numbered : (rests : List ℕ) → length rests ≡ 65 → Numbered counts rounds rests
-    split-numbered rests room = rw (w .counted, w .turned) (numbered whole rests (w .bounds .within) room)
-
+  module _ (pieces order : List ℕ) (total : Totals) (w : SplitUp pieces order total) where
     -- 4, 5 and 7 are decided by their totals
     module _ (moved generation : ℕ) where
       -- the totals are those of the definition
@@ -164,36 +184,27 @@ module _ (s : Settings) (t : State) (heap table places : List ℕ) where
             let n : total .entries ≡ length ops = ap (λ (u : Totals). u .entries) (w .closed ∙ split-totals (s .«target_file_size») (s .«slot_bytes») ops) in
             (n, omega (arith, n, placed-count heap (tableIds table) places, ids-count table, w .placing .limits .limits .table .most), omega (arith, most, ap (λ (u : Totals). u .files) (w .closed)))
 
-        module _ (blank rests : List ℕ) (left : ℕ) (there : rests ≡ front (restsFrom 0 counts rounds) blank) (many : left ≡ length (restsFrom 0 counts rounds)) where
-          -- the files' numbers in the two lists
-          told-order : InOrder whole blank (closedOf (s .«slot_bytes») whole .files)
-          told-order = in-order (s .«target_file_size») (s .«slot_bytes») ops blank (w .bounds) most
+        -- so all their numbers are in order
+        same-order : order ≡ orderOf whole
+        same-order = w .ordered (split-count .2)
 
-          -- as the code reads them
-          same-order : orderIn (total .files) left rests cuts ≡ orderOf whole
-          same-order = rw (w .closed, many, there, w .cut, w .counted, w .turned) (told-order .order)
+        -- what adding the files asks for
+        pub split-puttable : Puttable s t heap table places pieces order
+        split-puttable = rw same-order (record {
+          placing = w .placing;
+          fitting = subst (Fitting (s .«slot_bytes») (emptyIn s t heap) (t .«next_position»)) filed fitting;
+          small = order-small whole (w .bounds);
+        })
 
-          -- what adding the files asks for
-          pub split-puttable : Puttable s t heap table places pieces (orderIn (total .files) left rests cuts)
-          split-puttable = rw same-order (record {
-            placing = w .placing;
-            fitting = subst (Fitting (s .«slot_bytes») (emptyIn s t heap) (t .«next_position»)) filed fitting;
-            small = order-small whole (w .bounds);
-          })
-
-          -- and where their numbers stand
-          pub split-places : (left ≤ length rests) × (total .files ≤ left + length cuts)
-          split-places = rw (w .closed, many, there, w .cut, w .counted, w .turned) (told-order .left, told-order .enough)
-
-          -- and what it leaves
-          pub split-rewritten : (r : State) (heap′ table′ : List ℕ)
-              → PutAll s generation t heap table (filesIn heap (tableIds table) places pieces (orderIn (total .files) left rests cuts)) r heap′ table′
-              → Rewritten s generation ops moved t heap table Done (moved + total .entries) r heap′ table′
-          split-rewritten r heap′ table′ p = record {
-            course = λ c.
-                files-added generation ops moved (world s t c heap table) (sym (tests-are c) ∙ e) (total .entries) (split-count .0) (world s r c heap′ table′)
-                (p .worlds c ∙ ap (installedAll 0 generation (world s t c heap table)) (ap (filesIn heap (tableIds table) places pieces) same-order ∙ sym filed));
-            limits = p .limits;
-            count = omega (arith, split-count .1);
-            kept = p .kept;
-          }
+        -- and what it leaves
+        pub split-rewritten : (r : State) (heap′ table′ : List ℕ)
+            → PutAll s generation t heap table (filesIn heap (tableIds table) places pieces order) r heap′ table′
+            → Rewritten s generation ops moved t heap table Done (moved + total .entries) r heap′ table′
+        split-rewritten r heap′ table′ p = record {
+          course = λ c.
+              files-added generation ops moved (world s t c heap table) (sym (tests-are c) ∙ e) (total .entries) (split-count .0) (world s r c heap′ table′)
+              (p .worlds c ∙ ap (installedAll 0 generation (world s t c heap table)) (ap (filesIn heap (tableIds table) places pieces) same-order ∙ sym filed));
+          limits = p .limits;
+          count = omega (arith, split-count .1);
+          kept = p .kept;
+        }

@@ -4,9 +4,8 @@ use Prim.Native.Nat.{_≤_}
 use native.Mathlib.Omega.{arith}
 use lib.Seq.{ext-getD}
 use borrow.Author.Tests.{le-ltb}
-use Rattle.rules.specs.Base.{List, [], ℕ, length, each, pick}
+use Rattle.rules.specs.Base.{List, [], ℕ, length, each}
 use Rattle.theory.specs.Types.{Entry, Held, Mapped, Unmapped, Slot, Is, NoSlot}
-use Rattle.disk_location.specs.Locations.{deleteOf}
 use Rattle.rules.specs.Refusal.{decide, NoneHolds, decide-clear, none-append}
 use Rattle.rules.specs.Condition1Laws.{limits-in}
 use Rattle.rules.specs.SlotFile.{File, View, empty, damaged, holds}
@@ -20,7 +19,8 @@ use Rattle.rules.specs.ReopenLaws.{records-from-length}
 use Rattle.rules.specs.World.{World, recordsOf, stateWith, accepted}
 use Rattle.theory.specs.Places.{viewAt, record-holds, record-empty, no-damage}
 use Rattle.theory.specs.Files.{no-file, no-damage-tests, no-overlap, next-positive, next-above, record-from}
-use Rattle.theory.specs.Picture.{Picture, viewsOf, pictureOf, Said, gone, slotSays, heldSays, pictureSays}
+use Rattle.theory.specs.Picture.{Picture, viewsOf, pictureOf, Said, slotSays, heldSays, pictureSays}
+use Rattle.theory.specs.Says.{held-same}
 use Rattle.theory.specs.SoundWorld.{SoundWorld}
 
 -- the same store without claims, its next position worked out again
@@ -44,7 +44,7 @@ says-next p n x = held (lookup (p .table) x)
 
     held : (o : Held) → heldSays (record { views = p .views; records = p .records; table = p .table; next = n }) o x ≡ heldSays p o x
     held Unmapped = refl
-    held (Mapped l) = ap (pick (deleteOf l) gone) (found (fileFor (p .records) l) l)
+    held (Mapped l) = held-same (record { views = p .views; records = p .records; table = p .table; next = n }) p l x (found (fileFor (p .records) l) l)
 
 module _ (w : World) (told : ℕ → Said) (s : SoundWorld w told) where
   fits : length (viewsOf w) ≤ 256

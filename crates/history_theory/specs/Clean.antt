@@ -33,6 +33,7 @@ use Rattle.theory.specs.Newest.{Newest}
 use Rattle.theory.specs.Places.{viewAt, not-empty, rowsOf, Stands, has-stands, record-holds, own-file}
 use Rattle.theory.specs.Files.{next-positive, next-above, record-from}
 use Rattle.theory.specs.Picture.{viewsOf, pictureOf, Said, gone, body, broken, placeSays, viewSays, slotSays, heldSays, pictureSays, lastSays}
+use Rattle.theory.specs.Says.{held-says}
 use Rattle.theory.specs.Sound.{StartsAt, WholeFile, newest-table, rising-table, table-stands}
 use Rattle.theory.specs.Reopened.{Passed, passed, shown-made, rows-used, filed-reopened}
 use Rattle.theory.specs.SoundWorld.{boundsOf, SoundWorld, shown}
@@ -116,7 +117,9 @@ starts-clear objects (o ∷ os) x p a b (inr h) = starts-clear objects os x p (a
 module _ (w : World) (told : ℕ → Said) (s : SoundWorld w told) where
   -- a mapped id is put or deleted
   mapped-says : (x l : ℕ) → lookup (mappings w) x ≡ Mapped l → (c : Content) × (heldSays (pictureOf w) (Mapped l) x ≡ lastSays (last c))
-  mapped-says x l e = go (deleteOf l) refl (table-stands (boundsOf w) (pictureOf w) told (s .sound) x l e)
+  mapped-says x l e =
+      let m = go (deleteOf l) refl (table-stands (boundsOf w) (pictureOf w) told (s .sound) x l e) in
+      (m .0, held-says (pictureOf w) l x (deleteOf l) refl ∙ m .1)
     where
       go : (d : Bool) → deleteOf l ≡ d → (k : ℕ) × Stands (viewsOf w) x l k → (c : Content) × (pick d gone (slotSays (pictureOf w) (fileFor (recordsOf w) l) l x) ≡ lastSays (last c))
       go true d z = (delete, refl)

@@ -4,9 +4,10 @@ use Prim.Native.Nat.{_<_, _≤_}
 use native.Mathlib.Omega.{arith}
 use lib.ListN.{length-take, length-drop}
 use lib.Seq.{drop-drop}
-use Rattle.rules.specs.Base.{Bool, true, false, List, [], _∷_, ℕ, zero, suc, _+_, _-_, _*_, _%_, _^_, length, drop, eqb, pick, keep, each}
+use Rattle.rules.specs.Base.{true, false, List, [], _∷_, ℕ, zero, suc, _+_, _-_, _*_, _%_, _^_, length, drop, eqb, keep, each}
 use Rattle.theory.specs.Types.{Entry, Label, Record, Answer, Done, Refused, Held, Mapped, Slot, Is}
 use Rattle.disk_location.specs.Locations.{positionOf, deleteOf, rawOf}
+use Rattle.disk_location.specs.LocationLaws.{delete-raw}
 use Rattle.rules.specs.BaseLaws.{All, all-append}
 use Rattle.rules.specs.Refusal.{decide, after}
 use Rattle.rules.specs.Object.{Stored, storedAt, objectsFrom, objectsIn}
@@ -23,6 +24,7 @@ use Rattle.rules.specs.World.{World, recordsOf, mappings}
 use Rattle.theory.specs.Entries.{absolute-location}
 use Rattle.theory.specs.Places.{viewAt, record-holds, record-empty, no-damage, own-place}
 use Rattle.theory.specs.Picture.{viewsOf, pictureOf, Said, gone, body, broken, objectSays, placeSays, viewSays, slotSays, heldSays, pictureSays, lastSays}
+use Rattle.theory.specs.Says.{held-says}
 use Rattle.theory.specs.SoundWorld.{SoundWorld, shown}
 use Rattle.history_theory.specs.Writing.{engine}
 use Rattle.history_theory.specs.Reading.{not-broken}
@@ -90,15 +92,12 @@ module _ (w : World) (history : List Op) (s : SoundWorld w (engine history)) whe
       ∙ sym (ap (λ (n : ℕ). placeSays f n (o .id)) place)
       ∙ sym (ap (λ (v : View). viewSays v (positionOf (rawOf (recordAt (recordsOf w) k .label .lsn + o .position) false) - recordAt (recordsOf w) k .label .lsn) (o .id)) h)
       ∙ sym (ap (λ (c : Slot). slotSays (pictureOf w) c (rawOf (recordAt (recordsOf w) k .label .lsn + o .position) false) (o .id)) at)
-      ∙ sym (ap (λ (n : ℕ). pick (eqb n 1) gone (slotSays (pictureOf w) (fileFor (recordsOf w) (rawOf (recordAt (recordsOf w) k .label .lsn + o .position) false)) (rawOf (recordAt (recordsOf w) k .label .lsn + o .position) false) (o .id))) even)
+      ∙ sym (held-says (pictureOf w) (rawOf (recordAt (recordsOf w) k .label .lsn + o .position) false) (o .id) false (delete-raw (recordAt (recordsOf w) k .label .lsn + o .position) false))
       ∙ sym (ap (λ (c : Held). heldSays (pictureOf w) c (o .id)) e)
       ∙ s .sound .says (o .id))
     where
       lsn : recordAt (recordsOf w) k .label .lsn ≡ f .label .lsn
       lsn = ap (λ (r : Record). r .label .lsn) (record-holds (viewsOf w) (recordsOf w) (s .sound .filed) k f h)
-
-      even : rawOf (recordAt (recordsOf w) k .label .lsn + o .position) false % 2 ≡ 0
-      even = omega arith
 
       inside : o .position ≤ f .label .«trailer_offset»
       inside = let a = objects-inside k f h in let c = t .1 in omega arith
@@ -119,7 +118,7 @@ module _ (w : World) (history : List Op) (s : SoundWorld w (engine history)) whe
   unfolding pictureSays
   current-delete x l d e =
       sym (s .sound .says x) ∙ ap (λ (c : Held). heldSays (pictureOf w) c x) e
-      ∙ ap (λ (b : Bool). pick b gone (slotSays (pictureOf w) (fileFor (recordsOf w) l) l x)) d
+      ∙ held-says (pictureOf w) l x true d
 
   narrow : (x l : ℕ) → lookup (mappings w) x ≡ Mapped l → x < 2 ^ 64
   narrow x l e = s .sound .narrow x l (lookup-has (mappings w) x l e)

@@ -21,7 +21,7 @@ use Rattle.rules.specs.FileMap.{recordAt, fileFor}
 use Rattle.rules.specs.Read.{objectTests, objectIn, readObject, readFile, readLoaded, readOf, partOf}
 use Rattle.rules.specs.World.{World, recordsOf, mappings}
 use Rattle.theory.specs.Places.{viewAt, record-holds}
-use Rattle.theory.specs.Picture.{viewsOf, pictureOf, Said, unheard, gone, body, broken, objectSays, placeSays, viewSays, slotSays, heldSays, pictureSays, lastSays}
+use Rattle.theory.specs.Picture.{viewsOf, pictureOf, Said, unheard, gone, body, broken, objectSays, placeSays, viewSays, slotSays, loadedSays, heldSays, pictureSays, lastSays}
 use Rattle.theory.specs.SoundWorld.{SoundWorld, sound-fine, shown}
 use Rattle.history_theory.specs.Writing.{engine}
 
@@ -207,7 +207,7 @@ module _ (w : World) (told : ℕ → Said) (s : SoundWorld w told) where
   held-read x Unmapped (last delete) e = absurd (let z : _≡_ {A = ℕ} 0 1 = cc in omega arith)
   held-read x (Mapped l) t e = go (deleteOf l) t e
     where
-      go : (d : Bool) (t : Last) → pick d gone (slotSays (pictureOf w) (fileFor (recordsOf w) l) l x) ≡ lastSays t
+      go : (d : Bool) (t : Last) → loadedSays (pictureOf w) (pick d (DeletedAt l) (At l)) x ≡ lastSays t
           → Reads w (readLoaded w x (pick d (DeletedAt l) (At l))) t
       go true silent e = absurd (let z : _≡_ {A = ℕ} 0 1 = cc in omega arith)
       go true (last delete) e = refl

@@ -3,3 +3,4 @@ pub mod Tables
 pub mod EntryLaws
 pub mod LayoutLaws
 pub mod StoreLaws
+pub mod LoadLaws

@@ -3,9 +3,9 @@ use mathlib.Core.Path.{_≡_, refl, sym, ap, _∙_}
 use mathlib.Core.Logic.{_⊎_, inl, inr, ⊎-elim}
 use Prim.Native.Nat.{_≤_}
 use native.Mathlib.Omega.{arith}
-use Rattle.rules.specs.Base.{List, ℕ, _-_, length, pick}
+use Rattle.rules.specs.Base.{List, ℕ, _-_, length}
 use Rattle.theory.specs.Types.{Entry, Record, Held, Mapped, Unmapped, Slot}
-use Rattle.disk_location.specs.Locations.{positionOf, deleteOf}
+use Rattle.disk_location.specs.Locations.{positionOf}
 use Rattle.rules.specs.SlotFile.{File, View, empty, holds}
 use Rattle.rules.specs.Table.{lookup}
 use Rattle.rules.specs.TableLaws.{Has, lookup-has, table-ext}
@@ -15,7 +15,8 @@ use Rattle.theory.specs.Counting.{count-has}
 use Rattle.theory.specs.Newest.{maskedAt, newest-less, newest-one}
 use Rattle.theory.specs.Places.{viewAt, rowsOf, Agrees, Filed, Stands, stands-has, has-stands, not-empty, own-file, in-own-range, distinct}
 use Rattle.theory.specs.Losing.{liveAt}
-use Rattle.theory.specs.Picture.{Picture, Said, gone, viewSays, slotSays, heldSays, pictureSays}
+use Rattle.theory.specs.Picture.{Picture, Said, viewSays, slotSays, heldSays, pictureSays}
+use Rattle.theory.specs.Says.{held-same}
 use Rattle.theory.specs.Sound.{Sound, newest-table, rising-table, table-rising, table-newest, table-stands}
 
 -- slot k as it was, or without its file, which had no live entry
@@ -94,7 +95,7 @@ module _ (bounds : ℕ) (p : Picture) (told : ℕ → Said) (s : Sound bounds p 
       go (Mapped l) h =
           let z = table-stands bounds p told s x l h in
           let c = kept x l (z .0) h (z .1) in
-          ap (pick (deleteOf l) gone) (
+          held-same q p l x (
           ap (λ (o : Slot). slotSays q o l x) (own-file (q .views) (q .records) filed-emptied x l (z .0) (stands-kept x l (z .0) h (z .1)))
           ∙ ap (λ (v : View). viewSays v (positionOf l - recordAt (q .records) (z .0) .label .lsn) x) (c .0)
           ∙ ap (λ (r : Record). viewSays (viewAt (p .views) (z .0)) (positionOf l - r .label .lsn) x) (c .1)

@@ -28,6 +28,7 @@ use Rattle.theory.specs.Places.{viewAt, rowsIn, rowsOf, WellMade, Single
 use Rattle.theory.specs.Losing.{liveAt, rowsFor, losing-live, losing-new}
 use Rattle.rules.specs.WrittenLaws.{fileOfOps}
 use Rattle.theory.specs.Picture.{Picture, Said, unheard, gone, body, broken, placeSays, entrySays, fileSays, viewSays, slotSays, heldSays, pictureSays, added}
+use Rattle.theory.specs.Says.{held-says, held-same}
 use Rattle.theory.specs.Whole.{whole-written}
 use Rattle.theory.specs.Sound.{WholeFile, Sound, newest-table, rising-table, table-rising, table-newest, table-stands}
 
@@ -275,7 +276,7 @@ module _ (bounds : ℕ) (p : Picture) (told : ℕ → Said) (s : Sound bounds p 
   old-says x (Mapped l) h =
       let z = table-stands bounds p told s x l h in
       let t = stands-old x l (z .0) (z .1) in
-      ap (pick (deleteOf l) gone) (
+      held-same (added lsn g p k os) p l x (
       ap (λ (o : Slot). slotSays (added lsn g p k os) o l x) (own-file (added lsn g p k os .views) (added lsn g p k os .records) filed-added x l (z .0) (t .1))
       ∙ same (z .0) (t .0)
       ∙ sym (ap (λ (o : Slot). slotSays p o l x) (own-file (p .views) (p .records) (s .filed) x l (z .0) (z .1))))
@@ -292,10 +293,11 @@ module _ (bounds : ℕ) (p : Picture) (told : ℕ → Said) (s : Sound bounds p 
   new-says x r h =
       let y : fileFor (added lsn g p k os .records) (r + 2 * lsn) ≡ Is k
       = own-file (added lsn g p k os .views) (added lsn g p k os .records) filed-added x (r + 2 * lsn) k (stands-new x (r + 2 * lsn) (has-absolute lsn (entriesOf 0 os) x r h)) in
-      let d : (r + 2 * lsn) % 2 ≡ r % 2 = omega arith in
+      let even : (r + 2 * lsn) % 2 ≡ r % 2 = omega arith in
+      let d : deleteOf (r + 2 * lsn) ≡ deleteOf r = ap (λ (n : ℕ). eqb n 1) even in
       let b : recordAt (added lsn g p k os .records) k .label .lsn ≡ lsn = ap (λ (t : Record). t .label .lsn) record-new in
       let c : (r + 2 * lsn) / 2 - recordAt (added lsn g p k os .records) k .label .lsn ≡ r / 2 = omega arith in
-      ap (λ (n : ℕ). pick (eqb n 1) gone (slotSays (added lsn g p k os) (fileFor (added lsn g p k os .records) (r + 2 * lsn)) (r + 2 * lsn) x)) d
+      held-says (added lsn g p k os) (r + 2 * lsn) x (deleteOf r) d
       ∙ ap (pick (deleteOf r) gone) (
       ap (λ (o : Slot). slotSays (added lsn g p k os) o (r + 2 * lsn) x) y
       ∙ ap (λ (v : View). viewSays v ((r + 2 * lsn) / 2 - recordAt (added lsn g p k os .records) k .label .lsn) x) view-new

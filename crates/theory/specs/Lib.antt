@@ -10,6 +10,7 @@ pub mod Files
 pub mod Losing
 -- the invariant on views, and what a file added or removed does to it
 pub mod Picture
+pub mod Says
 pub mod Sound
 pub mod Whole
 pub mod Installed

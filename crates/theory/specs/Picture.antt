@@ -1,6 +1,6 @@
 -- A store as its slots' views, its records, its table and its next position; and what it says of an id.
 use Rattle.rules.specs.Base.{List, ℕ, _+_, _-_, length, set, drop, pick}
-use Rattle.theory.specs.Types.{Entry, Record, Refusal, NotThere, Held, Mapped, Unmapped, Slot, Is, NoSlot}
+use Rattle.theory.specs.Types.{Entry, Record, Refusal, NotThere, Held, Mapped, Unmapped, Loaded, At, DeletedAt, Never, Slot, Is, NoSlot}
 use Rattle.disk_location.specs.Locations.{positionOf, deleteOf}
 use Rattle.rules.specs.Refusal.{decide, after}
 use Rattle.rules.specs.Object.{Stored, storedAt}
@@ -8,7 +8,7 @@ use Rattle.rules.specs.Ops.{put, delete, Op, objectsOf}
 use Rattle.rules.specs.SettledLaws.{Last, silent, last}
 use Rattle.rules.specs.WrittenLaws.{fileOfOps}
 use Rattle.rules.specs.SlotFile.{File, View, empty, damaged, holds, viewsIn}
-use Rattle.rules.specs.Table.{lookup, insertAll}
+use Rattle.rules.specs.Table.{lookup, loadedOf, load, insertAll}
 use Rattle.rules.specs.FileMap.{recordAt, fileFor}
 use Rattle.rules.specs.Install.{newRecord, losing}
 use Rattle.rules.specs.Read.{objectTests}
@@ -66,14 +66,19 @@ abbrev pub slotSays : Picture → Slot → ℕ → ℕ → Said
 slotSays p NoSlot l x = broken NotThere
 slotSays p (Is k) l x = viewSays (viewAt (p .views) k) (positionOf l - recordAt (p .records) k .label .lsn) x
 
--- by what the table holds
+-- by what load tells
+abbrev pub loadedSays : Picture → Loaded → ℕ → Said
+loadedSays p Never x = unheard
+loadedSays p (DeletedAt l) x = gone
+loadedSays p (At l) x = slotSays p (fileFor (p .records) l) l x
+
+-- of what the table holds
 abbrev pub heldSays : Picture → Held → ℕ → Said
-heldSays p Unmapped x = unheard
-heldSays p (Mapped l) x = pick (deleteOf l) gone (slotSays p (fileFor (p .records) l) l x)
+heldSays p h x = loadedSays p (loadedOf h) x
 
 -- by the store: what a read gives
 unfoldable pub pictureSays : Picture → ℕ → Said
-pictureSays p x = heldSays p (lookup (p .table) x) x
+pictureSays p x = loadedSays p (load (p .table) x) x
 
 -- by the last operation on the id
 abbrev pub lastSays : Last → Said

@@ -30,8 +30,8 @@ loop-holds c =
     let start = c .before .before .before .before .before in
     (omega arith, put-front (start .args .places .now) (placesFor (start .args .slot-bytes) (start .args .lsns .now) (tableLocations (start .args .table .now)) (start .args .marks .now)), refl)
 
-location-at-requires : tie.Need-location-at-requires Inv-loop μ-loop
-location-at-requires c κs = omega (arith, c .before .before .capacity .ensures)
+loaded-at-requires : tie.Need-loaded-at-requires Inv-loop μ-loop
+loaded-at-requires c κs = omega (arith, c .before .before .capacity .ensures)
 
 mul-place-of : tie.Need-mul-place-of Inv-loop μ-loop
 mul-place-of c = search needs
@@ -51,7 +51,7 @@ place-of-requires c κs =
     let asked = start .pre .1 in
     let i = at .loop .i in
     let size = at .loop .inv .2 in
-    (start .pre .0, rw (c .before .location-at .ensures) (asked .each i (omega arith)))
+    (start .pre .0, rw (c .before .loaded-at .ensures) (asked .each i (omega arith)))
 
 mul-places : tie.Need-mul-places Inv-loop μ-loop
 mul-places c = search needs
@@ -84,7 +84,7 @@ loop-again c =
     let room : i < length (at .loop .places) = omega (arith, asked .room) in
     let next = places-next (start .args .slot-bytes) (start .args .lsns .now) (tableLocations (start .args .table .now)) (start .args .marks .now) i low (omega (arith, asked .marks)) in (
       omega arith,
-      rw (c .place-of .ensures, c .before .before .location-at .ensures) (put-step (at .loop .places) i _ _ room ∙ ap (putAt (at .loop .places) i) (sym next) ∙ at .loop .inv .1),
+      rw (c .place-of .ensures, c .before .before .loaded-at .ensures) (put-step (at .loop .places) i _ _ room ∙ ap (putAt (at .loop .places) i) (sym next) ∙ at .loop .inv .1),
       length-set (at .loop .places) i _ ∙ at .loop .inv .2,
     )
 
@@ -110,7 +110,7 @@ place-all-spec =
     μ-loop
     capacity-requires
     loop-holds
-    location-at-requires
+    loaded-at-requires
     mul-place-of
     shared-slice-read-place-of
     place-of-requires

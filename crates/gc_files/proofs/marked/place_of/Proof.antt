@@ -1,4 +1,4 @@
-use mathlib.Core.Path.{refl, sym, _∙_}
+use mathlib.Core.Path.{refl}
 use native.Mathlib.Omega.{arith}
 use borrow.Author.Tests.{eq-eqb, ne-eqb}
 use borrow.Author.Needs.{needs}
@@ -11,27 +11,20 @@ returns : tie.Need-returns
 unfolding placeFor
 returns c = rw (eq-eqb (c .before .before .args .mark) 0 (c .if1 .taken)) refl
 
-is-delete-requires : tie.Need-is-delete-requires
-is-delete-requires c κs = search needs
-
-returns-2 : tie.Need-returns-2
-unfolding placeFor
-returns-2 c =
-    let deleted = c .before in
-    let start = deleted .before .before .before in
-    rw (ne-eqb (start .args .mark) 0 (deleted .before .if1 .left), sym (deleted .is-delete .ensures) ∙ c .if2 .taken) refl
+enum-known-loaded : tie.Need-enum-known-loaded
+enum-known-loaded c = search needs
 
 sub-k : tie.Need-sub-k
 sub-k c = search needs
 
 mul-start : tie.Need-mul-start
 mul-start c =
-    let start = c .before .before .before .before in
+    let start = c .before .before .before .before .before in
     omega (arith, mark-far (start .pre .0) (start .pre .1))
 
 add-start : tie.Need-add-start
 add-start c =
-    let start = c .before .before .before .before in
+    let start = c .before .before .before .before .before in
     omega (arith, mark-far (start .pre .0) (start .pre .1))
 
 position-requires : tie.Need-position-requires
@@ -45,39 +38,59 @@ shared-slice-read-result c = search needs
 
 sub-result : tie.Need-sub-result
 sub-result c =
-    let deleted = c .before .before .before in
-    let start = deleted .before .before .before in
-    let told = place-told (start .pre .0) (start .pre .1) (deleted .before .if1 .left) (sym (deleted .is-delete .ensures) ∙ c .before .before .if2 .left) in
+    let object = c .before .before .before in
+    let marked = object .before .before in
+    let start = marked .before .before in
+    let told = place-told (start .pre .0) (start .pre .1) (marked .if1 .left) _ (object .loaded .given .1) in
     omega (arith, told .0, c .before .position .ensures)
 
 add-result : tie.Need-add-result
 add-result c =
-    let deleted = c .before .before .before in
-    let start = deleted .before .before .before in
-    let told = place-told (start .pre .0) (start .pre .1) (deleted .before .if1 .left) (sym (deleted .is-delete .ensures) ∙ c .before .before .if2 .left) in
+    let object = c .before .before .before in
+    let marked = object .before .before in
+    let start = marked .before .before in
+    let told = place-told (start .pre .0) (start .pre .1) (marked .if1 .left) _ (object .loaded .given .1) in
     omega (arith, told .1, c .before .position .ensures)
 
 cast-result : tie.Need-cast-result
 cast-result c =
-    let deleted = c .before .before .before in
-    let start = deleted .before .before .before in
-    let told = place-told (start .pre .0) (start .pre .1) (deleted .before .if1 .left) (sym (deleted .is-delete .ensures) ∙ c .before .before .if2 .left) in
+    let object = c .before .before .before in
+    let marked = object .before .before in
+    let start = marked .before .before in
+    let told = place-told (start .pre .0) (start .pre .1) (marked .if1 .left) _ (object .loaded .given .1) in
     omega (arith, told .1, c .before .position .ensures)
+
+enum-told : tie.Need-enum-told
+enum-told c = search needs
+
+enum-told-2 : tie.Need-enum-told-2
+enum-told-2 c = search needs
+
+returns-2 : tie.Need-returns-2
+unfolding placeFor
+returns-2 c =
+    let object = c .before .before .before in
+    let marked = object .before .before in
+    rw (ne-eqb (marked .before .before .args .mark) 0 (marked .if1 .left), object .loaded .given .1, c .before .position .ensures) refl
 
 returns-3 : tie.Need-returns-3
 unfolding placeFor
 returns-3 c =
-    let deleted = c .before .before .before in
-    let object = sym (deleted .is-delete .ensures) ∙ c .before .before .if2 .left in
-    rw (ne-eqb (deleted .before .before .before .args .mark) 0 (deleted .before .if1 .left), object, c .before .position .ensures) refl
+    let marked = c .before .before in
+    rw (ne-eqb (marked .before .before .args .mark) 0 (marked .if1 .left), c .enum-told .given .1) refl
+
+returns-4 : tie.Need-returns-4
+unfolding placeFor
+returns-4 c =
+    let marked = c .before .before in
+    rw (ne-eqb (marked .before .before .args .mark) 0 (marked .if1 .left), c .enum-told2 .given .1) refl
 
 pub place-of-spec : {M : Type 1} → statement M
 place-of-spec =
     tie.close
     (tie.spec
     returns
-    is-delete-requires
-    returns-2
+    enum-known-loaded
     sub-k
     mul-start
     add-start
@@ -87,4 +100,8 @@ place-of-spec =
     sub-result
     add-result
     cast-result
-    returns-3)
+    enum-told
+    enum-told-2
+    returns-2
+    returns-3
+    returns-4)
