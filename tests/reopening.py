@@ -10,8 +10,8 @@ What is measured, all of it processor time of the console (not the clock), each 
 - a load from an unused table of the same length, over which it passes once (refusal 1): as many of them as there are ids are a pass over
   the table for each id, and no order of the ids needs more of a reopening (ARCHITECTURE, "What a call costs").
 A reopening may take MOST_WRITES times the writes and MOST_LOADS loads for each id. On two x86-64 cores with proofs beside it 40,000 ids took
-0.9 to 1.3 times the writes and 0.4 to 0.6 loads for each id, in five runs. As others may use the machine, it is measured up to three times,
-until both hold."""
+0.3 times the writes and under 0.01 loads for each id; when a new id moved unused places too, 1.0 and 0.3. As others may use the machine, it is
+measured up to three times, until both hold."""
 import argparse
 import os
 import resource
@@ -25,7 +25,7 @@ from port import console_command  # noqa: E402
 CONSOLE = os.path.join(os.path.dirname(HERE), 'target', 'tests', 'console')
 SLOT, LOADS, TRIES = 65536, 10000, 3
 IN_A_FILE, PUTS_IN_A_FILE = 4000, 1800
-MOST_WRITES, MOST_LOADS = 2, 2
+MOST_WRITES, MOST_LOADS = 2, 0.1
 
 
 def groups(n):
