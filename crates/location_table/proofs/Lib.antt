@@ -1,3 +1,3 @@
-pub mod Search
+pub mod Searching
 pub mod Shifts
 pub mod FormTurns

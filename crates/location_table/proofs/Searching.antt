@@ -1,16 +1,19 @@
 -- What a search in the table keeps, and what it has shown when it stops: any search, one entry after another or by halving.
-use mathlib.Core.Path.{_≡_, sym}
+use mathlib.Core.Path.{_≡_, sym, ap, subst}
 use mathlib.Core.Logic.{_⊎_, inl, inr}
-use Prim.Native.Nat.{ℕ, _+_, _<_, _≤_, zero-le}
-use native.Mathlib.Nat.{not-suc-le-zero, eq-or-lt-of-le, lt-irrefl}
+use Prim.Native.Nat.{ℕ, zero, suc, _+_, _*_, _^_, _<_, _≤_, zero-le}
+use native.Mathlib.Nat.{not-suc-le-zero, eq-or-lt-of-le, lt-irrefl, pow-suc}
 use native.Mathlib.Omega.{arith}
 use lib.ListN.{length, getD}
+use Rattle.disk_location.specs.Locations.{digitsIn}
+use Rattle.disk_location.specs.LocationLaws.{digits-hold, digits-least}
 use Rattle.rules.specs.Table.{noEntry}
 use Rattle.rules.specs.Layout.{Table, tableIds, tableLocations, capacityOf, usedEntries}
 use Rattle.rules.specs.LayoutLaws.{used-length}
 use Rattle.location_table.specs.declared.Place.the-variants.{Found, Gap}
 use Rattle.location_table.specs.Places.{place}
 use Rattle.location_table.specs.Tables.{Formed}
+use Rattle.location_table.specs.Halving.{halvings}
 use Rattle.location_table.specs.EntryLaws.{rising-lt, place-found, place-gap}
 use Rattle.location_table.specs.LayoutLaws.{used-id, used-rising, zero-unused, not-zero-used}
 
@@ -80,3 +83,27 @@ module _ (t : Table) (x : ℕ) where
         strict : (x ≡ getD (tableIds t) k 0) ⊎ (x < getD (tableIds t) k 0) → getD (tableIds t) k 0 ≡ getD (usedEntries t) k noEntry .id → x < getD (usedEntries t) k noEntry .id
         strict (inl q) e = absurd (h q)
         strict (inr q) e = omega arith
+
+-- ---- how often it looks
+-- so many looks so far, and so many places left of all
+pub record Left (all left looked : ℕ) : Type 0 where
+  pub enough : looked + halvings left ≤ halvings all
+
+pub left-all : (all left : ℕ) → left ≡ all → Left all left 0
+left-all all left e = record { enough = let d = ap halvings e in omega arith }
+
+-- a look that leaves at most half
+pub left-half : (all n half looked : ℕ) → n < 2 ^ 64 → 0 < n → 2 * half ≤ n → Left all n looked → Left all half (looked + 1)
+left-half all n half looked small some h q = record { enough = omega (arith, q .enough, fewer (digitsIn 64 n) (digits-hold 64 n small)) }
+  where
+    fewer : (d : ℕ) → n < 2 ^ d → digitsIn 64 half + 1 ≤ d
+    fewer zero w = absurd (omega arith)
+    fewer (suc d) w = let l = digits-least 64 half d (omega (arith, pow-suc 2 d)) in omega arith
+
+-- never more than 64
+pub left-few : (all left looked : ℕ) → all < 2 ^ 64 → Left all left looked → looked ≤ 64
+left-few all left looked small q = omega (arith, q .enough, digits-least 64 all 64 small)
+
+-- when it stops
+pub left-end : (all left looked n : ℕ) → all ≡ n → Left all left looked → looked ≤ halvings n
+left-end all left looked n e q = let d = ap halvings e in omega (arith, q .enough)
