@@ -118,13 +118,13 @@ fn state_with(state: State, files: FileMap, next_position: u64) -> State
     ensures { λ r. ⌜ r ≡ stateWith state (files .records) «next_position» ⌝ }
 {
     let settings = state.settings;
-    State {
-        settings: settings,
-        heap_len: state.heap_len,
-        table_len: state.table_len,
-        files: files,
-        next_position: next_position,
-    }
+    file_map::state_of(
+        settings,
+        state.heap_len,
+        state.table_len,
+        files,
+        next_position,
+    )
 }
 
 // "next grows by T + 1"
