@@ -101,7 +101,8 @@ pub fn start() -> Bench
 }
 
 pub fn least(a: usize, b: usize) -> usize
-    ensures { λ r. ⌜ (r ≤ a) × (r ≤ b) × (r ≡ pick (ltb a b) a b) ⌝ }
+    ensures within { λ r. ⌜ (r ≤ a) × (r ≤ b) ⌝ }
+    ensures answers { λ r. ⌜ r ≡ pick (ltb a b) a b ⌝ }
 {
     if a < b { a } else { b }
 }
