@@ -16,6 +16,7 @@ use as_numbers::state_words::put_state;
 use as_numbers::state_words::state_in;
 use marble::CheckAnswer;
 use marble::SalvageAnswer;
+use rules::ReadAnswer;
 use rules::Settings;
 ghost use mathlib.Core.Path.{_≡_};
 ghost use mathlib.Core.List.{[], _∷_};
@@ -24,7 +25,7 @@ ghost use Rattle.rules.specs.Claims.{claimCall, releaseCall};
 ghost use Rattle.rules.specs.Counts.{countsCall};
 ghost use Rattle.rules.specs.Maintenance.{maintainCall};
 ghost use Rattle.rules.specs.Prune.{pruneCall};
-ghost use Rattle.rules.specs.Read.{readCall};
+ghost use Rattle.rules.specs.Read.{readOf, readCall};
 ghost use Rattle.rules.specs.Reopen.{reopenCall};
 ghost use Rattle.rules.specs.TableCalls.{loadCall, storeCall, compareCall, greaterCall};
 ghost use Rattle.rules.specs.World.{world, leaving};
@@ -96,6 +97,17 @@ pub extern "C" fn marble_write(
     number(answer)
 }
 
+// A read's answer, by the state's words. Whatever reads goes through here, so that the state is handed on once: a function with two
+// callers is compiled into neither, and is given copies of it.
+fn found(settings: Settings, state: &[u64; 1545], heap: &[u8], table: &[u64], id: u64) -> ReadAnswer
+    ensures { λ r. ⌜ ((c : Claims) → r ≡ readOf
+        (world settings (stateIn (now (state .entry))) c (now (heap .entry)) (now (table .entry)))
+        id) ⌝ }
+{
+    let was = state_in(state);
+    marble::read_answer(settings, was, heap, table, id)
+}
+
 // "Read": what is there of the id, and an object's part of the heap by its start and length.
 #[no_mangle]
 pub extern "C" fn marble_read(
@@ -113,12 +125,11 @@ pub extern "C" fn marble_read(
         (world settings (stateIn (now (state .entry))) c (now (heap .entry)) (now (table .entry)))
         id .answer)) ⌝ }
 {
-    let was = state_in(state);
-    let found = read_shown(marble::read_answer(settings, was, heap, table, id));
-    *kind = found.first;
-    *offset = found.second;
-    *size = found.third;
-    found.number
+    let read = read_shown(found(settings, state, heap, table, id));
+    *kind = read.first;
+    *offset = read.second;
+    *size = read.third;
+    read.number
 }
 
 // "21 for a slot out of range, an empty slot, a claimed one (claim)"
