@@ -2,5 +2,5 @@
 
 pub mod answers;
 pub mod claim_words;
-mod four_words;
+pub mod four_words;
 pub mod state_words;

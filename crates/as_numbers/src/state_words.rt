@@ -2,6 +2,7 @@
 use file_map::labelled;
 use file_map::no_files;
 use file_map::recorded;
+use file_map::state_of;
 use rules::FileMap;
 use rules::RECORDS;
 use rules::Record;
@@ -65,13 +66,7 @@ pub fn state_in(words: &[u64]) -> State
 {
     let settings = settings_in(words);
     let files = files_in(words);
-    State {
-        settings: settings,
-        heap_len: words[6],
-        table_len: words[7],
-        files: files,
-        next_position: words[1544],
-    }
+    state_of(settings, words[6], words[7], files, words[1544])
 }
 
 // ---- to words

@@ -49,7 +49,8 @@ fn behind(position: u64, o: Operation) -> u64
 
 // "checksum 4, over all that follows it": the count and the entries.
 fn sum(batch: &[u8], count: u64) -> u32
-    requires { ⌜ (count ≡ length (settled (opsIn (now batch)))) × (length (objectsOf (settled (opsIn (now batch)))) < 2 ^ 62) ⌝ }
+    requires { ⌜ count ≡ length (settled (opsIn (now batch))) ⌝ }
+    requires { ⌜ length (objectsOf (settled (opsIn (now batch)))) < 2 ^ 62 ⌝ }
     ensures { λ r. ⌜ r ≡ crc32 (listed (entriesOf 0 (settled (opsIn (now (batch .entry)))))) ⌝ }
 {
     let mut register = write::sum_count(count);
@@ -68,7 +69,8 @@ fn sum(batch: &[u8], count: u64) -> u32
 
 // An operation's object, its body a piece of the batch. "Deletes have no object bytes."
 fn put_content(file: &mut [u8], at: usize, batch: &[u8], o: Operation, left: u64) -> u64
-    requires { ⌜ (at + sizeIn o ≤ length (now file)) × (o .start + o .len ≤ length (now batch)) ⌝ }
+    requires { ⌜ at + sizeIn o ≤ length (now file) ⌝ }
+    requires { ⌜ o .start + o .len ≤ length (now batch) ⌝ }
     ensures { λ r. ⌜ Made left (storesOf at (contentBytes (o .id) (opIn (now (batch .entry)) o .content)))
         (now (file .entry)) (now (file .exit)) r ⌝ }
 {
@@ -100,8 +102,8 @@ fn put_objects(file: &mut [u8], batch: &[u8], left: u64) -> u64
 
 // The entries, from `at` on.
 fn put_entries(file: &mut [u8], at: usize, batch: &[u8], left: u64) -> u64
-    requires { ⌜ (at + 16 * length (settled (opsIn (now batch))) ≤ length (now file))
-        × (length (objectsOf (settled (opsIn (now batch)))) < 2 ^ 62) ⌝ }
+    requires { ⌜ at + 16 * length (settled (opsIn (now batch))) ≤ length (now file) ⌝ }
+    requires { ⌜ length (objectsOf (settled (opsIn (now batch)))) < 2 ^ 62 ⌝ }
     ensures { λ r. ⌜ Made left (storesOf at (each entryBytes (entriesOf 0 (settled (opsIn (now (batch .entry)))))))
         (now (file .entry)) (now (file .exit)) r ⌝ }
 {
@@ -136,7 +138,8 @@ fn put_trailer(file: &mut [u8], at: usize, batch: &[u8], count: u64, left: u64) 
 
 // The whole file, in the heap's part behind its slot's label: the objects, then the trailer.
 fn put_file(file: &mut [u8], batch: &[u8], count: u64, total: u64, left: u64) -> u64
-    requires { ⌜ Sized (now batch) count total × (length (fileBytes (settled (opsIn (now batch)))) ≤ length (now file)) ⌝ }
+    requires { ⌜ Sized (now batch) count total ⌝ }
+    requires { ⌜ length (fileBytes (settled (opsIn (now batch)))) ≤ length (now file) ⌝ }
     ensures { λ r. ⌜ Made left (storesOf 0 (fileBytes (settled (opsIn (now (batch .entry)))))) (now (file .entry)) (now (file .exit)) r ⌝ }
 {
     let rest = put_objects(file, batch, left);
@@ -153,7 +156,8 @@ pub fn write_file(
     total: u64,
     k: u64,
 ) -> u64
-    requires { ⌜ Sized (now batch) count total × (start + (64 + length (fileBytes (settled (opsIn (now batch))))) ≤ length (now heap)) ⌝ }
+    requires { ⌜ Sized (now batch) count total ⌝ }
+    requires { ⌜ start + (64 + length (fileBytes (settled (opsIn (now batch))))) ≤ length (now heap) ⌝ }
     ensures { λ r. ⌜ Made k (fileStores start (labelBytes new) (fileBytes (settled (opsIn (now (batch .entry))))))
         (now (heap .entry)) (now (heap .exit)) r ⌝ }
 {

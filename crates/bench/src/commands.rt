@@ -169,10 +169,10 @@ pub fn after_line(
     heap: &mut [u8],
     table: &mut [u64],
 ) -> Bench
-    ensures { λ r. ⌜ Ran (length (now (decoded .entry))) (now (line .entry))
+    ensures runs { λ r. ⌜ Ran (length (now (decoded .entry))) (now (line .entry))
         (desk b (now (heap .entry)) (now (table .entry)))
         (desk r (now (heap .exit)) (now (table .exit))) ⌝ }
-    ensures { λ _. ⌜ now (decoded .exit)
+    ensures decodes { λ _. ⌜ now (decoded .exit)
         ≡ front (askedBy (length (now (decoded .entry))) (now (line .entry)) .bytes) (now (decoded .entry)) ⌝ }
 {
     let order = script::order_of(line, decoded);

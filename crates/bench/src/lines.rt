@@ -34,9 +34,9 @@ fn too_long(s: Reading) -> Reading
 
 // More of the line, unless it is too long.
 fn held(s: Reading, line: &mut [u8], part: &[u8]) -> Reading
-    ensures { λ r. ⌜ (r .taken ≡ s .taken)
-        × (r .whole ≡ s .whole)
-        × Longer s (now (line .entry)) (now (part .entry)) r (now (line .exit)) ⌝ }
+    ensures taken { λ r. ⌜ r .taken ≡ s .taken ⌝ }
+    ensures whole { λ r. ⌜ r .whole ≡ s .whole ⌝ }
+    ensures longer { λ r. ⌜ Longer s (now (line .entry)) (now (part .entry)) r (now (line .exit)) ⌝ }
 {
     let n = least(s.held, line.len());
     if line.len() - n < part.len() {
@@ -90,8 +90,8 @@ fn answered(
     heap: &mut [u8],
     table: &mut [u64],
 ) -> Reading
-    ensures { λ r. ⌜ (r .taken ≡ s .taken)
-        × Answered (length (now (decoded .entry))) (s .whole) (s .long) s (take (s .held) (now (line .entry)))
+    ensures taken { λ r. ⌜ r .taken ≡ s .taken ⌝ }
+    ensures answers { λ r. ⌜ Answered (length (now (decoded .entry))) (s .whole) (s .long) s (take (s .held) (now (line .entry)))
         (desk (s .bench) (now (heap .entry)) (now (table .entry))) r
         (desk (r .bench) (now (heap .exit)) (now (table .exit))) ⌝ }
 {
@@ -168,7 +168,8 @@ fn finished(
 // number that no run uses up.
 fn turns_left(turns: u64, got: usize) -> u64
     requires { ⌜ 0 < turns ⌝ }
-    ensures { λ r. ⌜ (r < turns) × (r ≡ pick (eqb got 0) 0 (turns - 1)) ⌝ }
+    ensures fewer { λ r. ⌜ r < turns ⌝ }
+    ensures answers { λ r. ⌜ r ≡ pick (eqb got 0) 0 (turns - 1) ⌝ }
 {
     if got == 0 { 0 } else { turns - 1 }
 }

@@ -84,13 +84,7 @@ fn no_settings() -> Settings
 fn no_state() -> State
     ensures { λ s. ⌜ s ≡ noState ⌝ }
 {
-    State {
-        settings: no_settings(),
-        heap_len: 0,
-        table_len: 0,
-        files: file_map::no_files(),
-        next_position: 0,
-    }
+    file_map::state_of(no_settings(), 0, 0, file_map::no_files(), 0)
 }
 
 // Before the first command.
@@ -107,7 +101,8 @@ pub fn start() -> Bench
 }
 
 pub fn least(a: usize, b: usize) -> usize
-    ensures { λ r. ⌜ (r ≤ a) × (r ≤ b) × (r ≡ pick (ltb a b) a b) ⌝ }
+    ensures within { λ r. ⌜ (r ≤ a) × (r ≤ b) ⌝ }
+    ensures answers { λ r. ⌜ r ≡ pick (ltb a b) a b ⌝ }
 {
     if a < b { a } else { b }
 }

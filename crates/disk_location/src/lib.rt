@@ -28,7 +28,8 @@ pub enum RelativeLocated {
 }
 
 fn half(raw: u64) -> u64
-    ensures { λ r. ⌜ (r ≡ positionOf raw) × (r < 2 ^ 63) ⌝ }
+    ensures answers { λ r. ⌜ r ≡ positionOf raw ⌝ }
+    ensures fits { λ r. ⌜ r < 2 ^ 63 ⌝ }
 {
     raw >> 1
 }

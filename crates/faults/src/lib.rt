@@ -57,7 +57,8 @@ pub fn own(slot: &[u8]) -> SlotAnswer
 
 // The labels of the sound slots: zeros for one that is empty or has a fault of its own.
 pub fn sound(heap: &[u8], size: usize, n: usize) -> Labels
-    requires { ⌜ (n * size ≤ length (now heap)) × (n ≤ 256) ⌝ }
+    requires { ⌜ n * size ≤ length (now heap) ⌝ }
+    requires { ⌜ n ≤ 256 ⌝ }
     ensures { λ r. ⌜ r .labels ≡ labelsOf (map judged (viewsIn n size (now (heap .entry)))) ⌝ }
 {
     let mut slots = no_labels();

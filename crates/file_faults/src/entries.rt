@@ -20,7 +20,8 @@ ghost use Rattle.file_faults.specs.Walks.{walkedFrom, meetsOne, unmet, S
 
 // From one object to the next while they stand before a position; to where one stands, or the walk ends.
 fn walk(objects: &[u8], from: u64, position: u64) -> u64
-    requires { ⌜ Start (now objects) from × Same (now objects) position from ⌝ }
+    requires { ⌜ Start (now objects) from ⌝ }
+    requires { ⌜ Same (now objects) position from ⌝ }
     ensures { λ at. ⌜ Gone (now (objects .entry)) position at ⌝ }
 {
     let mut at = from;
@@ -58,7 +59,8 @@ fn none_here(objects: &[u8], at: u64, e: Entry) -> bool
 
 // The same where the walk went for an entry, which may be elsewhere.
 fn none_there(objects: &[u8], at: u64, e: Entry) -> bool
-    requires { ⌜ (deleteOf (e .location) ≡ false) × Gone (now objects) (positionOf (e .location)) at ⌝ }
+    requires { ⌜ deleteOf (e .location) ≡ false ⌝ }
+    requires { ⌜ Gone (now objects) (positionOf (e .location)) at ⌝ }
     ensures { λ b. ⌜ b ≡ not (meetsOne e (walkedFrom (now (objects .entry)) 0)) ⌝ }
 {
     if RelativeDiskLocation(e.location).position() == at {
@@ -70,7 +72,8 @@ fn none_there(objects: &[u8], at: u64, e: Entry) -> bool
 // The same from a place to set out from; and the place for the next entry.
 fn look(objects: &[u8], from: u64, e: Entry) -> Sought
     requires { ⌜ (deleteOf (e .location) ≡ false) × Start (now objects) from × Same (now objects) (positionOf (e .location)) from ⌝ }
-    ensures { λ s. ⌜ (s .missing ≡ not (meetsOne e (walkedFrom (now (objects .entry)) 0))) × Start (now (objects .entry)) (s .next) ⌝ }
+    ensures missing { λ s. ⌜ s .missing ≡ not (meetsOne e (walkedFrom (now (objects .entry)) 0)) ⌝ }
+    ensures next { λ s. ⌜ Start (now (objects .entry)) (s .next) ⌝ }
 {
     let at = walk(objects, from, RelativeDiskLocation(e.location).position());
     Sought {
@@ -82,7 +85,8 @@ fn look(objects: &[u8], from: u64, e: Entry) -> Sought
 // One entry: on from where the walk is, or from the front again where its position lies before that. A delete is not looked for.
 fn meet(objects: &[u8], from: u64, e: Entry) -> Sought
     requires { ⌜ Start (now objects) from ⌝ }
-    ensures { λ s. ⌜ (s .missing ≡ unmet (now (objects .entry)) e) × Start (now (objects .entry)) (s .next) ⌝ }
+    ensures missing { λ s. ⌜ s .missing ≡ unmet (now (objects .entry)) e ⌝ }
+    ensures next { λ s. ⌜ Start (now (objects .entry)) (s .next) ⌝ }
 {
     let location = RelativeDiskLocation(e.location);
     if location.is_delete() {

@@ -39,7 +39,8 @@ fn stands(e: Entry, id: u64, position: u64) -> bool
 // The first such entry from one number on and before another; that one if there is none.
 fn find(trailer: &[u8], from: u64, to: u64, id: u64, position: u64) -> u64
     requires { ⌜ (from ≤ to) × (to ≤ countIn (now trailer)) × (12 + 16 * countIn (now trailer) ≤ length (now trailer)) ⌝ }
-    ensures { λ k. ⌜ (k ≤ to) × (ltb k to ≡ any (enteredAs id position) (drop from (take to (entriesIn (now (trailer .entry)))))) ⌝ }
+    ensures within { λ k. ⌜ k ≤ to ⌝ }
+    ensures found { λ k. ⌜ ltb k to ≡ any (enteredAs id position) (drop from (take to (entriesIn (now (trailer .entry))))) ⌝ }
 {
     let mut k = from;
     while k < to {
@@ -53,9 +54,10 @@ fn find(trailer: &[u8], from: u64, to: u64, id: u64, position: u64) -> u64
 
 // Whether there is none in the whole trailer: from a cursor to the end, then from the front to the cursor.
 fn seek(trailer: &[u8], cursor: u64, id: u64, position: u64) -> Sought
-    requires { ⌜ (cursor ≤ countIn (now trailer)) × (12 + 16 * countIn (now trailer) ≤ length (now trailer)) ⌝ }
-    ensures { λ s. ⌜ (s .missing ≡ not (any (enteredAs id position) (entriesIn (now (trailer .entry)))))
-        × (s .next ≤ countIn (now (trailer .entry))) ⌝ }
+    requires { ⌜ cursor ≤ countIn (now trailer) ⌝ }
+    requires { ⌜ 12 + 16 * countIn (now trailer) ≤ length (now trailer) ⌝ }
+    ensures missing { λ s. ⌜ s .missing ≡ not (any (enteredAs id position) (entriesIn (now (trailer .entry)))) ⌝ }
+    ensures next { λ s. ⌜ s .next ≤ countIn (now (trailer .entry)) ⌝ }
 {
     let n = trailer::count(trailer);
     let k = find(trailer, cursor, n, id, position);

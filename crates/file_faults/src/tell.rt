@@ -85,8 +85,8 @@ pub fn note(listing: &mut [u64], count: u64, x: Fault) -> u64
 // A line where its condition holds.
 pub fn note_if(listing: &mut [u64], count: u64, condition: bool, x: Fault) -> u64
     requires { ⌜ count + 1 < 2 ^ 64 ⌝ }
-    ensures { λ r. ⌜ Tells count (lineIf condition x) (now (listing .entry)) (now (listing .exit)) r ⌝ }
-    ensures { λ r. ⌜ r ≤ count + 1 ⌝ }
+    ensures tells { λ r. ⌜ Tells count (lineIf condition x) (now (listing .entry)) (now (listing .exit)) r ⌝ }
+    ensures within { λ r. ⌜ r ≤ count + 1 ⌝ }
 {
     if condition {
         return note(listing, count, x);

@@ -1,9 +1,11 @@
--- Where a record's numbers come from, and how large they are once refusal 1 is decided.
+-- Where a record's numbers come from, the state that holds the records, and how large their numbers are once refusal 1 is decided.
 use mathlib.Core.Path.{_≡_, refl}
 use Rattle.rules.specs.Base.{List, ℕ, length}
 use Prim.Native.Nat.{_≤_}
 use Rattle.rules.specs.declared.Label.{Label}
 use Rattle.rules.specs.declared.Record.{Record}
+use Rattle.rules.specs.declared.Settings.{Settings}
+use Rattle.rules.specs.declared.State.{State}
 use Rattle.rules.specs.FileMap.{recorded, recordAt}
 use Rattle.rules.specs.Ops.{Op, objectsOf, fileBytes}
 use Rattle.rules.specs.Install.{newLabel, newRecord}
@@ -16,6 +18,16 @@ labelled lsn offset size present generation =
 -- "the new file has all its entries live"
 abbrev pub fresh : Label → Record
 fresh l = recorded l (l .«present_objects»)
+
+-- a state of these settings and lengths
+abbrev pub stateBy : Settings → ℕ → ℕ → List Record → ℕ → State
+stateBy settings heapLen tableLen records next = record {
+  settings = settings;
+  «heap_len» = heapLen;
+  «table_len» = tableLen;
+  files = record { records = records };
+  «next_position» = next;
+}
 
 -- the numbers of a new file's label
 pub new-label : (lsn generation : ℕ) (ops : List Op) → newLabel lsn generation ops ≡ labelled lsn (length (objectsOf ops)) (length (fileBytes ops)) (length ops) generation

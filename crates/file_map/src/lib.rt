@@ -7,7 +7,9 @@ use rules::LABEL_BYTES;
 use rules::Label;
 use rules::RECORDS;
 use rules::Record;
+use rules::Settings;
 use rules::Slot;
+use rules::State;
 ghost use mathlib.Core.Path.{_≡_};
 ghost use Prim.Native.Nat.{ℕ, _-_, _<_, _≤_};
 ghost use lib.ListN.{set, length};
@@ -15,7 +17,7 @@ ghost use Rattle.rules.specs.FileMap.{emptyLabel, recorded, emptyRecord, isEmpt
 ghost use Rattle.rules.specs.Label.{outOfBounds};
 ghost use Rattle.rules.specs.Counts.{countsOf};
 ghost use Rattle.rules.specs.declared.Slot.the-variants.{Is};
-ghost use Rattle.file_map.specs.Records.{labelled, fresh, Bounded};
+ghost use Rattle.file_map.specs.Records.{labelled, fresh, stateBy, Bounded};
 ghost use Rattle.file_map.specs.Lists.{lsnsOf, livesOf, withLives, lsnAt, lessAt};
 
 // ---- a label
@@ -178,6 +180,26 @@ pub fn counts(m: FileMap) -> Counts
         bytes: bytes,
         present: present,
         live: live,
+    }
+}
+
+// ---- a state: made here alone
+// A state of these settings and lengths, with these records.
+pub fn state_of(
+    settings: Settings,
+    heap_len: u64,
+    table_len: u64,
+    files: FileMap,
+    next_position: u64,
+) -> State
+    ensures { λ s. ⌜ s ≡ stateBy settings «heap_len» «table_len» (files .records) «next_position» ⌝ }
+{
+    State {
+        settings: settings,
+        heap_len: heap_len,
+        table_len: table_len,
+        files: files,
+        next_position: next_position,
     }
 }
 

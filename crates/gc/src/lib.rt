@@ -84,13 +84,13 @@ fn generation_step(
 ) -> Run
     requires { ⌜ Underway settings (length (now heap)) (now table) (run .state) (now plan) ⌝ }
     requires { ⌜ (0 < generation) × (generation ≤ 3) × (run .moved ≤ 2 ^ 32) ⌝ }
-    ensures { λ r. ⌜ ((c : Claims)
+    ensures leaves { λ r. ⌜ ((c : Claims)
         → standing r (world settings (r .state) c (now (heap .exit)) (now (table .exit)))
         ≡ rewriteGroup generation (planned (now (plan .entry)) generation) (run .moved)
         (world settings (run .state) c (now (heap .entry)) (now (table .entry)))) ⌝ }
-    ensures { λ r. ⌜ Underway settings (length (now (heap .exit))) (now (table .exit))
+    ensures underway { λ r. ⌜ Underway settings (length (now (heap .exit))) (now (table .exit))
         (r .state) (now (plan .entry)) ⌝ }
-    ensures { λ r. ⌜ r .moved ≤ run .moved + 65536 ⌝ }
+    ensures moved { λ r. ⌜ r .moved ≤ run .moved + 65536 ⌝ }
 {
     let state = run.state;
     let course = rewrite_group(settings, state, heap, table, plan, generation, run.moved);
@@ -112,11 +112,11 @@ fn generations(
     plan: &[u64],
 ) -> Run
     requires { ⌜ Underway settings (length (now heap)) (now table) state (now plan) ⌝ }
-    ensures { λ r. ⌜ ((c : Claims)
+    ensures leaves { λ r. ⌜ ((c : Claims)
         → standing r (world settings (r .state) c (now (heap .exit)) (now (table .exit)))
         ≡ byPlan (now (plan .entry))
         (world settings state c (now (heap .entry)) (now (table .entry)))) ⌝ }
-    ensures { λ r. ⌜ Underway settings (length (now (heap .exit))) (now (table .exit))
+    ensures underway { λ r. ⌜ Underway settings (length (now (heap .exit))) (now (table .exit))
         (r .state) (now (plan .entry)) ⌝ }
 {
     let mut run = Run {
@@ -144,9 +144,9 @@ fn rewrite_groups(
     table: &mut [u64],
 ) -> Run
     requires { ⌜ Passed settings (length (now heap)) (now table) state ⌝ }
-    ensures { λ r. ⌜ standing r (world settings (r .state) claims (now (heap .exit)) (now (table .exit)))
+    ensures leaves { λ r. ⌜ standing r (world settings (r .state) claims (now (heap .exit)) (now (table .exit)))
         ≡ courseOf (world settings state claims (now (heap .entry)) (now (table .entry))) ⌝ }
-    ensures { λ r. ⌜ LabelsIn (settings .«slot_bytes») (r .state .files .records) (length (now (heap .exit))) ⌝ }
+    ensures labels { λ r. ⌜ LabelsIn (settings .«slot_bytes») (r .state .files .records) (length (now (heap .exit))) ⌝ }
 {
     let files = state.files;
     let candidates = plan(settings, claims, files);

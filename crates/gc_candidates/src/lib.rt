@@ -17,7 +17,8 @@ ghost use Rattle.gc_candidates.specs.Plan.{planFor, planOf, planned};
 
 // "max(present, 1)"
 fn at_least_one(n: u64) -> u64
-    ensures { λ r. ⌜ (r ≡ larger n 1) × (0 < r) ⌝ }
+    ensures answers { λ r. ⌜ r ≡ larger n 1 ⌝ }
+    ensures positive { λ r. ⌜ 0 < r ⌝ }
 {
     if n <= 1 {
         return 1;

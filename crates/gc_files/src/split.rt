@@ -33,10 +33,10 @@ fn split_entry(
     requires { ⌜ e .at < length (now pieces) ⌝ }
     requires { ⌜ totals .entries < 65536 ⌝ }
     requires { ⌜ Within (tally (now shards) (now cuts) totals) ⌝ }
-    ensures { λ r. ⌜ tally (now (shards .exit)) (now (cuts .exit)) r
+    ensures tallies { λ r. ⌜ tally (now (shards .exit)) (now (cuts .exit)) r
         ≡ entryTaken (settings .«target_file_size») (settings .«slot_bytes») (now (heap .entry)) (e .id) (e .place)
         (tally (now (shards .entry)) (now (cuts .entry)) totals) ⌝ }
-    ensures { λ r. ⌜ now (pieces .exit) ≡ set (now (pieces .entry)) (e .at)
+    ensures pieces { λ r. ⌜ now (pieces .exit) ≡ set (now (pieces .entry)) (e .at)
         (entryPiece (settings .«target_file_size») (settings .«slot_bytes») (now (heap .entry)) (e .id) (e .place)
         (getD (now (pieces .entry)) (e .at) 0)
         (tally (now (shards .entry)) (now (cuts .entry)) totals)) ⌝ }
@@ -66,11 +66,11 @@ pub fn split(
 ) -> Totals
     requires { ⌜ Splitting (now heap) (tableIds (now table)) (now places) (now pieces) (totals .entries) ⌝ }
     requires { ⌜ Within (tally (now shards) (now cuts) totals) ⌝ }
-    ensures { λ r. ⌜ tally (now (shards .exit)) (now (cuts .exit)) r
+    ensures tallies { λ r. ⌜ tally (now (shards .exit)) (now (cuts .exit)) r
         ≡ tallyFrom (settings .«target_file_size») (settings .«slot_bytes»)
         (placedOps (now (heap .entry)) (tableIds (now (table .entry))) (now (places .entry)))
         (tally (now (shards .entry)) (now (cuts .entry)) totals) ⌝ }
-    ensures { λ r. ⌜ now (pieces .exit) ≡ piecesAlong (settings .«target_file_size») (settings .«slot_bytes»)
+    ensures pieces { λ r. ⌜ now (pieces .exit) ≡ piecesAlong (settings .«target_file_size») (settings .«slot_bytes»)
         (now (heap .entry)) (tableIds (now (table .entry))) (now (places .entry)) (now (pieces .entry))
         (tally (now (shards .entry)) (now (cuts .entry)) totals) ⌝ }
 {

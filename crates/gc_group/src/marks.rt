@@ -153,14 +153,14 @@ pub fn mark_group(
     requires { ⌜ Ready (group .settings .«slot_bytes») (length (now heap)) (m .records) (now plan) (group .generation) ⌝ }
     requires { ⌜ Formed (now table) ⌝ }
     requires { ⌜ (length (tableIds (now table)) ≤ length (now marks)) × (length (now lsns) ≡ 256) ⌝ }
-    ensures { λ r. ⌜ r ≡ decide (groupChecks (group .settings .«max_object_size»)
+    ensures answers { λ r. ⌜ r ≡ decide (groupChecks (group .settings .«max_object_size»)
         (source (group .settings .«slot_bytes») (now (heap .entry)) (m .records) (usedEntries (now (table .entry))))
         (planned (now (plan .entry)) (group .generation))) ⌝ }
-    ensures { λ r. ⌜ (r ≡ Done → now (marks .exit) ≡ marksOf
+    ensures marks { λ r. ⌜ (r ≡ Done → now (marks .exit) ≡ marksOf
         (source (group .settings .«slot_bytes») (now (heap .entry)) (m .records) (usedEntries (now (table .entry))))
         (length (now (marks .entry)))
         (planned (now (plan .entry)) (group .generation))) ⌝ }
-    ensures { λ r. ⌜ (r ≡ Done → now (lsns .exit) ≡ lsnsOf (m .records)) ⌝ }
+    ensures lsns { λ r. ⌜ (r ≡ Done → now (lsns .exit) ≡ lsnsOf (m .records)) ⌝ }
 {
     unmark(marks);
     let mut i: usize = 0;

@@ -19,7 +19,7 @@ ghost use Rattle.rules.specs.Install.{installed};
 ghost use Rattle.rules.specs.World.{world};
 ghost use Rattle.rules.specs.Layout.{tableIds};
 ghost use Rattle.install.specs.Standing.{Addable};
-ghost use Rattle.gc_files.specs.Places.{filedOps};
+ghost use Rattle.gc_writer.specs.Walk.{pieceOps};
 ghost use Rattle.gc_writer.specs.Writing.{Writing};
 ghost use Rattle.gc_install.specs.Placing.{Placing};
 
@@ -35,8 +35,7 @@ fn put_piece(
     requires { ⌜ Writing (file .start) (file .«slot_bytes»)
         (now heap) (tableIds (now table)) (now places) (now pieces) (file .piece) (file .count) (file .total) ⌝ }
     ensures { λ _. ⌜ now (heap .exit) ≡ made (fileStores (file .start) (labelBytes new)
-        (fileBytes (filedOps (file .piece)
-        (now (heap .entry)) (tableIds (now (table .entry))) (now (places .entry)) (now (pieces .entry)))))
+        (fileBytes (pieceOps (file .piece) (heap .entry) (table .entry) (places .entry) (pieces .entry))))
         (now (heap .entry)) ⌝ }
 {
     let k = heap.len() as u64;
@@ -69,13 +68,13 @@ fn add_at(
     pieces: &[u32],
     file: SizedFile,
 ) -> State
-    requires { ⌜ Addable 0 (filedOps (file .piece) (now heap) (tableIds (now table)) (now places) (now pieces))
+    requires { ⌜ Addable 0 (pieceOps (file .piece) heap table places pieces)
         settings state (now heap) (now table) (file .slot) (file .count) (file .total) ⌝ }
     requires { ⌜ Writing (file .slot * settings .«slot_bytes») (settings .«slot_bytes»)
         (now heap) (tableIds (now table)) (now places) (now pieces) (file .piece) (file .count) (file .total) ⌝ }
     ensures { λ r. ⌜ ((c : Claims) → world settings r c (now (heap .exit)) (now (table .exit))
         ≡ installed 0 (file .generation) (world settings state c (now (heap .entry)) (now (table .entry)))
-        (filedOps (file .piece) (now (heap .entry)) (tableIds (now (table .entry))) (now (places .entry)) (now (pieces .entry)))) ⌝ }
+        (pieceOps (file .piece) (heap .entry) (table .entry) (places .entry) (pieces .entry))) ⌝ }
 {
     // "lsn = base without the batch bit", the new generation
     let base = state.next_position;
@@ -117,27 +116,23 @@ pub fn add_piece(
 ) -> State
     requires { ⌜ Placing settings state (now heap) (now table) (now places) (now pieces) ⌝ }
     requires { ⌜ file .generation ≤ 255 ⌝ }
-    requires { ⌜ 64 + length (fileBytes (filedOps (file .piece) (now heap) (tableIds (now table)) (now places) (now pieces)))
-        ≤ settings .«slot_bytes» ⌝ }
+    requires { ⌜ 64 + length (fileBytes (pieceOps (file .piece) heap table places pieces)) ≤ settings .«slot_bytes» ⌝ }
     requires { ⌜ (0 < length (emptySlots (slotsIn settings (length (now heap))) (state .files .records)))
         × (file .slot ≡ lowestEmpty (slotsIn settings (length (now heap))) (state .files .records)) ⌝ }
-    requires { ⌜ state .«next_position»
-        + (length (objectsOf (filedOps (file .piece) (now heap) (tableIds (now table)) (now places) (now pieces))) + 1)
-        ≤ 2 ^ 62 ⌝ }
-    ensures { λ r. ⌜ ((c : Claims) → world settings r c (now (heap .exit)) (now (table .exit))
+    requires { ⌜ state .«next_position» + (length (objectsOf (pieceOps (file .piece) heap table places pieces)) + 1) ≤ 2 ^ 62 ⌝ }
+    ensures leaves { λ r. ⌜ ((c : Claims) → world settings r c (now (heap .exit)) (now (table .exit))
         ≡ installed 0 (file .generation) (world settings state c (now (heap .entry)) (now (table .entry)))
-        (filedOps (file .piece) (now (heap .entry)) (tableIds (now (table .entry))) (now (places .entry)) (now (pieces .entry)))) ⌝ }
-    ensures { λ r. ⌜ Placing settings r (now (heap .exit)) (now (table .exit))
+        (pieceOps (file .piece) (heap .entry) (table .entry) (places .entry) (pieces .entry))) ⌝ }
+    ensures placing { λ r. ⌜ Placing settings r (now (heap .exit)) (now (table .exit))
         (now (places .entry)) (now (pieces .entry)) ⌝ }
-    ensures { λ _. ⌜ tableIds (now (table .exit)) ≡ tableIds (now (table .entry)) ⌝ }
-    ensures { λ _. ⌜ ((q : ℕ) → filedOps q (now (heap .exit)) (tableIds (now (table .exit))) (now (places .entry)) (now (pieces .entry))
-        ≡ filedOps q (now (heap .entry)) (tableIds (now (table .entry))) (now (places .entry)) (now (pieces .entry))) ⌝ }
-    ensures { λ r. ⌜ emptySlots (slotsIn settings (length (now (heap .entry)))) (state .files .records)
+    ensures ids { λ _. ⌜ tableIds (now (table .exit)) ≡ tableIds (now (table .entry)) ⌝ }
+    ensures others { λ _. ⌜ ((q : ℕ)
+        → pieceOps q (heap .exit) (table .exit) (places .entry) (pieces .entry)
+        ≡ pieceOps q (heap .entry) (table .entry) (places .entry) (pieces .entry)) ⌝ }
+    ensures slots { λ r. ⌜ emptySlots (slotsIn settings (length (now (heap .entry)))) (state .files .records)
         ≡ file .slot ∷ emptySlots (slotsIn settings (length (now (heap .exit)))) (r .files .records) ⌝ }
-    ensures { λ r. ⌜ r .«next_position» ≡ state .«next_position»
-        + (length (objectsOf
-        (filedOps (file .piece) (now (heap .entry)) (tableIds (now (table .entry))) (now (places .entry)) (now (pieces .entry))))
-        + 1) ⌝ }
+    ensures position { λ r. ⌜ r .«next_position» ≡ state .«next_position»
+        + (length (objectsOf (pieceOps (file .piece) (heap .entry) (table .entry) (places .entry) (pieces .entry))) + 1) ⌝ }
 {
     let sizes = gc_writer::sized(heap, table, places, pieces, file.piece);
     let sized = SizedFile {

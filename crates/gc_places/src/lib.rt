@@ -9,19 +9,15 @@ use rules::RECORDS;
 ghost use mathlib.Core.Path.{_≡_};
 ghost use Prim.Native.Nat.{_≤_};
 ghost use lib.ListN.{length, replicate};
-ghost use Rattle.rules.specs.Base.{each};
 ghost use Rattle.rules.specs.declared.Answer.the-variants.{Done};
 ghost use Rattle.rules.specs.Refusal.{decide};
-ghost use Rattle.rules.specs.Ops.{settled};
 ghost use Rattle.rules.specs.SettingsLaws.{InRanges};
 ghost use Rattle.rules.specs.Layout.{tableIds, usedEntries};
 ghost use Rattle.location_table.specs.Tables.{Formed};
 ghost use Rattle.gc_candidates.specs.Plan.{planned};
 ghost use Rattle.gc_group.specs.Source.{source, Ready};
 ghost use Rattle.gc_group.specs.Checks.{groupChecks};
-ghost use Rattle.gc_group.specs.Marks.{foundAt};
-ghost use Rattle.gc_files.specs.Places.{placedOps, Standing};
-ghost use Rattle.gc_places.specs.Group.{OfUsed, InGroup};
+ghost use Rattle.gc_places.specs.Group.{GroupPlaced};
 
 // The group's checks; where none refuses it, "Objects and deletes at their id's current location .. one found twice only
 // once, as last found": a place for each, 0 for every other entry. `marks` is room for a mark of each entry, whatever
@@ -41,16 +37,11 @@ pub fn place_group(
     requires { ⌜ (length (tableIds (now table)) ≤ length (now marks))
         × (length (tableIds (now table)) ≤ length (now places))
         × (now places ≡ replicate (length (now places)) 0) ⌝ }
-    ensures { λ r. ⌜ r ≡ decide (groupChecks (group .settings .«max_object_size»)
+    ensures answers { λ r. ⌜ r ≡ decide (groupChecks (group .settings .«max_object_size»)
         (source (group .settings .«slot_bytes») (now (heap .entry)) (m .records) (usedEntries (now (table .entry))))
         (planned (now (plan .entry)) (group .generation))) ⌝ }
-    ensures { λ r. ⌜ (r ≡ Done → (placedOps (now (heap .entry)) (tableIds (now (table .entry))) (now (places .exit))
-        ≡ settled (each (foundAt
-        (source (group .settings .«slot_bytes») (now (heap .entry)) (m .records) (usedEntries (now (table .entry)))))
-        (planned (now (plan .entry)) (group .generation))))
-        × (OfUsed (now (table .entry)) (now (places .exit))
-        × (Standing (now (heap .entry)) (now (places .exit))
-        × InGroup (group .settings .«slot_bytes») (now (heap .entry)) (now (plan .entry)) (group .generation) (now (places .exit))))) ⌝ }
+    ensures places { λ r. ⌜ (r ≡ Done → GroupPlaced (group .settings .«slot_bytes») (now (heap .entry)) (m .records)
+        (now (plan .entry)) (group .generation) (now (table .entry)) (now (places .exit))) ⌝ }
 {
     let mut lsns = [0u64; RECORDS];
     match mark_group(group, heap, m, plan, table, marks, &mut lsns) {

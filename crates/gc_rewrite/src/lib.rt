@@ -43,13 +43,14 @@ pub fn rewrite_group(
     requires { ⌜ Ready (settings .«slot_bytes») (length (now heap)) (state .files .records) (now plan) generation ⌝ }
     requires { ⌜ Filled state (now plan) generation ⌝ }
     requires { ⌜ (0 < generation) × (generation ≤ 3) × (moved ≤ 2 ^ 40) ⌝ }
-    ensures { λ r. ⌜ ((c : Claims) → courseGiven generation (r .answer) (r .moved)
+    ensures leaves { λ r. ⌜ ((c : Claims) → courseGiven generation (r .answer) (r .moved)
         (world settings (r .state) c (now (heap .exit)) (now (table .exit)))
         ≡ rewriteGroup generation (planned (now (plan .entry)) generation) moved
         (world settings state c (now (heap .entry)) (now (table .entry)))) ⌝ }
-    ensures { λ r. ⌜ Passed settings (length (now (heap .exit))) (now (table .exit)) (r .state) ⌝ }
-    ensures { λ r. ⌜ (r .moved ≤ moved + 65536) × (length (now (heap .exit)) ≡ length (now (heap .entry))) ⌝ }
-    ensures { λ r. ⌜ Kept state (r .state) ⌝ }
+    ensures passed { λ r. ⌜ Passed settings (length (now (heap .exit))) (now (table .exit)) (r .state) ⌝ }
+    ensures moved { λ r. ⌜ r .moved ≤ moved + 65536 ⌝ }
+    ensures length { λ _. ⌜ length (now (heap .exit)) ≡ length (now (heap .entry)) ⌝ }
+    ensures keeps { λ r. ⌜ Kept state (r .state) ⌝ }
 {
     let files = state.files;
     let mut places = [0u32; 65536];

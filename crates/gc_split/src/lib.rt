@@ -59,7 +59,8 @@ fn closed(t: Totals, slot_bytes: u64, size: u64, count: u64) -> Totals
 
 // The number of what is in a shard after so many cuts.
 fn piece(shard: usize, round: u64) -> u64
-    requires { ⌜ (shard < 65) × (round ≤ 65536) ⌝ }
+    requires { ⌜ shard < 65 ⌝ }
+    requires { ⌜ round ≤ 65536 ⌝ }
     ensures { λ r. ⌜ r ≡ pieceNo shard round ⌝ }
 {
     65 * round + shard as u64
@@ -82,7 +83,8 @@ fn cut_off(
     shard: usize,
     settings: Settings,
 ) -> Totals
-    requires { ⌜ (shard < 65) × Within (tally (now shards) (now cuts) totals) ⌝ }
+    requires { ⌜ shard < 65 ⌝ }
+    requires { ⌜ Within (tally (now shards) (now cuts) totals) ⌝ }
     ensures { λ r. ⌜ tally (now (shards .exit)) (now (cuts .exit)) r
         ≡ cutting (settings .«target_file_size») (settings .«slot_bytes») shard (tally (now (shards .entry)) (now (cuts .entry)) totals) ⌝ }
 {
@@ -103,11 +105,11 @@ fn cut_off(
 fn enter(shards: &mut [u64], shard: usize, size: u64)
     requires { ⌜ (shard < 65) × (length (roundsIn (now shards)) ≡ 65) ⌝ }
     requires { ⌜ (getD (sizesIn (now shards)) shard 0 + size < 2 ^ 64) × (getD (countsIn (now shards)) shard 0 + 1 < 2 ^ 64) ⌝ }
-    ensures { λ _. ⌜ sizesIn (now (shards .exit))
+    ensures sizes { λ _. ⌜ sizesIn (now (shards .exit))
         ≡ set (sizesIn (now (shards .entry))) shard (getD (sizesIn (now (shards .entry))) shard 0 + size) ⌝ }
-    ensures { λ _. ⌜ countsIn (now (shards .exit))
+    ensures counts { λ _. ⌜ countsIn (now (shards .exit))
         ≡ set (countsIn (now (shards .entry))) shard (getD (countsIn (now (shards .entry))) shard 0 + 1) ⌝ }
-    ensures { λ _. ⌜ roundsIn (now (shards .exit)) ≡ roundsIn (now (shards .entry)) ⌝ }
+    ensures rounds { λ _. ⌜ roundsIn (now (shards .exit)) ≡ roundsIn (now (shards .entry)) ⌝ }
 {
     let sum = shards[shard] + size;
     let count = shards[COUNTS_AT + shard] + 1;
@@ -142,7 +144,8 @@ pub fn join(
 // The piece that an entry is in, right after it joined the shard.
 pub fn piece_in(shards: &[u64], shard: usize) -> u64
     requires { ⌜ (shard < 65) × (length (roundsIn (now shards)) ≡ 65) × (getD (roundsIn (now shards)) shard 0 ≤ 65536) ⌝ }
-    ensures { λ r. ⌜ (r ≡ pieceNo shard (getD (roundsIn (now (shards .entry))) shard 0)) × (r < 2 ^ 32) ⌝ }
+    ensures answers { λ r. ⌜ r ≡ pieceNo shard (getD (roundsIn (now (shards .entry))) shard 0) ⌝ }
+    ensures fits { λ r. ⌜ r < 2 ^ 32 ⌝ }
 {
     piece(shard, shards[ROUNDS_AT + shard])
 }
@@ -203,8 +206,8 @@ pub fn decided(t: Totals, empty: u64, base: u64) -> Answer
 // What is left of a shard takes the next place, if there is anything.
 fn put_rest(rests: &mut [u64], left: usize, entries: u64, piece: u64) -> usize
     requires { ⌜ left < length (now rests) ⌝ }
-    ensures { λ r. ⌜ (r ≡ left + length (restOf entries piece))
-        × (now (rests .exit) ≡ putAt (now (rests .entry)) left (restOf entries piece)) ⌝ }
+    ensures counts { λ r. ⌜ r ≡ left + length (restOf entries piece) ⌝ }
+    ensures writes { λ _. ⌜ now (rests .exit) ≡ putAt (now (rests .entry)) left (restOf entries piece) ⌝ }
 {
     if entries == 0 {
         return left;
@@ -216,8 +219,8 @@ fn put_rest(rests: &mut [u64], left: usize, entries: u64, piece: u64) -> usize
 // The numbers of what is left of the shards, by their entries and rounds, ascending, and how many that are.
 fn rests(counts: &[u64], rounds: &[u64], rests: &mut [u64]) -> usize
     requires { ⌜ Numbered (now counts) (now rounds) (now rests) ⌝ }
-    ensures { λ r. ⌜ (r ≡ length (restsFrom 0 (now (counts .entry)) (now (rounds .entry))))
-        × (now (rests .exit) ≡ front (restsFrom 0 (now (counts .entry)) (now (rounds .entry))) (now (rests .entry))) ⌝ }
+    ensures counts { λ r. ⌜ r ≡ length (restsFrom 0 (now (counts .entry)) (now (rounds .entry))) ⌝ }
+    ensures writes { λ _. ⌜ now (rests .exit) ≡ front (restsFrom 0 (now (counts .entry)) (now (rounds .entry))) (now (rests .entry)) ⌝ }
 {
     let mut left: usize = 0;
     let mut n: usize = 0;
@@ -231,8 +234,8 @@ fn rests(counts: &[u64], rounds: &[u64], rests: &mut [u64]) -> usize
 // The same by the split's list.
 pub fn shard_rests(shards: &[u64], left: &mut [u64]) -> usize
     requires { ⌜ Numbered (countsIn (now shards)) (roundsIn (now shards)) (now left) ⌝ }
-    ensures { λ r. ⌜ r ≡ length (restsFrom 0 (countsIn (now (shards .entry))) (roundsIn (now (shards .entry)))) ⌝ }
-    ensures { λ _. ⌜ now (left .exit)
+    ensures counts { λ r. ⌜ r ≡ length (restsFrom 0 (countsIn (now (shards .entry))) (roundsIn (now (shards .entry)))) ⌝ }
+    ensures writes { λ _. ⌜ now (left .exit)
         ≡ front (restsFrom 0 (countsIn (now (shards .entry))) (roundsIn (now (shards .entry)))) (now (left .entry)) ⌝ }
 {
     let counts = &shards[COUNTS_AT..ROUNDS_AT];
@@ -241,7 +244,8 @@ pub fn shard_rests(shards: &[u64], left: &mut [u64]) -> usize
 
 // The number of the file that comes out in that place: "by ascending shard, then fragments as cut".
 pub fn piece_at(rests: &[u64], left: usize, cuts: &[u64], file: usize) -> u64
-    requires { ⌜ (left ≤ length (now rests)) × (file < left + length (now cuts)) ⌝ }
+    requires { ⌜ left ≤ length (now rests) ⌝ }
+    requires { ⌜ file < left + length (now cuts) ⌝ }
     ensures { λ r. ⌜ r ≡ getD (take left (now (rests .entry)) ++ now (cuts .entry)) file 0 ⌝ }
 {
     if file < left {

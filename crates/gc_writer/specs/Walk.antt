@@ -5,15 +5,21 @@ use mathlib.Core.Logic.{_⊎_, inl, inr}
 use Prim.Native.Nat.{_≤_, _<_}
 use native.Mathlib.Omega.{arith}
 use borrow.Author.Tests.{eq-eqb}
+use denote.Ref.{RefT, now}
 use Rattle.rules.specs.Base.{Bool, true, false, List, [], _∷_, ℕ, _+_, _^_, length, getD, drop, eqb, pick}
 use Rattle.rules.specs.BaseLaws.{zero-or-more}
 use Rattle.rules.specs.TurnLaws.{left-next, left-none}
+use Rattle.rules.specs.Layout.{tableIds}
 use Rattle.rules.specs.Ops.{Op}
 use Rattle.batch.specs.Sizes.{sizeIn}
 use Rattle.batch.specs.WalkLaws.{Stepped}
 use Rattle.batch.specs.declared.Operation.{Operation}
 use Rattle.gc_files.specs.Places.{movingAt, opAt, filedOps, Standing}
 use Rattle.gc_files.specs.PlaceLaws.{moving-told}
+
+-- the operations of a piece, as heap, table, places and pieces hold them that a function is lent
+abbrev pub pieceOps : ℕ → (heap table places pieces : RefT (List ℕ)) → List Op
+pieceOps piece heap table places pieces = filedOps piece (now heap) (tableIds (now table)) (now places) (now pieces)
 
 -- the operations of a piece from entry i on
 abbrev pub filedFrom : ℕ → List ℕ → List ℕ → List ℕ → List ℕ → ℕ → List Op

@@ -25,8 +25,7 @@ ghost use Rattle.rules.specs.Stores.{storesOf, fileStores};
 ghost use Rattle.stores.specs.Runs.{Made};
 ghost use Rattle.batch.specs.Reading.{opIn};
 ghost use Rattle.batch.specs.Sizes.{sizeIn};
-ghost use Rattle.gc_files.specs.Places.{filedOps};
-ghost use Rattle.gc_writer.specs.Walk.{Next, Walking, Turned, filedHere};
+ghost use Rattle.gc_writer.specs.Walk.{Next, Walking, Turned, filedHere, pieceOps};
 ghost use Rattle.gc_writer.specs.Writing.{Free, Writing};
 
 // How many entries a piece has, and T, its object bytes.
@@ -54,7 +53,8 @@ fn filed(place: u32, number: u32, piece: u32) -> bool
 
 // The first entry of a piece from `from` on; behind the last one where there is none.
 fn next_filed(table: &[u64], places: &[u32], pieces: &[u32], piece: u32, from: usize) -> usize
-    requires { ⌜ (length (tableIds (now table)) ≤ length (now places)) × (length (tableIds (now table)) ≤ length (now pieces)) ⌝ }
+    requires { ⌜ length (tableIds (now table)) ≤ length (now places) ⌝ }
+    requires { ⌜ length (tableIds (now table)) ≤ length (now pieces) ⌝ }
     ensures { λ r. ⌜ Next piece (tableIds (now (table .entry))) (now (places .entry)) (now (pieces .entry)) from r ⌝ }
 {
     let n = capacity(table);
@@ -71,7 +71,8 @@ fn next_filed(table: &[u64], places: &[u32], pieces: &[u32], piece: u32, from: u
 // The operation of an entry of a piece, and where the walk goes on.
 fn turn_at(heap: &[u8], table: &[u64], places: &[u32], pieces: &[u32], piece: u32, i: usize) -> Turn
     requires { ⌜ Walking (now heap) (tableIds (now table)) (now places) (now pieces) ⌝ }
-    requires { ⌜ (i < length (tableIds (now table))) × (filedHere piece (getD (now places) i 0) (getD (now pieces) i 0) ≡ true) ⌝ }
+    requires { ⌜ i < length (tableIds (now table)) ⌝ }
+    requires { ⌜ filedHere piece (getD (now places) i 0) (getD (now pieces) i 0) ≡ true ⌝ }
     ensures { λ r. ⌜ Turned piece (now (heap .entry)) (tableIds (now (table .entry))) (now (places .entry)) (now (pieces .entry)) i
         (r .operation) (r .size) (r .next) ⌝ }
 {
@@ -90,10 +91,9 @@ fn turn_at(heap: &[u8], table: &[u64], places: &[u32], pieces: &[u32], piece: u3
 pub fn sized(heap: &[u8], table: &[u64], places: &[u32], pieces: &[u32], piece: u32) -> Sizes
     requires { ⌜ Walking (now heap) (tableIds (now table)) (now places) (now pieces) ⌝ }
     requires { ⌜ length (tableIds (now table)) ≤ 65536 ⌝ }
-    ensures { λ r. ⌜ (r .count ≡ length
-        (filedOps piece (now (heap .entry)) (tableIds (now (table .entry))) (now (places .entry)) (now (pieces .entry))))
-        × (r .total ≡ length (objectsOf
-        (filedOps piece (now (heap .entry)) (tableIds (now (table .entry))) (now (places .entry)) (now (pieces .entry))))) ⌝ }
+    ensures count { λ r. ⌜ r .count ≡ length (pieceOps piece (heap .entry) (table .entry) (places .entry) (pieces .entry)) ⌝ }
+    ensures total { λ r. ⌜ r .total
+        ≡ length (objectsOf (pieceOps piece (heap .entry) (table .entry) (places .entry) (pieces .entry))) ⌝ }
 {
     let mut count: u64 = 0;
     let mut total: u64 = 0;
@@ -114,10 +114,9 @@ pub fn sized(heap: &[u8], table: &[u64], places: &[u32], pieces: &[u32], piece: 
 // "checksum 4, over all that follows it": the count and the entries.
 fn sum(heap: &[u8], table: &[u64], places: &[u32], pieces: &[u32], piece: u32, count: u64) -> u32
     requires { ⌜ Walking (now heap) (tableIds (now table)) (now places) (now pieces) ⌝ }
-    requires { ⌜ count ≡ length (filedOps piece (now heap) (tableIds (now table)) (now places) (now pieces)) ⌝ }
-    requires { ⌜ length (objectsOf (filedOps piece (now heap) (tableIds (now table)) (now places) (now pieces))) < 2 ^ 62 ⌝ }
-    ensures { λ r. ⌜ r ≡ crc32 (listed (entriesOf 0
-        (filedOps piece (now (heap .entry)) (tableIds (now (table .entry))) (now (places .entry)) (now (pieces .entry))))) ⌝ }
+    requires { ⌜ count ≡ length (pieceOps piece heap table places pieces) ⌝ }
+    requires { ⌜ length (objectsOf (pieceOps piece heap table places pieces)) < 2 ^ 62 ⌝ }
+    ensures { λ r. ⌜ r ≡ crc32 (listed (entriesOf 0 (pieceOps piece (heap .entry) (table .entry) (places .entry) (pieces .entry)))) ⌝ }
 {
     let mut register = write::sum_count(count);
     let mut position: u64 = 0;
@@ -157,10 +156,10 @@ fn put_objects(
     piece: u32,
     left: u64,
 ) -> u64
-    requires { ⌜ Free at (length (objectsOf (filedOps piece (now heap) (tableIds (now table)) (now places) (now pieces))))
+    requires { ⌜ Free at (length (objectsOf (pieceOps piece heap table places pieces)))
         (now heap) (tableIds (now table)) (now places) (now pieces) ⌝ }
-    ensures { λ r. ⌜ Made left (storesOf at
-        (objectsOf (filedOps piece (now (heap .entry)) (tableIds (now (table .entry))) (now (places .entry)) (now (pieces .entry)))))
+    ensures { λ r. ⌜ Made left
+        (storesOf at (objectsOf (pieceOps piece (heap .entry) (table .entry) (places .entry) (pieces .entry))))
         (now (heap .entry)) (now (heap .exit)) r ⌝ }
 {
     let mut rest = left;
@@ -186,11 +185,11 @@ fn put_entries(
     piece: u32,
     left: u64,
 ) -> u64
-    requires { ⌜ Free at (16 * length (filedOps piece (now heap) (tableIds (now table)) (now places) (now pieces)))
+    requires { ⌜ Free at (16 * length (pieceOps piece heap table places pieces))
         (now heap) (tableIds (now table)) (now places) (now pieces) ⌝ }
-    requires { ⌜ length (objectsOf (filedOps piece (now heap) (tableIds (now table)) (now places) (now pieces))) < 2 ^ 62 ⌝ }
-    ensures { λ r. ⌜ Made left (storesOf at (each entryBytes
-        (entriesOf 0 (filedOps piece (now (heap .entry)) (tableIds (now (table .entry))) (now (places .entry)) (now (pieces .entry))))))
+    requires { ⌜ length (objectsOf (pieceOps piece heap table places pieces)) < 2 ^ 62 ⌝ }
+    ensures { λ r. ⌜ Made left
+        (storesOf at (each entryBytes (entriesOf 0 (pieceOps piece (heap .entry) (table .entry) (places .entry) (pieces .entry)))))
         (now (heap .entry)) (now (heap .exit)) r ⌝ }
 {
     let mut rest = left;
@@ -221,10 +220,10 @@ fn put_trailer(
     left: u64,
 ) -> u64
     requires { ⌜ Free at (12 + 16 * count) (now heap) (tableIds (now table)) (now places) (now pieces) ⌝ }
-    requires { ⌜ count ≡ length (filedOps piece (now heap) (tableIds (now table)) (now places) (now pieces)) ⌝ }
-    requires { ⌜ length (objectsOf (filedOps piece (now heap) (tableIds (now table)) (now places) (now pieces))) < 2 ^ 62 ⌝ }
-    ensures { λ r. ⌜ Made left (storesOf at (trailerBytes (entriesOf 0
-        (filedOps piece (now (heap .entry)) (tableIds (now (table .entry))) (now (places .entry)) (now (pieces .entry))))))
+    requires { ⌜ count ≡ length (pieceOps piece heap table places pieces) ⌝ }
+    requires { ⌜ length (objectsOf (pieceOps piece heap table places pieces)) < 2 ^ 62 ⌝ }
+    ensures { λ r. ⌜ Made left
+        (storesOf at (trailerBytes (entriesOf 0 (pieceOps piece (heap .entry) (table .entry) (places .entry) (pieces .entry)))))
         (now (heap .entry)) (now (heap .exit)) r ⌝ }
 {
     let checksum = sum(heap, table, places, pieces, piece, count);
@@ -254,8 +253,7 @@ pub fn write_piece(
     requires { ⌜ Writing (file .start) (file .«slot_bytes»)
         (now heap) (tableIds (now table)) (now places) (now pieces) (file .piece) (file .count) (file .total) ⌝ }
     ensures { λ r. ⌜ Made k (fileStores (file .start) (labelBytes new)
-        (fileBytes (filedOps (file .piece)
-        (now (heap .entry)) (tableIds (now (table .entry))) (now (places .entry)) (now (pieces .entry)))))
+        (fileBytes (pieceOps (file .piece) (heap .entry) (table .entry) (places .entry) (pieces .entry))))
         (now (heap .entry)) (now (heap .exit)) r ⌝ }
 {
     let objects = file.start + LABEL_BYTES;

@@ -10,13 +10,17 @@ use Rattle.rules.specs.declared.Held.the-variants.{Mapped, Unmapped}
 use Rattle.rules.specs.Trailer.{absolute, countIn, entriesIn}
 use Rattle.rules.specs.Table.{lookup, insert, insertAll, full}
 use Rattle.rules.specs.TableLaws.{insert-all-length, insert-new, full-mapped, full-room}
-use Rattle.rules.specs.Layout.{Table, usedEntries, capacityOf}
+use Rattle.rules.specs.Layout.{Table, usedEntries, laidOut, capacityOf}
 use Rattle.rules.specs.TurnLaws.{left-next, left-none}
 use Rattle.location_table.specs.Tables.{Formed}
 
 -- the entries of a file with this lsn, as the table has them
 abbrev pub taken : ℕ → List Entry → List Entry
 taken lsn es = map (absolute lsn) es
+
+-- the buffer after they are stored
+abbrev pub withTaken : Table → ℕ → List Entry → Table
+withTaken b lsn es = laidOut (capacityOf b) (insertAll (usedEntries b) (taken lsn es))
 
 -- every absolute position of the file's entries is one
 abbrev pub Placed : ℕ → List Entry → Type 0

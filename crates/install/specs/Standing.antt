@@ -22,7 +22,7 @@ use Rattle.rules.specs.LabelLaws.{label-length}
 use Rattle.rules.specs.Trailer.{countIn, entriesIn, trailerBytes}
 use Rattle.rules.specs.TrailerLaws.{trailer-length, trailer-back, count-back}
 use Rattle.rules.specs.Table.{insertAll}
-use Rattle.rules.specs.Layout.{Table, usedEntries, laidOut, capacityOf}
+use Rattle.rules.specs.Layout.{Table, usedEntries, capacityOf}
 use Rattle.rules.specs.SettingsLaws.{slot-within}
 use Rattle.rules.specs.FileMap.{lowestEmpty}
 use Rattle.rules.specs.Condition1Laws.{Passed}
@@ -34,7 +34,7 @@ use Rattle.location_table.specs.Tables.{Formed}
 use Rattle.file_map.specs.Records.{labelled, fresh, new-label, new-record}
 use Rattle.file_map.specs.Lists.{lsnsOf, livesOf, withLives}
 use Rattle.install.specs.Losing.{losingBy, losingLives, losing-entries, losing-lives}
-use Rattle.install.specs.Adding.{taken, Placed, trailerAt, Installable}
+use Rattle.install.specs.Adding.{taken, withTaken, Placed, trailerAt, Installable}
 
 -- a file of these operations that none of 1 and 4 to 7 refuses: its batch bit or 0, its slot, its count of entries and T
 pub record Addable (bit : ℕ) (ops : List Op) (s : Settings) (t : State) (heap : List ℕ) (b : Table) (slot count total : ℕ) : Type 0 where
@@ -139,7 +139,7 @@ module _ {bit : ℕ} {ops : List Op} {s : Settings} {t : State} {heap : List ℕ
       -- LAW: what adding it leaves
       pub added : {r : State} {b′ : Table} {left : List ℕ}
           → (left ≡ losingLives lsns (usedEntries b) (entriesIn (trailerAt after (slot * s .«slot_bytes») count total)) lives)
-          × (b′ ≡ laidOut (capacityOf b) (insertAll (usedEntries b) (taken (new .lsn) (entriesIn (trailerAt after (slot * s .«slot_bytes») count total)))))
+          × (b′ ≡ withTaken b (new .lsn) (entriesIn (trailerAt after (slot * s .«slot_bytes») count total)))
           → r ≡ stateWith t (set (withLives (t .files .records) left) slot (fresh new)) (t .«next_position» + (new .«trailer_offset» + 1))
           → (c : Claims) → world s r c after b′ ≡ installed bit generation (world s t c heap b) ops
       unfolding installed recordsWith storesFor tableWith nextWith newLabel newRecord
@@ -159,7 +159,7 @@ module _ {bit : ℕ} {ops : List Op} {s : Settings} {t : State} {heap : List ℕ
           let stores : after ≡ made (storesFor (newLabel (t .«next_position» + bit) generation ops) w ops) heap =
           written ∙ ap₂ (λ (k : ℕ) (m : Label). made (fileStores (k * s .«slot_bytes») (labelBytes m) (fileBytes ops)) heap) (f .lowest) e in
           let entries : b′ ≡ tableWith (t .«next_position» + bit) w ops =
-          z .1 ∙ ap₂ (λ (m : Label) (xs : List Entry). laidOut (capacityOf b) (insertAll (usedEntries b) (taken (m .lsn) xs))) e there in
+          z .1 ∙ ap₂ (λ (m : Label) (xs : List Entry). withTaken b (m .lsn) xs) e there in
           same-world state stores entries
         where
           same-world : {r q : State} {h k : List ℕ} {x y : Table} → r ≡ q → h ≡ k → x ≡ y

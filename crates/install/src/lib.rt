@@ -16,13 +16,13 @@ ghost use Rattle.disk_location.specs.Locations.{positionOf};
 ghost use Rattle.rules.specs.Trailer.{absolute, countIn, entriesIn};
 ghost use Rattle.rules.specs.Table.{load, insertAll, full};
 ghost use Rattle.rules.specs.TableCalls.{withStored};
-ghost use Rattle.rules.specs.Layout.{usedEntries, laidOut, capacityOf};
+ghost use Rattle.rules.specs.Layout.{usedEntries, capacityOf};
 ghost use Rattle.rules.specs.World.{stateWith};
 ghost use Rattle.location_table.specs.Tables.{Formed};
 ghost use Rattle.file_map.specs.Lists.{lsnAt, lessAt, withLives};
 ghost use Rattle.install.specs.Losing.{slotHolding, losingLives};
 ghost use Rattle.file_map.specs.Records.{labelled, fresh};
-ghost use Rattle.install.specs.Adding.{taken, Placed, trailerAt, Installable};
+ghost use Rattle.install.specs.Adding.{taken, withTaken, Placed, trailerAt, Installable};
 
 // "loses one live": the file of a location, an object's or a delete's.
 fn lose_at(lsns: &[u64], lives: &mut [u64], location: u64)
@@ -35,7 +35,8 @@ fn lose_at(lsns: &[u64], lives: &mut [u64], location: u64)
 
 // The file of the location that the table has for the id.
 fn lose_one(lsns: &[u64], lives: &mut [u64], table: &[u64], id: u64)
-    requires { ⌜ Formed (now table) × (length (now lsns) ≤ length (now lives)) ⌝ }
+    requires { ⌜ Formed (now table) ⌝ }
+    requires { ⌜ length (now lsns) ≤ length (now lives) ⌝ }
     ensures { λ _. ⌜ now (lives .exit) ≡ lessAt
         (slotHolding (now (lsns .entry)) (load (usedEntries (now (table .entry))) id))
         (now (lives .entry)) ⌝ }
@@ -68,7 +69,8 @@ fn lose(lsns: &[u64], lives: &mut [u64], table: &[u64], trailer: &[u8])
 
 // "A relative location plus a file's lsn is an absolute one."
 pub fn absolute(e: Entry, lsn: u64) -> Entry
-    requires { ⌜ (0 < lsn) × (positionOf (e .location) + lsn < 2 ^ 63) ⌝ }
+    requires { ⌜ 0 < lsn ⌝ }
+    requires { ⌜ positionOf (e .location) + lsn < 2 ^ 63 ⌝ }
     ensures { λ r. ⌜ r ≡ absolute lsn e ⌝ }
 {
     let relative = RelativeDiskLocation(e.location);
@@ -100,9 +102,7 @@ fn store_all(table: &mut [u64], trailer: &[u8], lsn: u64)
         × (0 < lsn)
         × (length (insertAll (usedEntries (now table)) (taken lsn (entriesIn (now trailer))))
         ≤ capacityOf (now table)) ⌝ }
-    ensures { λ _. ⌜ now (table .exit)
-        ≡ laidOut (capacityOf (now (table .entry)))
-        (insertAll (usedEntries (now (table .entry))) (taken lsn (entriesIn (now (trailer .entry))))) ⌝ }
+    ensures { λ _. ⌜ now (table .exit) ≡ withTaken (now (table .entry)) lsn (entriesIn (now (trailer .entry))) ⌝ }
 {
     let n = trailer::count(trailer);
     let mut k: u64 = 0;
@@ -118,13 +118,13 @@ fn state_with(state: State, files: FileMap, next_position: u64) -> State
     ensures { λ r. ⌜ r ≡ stateWith state (files .records) «next_position» ⌝ }
 {
     let settings = state.settings;
-    State {
-        settings: settings,
-        heap_len: state.heap_len,
-        table_len: state.table_len,
-        files: files,
-        next_position: next_position,
-    }
+    file_map::state_of(
+        settings,
+        state.heap_len,
+        state.table_len,
+        files,
+        next_position,
+    )
 }
 
 // "next grows by T + 1"
@@ -158,14 +158,11 @@ fn by_trailer(lsns: &[u64], lives: &mut [u64], table: &mut [u64], trailer: &[u8]
         × (0 < lsn)
         × (length (insertAll (usedEntries (now table)) (taken lsn (entriesIn (now trailer))))
         ≤ capacityOf (now table)) ⌝ }
-    ensures { λ _. ⌜ (now (lives .exit) ≡ losingLives (now (lsns .entry))
+    ensures lives { λ _. ⌜ now (lives .exit) ≡ losingLives (now (lsns .entry))
         (usedEntries (now (table .entry)))
         (entriesIn (now (trailer .entry)))
-        (now (lives .entry)))
-        × (now (table .exit)
-        ≡ laidOut (capacityOf (now (table .entry)))
-        (insertAll (usedEntries (now (table .entry)))
-        (taken lsn (entriesIn (now (trailer .entry)))))) ⌝ }
+        (now (lives .entry)) ⌝ }
+    ensures table { λ _. ⌜ now (table .exit) ≡ withTaken (now (table .entry)) lsn (entriesIn (now (trailer .entry))) ⌝ }
 {
     lose(lsns, lives, table, trailer);
     store_all(table, trailer, lsn);
@@ -183,14 +180,12 @@ pub struct StoredFile {
 pub fn install(lsns: &[u64], lives: &mut [u64], table: &mut [u64], heap: &[u8], file: StoredFile)
     requires { ⌜ Installable (now lsns) (now lives) (now table)
         (now heap) (file .start) (file .count) (file .total) (file .lsn) ⌝ }
-    ensures { λ _. ⌜ (now (lives .exit) ≡ losingLives (now (lsns .entry))
+    ensures lives { λ _. ⌜ now (lives .exit) ≡ losingLives (now (lsns .entry))
         (usedEntries (now (table .entry)))
         (entriesIn (trailerAt (now (heap .entry)) (file .start) (file .count) (file .total)))
-        (now (lives .entry)))
-        × (now (table .exit)
-        ≡ laidOut (capacityOf (now (table .entry)))
-        (insertAll (usedEntries (now (table .entry)))
-        (taken (file .lsn) (entriesIn (trailerAt (now (heap .entry)) (file .start) (file .count) (file .total)))))) ⌝ }
+        (now (lives .entry)) ⌝ }
+    ensures table { λ _. ⌜ now (table .exit) ≡ withTaken (now (table .entry)) (file .lsn)
+        (entriesIn (trailerAt (now (heap .entry)) (file .start) (file .count) (file .total))) ⌝ }
 {
     let from = file.start + LABEL_BYTES + file.total as usize;
     let end = from + (TRAILER_HEAD + TRAILER_ENTRY * file.count as usize);

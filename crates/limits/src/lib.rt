@@ -111,7 +111,8 @@ fn the_states(s: Settings, heap: u64, entries: u64, rest: Rest) -> bool
 
 // "a non-empty record at slot N or above, outside 8's bounds, or with present over file_size or live over the table's length"
 fn bad_record(s: Settings, heap: u64, table: &[u64], slot: u64, r: Record) -> bool
-    requires { ⌜ (128 ≤ s .«slot_bytes») × (s .«slot_bytes» ≤ 1048576) ⌝ }
+    requires { ⌜ 128 ≤ s .«slot_bytes» ⌝ }
+    requires { ⌜ s .«slot_bytes» ≤ 1048576 ⌝ }
     ensures { λ b. ⌜ b ≡ badRecord s heap (now (table .entry)) slot r ⌝ }
 {
     if is_empty(r) {
@@ -149,10 +150,10 @@ pub fn bad_files(s: Settings, heap: u64, table: &[u64], files: FileMap) -> bool
 
 // All of 1 for every other call: `bad` is what was found of the state's records.
 pub fn refused_apart(s: Settings, heap: u64, table: &[u64], rest: Rest, bad: bool) -> bool
-    ensures { λ r. ⌜ ((files : FileMap)
+    ensures answers { λ r. ⌜ ((files : FileMap)
         → bad ≡ badFiles s heap (now (table .entry)) (files .records)
         → r ≡ conditionOne s heap (now (table .entry)) (stateOf rest files)) ⌝ }
-    ensures { λ r. ⌜ (r ≡ false → InLimits s heap (now (table .entry))) ⌝ }
+    ensures within { λ r. ⌜ (r ≡ false → InLimits s heap (now (table .entry))) ⌝ }
 {
     if out_of_range(s, heap, table) {
         return true;

@@ -25,13 +25,8 @@ fn file() -> Record {
 fn with(slot: usize, r: Record) -> State
     requires { ⌜ slot < 256 ⌝ }
 {
-    State {
-        settings: settings(),
-        heap_len: 256,
-        table_len: 2,
-        files: file_map::with_record(file_map::no_files(), slot, r),
-        next_position: 90,
-    }
+    let files = file_map::with_record(file_map::no_files(), slot, r);
+    file_map::state_of(settings(), 256, 2, files, 90)
 }
 
 pub fn store() -> State {

@@ -19,7 +19,8 @@ fn fill(batch: &mut [u8], start: usize, end: usize, b: u8) {
 
 // A length in one group or in two, then the body; where it ends.
 fn body(batch: &mut [u8], at: usize, id: u8, length: usize) -> usize
-    requires { ⌜ (at ≤ 1600) × (length ≤ 256) ⌝ }
+    requires { ⌜ at ≤ 1600 ⌝ }
+    requires { ⌜ length ≤ 256 ⌝ }
     ensures { λ r. ⌜ r ≤ 2048 ⌝ }
 {
     if length < 128 {

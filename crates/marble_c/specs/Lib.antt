@@ -1,3 +1,4 @@
+pub mod Host
 pub mod Told
 pub mod Salvages
 pub mod Unique

@@ -14,10 +14,11 @@ use Rattle.rules.specs.World.{Given, After, world, leaving}
 use Rattle.rules.specs.Write.{writeCall}
 use Rattle.faults.specs.Faults.{checkCall}
 use Rattle.losses.specs.Salvage.{Salvaged, salvageCall}
-use Rattle.as_numbers.specs.ClaimWords.{claimsIn, claims-one}
+use Rattle.as_numbers.specs.ClaimWords.{claims-one}
 use Rattle.as_numbers.specs.Shown.{given, shown, stopAfter, shownTable}
 use Rattle.as_numbers.specs.StateLaws.{state-one}
 use Rattle.as_numbers.specs.StateWords.{stateIn}
+use Rattle.marble_c.specs.Host.{worldIn}
 use Rattle.marble_c.specs.Salvages.{shownRescue}
 
 -- what a call gave and left: its number, its out-parameters, the words and the buffers
@@ -36,7 +37,7 @@ pub record Sized (l : Left) : Type 0 where
 
 -- the same, as the calls' definitions say it
 abbrev pub said : Settings → Left → After
-said s l = leaving (given (l .number) (l .values)) (world s (stateIn (l .state)) (claimsIn (l .claims)) (l .heap) (l .table))
+said s l = leaving (given (l .number) (l .values)) (worldIn s (l .state) (l .claims) (l .heap) (l .table))
 
 -- what settles this settles every word
 left-one : (s : Settings) (a : After) (l m : Left) → Sized l → Sized m → said s l ≡ a → said s m ≡ a → l ≡ m
@@ -57,35 +58,35 @@ left-one s a l m p q e f =
 module _ (s : Settings) (state claims heap table : List ℕ) where
   -- what each contract says
   abbrev pub Reopens : Left → Type 0
-  Reopens l = said s l ≡ reopenCall (world s (stateIn state) (claimsIn claims) heap table)
+  Reopens l = said s l ≡ reopenCall (worldIn s state claims heap table)
 
   abbrev pub ClaimsSlot : ℕ → Left → Type 0
-  ClaimsSlot slot l = said s l ≡ claimCall (world s (stateIn state) (claimsIn claims) heap table) slot
+  ClaimsSlot slot l = said s l ≡ claimCall (worldIn s state claims heap table) slot
 
   abbrev pub Releases : ℕ → Left → Type 0
-  Releases slot l = said s l ≡ releaseCall (world s (stateIn state) (claimsIn claims) heap table) slot
+  Releases slot l = said s l ≡ releaseCall (worldIn s state claims heap table) slot
 
   abbrev pub Prunes : Left → Type 0
-  Prunes l = said s l ≡ pruneCall (world s (stateIn state) (claimsIn claims) heap table)
+  Prunes l = said s l ≡ pruneCall (worldIn s state claims heap table)
 
   abbrev pub Maintains : Left → Type 0
-  Maintains l = said s l ≡ stopAfter (maintainCall (world s (stateIn state) (claimsIn claims) heap table))
+  Maintains l = said s l ≡ stopAfter (maintainCall (worldIn s state claims heap table))
 
   -- any two are equal
   pub reopen-one : (l m : Left) → Sized l → Sized m → Reopens l → Reopens m → l ≡ m
-  reopen-one = left-one s (reopenCall (world s (stateIn state) (claimsIn claims) heap table))
+  reopen-one = left-one s (reopenCall (worldIn s state claims heap table))
 
   pub claim-one : (slot : ℕ) (l m : Left) → Sized l → Sized m → ClaimsSlot slot l → ClaimsSlot slot m → l ≡ m
-  claim-one slot = left-one s (claimCall (world s (stateIn state) (claimsIn claims) heap table) slot)
+  claim-one slot = left-one s (claimCall (worldIn s state claims heap table) slot)
 
   pub release-one : (slot : ℕ) (l m : Left) → Sized l → Sized m → Releases slot l → Releases slot m → l ≡ m
-  release-one slot = left-one s (releaseCall (world s (stateIn state) (claimsIn claims) heap table) slot)
+  release-one slot = left-one s (releaseCall (worldIn s state claims heap table) slot)
 
   pub prune-one : (l m : Left) → Sized l → Sized m → Prunes l → Prunes m → l ≡ m
-  prune-one = left-one s (pruneCall (world s (stateIn state) (claimsIn claims) heap table))
+  prune-one = left-one s (pruneCall (worldIn s state claims heap table))
 
   pub maintain-one : (l m : Left) → Sized l → Sized m → Maintains l → Maintains m → l ≡ m
-  maintain-one = left-one s (stopAfter (maintainCall (world s (stateIn state) (claimsIn claims) heap table)))
+  maintain-one = left-one s (stopAfter (maintainCall (worldIn s state claims heap table)))
 
 -- ---- calls that are not lent the claim record
 module _ (s : Settings) (state heap table : List ℕ) where

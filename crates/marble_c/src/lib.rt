@@ -16,6 +16,7 @@ use as_numbers::state_words::put_state;
 use as_numbers::state_words::state_in;
 use marble::CheckAnswer;
 use marble::SalvageAnswer;
+use rules::ReadAnswer;
 use rules::Settings;
 ghost use mathlib.Core.Path.{_≡_};
 ghost use mathlib.Core.List.{[], _∷_};
@@ -24,7 +25,7 @@ ghost use Rattle.rules.specs.Claims.{claimCall, releaseCall};
 ghost use Rattle.rules.specs.Counts.{countsCall};
 ghost use Rattle.rules.specs.Maintenance.{maintainCall};
 ghost use Rattle.rules.specs.Prune.{pruneCall};
-ghost use Rattle.rules.specs.Read.{readCall};
+ghost use Rattle.rules.specs.Read.{readOf, readCall};
 ghost use Rattle.rules.specs.Reopen.{reopenCall};
 ghost use Rattle.rules.specs.TableCalls.{loadCall, storeCall, compareCall, greaterCall};
 ghost use Rattle.rules.specs.World.{world, leaving};
@@ -34,10 +35,10 @@ ghost use Rattle.faults.specs.Faults.{checkCall};
 ghost use Rattle.checker.specs.Answers.{checkGiven};
 ghost use Rattle.losses.specs.Salvage.{salvageCall};
 ghost use Rattle.salvage.specs.Answers.{salvageGiven};
-ghost use Rattle.as_numbers.specs.ClaimWords.{claimsIn};
 ghost use Rattle.as_numbers.specs.Numbered.{numbered};
 ghost use Rattle.as_numbers.specs.Shown.{given, shown, stopAfter, shownTable};
 ghost use Rattle.as_numbers.specs.StateWords.{stateIn};
+ghost use Rattle.marble_c.specs.Host.{worldIn};
 ghost use Rattle.marble_c.specs.Salvages.{rescue, shownRescue};
 ghost use Rattle.marble_c.specs.Version.{version};
 
@@ -60,11 +61,8 @@ pub extern "C" fn marble_reopen(
     table: &mut [u64],
 ) -> u64
     ensures { λ r. ⌜ leaving (numbered r)
-        (world settings (stateIn (now (state .exit))) (claimsIn (now (claims .exit)))
-        (now (heap .entry)) (now (table .exit)))
-        ≡ reopenCall
-        (world settings (stateIn (now (state .entry))) (claimsIn (now (claims .entry)))
-        (now (heap .entry)) (now (table .entry))) ⌝ }
+        (worldIn settings (now (state .exit)) (now (claims .exit)) (now (heap .entry)) (now (table .exit)))
+        ≡ reopenCall (worldIn settings (now (state .entry)) (now (claims .entry)) (now (heap .entry)) (now (table .entry))) ⌝ }
 {
     let was = state_in(state);
     let held = claims_in(claims);
@@ -88,8 +86,7 @@ pub extern "C" fn marble_write(
 ) -> u64
     ensures { λ r. ⌜ ((c : Claims) → leaving (numbered r)
         (world settings (stateIn (now (state .exit))) c (now (heap .exit)) (now (table .exit)))
-        ≡ writeCall
-        (world settings (stateIn (now (state .entry))) c (now (heap .entry)) (now (table .entry)))
+        ≡ writeCall (world settings (stateIn (now (state .entry))) c (now (heap .entry)) (now (table .entry)))
         (now (batch .entry))) ⌝ }
 {
     let was = state_in(state);
@@ -98,6 +95,17 @@ pub extern "C" fn marble_write(
     let after = done.state;
     put_state(state, after);
     number(answer)
+}
+
+// A read's answer, by the state's words. Whatever reads goes through here, so that the state is handed on once: a function with two
+// callers is compiled into neither, and is given copies of it.
+fn found(settings: Settings, state: &[u64; 1545], heap: &[u8], table: &[u64], id: u64) -> ReadAnswer
+    ensures { λ r. ⌜ ((c : Claims) → r ≡ readOf
+        (world settings (stateIn (now (state .entry))) c (now (heap .entry)) (now (table .entry)))
+        id) ⌝ }
+{
+    let was = state_in(state);
+    marble::read_answer(settings, was, heap, table, id)
 }
 
 // "Read": what is there of the id, and an object's part of the heap by its start and length.
@@ -117,12 +125,11 @@ pub extern "C" fn marble_read(
         (world settings (stateIn (now (state .entry))) c (now (heap .entry)) (now (table .entry)))
         id .answer)) ⌝ }
 {
-    let was = state_in(state);
-    let found = read_shown(marble::read_answer(settings, was, heap, table, id));
-    *kind = found.first;
-    *offset = found.second;
-    *size = found.third;
-    found.number
+    let read = read_shown(found(settings, state, heap, table, id));
+    *kind = read.first;
+    *offset = read.second;
+    *size = read.third;
+    read.number
 }
 
 // "21 for a slot out of range, an empty slot, a claimed one (claim)"
@@ -136,11 +143,8 @@ pub extern "C" fn marble_claim(
     slot: u64,
 ) -> u64
     ensures { λ r. ⌜ leaving (numbered r)
-        (world settings (stateIn (now (state .entry))) (claimsIn (now (claims .exit)))
-        (now (heap .entry)) (now (table .entry)))
-        ≡ claimCall
-        (world settings (stateIn (now (state .entry))) (claimsIn (now (claims .entry)))
-        (now (heap .entry)) (now (table .entry))) slot ⌝ }
+        (worldIn settings (now (state .entry)) (now (claims .exit)) (now (heap .entry)) (now (table .entry)))
+        ≡ claimCall (worldIn settings (now (state .entry)) (now (claims .entry)) (now (heap .entry)) (now (table .entry))) slot ⌝ }
 {
     let was = state_in(state);
     let held = claims_in(claims);
@@ -162,11 +166,8 @@ pub extern "C" fn marble_release(
     slot: u64,
 ) -> u64
     ensures { λ r. ⌜ leaving (numbered r)
-        (world settings (stateIn (now (state .entry))) (claimsIn (now (claims .exit)))
-        (now (heap .entry)) (now (table .entry)))
-        ≡ releaseCall
-        (world settings (stateIn (now (state .entry))) (claimsIn (now (claims .entry)))
-        (now (heap .entry)) (now (table .entry))) slot ⌝ }
+        (worldIn settings (now (state .entry)) (now (claims .exit)) (now (heap .entry)) (now (table .entry)))
+        ≡ releaseCall (worldIn settings (now (state .entry)) (now (claims .entry)) (now (heap .entry)) (now (table .entry))) slot ⌝ }
 {
     let was = state_in(state);
     let held = claims_in(claims);
@@ -187,11 +188,8 @@ pub extern "C" fn marble_prune(
     table: &[u64],
 ) -> u64
     ensures { λ r. ⌜ leaving (numbered r)
-        (world settings (stateIn (now (state .exit))) (claimsIn (now (claims .entry)))
-        (now (heap .exit)) (now (table .entry)))
-        ≡ pruneCall
-        (world settings (stateIn (now (state .entry))) (claimsIn (now (claims .entry)))
-        (now (heap .entry)) (now (table .entry))) ⌝ }
+        (worldIn settings (now (state .exit)) (now (claims .entry)) (now (heap .exit)) (now (table .entry)))
+        ≡ pruneCall (worldIn settings (now (state .entry)) (now (claims .entry)) (now (heap .entry)) (now (table .entry))) ⌝ }
 {
     let was = state_in(state);
     let held = claims_in(claims);
@@ -214,11 +212,9 @@ pub extern "C" fn marble_maintain(
     moved: &mut u64,
 ) -> u64
     ensures { λ r. ⌜ leaving (given r (now (generation .exit) ∷ now (moved .exit) ∷ []))
-        (world settings (stateIn (now (state .exit))) (claimsIn (now (claims .entry)))
-        (now (heap .exit)) (now (table .exit)))
+        (worldIn settings (now (state .exit)) (now (claims .entry)) (now (heap .exit)) (now (table .exit)))
         ≡ stopAfter (maintainCall
-        (world settings (stateIn (now (state .entry))) (claimsIn (now (claims .entry)))
-        (now (heap .entry)) (now (table .entry)))) ⌝ }
+        (worldIn settings (now (state .entry)) (now (claims .entry)) (now (heap .entry)) (now (table .entry)))) ⌝ }
 {
     let was = state_in(state);
     let held = claims_in(claims);
@@ -242,8 +238,7 @@ pub extern "C" fn marble_counts(
     counts: &mut [u64; 4],
 ) -> u64
     ensures { λ r. ⌜ ((c : Claims) → given r (now (counts .exit))
-        ≡ shown 4 (countsCall (world settings (stateIn (now (state .entry))) c
-        (now (heap .entry)) (now (table .entry))) .answer)) ⌝ }
+        ≡ shown 4 (countsCall (world settings (stateIn (now (state .entry))) c (now (heap .entry)) (now (table .entry))) .answer)) ⌝ }
 {
     let was = state_in(state);
     let done = counts_shown(marble::counts(settings, was, heap, table));
@@ -277,10 +272,10 @@ pub extern "C" fn marble_check(
     listing: &mut [u64],
     faults: &mut u64,
 ) -> u64
-    ensures { λ r. ⌜ (given r (now (faults .exit) ∷ []) ≡ shown 1
-        (checkCall settings (now (heap .entry)) (now (table .entry)) (now (listing .entry)) .answer))
-        × (now (listing .exit)
-        ≡ checkCall settings (now (heap .entry)) (now (table .entry)) (now (listing .entry)) .listing) ⌝ }
+    ensures answers { λ r. ⌜ given r (now (faults .exit) ∷ []) ≡ shown 1
+        (checkCall settings (now (heap .entry)) (now (table .entry)) (now (listing .entry)) .answer) ⌝ }
+    ensures lists { λ _. ⌜ now (listing .exit)
+        ≡ checkCall settings (now (heap .entry)) (now (table .entry)) (now (listing .entry)) .listing ⌝ }
 {
     let done = check_shown(marble::check(settings, heap, table, listing));
     *faults = done.value;

@@ -57,7 +57,8 @@ pub fn decode(s: &[u8], at: usize) -> Number
 // Writes x at the front of s, and answers how many bytes it took.
 pub fn encode(s: &mut [u8], x: u64) -> usize
     requires { ⌜ 10 ≤ length (now s) ⌝ }
-    ensures { λ r. ⌜ (r ≡ length (groupsOf 10 x)) × (now (s .exit) ≡ front (groupsOf 10 x) (now (s .entry))) ⌝ }
+    ensures counts { λ r. ⌜ r ≡ length (groupsOf 10 x) ⌝ }
+    ensures writes { λ _. ⌜ now (s .exit) ≡ front (groupsOf 10 x) (now (s .entry)) ⌝ }
 {
     let mut rest = x;
     let mut i: usize = 0;

@@ -22,7 +22,8 @@ pub fn put(s: &mut [u8], n: usize, x: u64)
 
 // The number that the first n bytes of s say.
 pub fn get(s: &[u8], n: usize) -> u64
-    requires { ⌜ (n ≤ length (now s)) × (n ≤ 8) ⌝ }
+    requires { ⌜ n ≤ length (now s) ⌝ }
+    requires { ⌜ n ≤ 8 ⌝ }
     ensures { λ r. ⌜ r ≡ leValue (take n (now (s .entry))) ⌝ }
 {
     let mut v: u64 = 0;

@@ -92,8 +92,8 @@ pub fn prune_stores(
     due: bool,
 ) -> FileMap
     requires { ⌜ (due ≡ true → LabelsIn «slot_bytes» (files .records) (length (now heap))) ⌝ }
-    ensures { λ n. ⌜ n .records ≡ pick due (emptiedFrom claims 0 (files .records)) (files .records) ⌝ }
-    ensures { λ _. ⌜ now (heap .exit)
+    ensures records { λ n. ⌜ n .records ≡ pick due (emptiedFrom claims 0 (files .records)) (files .records) ⌝ }
+    ensures heap { λ _. ⌜ now (heap .exit)
         ≡ made (take left (pick due (emptying «slot_bytes» (slotsWhere (isDead claims) 0 (files .records))) [])) (now (heap .entry)) ⌝ }
 {
     let mut n = files;

@@ -93,8 +93,8 @@ pub fn read_answer(
 // The part of the heap that an answer names; an empty part where it names none.
 fn part(heap: &[u8], answer: ReadAnswer) -> &[u8]
     requires { ⌜ Within answer (length (now heap)) ⌝ }
-    ensures { λ r. ⌜ now r ≡ partOf answer (now (heap .entry)) ⌝ }
-    ensures { λ r. ⌜ r .ptr ≡ placeOf answer (heap .entry .ptr) ⌝ }
+    ensures bytes { λ r. ⌜ now r ≡ partOf answer (now (heap .entry)) ⌝ }
+    ensures place { λ r. ⌜ r .ptr ≡ placeOf answer (heap .entry .ptr) ⌝ }
 {
     match answer {
         ReadAnswer::Found(at, size) => {
@@ -116,10 +116,10 @@ pub fn read<'a>(
     table: &[u64],
     id: u64,
 ) -> &'a [u8]
-    ensures { λ r. ⌜ ((c : Claims) → now r ≡ partOf
+    ensures bytes { λ r. ⌜ ((c : Claims) → now r ≡ partOf
         (readOf (world settings state c (now (heap .entry)) (now (table .entry))) id)
         (now (heap .entry))) ⌝ }
-    ensures { λ r. ⌜ ((c : Claims) → r .ptr ≡ placeOf
+    ensures place { λ r. ⌜ ((c : Claims) → r .ptr ≡ placeOf
         (readOf (world settings state c (now (heap .entry)) (now (table .entry))) id)
         (heap .entry .ptr)) ⌝ }
 {

@@ -42,7 +42,8 @@ fn replaces(held: Held, location: u64) -> bool
 
 // One entry beside those met before; where a new id finds no room the buffer is cleared.
 fn meet(table: &mut [u64], id: u64, location: u64) -> bool
-    requires { ⌜ Formed (now table) × (0 < location) ⌝ }
+    requires { ⌜ Formed (now table) ⌝ }
+    requires { ⌜ 0 < location ⌝ }
     ensures { λ r. ⌜ Filled (now (table .entry))
         (record { id = id; location = location } ∷ []) r
         (now (table .exit)) ⌝ }
@@ -80,7 +81,8 @@ fn fill_file(trailer: &[u8], lsn: u64, table: &mut [u64]) -> bool
 
 // The entries of a slot's file, if there is one.
 fn fill_slot(slot: &[u8], l: Label, table: &mut [u64]) -> bool
-    requires { ⌜ Formed (now table) × Shown (now slot) l ⌝ }
+    requires { ⌜ Formed (now table) ⌝ }
+    requires { ⌜ Shown (now slot) l ⌝ }
     ensures { λ b. ⌜ Filled (now (table .entry))
         (each rowsOf (fileOf (viewIn (now (slot .entry))))) b
         (now (table .exit)) ⌝ }
@@ -93,7 +95,8 @@ fn fill_slot(slot: &[u8], l: Label, table: &mut [u64]) -> bool
 
 // "Each id maps to its entry of greatest masked position"; without room for all ids the buffer is cleared.
 pub fn fill(heap: &[u8], size: usize, n: usize, slots: Labels, table: &mut [u64]) -> bool
-    requires { ⌜ Formed (now table) × Surveyed n size (now heap) (slots .labels) ⌝ }
+    requires { ⌜ Formed (now table) ⌝ }
+    requires { ⌜ Surveyed n size (now heap) (slots .labels) ⌝ }
     ensures { λ b. ⌜ Filled (now (table .entry))
         (each rowsOf (filesIn (viewsIn n size (now (heap .entry))))) b
         (now (table .exit)) ⌝ }

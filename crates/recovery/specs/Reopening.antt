@@ -8,18 +8,9 @@ use Rattle.rules.specs.Layout.{Table, capacityOf, cleared}
 use Rattle.rules.specs.SlotFile.{View, viewsIn}
 use Rattle.rules.specs.Reopen.{filesIn, tableOf, reopenTests, givenUp, opened}
 use Rattle.rules.specs.World.{World, world, slotsOf, noState, answerGiven, After, leaving}
+use Rattle.file_map.specs.Records.{stateBy}
 use Rattle.recovery.specs.declared.Reopened.{Reopened}
-use Rattle.recovery.specs.Types.{Settings, Record, State, Refusal, TableRoom, Refused}
-
--- a state of these settings and lengths
-abbrev pub stateBy : Settings → ℕ → ℕ → List Record → ℕ → State
-stateBy settings heapLen tableLen records next = record {
-  settings = settings;
-  «heap_len» = heapLen;
-  «table_len» = tableLen;
-  files = record { records = records };
-  «next_position» = next;
-}
+use Rattle.recovery.specs.Types.{Settings, Refusal, TableRoom, Refused}
 
 -- "hands back an empty file map, no claims and next position 1"
 abbrev pub handedBack : Settings → ℕ → ℕ → Refusal → Reopened

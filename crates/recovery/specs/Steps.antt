@@ -14,6 +14,7 @@ use Rattle.rules.specs.Layout.{Table, alternating, capacityOf, usedEntries, lai
 use Rattle.rules.specs.SlotFile.{View}
 use Rattle.rules.specs.Reopen.{viewTests, filesIn, overlapping, latestFrom, tableOf, reopenTests, recordsFrom, nextAfter, givenUp, opened, reopenCall}
 use Rattle.rules.specs.World.{World, world, After}
+use Rattle.file_map.specs.Records.{stateBy}
 use Rattle.location_table.specs.Tables.{Formed}
 use Rattle.rules.specs.TableLaws.{rise-end}
 use Rattle.rules.specs.LayoutLaws.{used-laid-out}
@@ -23,7 +24,7 @@ use Rattle.reopen_tests.specs.Tests.{fileTests}
 use Rattle.rebuild.specs.Filled.{rowsOf}
 use Rattle.recovery.specs.declared.Reopened.{Reopened}
 use Rattle.recovery.specs.Types.{Settings, Record, Entry, State, Claims, Refusal, Limits, TableRoom, Overlap, NotRising, Answer, Done, Refused}
-use Rattle.recovery.specs.Reopening.{stateBy, handedBack, leaves, bare, Blank, pastSlots, pastLimits, pastTests}
+use Rattle.recovery.specs.Reopening.{handedBack, leaves, bare, Blank, pastSlots, pastLimits, pastTests}
 
 -- ---- 1
 module _ (settings : Settings) (state : State) (claims : Claims) (heap : List ℕ) (table : Table) where

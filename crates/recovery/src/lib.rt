@@ -1,6 +1,7 @@
 // Reopening (`src/recovery.rs`): the file map and the table from the heap alone, which is only read.
 use claims::no_claims;
 use file_map::no_files;
+use file_map::state_of;
 use limits::out_of_range;
 use location_table::capacity;
 use location_table::clear;
@@ -12,7 +13,6 @@ use reopen_tests::over_all::check;
 use reopen_tests::slots::survey;
 use rules::Answer;
 use rules::Claims;
-use rules::FileMap;
 use rules::Refusal;
 use rules::Settings;
 use rules::State;
@@ -24,25 +24,13 @@ ghost use Rattle.rules.specs.Reopen.{reopenCall};
 ghost use Rattle.rules.specs.SlotFile.{viewsIn};
 ghost use Rattle.rules.specs.World.{answerGiven, leaving, world};
 ghost use Rattle.reopen_tests.specs.Shown.{Surveyed};
-ghost use Rattle.recovery.specs.Reopening.{stateBy, handedBack, leaves, bare, Blank, pastTests, pastSlots, pastLimits};
+ghost use Rattle.recovery.specs.Reopening.{handedBack, leaves, bare, Blank, pastTests, pastSlots, pastLimits};
 
 // What a reopening hands back.
 pub struct Reopened {
     pub answer: Answer,
     pub state: State,
     pub claims: Claims,
-}
-
-fn state_of(settings: Settings, heap_len: u64, table_len: u64, files: FileMap, next: u64) -> State
-    ensures { λ s. ⌜ s ≡ stateBy settings «heap_len» «table_len» (files .records) next ⌝ }
-{
-    State {
-        settings: settings,
-        heap_len: heap_len,
-        table_len: table_len,
-        files: files,
-        next_position: next,
-    }
 }
 
 // "an empty file map, no claims and next position 1"

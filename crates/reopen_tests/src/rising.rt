@@ -48,7 +48,8 @@ fn repeats(e: Entry, d: Entry) -> bool
 }
 
 fn repeated(trailer: &[u8], k: u64) -> bool
-    requires { ⌜ (k < countIn (now trailer)) × (12 + 16 * countIn (now trailer) ≤ length (now trailer)) ⌝ }
+    requires { ⌜ k < countIn (now trailer) ⌝ }
+    requires { ⌜ 12 + 16 * countIn (now trailer) ≤ length (now trailer) ⌝ }
     ensures { λ b. ⌜ b
         ≡ any (repeats (getD (entriesIn (now (trailer .entry))) k noEntry)) (drop (k + 1) (entriesIn (now (trailer .entry)))) ⌝ }
 {

@@ -63,7 +63,8 @@ pub fn refused(r: Refusal) -> Survey
 
 // "Per non-empty slot, ascending: 8, 9, 10, 11, 12, 13."
 pub fn survey(heap: &[u8], size: usize, n: usize) -> Survey
-    requires { ⌜ (n * size ≤ length (now heap)) × (n ≤ 256) ⌝ }
+    requires { ⌜ n * size ≤ length (now heap) ⌝ }
+    requires { ⌜ n ≤ 256 ⌝ }
     ensures { λ r. ⌜ r ≡ surveyed (viewsIn n size (now (heap .entry))) ⌝ }
 {
     let mut slots = no_labels();

@@ -56,10 +56,10 @@ pub fn first_kind(
 ) -> u64
     requires { ⌜ (length (now starts) * size ≤ length (now heap)) × (2 * length (now starts) ≤ length (now report)) ⌝ }
     requires { ⌜ length (now ends) ≡ length (now starts) ⌝ }
-    ensures { λ r. ⌜ Reports 0 (firstKind 0 (slotsJudged (length (now (starts .entry))) size (now (heap .entry))))
+    ensures reports { λ r. ⌜ Reports 0 (firstKind 0 (slotsJudged (length (now (starts .entry))) size (now (heap .entry))))
         (now (report .entry)) (now (report .exit)) r ⌝ }
-    ensures { λ _. ⌜ now (starts .exit) ≡ map startIn (slotsJudged (length (now (starts .entry))) size (now (heap .entry))) ⌝ }
-    ensures { λ _. ⌜ now (ends .exit) ≡ map endIn (slotsJudged (length (now (starts .entry))) size (now (heap .entry))) ⌝ }
+    ensures starts { λ _. ⌜ now (starts .exit) ≡ map startIn (slotsJudged (length (now (starts .entry))) size (now (heap .entry))) ⌝ }
+    ensures ends { λ _. ⌜ now (ends .exit) ≡ map endIn (slotsJudged (length (now (starts .entry))) size (now (heap .entry))) ⌝ }
 {
     let n = starts.len();
     let mut count: u64 = 0;

@@ -68,9 +68,9 @@ fn list_losses(report: &mut [u64], heap: &[u8], size: usize, n: usize) -> u64
 // For a call that has decided refusal 1: the report, and the first `left` of its stores.
 pub fn give_up(settings: Settings, heap: &mut [u8], report: &mut [u64], left: u64) -> u64
     requires { ⌜ InRanges settings × HeapInRange settings (length (now heap)) × (512 ≤ length (now report)) ⌝ }
-    ensures { λ r. ⌜ r ≡ length (reportOf settings (now (heap .entry))) ⌝ }
-    ensures { λ _. ⌜ now (report .exit) ≡ front (each lossWords (reportOf settings (now (heap .entry)))) (now (report .entry)) ⌝ }
-    ensures { λ _. ⌜ now (heap .exit)
+    ensures counts { λ r. ⌜ r ≡ length (reportOf settings (now (heap .entry))) ⌝ }
+    ensures reports { λ _. ⌜ now (report .exit) ≡ front (each lossWords (reportOf settings (now (heap .entry)))) (now (report .entry)) ⌝ }
+    ensures heap { λ _. ⌜ now (heap .exit)
         ≡ made (take left (emptyingOf settings (reportOf settings (now (heap .entry))))) (now (heap .entry)) ⌝ }
 {
     let size = settings.slot_bytes as usize;

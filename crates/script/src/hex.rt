@@ -22,7 +22,8 @@ pub fn is_digit(b: u8) -> bool
 
 // What a digit of either case says; of another byte something below 16.
 pub fn nibble(b: u8) -> u8
-    ensures { λ r. ⌜ (r ≡ nibbleOf b) × (r < 16) ⌝ }
+    ensures answers { λ r. ⌜ r ≡ nibbleOf b ⌝ }
+    ensures fits { λ r. ⌜ r < 16 ⌝ }
 {
     if b <= b'9' {
         return b % 16;

@@ -70,7 +70,8 @@ struct Numbers {
 }
 
 pub fn shape_of(keyword: Keyword) -> Shape
-    ensures { λ r. ⌜ (r ≡ shapeOf keyword) × (r .numbers ≤ 9) ⌝ }
+    ensures answers { λ r. ⌜ r ≡ shapeOf keyword ⌝ }
+    ensures fits { λ r. ⌜ r .numbers ≤ 9 ⌝ }
 {
     match keyword {
         Keyword::Settings => Shape {
@@ -134,12 +135,14 @@ fn no_order(keyword: Keyword) -> Order
 
 // `n` numbers from `from` on, a word each; none of them where one is missing or wrong.
 fn numbers_from(text: &[u8], from: usize, n: usize) -> Numbers
-    requires { ⌜ (from ≤ length (now text)) × (n ≤ 9) ⌝ }
-    ensures { λ r. ⌜ (r .next ≤ length (now (text .entry)))
-        × (r .good ≡ numbered n (wordsOf (drop from (now (text .entry)))))
-        × (r .values ≡ pick (r .good) (front (numbersIn n (wordsOf (drop from (now (text .entry))))) noNumbers) noNumbers)
-        × (wordsOf (drop (r .next) (now (text .entry)))
-        ≡ pick (r .good) (drop n (wordsOf (drop from (now (text .entry))))) (wordsOf (drop from (now (text .entry))))) ⌝ }
+    requires { ⌜ from ≤ length (now text) ⌝ }
+    requires { ⌜ n ≤ 9 ⌝ }
+    ensures within { λ r. ⌜ r .next ≤ length (now (text .entry)) ⌝ }
+    ensures good { λ r. ⌜ r .good ≡ numbered n (wordsOf (drop from (now (text .entry)))) ⌝ }
+    ensures values { λ r. ⌜ r .values
+        ≡ pick (r .good) (front (numbersIn n (wordsOf (drop from (now (text .entry))))) noNumbers) noNumbers ⌝ }
+    ensures rest { λ r. ⌜ wordsOf (drop (r .next) (now (text .entry)))
+        ≡ pick (r .good) (drop n (wordsOf (drop from (now (text .entry))))) (wordsOf (drop from (now (text .entry)))) ⌝ }
 {
     let mut values = [0u64; 9];
     let mut at = from;
@@ -203,10 +206,11 @@ fn with_bytes(
     bytes: &mut [u8],
 ) -> Order
     requires { ⌜ from ≤ length (now text) ⌝ }
-    ensures { λ r. ⌜ (r ≡ orderFor (endedBy (length (now (bytes .entry))) true keyword numbers (wordsOf (drop from (now (text .entry))))))
-        × (now (bytes .exit) ≡ front
+    ensures answers { λ r. ⌜ r
+        ≡ orderFor (endedBy (length (now (bytes .entry))) true keyword numbers (wordsOf (drop from (now (text .entry))))) ⌝ }
+    ensures writes { λ _. ⌜ now (bytes .exit) ≡ front
         (endedBy (length (now (bytes .entry))) true keyword numbers (wordsOf (drop from (now (text .entry)))) .bytes)
-        (now (bytes .entry))) ⌝ }
+        (now (bytes .entry)) ⌝ }
 {
     let word = words::next_word(text, from);
     let start = word.start;
@@ -241,9 +245,9 @@ fn wordless(comment: bool) -> Order
 
 // A line without its comment, if it has one.
 fn order_in(text: &[u8], comment: bool, bytes: &mut [u8]) -> Order
-    ensures { λ r. ⌜ (r ≡ orderFor (askedIn (length (now (bytes .entry))) comment (wordsOf (now (text .entry)))))
-        × (now (bytes .exit)
-        ≡ front (askedIn (length (now (bytes .entry))) comment (wordsOf (now (text .entry))) .bytes) (now (bytes .entry))) ⌝ }
+    ensures answers { λ r. ⌜ r ≡ orderFor (askedIn (length (now (bytes .entry))) comment (wordsOf (now (text .entry)))) ⌝ }
+    ensures writes { λ _. ⌜ now (bytes .exit)
+        ≡ front (askedIn (length (now (bytes .entry))) comment (wordsOf (now (text .entry))) .bytes) (now (bytes .entry)) ⌝ }
 {
     let first = words::next_word(text, 0);
     let start = first.start;
@@ -268,9 +272,10 @@ fn order_in(text: &[u8], comment: bool, bytes: &mut [u8]) -> Order
 
 // What a line asks for. Its bytes, if it has any, come to stand at the front of `bytes`.
 pub fn order_of(line: &[u8], bytes: &mut [u8]) -> Order
-    ensures { λ r. ⌜ (r ≡ orderFor (askedBy (length (now (bytes .entry))) (now (line .entry))))
-        × (now (bytes .exit) ≡ front (askedBy (length (now (bytes .entry))) (now (line .entry)) .bytes) (now (bytes .entry)))
-        × (r .length ≤ length (now (bytes .exit))) ⌝ }
+    ensures answers { λ r. ⌜ r ≡ orderFor (askedBy (length (now (bytes .entry))) (now (line .entry))) ⌝ }
+    ensures writes { λ _. ⌜ now (bytes .exit)
+        ≡ front (askedBy (length (now (bytes .entry))) (now (line .entry)) .bytes) (now (bytes .entry)) ⌝ }
+    ensures fits { λ r. ⌜ r .length ≤ length (now (bytes .exit)) ⌝ }
 {
     let end = bytes::scan::find(line, 0, line.len(), b'#');
     order_in(&line[0..end], end < line.len(), bytes)

@@ -32,7 +32,8 @@ pub fn is_blank(b: u8) -> bool
 // The end of the run of bytes from `from` on that are all blank, or all not.
 fn run_end(text: &[u8], from: usize, blank: bool) -> usize
     requires { ⌜ from ≤ length (now text) ⌝ }
-    ensures { λ r. ⌜ (r ≡ from + runOf blank (drop from (now (text .entry)))) × (from ≤ r) × (r ≤ length (now (text .entry))) ⌝ }
+    ensures answers { λ r. ⌜ r ≡ from + runOf blank (drop from (now (text .entry))) ⌝ }
+    ensures within { λ r. ⌜ (from ≤ r) × (r ≤ length (now (text .entry))) ⌝ }
 {
     let mut i = from;
     while i < text.len() {
@@ -46,10 +47,8 @@ fn run_end(text: &[u8], from: usize, blank: bool) -> usize
 
 pub fn next_word(text: &[u8], from: usize) -> Word
     requires { ⌜ from ≤ length (now text) ⌝ }
-    ensures { λ r. ⌜ (from ≤ r .start)
-        × (r .start ≤ r .end)
-        × (r .end ≤ length (now (text .entry)))
-        × (r ≡ nextWord (now (text .entry)) from) ⌝ }
+    ensures within { λ r. ⌜ (from ≤ r .start) × (r .start ≤ r .end) × (r .end ≤ length (now (text .entry))) ⌝ }
+    ensures answers { λ r. ⌜ r ≡ nextWord (now (text .entry)) from ⌝ }
 {
     let start = run_end(text, from, true);
     let end = run_end(text, start, false);

@@ -12,8 +12,8 @@ ghost use Rattle.location_table.specs.Places.{place};
 
 pub fn search(table: &[u64], id: u64) -> Searched
     requires { ⌜ Formed (now table) ⌝ }
-    ensures { λ r. ⌜ (r .place ≡ place (usedEntries (now (table .entry))) id)
-        × (r .looked ≤ capacityOf (now (table .entry))) ⌝ }
+    ensures finds { λ r. ⌜ r .place ≡ place (usedEntries (now (table .entry))) id ⌝ }
+    ensures looks { λ r. ⌜ r .looked ≤ capacityOf (now (table .entry)) ⌝ }
 {
     let n = capacity(table);
     let mut i: usize = 0;

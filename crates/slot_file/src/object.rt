@@ -43,7 +43,8 @@ fn header(bytes: &[u8], position: u64) -> Header
 
 // "10 checksum", for an object whose body lies within the bytes; h is its header.
 pub fn bad_checksum(bytes: &[u8], position: u64, h: Header) -> bool
-    requires { ⌜ (h ≡ headerOf (storedAt position (drop position (now bytes)))) × (20 + h .size ≤ h .room) ⌝ }
+    requires { ⌜ h ≡ headerOf (storedAt position (drop position (now bytes))) ⌝ }
+    requires { ⌜ 20 + h .size ≤ h .room ⌝ }
     ensures { λ r. ⌜ r ≡ badChecksum (storedAt position (drop position (now (bytes .entry)))) ⌝ }
 {
     let start = position as usize + OBJECT_HEADER;

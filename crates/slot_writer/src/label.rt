@@ -13,7 +13,8 @@ ghost use Rattle.slot_writer.specs.Labels.{fiveGroups, labelStores};
 // A number in groups from `at` on; answers where it ends.
 fn put_groups(label: &mut [u8], at: usize, x: u64) -> usize
     requires { ⌜ at + 10 ≤ length (now label) ⌝ }
-    ensures { λ r. ⌜ (r ≡ at + length (groupsOf 10 x)) × (now (label .exit) ≡ putAt (now (label .entry)) at (groupsOf 10 x)) ⌝ }
+    ensures answers { λ r. ⌜ r ≡ at + length (groupsOf 10 x) ⌝ }
+    ensures writes { λ _. ⌜ now (label .exit) ≡ putAt (now (label .entry)) at (groupsOf 10 x) ⌝ }
 {
     at + groups::encode(&mut label[at..], x)
 }

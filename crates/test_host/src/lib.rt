@@ -11,13 +11,7 @@ use rules::State;
 
 // What a host has before its first reopening.
 pub fn no_state(settings: Settings) -> State {
-    State {
-        settings: settings,
-        heap_len: 0,
-        table_len: 0,
-        files: file_map::no_files(),
-        next_position: 0,
-    }
+    file_map::state_of(settings, 0, 0, file_map::no_files(), 0)
 }
 
 pub fn no_claims() -> Claims {

@@ -49,7 +49,8 @@ pub fn check(trailer: &[u8]) -> Answer
 
 // Entry k, from the bytes: no list is built.
 pub fn entry(trailer: &[u8], k: u64) -> Entry
-    requires { ⌜ (k < countIn (now trailer)) × (12 + 16 * countIn (now trailer) ≤ length (now trailer)) ⌝ }
+    requires { ⌜ k < countIn (now trailer) ⌝ }
+    requires { ⌜ 12 + 16 * countIn (now trailer) ≤ length (now trailer) ⌝ }
     ensures { λ r. ⌜ r ≡ getD (entriesIn (now (trailer .entry))) k noEntry ⌝ }
 {
     let at = TRAILER_HEAD + TRAILER_ENTRY * (k as usize);

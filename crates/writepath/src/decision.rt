@@ -47,9 +47,8 @@ fn is_new(table: &[u64], id: u64) -> u64
 // How many of the batch's ids the table does not have.
 fn new_ids(table: &[u64], batch: &[u8]) -> u64
     requires { ⌜ Formed (now table) ⌝ }
-    ensures { λ r. ⌜ (r
-        ≡ newIds (usedEntries (now (table .entry))) (idsOf (settled (opsIn (now (batch .entry))))))
-        × (r ≤ length (now (batch .entry))) ⌝ }
+    ensures counts { λ r. ⌜ r ≡ newIds (usedEntries (now (table .entry))) (idsOf (settled (opsIn (now (batch .entry))))) ⌝ }
+    ensures within { λ r. ⌜ r ≤ length (now (batch .entry)) ⌝ }
 {
     let mut count: u64 = 0;
     let mut cursor = batch::start(batch);

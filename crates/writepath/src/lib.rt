@@ -31,7 +31,8 @@ pub struct Written {
 
 // "base = next position, lsn = base with the batch bit", "generation 0".
 fn new_label(base: u64, count: u64, total: u64) -> Label
-    requires { ⌜ (base < 2 ^ 62) × (total + (12 + 16 * count) < 2 ^ 63) ⌝ }
+    requires { ⌜ base < 2 ^ 62 ⌝ }
+    requires { ⌜ total + (12 + 16 * count) < 2 ^ 63 ⌝ }
     ensures { λ l. ⌜ l ≡ labelled (base + 2 ^ 62) total (total + (12 + 16 * count)) count 0 ⌝ }
 {
     let lsn = disk_location::with_batch(base);
@@ -40,7 +41,8 @@ fn new_label(base: u64, count: u64, total: u64) -> Label
 
 // The whole run of the file: it is no longer than the heap.
 fn put_file(heap: &mut [u8], start: usize, batch: &[u8], new: Label, count: u64, total: u64)
-    requires { ⌜ Sized (now batch) count total × (start + (64 + length (fileBytes (settled (opsIn (now batch))))) ≤ length (now heap)) ⌝ }
+    requires { ⌜ Sized (now batch) count total ⌝ }
+    requires { ⌜ start + (64 + length (fileBytes (settled (opsIn (now batch))))) ≤ length (now heap) ⌝ }
     ensures { λ _. ⌜ now (heap .exit)
         ≡ made (fileStores start (labelBytes new) (fileBytes (settled (opsIn (now (batch .entry)))))) (now (heap .entry)) ⌝ }
 {

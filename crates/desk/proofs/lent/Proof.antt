@@ -44,7 +44,7 @@ returns c =
     let heap = table .before in
     let a = heap .before .before .before .before .args in
     lending (lentBy (a .keyword) (a .n) (a .bytes .now)) (a .b) (a .heap .now) (a .table .now) (heap .least .result) (table .least2 .result)
-    (w .after-lent .result) _ _ (heap .least .ensures .2) (table .least2 .ensures .2) (w .after-lent .ensures)
+    (w .after-lent .result) _ _ (heap .least .ensures .1) (table .least2 .ensures .1) (w .after-lent .ensures)
 
 pub lent-spec : {M : Type 1} → statement M
 lent-spec =

@@ -44,9 +44,9 @@ returns c =
     let a = heap .before .before .before .args in
     let parts =
     lent-parts (a .b) (a .heap .now) (a .table .now) (heap .least .result) (table .least2 .result)
-    (heap .least .ensures .2) (table .least2 .ensures .2) in (
+    (heap .least .ensures .1) (table .least2 .ensures .1) in (
       lending-heap salvageBy (a .b) (a .heap .now) (a .table .now) (heap .least .result) (table .least2 .result)
-          (w .salvage .result) _ (heap .least .ensures .2) (table .least2 .ensures .2) (w .salvage .ensures .0),
+          (w .salvage .result) _ (heap .least .ensures .1) (table .least2 .ensures .1) (w .salvage .ensures .0),
       w .salvage .ensures .1 ∙ ap (λ (x : Desk). salvageOn x (a .report .now) .report) parts,
     )
 

@@ -35,8 +35,8 @@ returns c =
     let a = start .args in (
       λ m. given-course (a .generation) (r .rewrite-group .result .answer) _ _ _ (c .halt-of .ensures) ∙ r .rewrite-group .ensures .0 m,
       (
-        under-after (a .settings) (length (a .heap .now)) (a .table .now) (a .run .state) (a .plan .now) (start .pre .0) _ _ _ (r .rewrite-group .ensures .1 .0) (r .rewrite-group .ensures .1 .1 .1),
-        r .rewrite-group .ensures .1 .1 .0 .0,
+        under-after (a .settings) (length (a .heap .now)) (a .table .now) (a .run .state) (a .plan .now) (start .pre .0) _ _ _ (r .rewrite-group .ensures .1 .0) (r .rewrite-group .ensures .1 .1 .1 .1),
+        r .rewrite-group .ensures .1 .1 .0,
       ),
     )
 

@@ -39,7 +39,7 @@ returns c =
     let placed = told .before .before .before .before in
     let start = placed .before .before .before .before .before .before .before .before .before in
     let left = group-stopped _ _ _ _ (start .args .plan .now) (start .args .generation) (start .args .moved) _ (start .pre .0) (sym (placed .place-group .ensures .0) ∙ told .refusal .given .1) in
-    (left .course, (left .limits, ((left .count, refl), left .kept)))
+    (left .course, (left .limits, (left .count, (refl, left .kept))))
 
 enum-told : tie.Need-enum-told
 enum-told c = search needs
@@ -78,7 +78,7 @@ returns-2 c =
     let placed = told .before .before .before .before in
     let found = placed .place-group .ensures .1 (told .enum-told .given .1) in
     let left = group-rewritten _ _ _ _ _ _ (clear told) _ _ _ _ _ _ _ (found .0) (done .split-files .ensures) in
-    (left .course, (left .limits, ((left .count, search needs), left .kept)))
+    (left .course, (left .limits, (left .count, (search needs, left .kept))))
 
 pub rewrite-group-spec : {M : Type 1} → statement M
 rewrite-group-spec =

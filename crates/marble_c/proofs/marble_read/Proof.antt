@@ -7,21 +7,15 @@ use borrow.Author.Needs.{needs}
 use Rattle.marble_c.proofs.marble_read.Statement.{statement}
 use Rattle.marble_c.proofs.marble_read.Tie as tie
 
-state-in-requires : tie.Need-state-in-requires
-state-in-requires c κs = search needs
-
-read-answer-requires : tie.Need-read-answer-requires
-read-answer-requires c κs = search needs
+found-requires : tie.Need-found-requires
+found-requires c κs = search needs
 
 read-shown-requires : tie.Need-read-shown-requires
 read-shown-requires c κs = search needs
 
 returns : tie.Need-returns
 unfolding readCall
-returns c =
-    let w = c .before in
-    λ claims. rw (← (w .before .state-in .ensures)) (c .read-shown .ensures ∙ ap (λ (a : ReadAnswer). shown 3 (readGiven a)) (w .read-answer .ensures claims))
+returns c = λ claims. c .read-shown .ensures ∙ ap (λ (a : ReadAnswer). shown 3 (readGiven a)) (c .before .found .ensures claims)
 
 pub marble-read-spec : {M : Type 1} → statement M
-marble-read-spec =
-    tie.close (tie.spec state-in-requires read-answer-requires read-shown-requires returns)
+marble-read-spec = tie.close (tie.spec found-requires read-shown-requires returns)

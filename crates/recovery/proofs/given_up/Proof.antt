@@ -2,7 +2,7 @@ use mathlib.Core.Path.{ap, ap₂, _∙_}
 use mathlib.Core.List.{List}
 use Rattle.recovery.specs.declared.Reopened.{Reopened}
 use Rattle.recovery.specs.Types.{Record, State, Claims, Refused}
-use Rattle.recovery.specs.Reopening.{stateBy}
+use Rattle.file_map.specs.Records.{stateBy}
 use borrow.Author.Needs.{needs}
 use Rattle.recovery.proofs.given_up.Statement.{statement}
 use Rattle.recovery.proofs.given_up.Tie as tie

@@ -46,7 +46,7 @@ returns c =
     let w = m .before .before in
     let l = w .before .before in
     let a = l .before .before .args in
-    (l .before .before .pre .0, number-no (a .text .now) (l .loop .at) (w .next-word .result) (w .next-word .ensures .3) (a .n) (l .loop .k) _ (l .loop .values) (omega arith) (sym (m .number .ensures) ∙ c .enum-told .given .1) (l .loop .inv .2), refl, refl)
+    (l .before .before .pre .0, (number-no (a .text .now) (l .loop .at) (w .next-word .result) (w .next-word .ensures .1) (a .n) (l .loop .k) _ (l .loop .values) (omega arith) (sym (m .number .ensures) ∙ c .enum-told .given .1) (l .loop .inv .2), (refl, refl)))
 
 mul-values : tie.Need-mul-values Inv-loop μ-loop
 mul-values c = search needs
@@ -69,7 +69,7 @@ loop-again c =
     let s = a .text .now in
     let v = c .before .v .given in
     let said = sym (m .number .ensures) ∙ v .1 in
-    (omega arith, omega arith, underway-turn (a .n) (l .loop .k) (wordsOf (drop (a .from) s)) (wordsOf (drop (l .loop .at) s)) _ (l .loop .values) _ (v .0 .0) (omega arith) (omega (arith, l .loop .inv .3)) (number-word s (l .loop .at) (w .next-word .result) (w .next-word .ensures .3) (v .0 .0) said) said (l .loop .inv .2), length-set (l .loop .values) (l .loop .k) (v .0 .0) ∙ l .loop .inv .3)
+    (omega arith, omega arith, underway-turn (a .n) (l .loop .k) (wordsOf (drop (a .from) s)) (wordsOf (drop (l .loop .at) s)) _ (l .loop .values) _ (v .0 .0) (omega arith) (omega (arith, l .loop .inv .3)) (number-word s (l .loop .at) (w .next-word .result) (w .next-word .ensures .1) (v .0 .0) said) said (l .loop .inv .2), length-set (l .loop .values) (l .loop .k) (v .0 .0) ∙ l .loop .inv .3)
 
 returns-2 : tie.Need-returns-2 Inv-loop μ-loop
 returns-2 c =
@@ -78,7 +78,7 @@ returns-2 c =
     let ws = wordsOf (drop (a .from) (a .text .now)) in
     let left = wordsOf (drop (l .loop .at) (a .text .now)) in
     let u = l .loop .inv .2 in
-    (l .loop .inv .0, underway-good (a .n) (l .loop .k) ws left (l .loop .values) (omega arith) u, underway-put (a .n) (l .loop .k) ws left (l .loop .values) (omega arith) u, underway-behind (a .n) (l .loop .k) ws left (l .loop .values) (omega arith) u)
+    (l .loop .inv .0, (underway-good (a .n) (l .loop .k) ws left (l .loop .values) (omega arith) u, (underway-put (a .n) (l .loop .k) ws left (l .loop .values) (omega arith) u, underway-behind (a .n) (l .loop .k) ws left (l .loop .values) (omega arith) u)))
 
 pub numbers-from-spec : {M : Type 1} → statement M
 numbers-from-spec =

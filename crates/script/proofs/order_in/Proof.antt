@@ -19,7 +19,7 @@ returns : tie.Need-returns
 returns c =
     let w = c .before .before in
     let a = w .before .before .before .args in
-    let none-there = word-none (a .text .now) 0 (w .next-word .result) (w .next-word .ensures .3) (c .before .if1 .taken) in
+    let none-there = word-none (a .text .now) 0 (w .next-word .result) (w .next-word .ensures .1) (c .before .if1 .taken) in
     given-bare _ (pick (a .comment) Blank Bad) _ _ (asked-none _ (a .comment) _ none-there) (c .wordless .ensures)
 
 sub-keyword-of : tie.Need-sub-keyword-of
@@ -50,8 +50,8 @@ returns-2 c =
     let k = s .before in
     let w = k .before .before .before in
     let a = w .before .before .before .args in
-    let there = word-some (a .text .now) 0 (w .next-word .result) (w .next-word .ensures .3) (k .before .before .if1 .left) in
-    given-bare _ Bad _ _ (asked-wrong _ (a .comment) _ _ _ (k .keyword-of .result) (s .shape-of .result) there (k .keyword-of .ensures) (s .shape-of .ensures .0) (sym (n .numbers-from .ensures .1) ∙ not-true _ (c .before .if2 .taken))) (c .no-order .ensures)
+    let there = word-some (a .text .now) 0 (w .next-word .result) (w .next-word .ensures .1) (k .before .before .if1 .left) in
+    given-bare _ Bad _ _ (asked-wrong _ (a .comment) _ _ _ (k .keyword-of .result) (s .shape-of .result) there (k .keyword-of .ensures) (s .shape-of .ensures .0) (sym (n .numbers-from .ensures .1 .0) ∙ not-true _ (c .before .if2 .taken))) (c .no-order .ensures)
 
 with-bytes-requires : tie.Need-with-bytes-requires
 with-bytes-requires c κs = search needs
@@ -68,9 +68,9 @@ returns-3 c =
     let k = s .before in
     let w = k .before .before .before in
     let a = w .before .before .before .args in
-    let there = word-some (a .text .now) 0 (w .next-word .result) (w .next-word .ensures .3) (k .before .before .if1 .left) in
+    let there = word-some (a .text .now) 0 (w .next-word .result) (w .next-word .ensures .1) (k .before .before .if1 .left) in
     let good = not-false _ (e .if2 .left) in
-    given-same _ _ _ _ _ (asked-on _ (a .comment) _ _ _ (k .keyword-of .result) (s .shape-of .result) there (k .keyword-of .ensures) (s .shape-of .ensures .0) _ true _ _ good (n .numbers-from .ensures .1) (n .numbers-from .ensures .2) (n .numbers-from .ensures .3) (b .before .before .if3 .taken)) (b .with-bytes .ensures)
+    given-same _ _ _ _ _ (asked-on _ (a .comment) _ _ _ (k .keyword-of .result) (s .shape-of .result) there (k .keyword-of .ensures) (s .shape-of .ensures .0) _ true _ _ good (n .numbers-from .ensures .1 .0) (n .numbers-from .ensures .1 .1 .0) (n .numbers-from .ensures .1 .1 .1) (b .before .before .if3 .taken)) (b .with-bytes .ensures)
 
 ended-requires : tie.Need-ended-requires
 ended-requires c κs = search needs
@@ -83,9 +83,9 @@ returns-4 c =
     let k = s .before in
     let w = k .before .before .before in
     let a = w .before .before .before .args in
-    let there = word-some (a .text .now) 0 (w .next-word .result) (w .next-word .ensures .3) (k .before .before .if1 .left) in
+    let there = word-some (a .text .now) 0 (w .next-word .result) (w .next-word .ensures .1) (k .before .before .if1 .left) in
     let good = not-false _ (e .if2 .left) in
-    given-same _ _ _ _ _ (asked-on _ (a .comment) _ _ _ (k .keyword-of .result) (s .shape-of .result) there (k .keyword-of .ensures) (s .shape-of .ensures .0) _ false _ _ good (n .numbers-from .ensures .1) (n .numbers-from .ensures .2) (n .numbers-from .ensures .3) (c .before .if3 .left)) (plain-given _ _ _ _ _ _ (c .ended .ensures))
+    given-same _ _ _ _ _ (asked-on _ (a .comment) _ _ _ (k .keyword-of .result) (s .shape-of .result) there (k .keyword-of .ensures) (s .shape-of .ensures .0) _ false _ _ good (n .numbers-from .ensures .1 .0) (n .numbers-from .ensures .1 .1 .0) (n .numbers-from .ensures .1 .1 .1) (c .before .if3 .left)) (plain-given _ _ _ _ _ _ (c .ended .ensures))
 
 pub order-in-spec : {M : Type 1} → statement M
 order-in-spec =

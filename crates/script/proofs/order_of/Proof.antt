@@ -30,7 +30,7 @@ returns c =
     let a = f .before .before .before .args in
     let room = length (a .bytes .now) in
     let given = given-same _ _ (a .bytes .now) _ _ (asked-whole room (a .line .now) (f .find .result) (f .find .ensures .0)) (w .order-in .ensures) in
-    (given .0, given .1, given-within room (a .line .now) (a .bytes .now) _ _ refl given)
+    (given .0, (given .1, given-within room (a .line .now) (a .bytes .now) _ _ refl given))
 
 pub order-of-spec : {M : Type 1} → statement M
 order-of-spec =

@@ -19,7 +19,7 @@ returns : tie.Need-returns
 returns c =
     let w = c .before .before in
     let a = w .before .before .before .args in
-    let none-there = word-none (a .text .now) (a .from) (w .next-word .result) (w .next-word .ensures .3) (c .before .if1 .taken) in
+    let none-there = word-none (a .text .now) (a .from) (w .next-word .result) (w .next-word .ensures .1) (c .before .if1 .taken) in
     given-bare _ Bad _ _ (bytes-missing _ _ _ _ none-there) (c .no-order .ensures)
 
 sub-says-bytes : tie.Need-sub-says-bytes
@@ -42,7 +42,7 @@ returns-2 c =
     let b = c .before .before in
     let w = b .before .before .before in
     let a = w .before .before .before .args in
-    let there = word-some (a .text .now) (a .from) (w .next-word .result) (w .next-word .ensures .3) (b .before .before .if1 .left) in
+    let there = word-some (a .text .now) (a .from) (w .next-word .result) (w .next-word .ensures .1) (b .before .before .if1 .left) in
     given-bare _ Bad _ _ (bytes-wrong _ _ _ _ _ _ there (sym (b .says-bytes .ensures) ∙ not-true _ (c .before .if2 .taken))) (c .no-order2 .ensures)
 
 no-more-requires : tie.Need-no-more-requires
@@ -57,7 +57,7 @@ returns-3 c =
     let b = m .before .before in
     let w = b .before .before .before in
     let a = w .before .before .before .args in
-    let there = word-some (a .text .now) (a .from) (w .next-word .result) (w .next-word .ensures .3) (b .before .before .if1 .left) in
+    let there = word-some (a .text .now) (a .from) (w .next-word .result) (w .next-word .ensures .1) (b .before .before .if1 .left) in
     given-bare _ Bad _ _ (bytes-not-last _ _ _ _ _ _ there (sym (b .says-bytes .ensures) ∙ not-false _ (m .before .if2 .left)) (sym (m .no-more .ensures) ∙ not-true _ (c .before .if3 .taken))) (c .no-order3 .ensures)
 
 sub-put-bytes : tie.Need-sub-put-bytes
@@ -88,8 +88,8 @@ returns-4 c =
     let b = m .before .before in
     let w = b .before .before .before in
     let a = w .before .before .before .args in
-    let there = word-some (a .text .now) (a .from) (w .next-word .result) (w .next-word .ensures .3) (b .before .before .if1 .left) in
-    given-bytes _ (a .keyword) (a .numbers) (a .text .now) (w .next-word .result .start) (w .next-word .result .end) (a .bytes .now) _ (w .next-word .ensures .1) (w .next-word .ensures .2) (bytes-last _ _ _ _ _ _ there (sym (b .says-bytes .ensures) ∙ not-false _ (m .before .if2 .left)) (sym (m .no-more .ensures) ∙ not-false _ (p .before .before .before .if3 .left))) (p .put-bytes .ensures)
+    let there = word-some (a .text .now) (a .from) (w .next-word .result) (w .next-word .ensures .1) (b .before .before .if1 .left) in
+    given-bytes _ (a .keyword) (a .numbers) (a .text .now) (w .next-word .result .start) (w .next-word .result .end) (a .bytes .now) _ (w .next-word .ensures .0 .1) (w .next-word .ensures .0 .2) (bytes-last _ _ _ _ _ _ there (sym (b .says-bytes .ensures) ∙ not-false _ (m .before .if2 .left)) (sym (m .no-more .ensures) ∙ not-false _ (p .before .before .before .if3 .left))) (p .put-bytes .ensures)
 
 pub with-bytes-spec : {M : Type 1} → statement M
 with-bytes-spec =

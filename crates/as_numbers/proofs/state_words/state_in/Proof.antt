@@ -1,4 +1,3 @@
-use mathlib.Core.Path.{refl}
 use Rattle.as_numbers.specs.StateWords.{stateIn}
 use borrow.Author.Needs.{needs}
 use Rattle.as_numbers.proofs.state_words.state_in.Statement.{statement}
@@ -10,20 +9,23 @@ settings-in-requires c κs = search needs
 files-in-requires : tie.Need-files-in-requires
 files-in-requires c κs = search needs
 
-shared-slice-read-t5 : tie.Need-shared-slice-read-t5
-shared-slice-read-t5 c = search needs
+shared-slice-read-state-of : tie.Need-shared-slice-read-state-of
+shared-slice-read-state-of c = search needs
 
-shared-slice-read-t7 : tie.Need-shared-slice-read-t7
-shared-slice-read-t7 c = search needs
+shared-slice-read-state-of-2 : tie.Need-shared-slice-read-state-of-2
+shared-slice-read-state-of-2 c = search needs
 
-shared-slice-read-t9 : tie.Need-shared-slice-read-t9
-shared-slice-read-t9 c = search needs
+shared-slice-read-state-of-3 : tie.Need-shared-slice-read-state-of-3
+shared-slice-read-state-of-3 c = search needs
+
+state-of-requires : tie.Need-state-of-requires
+state-of-requires c κs = search needs
 
 returns : tie.Need-returns
 unfolding stateIn
 returns c =
-    let w = c .before .before .before in
-    rw (w .before .settings-in .ensures, w .files-in .ensures) refl
+    let w = c .before .before .before .before in
+    rw (← w .before .settings-in .ensures, ← w .files-in .ensures) (c .state-of .ensures)
 
 pub state-in-spec : {M : Type 1} → statement M
 state-in-spec =
@@ -31,7 +33,8 @@ state-in-spec =
     (tie.spec
     settings-in-requires
     files-in-requires
-    shared-slice-read-t5
-    shared-slice-read-t7
-    shared-slice-read-t9
+    shared-slice-read-state-of
+    shared-slice-read-state-of-2
+    shared-slice-read-state-of-3
+    state-of-requires
     returns)

@@ -45,7 +45,7 @@ returns c =
     let o = w .before .before .before .before .before .before .before .before .before .before in
     let a = o .before .before .before .before .before .before .args in
     let asked = o .order-of .ensures in
-    (ap (λ (x : Outcome). x .desk) (w .after-order .ensures .0) ∙ ran-order (length (a .decoded .now)) (a .line .now) (a .decoded .now) _ _ _ (asked .0) (asked .1), asked .1)
+    (ap (λ (x : Outcome). x .desk) (w .after-order .ensures .0) ∙ ran-order (length (a .decoded .now)) (a .line .now) (a .decoded .now) _ _ _ (asked .0) (asked .1 .0), asked .1 .0)
 
 pub after-line-spec : {M : Type 1} → statement M
 after-line-spec =

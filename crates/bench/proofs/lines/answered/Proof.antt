@@ -54,7 +54,7 @@ returns-3 c =
     let w = c .before .before .before .before .before .before in
     let t = w .before .before .before .before .before .before .before .before in
     let a = t .before .before .before .before .before .before .before .args in
-    (ap (λ (x : Reading). x .taken) (t .next-line .ensures), runs (length (a .decoded .now)) (a .s .whole) (a .s .long) (a .s) (t .next-line .result) (take (a .s .held) (a .line .now)) _ _ (not-false (a .s .whole) (t .before .if1 .left)) (w .before .before .before .before .before .before .before .if2 .left) (t .next-line .ensures) (ran-held (length (a .decoded .now)) (a .s .held) (w .before .before .before .before .before .before .least .result) (a .line .now) _ _ (w .before .before .before .before .before .before .least .ensures .2) (w .after-line .ensures .0)))
+    (ap (λ (x : Reading). x .taken) (t .next-line .ensures), runs (length (a .decoded .now)) (a .s .whole) (a .s .long) (a .s) (t .next-line .result) (take (a .s .held) (a .line .now)) _ _ (not-false (a .s .whole) (t .before .if1 .left)) (w .before .before .before .before .before .before .before .if2 .left) (t .next-line .ensures) (ran-held (length (a .decoded .now)) (a .s .held) (w .before .before .before .before .before .before .least .result) (a .line .now) _ _ (w .before .before .before .before .before .before .least .ensures .1) (w .after-line .ensures .0)))
 
 pub answered-spec : {M : Type 1} → statement M
 answered-spec =

@@ -22,11 +22,13 @@ returns c =
     let a = w .before .before .before .args in
     let e = c .too-long .ensures in (
       ap (λ (x : Reading). x .taken) e,
-      ap (λ (x : Reading). x .whole) e,
-      record {
-        kept = ap (λ (x : Reading). x .bench) e;
-        holds = λ text h. holds-over (a .s) (c .too-long .result) (a .line .now) (a .part .now) text (w .least .result) h (w .least .ensures .2) (c .before .if1 .taken) (ap (λ (x : Reading). x .long) e);
-      },
+      (
+        ap (λ (x : Reading). x .whole) e,
+        record {
+          kept = ap (λ (x : Reading). x .bench) e;
+          holds = λ text h. holds-over (a .s) (c .too-long .result) (a .line .now) (a .part .now) text (w .least .result) h (w .least .ensures .1) (c .before .if1 .taken) (ap (λ (x : Reading). x .long) e);
+        },
+      ),
     )
 
 sub-copy : tie.Need-sub-copy
@@ -54,11 +56,13 @@ returns-2 c =
     let a = w .before .before .before .args in
     let n = w .least .result in (
       refl,
-      refl,
-      record {
-        kept = refl;
-        holds = λ text h. holds-more (a .s) _ (a .line .now) (a .part .now) text n h (w .least .ensures .2) _ (lent (a .line .now) _ (a .part .now) n (omega arith) (copied _ (a .part .now) _ (p .copy .ensures .1))) (omega arith) refl refl;
-      },
+      (
+        refl,
+        record {
+          kept = refl;
+          holds = λ text h. holds-more (a .s) _ (a .line .now) (a .part .now) text n h (w .least .ensures .1) _ (lent (a .line .now) _ (a .part .now) n (omega arith) (copied _ (a .part .now) _ (p .copy .ensures .1))) (omega arith) refl refl;
+        },
+      ),
     )
 
 pub held-spec : {M : Type 1} → statement M

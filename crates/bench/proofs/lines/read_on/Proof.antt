@@ -30,7 +30,7 @@ returns c =
     let f = w .before .before .before in
     let start = f .before .before .before in
     let a = start .args in
-    read-all (a .s) (w .held .result) (c .taken-to .result) (a .input .now) (a .line .now) _ (f .find .result) (start .pre) (f .find .ensures .0) (w .held .ensures .2) (c .before .if1 .taken) (c .taken-to .ensures)
+    read-all (a .s) (w .held .result) (c .taken-to .result) (a .input .now) (a .line .now) _ (f .find .result) (start .pre) (f .find .ensures .0) (w .held .ensures .1 .1) (c .before .if1 .taken) (c .taken-to .ensures)
 
 add-taken-to : tie.Need-add-taken-to
 add-taken-to c = search needs
@@ -47,7 +47,7 @@ returns-2 c =
     let f = w .before .before .before in
     let start = f .before .before .before in
     let a = start .args in
-    read-line (a .s) (w .held .result) (c .taken-to2 .result) (a .input .now) (a .line .now) _ (f .find .result) (start .pre) (f .find .ensures .0) (w .held .ensures .2) (f .find .ensures .1) (c .before .if1 .left) (c .taken-to2 .ensures)
+    read-line (a .s) (w .held .result) (c .taken-to2 .result) (a .input .now) (a .line .now) _ (f .find .result) (start .pre) (f .find .ensures .0) (w .held .ensures .1 .1) (f .find .ensures .1) (c .before .if1 .left) (c .taken-to2 .ensures)
 
 pub read-on-spec : {M : Type 1} → statement M
 read-on-spec =

@@ -20,7 +20,7 @@ returns c =
     let two = c .run-end2 in
     let s = c .before .before .before .args .text .now in
     let last : two .result ≡ one .result + runOf false (drop (one .result) s) = two .ensures .0 in
-    (one .ensures .1, two .ensures .1, two .ensures .2, ap (λ (n : ℕ). record { start = one .result; end = n }) last ∙ ap (wordFrom s) (one .ensures .0))
+    ((one .ensures .1 .0, two .ensures .1 .0, two .ensures .1 .1), ap (λ (n : ℕ). record { start = one .result; end = n }) last ∙ ap (wordFrom s) (one .ensures .0))
 
 pub next-word-spec : {M : Type 1} → statement M
 next-word-spec = tie.close (tie.spec run-end-requires run-end-requires-2 returns)

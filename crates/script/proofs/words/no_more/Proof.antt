@@ -10,7 +10,7 @@ returns : tie.Need-returns
 returns c =
     let w = c .before in
     let a = w .before .before .args in
-    none-test (a .text .now) (a .from) (w .next-word .result) (w .next-word .ensures .3)
+    none-test (a .text .now) (a .from) (w .next-word .result) (w .next-word .ensures .1)
 
 pub no-more-spec : {M : Type 1} → statement M
 no-more-spec = tie.close (tie.spec next-word-requires returns)

@@ -33,7 +33,7 @@ returns c =
     let s = a .text .now in
     let test : Bool·beq (isBlank (getD s (l .loop .i) 0)) (a .blank) ≡ false = sym (ap (λ (t : Bool). Bool·beq t (a .blank)) (c .before .is-blank .ensures)) ∙ not-true _ (c .if1 .taken) in
     let over : runOf (a .blank) (drop (l .loop .i) s) ≡ 0 = run-turn (a .blank) s (l .loop .i) (omega arith) ∙ ap (λ (t : Bool). pick t (suc (runOf (a .blank) (drop (l .loop .i + 1) s))) 0) test in
-    (omega (arith, l .loop .inv .2), l .loop .inv .0, l .loop .inv .1)
+    (omega (arith, l .loop .inv .2), (l .loop .inv .0, l .loop .inv .1))
 
 add-i : tie.Need-add-i Inv-loop μ-loop
 add-i c = search needs
@@ -55,7 +55,7 @@ returns-2 c =
     let l = c .before in
     let a = l .before .before .args in
     let over : runOf (a .blank) (drop (l .loop .i) (a .text .now)) ≡ 0 = run-end _ (a .text .now) (l .loop .i) (omega arith) in
-    (omega (arith, l .loop .inv .2), l .loop .inv .0, l .loop .inv .1)
+    (omega (arith, l .loop .inv .2), (l .loop .inv .0, l .loop .inv .1))
 
 pub run-end-spec : {M : Type 1} → statement M
 run-end-spec =
