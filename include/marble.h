@@ -71,7 +71,7 @@ extern "C" {
 
 /* ---- version: the header's. marble_version() is the archive's; a host stops where they differ. A new major number: a host must change. */
 #define MARBLE_VERSION_MAJOR 3
-#define MARBLE_VERSION_MINOR 0
+#define MARBLE_VERSION_MINOR 1
 #define MARBLE_VERSION (MARBLE_VERSION_MAJOR * 1000 + MARBLE_VERSION_MINOR)
 
 /* ---- limits: the column "Range" */
@@ -122,6 +122,7 @@ extern "C" {
 #define MARBLE_STACK_REOPEN 47104
 #define MARBLE_STACK_WRITE 45056
 #define MARBLE_STACK_READ 16384
+#define MARBLE_STACK_READ_THROUGH 16384
 #define MARBLE_STACK_CLAIM 13312
 #define MARBLE_STACK_RELEASE 13312
 #define MARBLE_STACK_PRUNE 25600
@@ -210,6 +211,15 @@ typedef struct marble_totals {
     uint64_t live;
 } marble_totals;
 
+/* What a read through a batch found: the kind; of an object, of_batch 1 where its bytes are in the batch and 0 where they are in the heap,
+   and size bytes from offset on, in that buffer. Else of_batch, offset and size are 0. */
+typedef struct marble_piece {
+    uint64_t kind;
+    uint64_t of_batch;
+    uint64_t offset;
+    uint64_t size;
+} marble_piece;
+
 /* A line of the checker: a refusal's number and, where has_position is 1, an object's position in the slot's file, which may be 0. Where it
    is 0, so is position. */
 typedef struct marble_fault {
@@ -241,6 +251,7 @@ MARBLE_HOLDS(records_from_word_8, offsetof(marble_state, records) == 64);
 MARBLE_HOLDS(next_position_last, offsetof(marble_state, next_position) == 12352);
 MARBLE_HOLDS(claims_of_four_words, sizeof(marble_claims) == 32);
 MARBLE_HOLDS(totals_of_four_words, sizeof(marble_totals) == 32);
+MARBLE_HOLDS(piece_of_four_words, sizeof(marble_piece) == 32);
 MARBLE_HOLDS(fault_of_four_words, sizeof(marble_fault) == 32);
 MARBLE_HOLDS(loss_of_two_words, sizeof(marble_loss) == 16);
 #undef MARBLE_HOLDS
@@ -264,6 +275,14 @@ MARBLE_MUST_USE uint64_t marble_write(marble_settings settings, marble_state *st
    offset 0, which no object has, and size 0. 1, 18, 16, 10, 17; refused: kind, offset and size 0. */
 MARBLE_MUST_USE uint64_t marble_read(marble_settings settings, const marble_state *state, const uint8_t *heap, size_t heap_len,
                                      const uint64_t *table, size_t words, uint64_t id, uint64_t *kind, uint64_t *offset, uint64_t *size);
+
+/* A read through a batch that is not written yet: what a read would give if the batch were written now. The last operation on the id in the
+   batch decides; where there is none it is marble_read's answer. The bytes are never copied: they are a part of the batch or of the heap,
+   until the next call that changes it. The batch is only looked at: also one that a write would refuse, but for 2. 1, 2, then those of
+   marble_read where the batch has no operation on the id; refused: four zeros. */
+MARBLE_MUST_USE uint64_t marble_read_through(marble_settings settings, const marble_state *state, const uint8_t *heap, size_t heap_len,
+                                             const uint64_t *table, size_t words, const uint8_t *batch, size_t batch_len, uint64_t id,
+                                             marble_piece *piece);
 
 /* "Claim": the slot's file is left alone by prune and maintenance. 21 for a slot out of range, an empty one or a claimed one. */
 MARBLE_MUST_USE uint64_t marble_claim(marble_settings settings, const marble_state *state, marble_claims *claims, const uint8_t *heap,

@@ -38,6 +38,8 @@ marble_settings small(uint64_t slot_bytes);
 uint64_t reopen(void);
 uint64_t write_batch(const uint8_t *batch, size_t len);
 uint64_t read_id(uint64_t id);
+/* of an id, through a batch of so many bytes */
+uint64_t read_through(const uint8_t *batch, size_t len, uint64_t id);
 uint64_t claim(uint64_t slot);
 uint64_t release(uint64_t slot);
 uint64_t prune(void);
@@ -53,6 +55,8 @@ uint64_t store_if_greater(uint64_t id, uint64_t location);
 /* the out-parameters of the last call; the kind of a read or a load has its own */
 extern uint64_t out[2], kind;
 extern marble_totals totals;
+/* what the last read through a batch found */
+extern marble_piece piece;
 /* the lines of the last check */
 extern const marble_fault *listed;
 /* the lines of the last salvage */
@@ -104,3 +108,4 @@ void maintenance(void);
 void refusals(void);
 void faults(void);
 void rescue(void);
+void through(void);

@@ -130,6 +130,7 @@ static void table_calls(void) {
 static void every_call(void) {
     expect("write", put(1, 1, 'x'), MARBLE_E_LIMITS);
     expect("read", read_id(1), MARBLE_E_LIMITS);
+    expect("read through a batch", read_through(NULL, 0, 1), MARBLE_E_LIMITS);
     expect("claim", claim(0), MARBLE_E_LIMITS);
     expect("release", release(0), MARBLE_E_LIMITS);
     expect("prune", prune(), MARBLE_E_LIMITS);

@@ -9,6 +9,7 @@ int main(void) {
     refusals();
     faults();
     rescue();
+    through();
     printf("state %llu\n", (unsigned long long)sizeof(marble_state));
     costs_told();
     printf("tests/c: %llu checks, %s\n", (unsigned long long)checks(), failed() ? "some failed" : "all passed");

@@ -24,6 +24,7 @@ GUARDED(state_area, sizeof(marble_state));
 GUARDED(claims_area, sizeof(marble_claims));
 GUARDED(out_area, 4 * GUARD);
 GUARDED(totals_area, sizeof(marble_totals));
+GUARDED(piece_area, sizeof(marble_piece));
 GUARDED(listing_area, 8 * LISTING_MOST);
 GUARDED(report_area, MARBLE_SLOTS_MAX * sizeof(marble_loss));
 /* what stood there before a call */
@@ -34,6 +35,7 @@ store w;
 static size_t heap_room, table_room;
 uint64_t out[2], kind;
 marble_totals totals;
+marble_piece piece;
 const marble_fault *listed = (const marble_fault *)(listing_area + GUARD);
 const marble_loss *given_up = (const marble_loss *)(report_area + GUARD);
 #define BATCH (batch_area + GUARD)
@@ -41,6 +43,7 @@ const marble_loss *given_up = (const marble_loss *)(report_area + GUARD);
 #define OUT(k) ((uint64_t *)(out_area + GUARD + (k) * (8 + GUARD)))
 #define KIND OUT(2)
 #define TOTALS ((marble_totals *)(totals_area + GUARD))
+#define PIECE ((marble_piece *)(piece_area + GUARD))
 #define LISTING ((uint64_t *)(listing_area + GUARD))
 #define REPORT ((marble_loss *)(report_area + GUARD))
 
@@ -75,6 +78,7 @@ void fresh(marble_settings s, size_t slots, size_t entries) {
     paint(state_area, sizeof *w.state, sizeof state_area);
     paint(claims_area, sizeof *w.claims, sizeof claims_area);
     paint(totals_area, sizeof totals, sizeof totals_area);
+    paint(piece_area, sizeof piece, sizeof piece_area);
     memset(out_area, PAINT, sizeof out_area);
 }
 
@@ -91,11 +95,11 @@ marble_settings small(uint64_t slot_bytes) {
 
 /* ---- stack: painted before each call, looked at behind it */
 #define DEPTH (4096 * 1024)
-enum { REOPEN, WRITE, READ, CLAIM, RELEASE, PRUNE, MAINTAIN, COUNTS, CHECK, SALVAGE, LOAD, STORE, COMPARE, GREATER, CALLS };
-static const char *const names[CALLS] = {"reopen", "write", "read", "claim", "release", "prune", "maintain", "counts", "check", "salvage", "load", "store", "compare_and_store", "store_if_greater"};
+enum { REOPEN, WRITE, READ, READ_THROUGH, CLAIM, RELEASE, PRUNE, MAINTAIN, COUNTS, CHECK, SALVAGE, LOAD, STORE, COMPARE, GREATER, CALLS };
+static const char *const names[CALLS] = {"reopen", "write", "read", "read_through", "claim", "release", "prune", "maintain", "counts", "check", "salvage", "load", "store", "compare_and_store", "store_if_greater"};
 /* a call that needs more than the header says fails here */
 static const size_t allowed[CALLS] = {
-    MARBLE_STACK_REOPEN, MARBLE_STACK_WRITE,  MARBLE_STACK_READ,  MARBLE_STACK_CLAIM, MARBLE_STACK_RELEASE, MARBLE_STACK_PRUNE, MARBLE_STACK_MAINTAIN,
+    MARBLE_STACK_REOPEN, MARBLE_STACK_WRITE,  MARBLE_STACK_READ,  MARBLE_STACK_READ_THROUGH, MARBLE_STACK_CLAIM, MARBLE_STACK_RELEASE, MARBLE_STACK_PRUNE, MARBLE_STACK_MAINTAIN,
     MARBLE_STACK_COUNTS, MARBLE_STACK_CHECK,  MARBLE_STACK_SALVAGE, MARBLE_STACK_TABLE, MARBLE_STACK_TABLE, MARBLE_STACK_TABLE, MARBLE_STACK_TABLE,
 };
 static size_t used[CALLS];
@@ -104,7 +108,7 @@ static size_t used[CALLS];
    and out is a loop over words that is no copy of this kind. docs/ARCHITECTURE.md, "Stack and copies", says what each is for; maintenance.c has maintenance's by groups and files. */
 /* 256 labels, five numbers each: a file map is longer */
 #define LABELS_BYTES (256 * 5 * sizeof(uint64_t))
-static const size_t copies_allowed[CALLS] = {6, 5, 0, 0, 0, 1, 25, 1, 259, 0, 0, 0, 0, 0};
+static const size_t copies_allowed[CALLS] = {6, 5, 0, 0, 0, 0, 1, 25, 1, 259, 0, 0, 0, 0, 0};
 static size_t copies, copied[CALLS], last_copied;
 
 void *memcpy(void *to, const void *from, size_t len) {
@@ -168,6 +172,7 @@ static void behind(int call, unsigned kept) {
     guard(name, "state", state_area, sizeof *w.state, sizeof state_area);
     guard(name, "claims", claims_area, sizeof *w.claims, sizeof claims_area);
     guard(name, "totals", totals_area, sizeof totals, sizeof totals_area);
+    guard(name, "piece", piece_area, sizeof piece, sizeof piece_area);
     guard(name, "first out-parameter", out_area, 8, 8 + 2 * GUARD);
     guard(name, "second out-parameter", out_area + 8 + GUARD, 8, 8 + 2 * GUARD);
     guard(name, "the kind", out_area + 2 * (8 + GUARD), 8, 8 + 2 * GUARD);
@@ -224,6 +229,24 @@ uint64_t read_id(uint64_t id) {
     stack_below(READ, 0);
     behind(READ, ALL);
     if (n != MARBLE_OK) expect("refused read: kind 0, no part", kind | out[0] | out[1], 0);
+    return n;
+}
+
+uint64_t read_through(const uint8_t *batch, size_t len, uint64_t id) {
+    paint(batch_area, len, sizeof batch_area);
+    if (len) memcpy(BATCH, batch, len);
+    before();
+    stack_below(READ_THROUGH, 1);
+    uint64_t n = marble_read_through(w.s, w.state, w.heap, w.heap_len, w.table, w.words, len ? BATCH : NULL, len, id, PIECE);
+    stack_below(READ_THROUGH, 0);
+    behind(READ_THROUGH, ALL);
+    guard("read_through", "batch", batch_area, len, sizeof batch_area);
+    same("read_through", "batch", BATCH, batch, len);
+    piece = *PIECE;
+    expect("a whole number of kinds", piece.kind <= MARBLE_OBJECT && piece.of_batch <= 1, 1);
+    expect("within its buffer", piece.offset + piece.size <= (piece.of_batch ? len : w.heap_len), 1);
+    if (n != MARBLE_OK || piece.kind != MARBLE_OBJECT) expect("no part", piece.of_batch | piece.offset | piece.size, 0);
+    if (n != MARBLE_OK) expect("refused: kind 0", piece.kind, 0);
     return n;
 }
 

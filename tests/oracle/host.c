@@ -82,19 +82,30 @@ static void found(uint64_t refusal, const char *words, const char *none, uint64_
     }
 }
 
-static void read(uint64_t id) {
-    uint64_t kind, offset, size, refusal = marble_read(s, &state, LENT, id, &kind, &offset, &size);
+/* a word and a part, or the kind, or refused */
+static void piece(uint64_t refusal, uint64_t kind, const char *word, const uint8_t *part, uint64_t size) {
     if (refusal != 0 || kind != MARBLE_OBJECT) {
         if (refusal != 0) said(refusal);
         else printf(kind == MARBLE_DELETED ? "deleted\n" : "never\n");
         return;
     }
-    printf(size == 0 ? "ok -" : "ok ");
+    printf(size == 0 ? "%s -" : "%s ", word);
     for (uint64_t k = 0; k < size; k++) {
-        putchar("0123456789abcdef"[heap[offset + k] >> 4]);
-        putchar("0123456789abcdef"[heap[offset + k] & 15]);
+        putchar("0123456789abcdef"[part[k] >> 4]);
+        putchar("0123456789abcdef"[part[k] & 15]);
     }
     printf("\n");
+}
+
+static void read(uint64_t id) {
+    uint64_t kind, offset, size, refusal = marble_read(s, &state, LENT, id, &kind, &offset, &size);
+    piece(refusal, kind, "ok", heap + offset, size);
+}
+
+static void through(uint64_t id) {
+    marble_piece p;
+    uint64_t refusal = marble_read_through(s, &state, LENT, bytes, bytes_len, id, &p);
+    piece(refusal, p.kind, p.of_batch ? "batch" : "heap", (p.of_batch ? bytes : heap) + p.offset, p.size);
 }
 
 static int is(const char *word, const char *other) { return strcmp(word, other) == 0; }
@@ -130,6 +141,9 @@ static void line(const char *word) {
         said(marble_write(s, &state, LENT, bytes, bytes_len));
     } else if (is(word, "read")) {
         read(number());
+    } else if (is(word, "through")) {
+        a = number(), hex();
+        through(a);
     } else if (is(word, "claim")) {
         said(marble_claim(s, &state, &claims, LENT, number()));
     } else if (is(word, "release")) {

@@ -26,6 +26,7 @@ FORMS = {word: re.compile(f'({form})$') for words, form in {
     'settings heap table poke entry state record claims': 'ok',
     'reopen write claim release prune store': f'ok|{REFUSED}',
     'read': f'ok (-|([0-9a-f][0-9a-f])+)|deleted|never|{REFUSED}',
+    'through': f'(batch|heap) (-|([0-9a-f][0-9a-f])+)|deleted|never|{REFUSED}',
     'maintain': f'ok {NUMBER}|{REFUSED} [0-3] {NUMBER}',
     'counts': f'ok {NUMBER} {NUMBER} {NUMBER} {NUMBER}|{REFUSED}',
     'load': f'ok {NUMBER}|deleted {NUMBER}|never|{REFUSED}',
@@ -36,7 +37,7 @@ DUMP = re.compile(f'(next {NUMBER}|record{f" {NUMBER}" * 7}|claimed {NUMBER}|ent
 LIST = re.compile(f'({NUMBER}{f" {NUMBER}" * 5}|ids {NUMBER})$')
 # scripts follow each other in one process: an accepted reopening empties map and claims, then the state is as before the first one
 RESET = ['settings 128 0 1 1 0 1', 'heap 128', 'table 2', 'reopen', f'state{" 0" * 9}']
-STATE_CALLS = ('reopen', 'write', 'claim', 'release', 'prune', 'maintain', 'read', 'counts', 'list', 'load', 'store', 'cas', 'max')
+STATE_CALLS = ('reopen', 'write', 'claim', 'release', 'prune', 'maintain', 'read', 'through', 'counts', 'list', 'load', 'store', 'cas', 'max')
 
 
 def first_word(line):
@@ -155,18 +156,25 @@ class Maker:
             data = r.randbytes(r.randrange(12))
         return data.hex() or '-'
 
+    def through(self, ident):
+        """a read through a batch, which often has several operations on the id"""
+        r, batch = self.r, self.batch()
+        more = b''.join(operation(ident, None if r.random() < 0.3 else r.randbytes(r.choice([0, 1, 5]))) for _ in range(r.choice([0, 0, 1, 2, 3])))
+        return f'through {ident} {(more.hex() + batch.replace("-", "")) or "-"}'
+
     def call(self):
         r = self.r
         ident = r.choice(self.ids + [r.randrange(60)])
         slot, raw = self.rarely(r.randrange(self.slots + 1), self.edge(), 0.1), r.choice([1, 2, 3, self.edge()])
         calls = ['maintain'] * 5 + [f'write {self.batch()}'] * 5 + [f'read {i}' for i in self.ids]
+        calls += [self.through(ident)] * 3
         calls += ['prune', 'counts', 'list', 'reopen', f'claim {slot}', f'claim {slot}', f'release {slot}', f'load {ident}', f'store {ident} {raw}',
                   f'cas {ident} {raw} {self.edge()}', f'max {ident} {raw}', self.bad_line()]
         return r.choice(calls)
 
     def bad_line(self):
         big = 2 ** 64 + self.r.randrange(5)
-        return self.r.choice(['nonsense', '', ' \t', 'read', 'read x', f'read {big}', 'write 0', 'write xy', 'heap 1048577', 'table 131073', 'table 2 2',
+        return self.r.choice(['nonsense', '', ' \t', 'read', 'read x', f'read {big}', 'through 1', 'through x -', 'through 1 0', 'write 0', 'write xy', 'heap 1048577', 'table 131073', 'table 2 2',
                               'table', f'poke {self.heap_bytes} 00', f'entry {self.words // 2} 1 1', f'entry {2 ** 63} 1 1', 'record 256 1 1 1 1 1 1', 'claims 1 2 3', 'reopen now', 'settings 1 2 3 4 5', 'read -1'])
 
 
@@ -208,7 +216,7 @@ def check_call(maker, line, answer, before, after):
     """one call between two dumps; gives the slots whose heap bytes it may have changed"""
     word = first_word(line)
     refused, number = answer.startswith('refused'), answer.split()[1] if answer.startswith('refused') else ''
-    if answer == 'bad line' or word in ('read', 'counts', 'load', 'list') or refused and (number == '1' or word not in ('reopen', 'maintain')):
+    if answer == 'bad line' or word in ('read', 'through', 'counts', 'load', 'list') or refused and (number == '1' or word not in ('reopen', 'maintain')):
         if before != after:
             raise wrong(maker, line, answer, 'a call that changes nothing changed the dump')
         return []

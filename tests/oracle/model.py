@@ -1,6 +1,6 @@
 #!/usr/bin/env python3
 """Document 01 as plain Python, read from the paper alone: a second opinion beside the port. Of document 02: request P1's
-kinds, request P5's checker, request P9's salvage.
+kinds, request P3's read through a batch, request P5's checker, request P9's salvage.
 
 Reads the console's script on standard input and prints its answers. Nothing here is taken from crates/;
 where the paper leaves a choice, the reading D1..D15 of docs/DECISIONS.md is named at the line. 12 is as document 02's request P2 mends it."""
@@ -312,6 +312,15 @@ class Store:
         refuse_if(object_sum(stored, body) != le(header, 0, 4), 10)
         refuse_if(stored != ident, 17)
         return kind, body
+
+    def through(self, ident, batch):
+        """request P3: whose bytes they are, the batch's or the heap's, and the body; or the kind"""
+        self.check_state()
+        bodies = [body for i, body in batch_operations(batch) if i == ident]
+        if not bodies:
+            kind, body = self.read(ident)
+            return 'heap' if kind == OBJECT else kind, body
+        return DELETED if bodies[-1] is None else 'batch', bodies[-1]
 
     # -- claims, prune, counts
 
@@ -682,8 +691,14 @@ class Console:
         self.store.prune()
 
     def do_read(self, ident):
-        kind, body = self.store.read(number(ident))
-        return kind if body is None else f'{kind} {body.hex() or "-"}'
+        return self.piece(*self.store.read(number(ident)))
+
+    def do_through(self, ident, batch):
+        return self.piece(*self.store.through(number(ident), hex_bytes(batch)))
+
+    @staticmethod
+    def piece(word, body):
+        return word if body is None else f'{word} {body.hex() or "-"}'
 
     def do_maintain(self):
         return f'ok {self.store.maintain()}'

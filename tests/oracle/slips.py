@@ -36,6 +36,18 @@ SLIPS = {  # name: (text of the model, the wrong text)
     'a delete told as never written': ('DELETED if raw % 2 == 1', 'NEVER if raw % 2 == 1'),
     'never written told as deleted': ('NEVER if raw is None', 'DELETED if raw is None'),
     'a delete loaded as an object': ('return self.told(ident)\n', 'kind, raw = self.told(ident)\n        return OBJECT if kind == DELETED else kind, raw\n'),
+    'the first operation of a batch read through': ("'batch', bodies[-1]\n", "'batch', bodies[0]\n"),
+    'a put of no bytes read through': ('if not bodies:\n', 'if not any(bodies):\n'),
+    "a batch's delete read through": ("return DELETED if bodies[-1] is None else 'batch', bodies[-1]\n",
+                                      "return ('batch', bodies[-1]) if bodies[-1] is not None else self.read(ident)\n"),
+    'a read through a batch refused with 3': ('        bodies = [body for i, body in batch_operations(batch) if i == ident]\n', '''        bodies = [body for i, body in batch_operations(batch) if i == ident]
+        refuse_if(any(b is not None and len(b) >= self.given.max_object for b in bodies), 3)
+'''),
+    'a malformed batch read through': ('        bodies = [body for i, body in batch_operations(batch) if i == ident]\n', '''        try:
+            bodies = [body for i, body in batch_operations(batch) if i == ident]
+        except Refused:
+            bodies = []
+'''),
     'next after reopening by trailer_offset': ('max(n[2] for n in heads) + 1', 'max(n[1] for n in heads) + 1'),
 }
 # these need a store at a limit: name: (text, wrong text, kind of limits.py)
@@ -115,9 +127,11 @@ IN_THE_SALVAGE = {
         for slot in range(min(self.slots(), 255)):"""),
 }
 # masked ranges are disjoint in the oracle's domain and every location is in a file, so both lookups find the same file there: this one is
-# noticed beside the right model on arbitrary states; so are the kinds of a read and a load, of which the original has fewer
+# noticed beside the right model on arbitrary states; so are the kinds of a read and a load, of which the original has fewer, and a read through a batch, of which it has none
 ON_ARBITRARY_STATES = {name: ['--count', '300'] for name in (
-    'files looked up by masked location', 'a delete told as never written', 'never written told as deleted', 'a delete loaded as an object')}
+    'files looked up by masked location', 'a delete told as never written', 'never written told as deleted', 'a delete loaded as an object',
+    'the first operation of a batch read through', 'a put of no bytes read through', "a batch's delete read through",
+    'a read through a batch refused with 3', 'a malformed batch read through')}
 
 
 def noticed(folder, name, words):

@@ -1,10 +1,12 @@
 // A line: its order, the command's turn, and what is written for it.
+use crate::decoded_bytes;
 use crate::say;
 use crate::show;
 use desk::Bench;
 use desk::Look;
 use desk::Reply;
 use desk::Turn;
+use marble::ThroughAnswer;
 use rules::CompareAnswer;
 use rules::CountsAnswer;
 use rules::GreaterAnswer;
@@ -42,6 +44,32 @@ fn read(answer: ReadAnswer, b: Bench, heap: &[u8], table: &[u64], id: u64) {
         ReadAnswer::Deleted => say::text(b"deleted\n"),
         ReadAnswer::NeverWritten => say::text(b"never\n"),
         ReadAnswer::ReadRefused(r) => say::refused(r),
+    }
+}
+
+// The batch is taken out of its line again.
+fn of_batch(line: &[u8], decoded: &mut [u8], at: u64, count: u64) {
+    script::order_of(line, decoded);
+    show::bytes(b"batch ", decoded, at, count);
+}
+
+fn in_batch(line: &[u8], at: u64, count: u64) {
+    let mut decoded = decoded_bytes();
+    of_batch(line, &mut decoded, at, count);
+}
+
+fn in_heap(b: Bench, heap: &[u8], at: u64, count: u64) {
+    let h = desk::least(b.heap_len, heap.len());
+    show::bytes(b"heap ", &heap[0..h], at, count);
+}
+
+fn through(answer: ThroughAnswer, b: Bench, line: &[u8], heap: &[u8]) {
+    match answer {
+        ThroughAnswer::InBatch(at, count) => in_batch(line, at, count),
+        ThroughAnswer::InHeap(at, count) => in_heap(b, heap, at, count),
+        ThroughAnswer::ThroughDeleted => say::text(b"deleted\n"),
+        ThroughAnswer::ThroughNever => say::text(b"never\n"),
+        ThroughAnswer::ThroughRefused(r) => say::refused(r),
     }
 }
 
@@ -122,7 +150,7 @@ fn checked(b: Bench, heap: &[u8], table: &[u64], room: u64) {
 
 fn bytes_shown(b: Bench, heap: &[u8], at: u64, count: u64) {
     let h = desk::least(b.heap_len, heap.len());
-    show::bytes(&heap[0..h], at, count);
+    show::bytes(b"ok ", &heap[0..h], at, count);
 }
 
 fn shown(look: Look, b: Bench, line: &[u8], heap: &[u8], table: &[u64]) {
@@ -144,6 +172,7 @@ fn written(turn: Turn, id: u64, line: &[u8], heap: &[u8], table: &[u64], report:
         Reply::BadLine => say::bad_line(),
         Reply::Answered(answer) => say::answer(answer),
         Reply::Read(answer) => read(answer, b, heap, table, id),
+        Reply::Through(answer) => through(answer, b, line, heap),
         Reply::Maintained(answer) => say::maintained(answer),
         Reply::Counted(answer) => counted(answer),
         Reply::Loaded(answer) => loaded(answer),

@@ -115,6 +115,9 @@ pub fn help() {
     text(
         b"# reopen   write HEX   read ID   claim SLOT   release SLOT   prune   maintain   counts\n",
     );
+    text(
+        b"# through ID HEX                                           reads as if the batch HEX had been written\n",
+    );
     text(b"# load ID   store ID RAW   cas ID OLD NEW   max ID RAW     the table alone\n");
     text(b"# check ROOM            bytes OFFSET COUNT                 ");
     text(b"what is wrong with the lent heap, ROOM lines (up to 4096); its bytes (up to 65536)\n");
@@ -127,6 +130,8 @@ pub fn help() {
     );
     text(b"# A read answers ok HEX, deleted (the last operation on the id is a delete) or never ");
     text(b"(there is none); a load ok RAW, deleted RAW or never.\n");
+    text(b"# A read through a batch answers batch HEX or heap HEX, by whose bytes they are; ");
+    text(b"deleted, never or refused as a read.\n");
     text(
         b"# A check answers fault SLOT NUMBER, or fault SLOT NUMBER POSITION, for each fault that fits, then ok FAULTS.\n",
     );

@@ -219,12 +219,12 @@ pub fn salvaged(answer: SalvageAnswer, report: &[u64; 512]) {
     }
 }
 
-// The command has seen that they are there.
-pub fn bytes(heap: &[u8], at: u64, count: u64) {
-    let from = desk::least(at as usize, heap.len());
-    let n = desk::least(count as usize, heap.len() - from);
+// A word, then bytes of a buffer: the command has seen that they are there.
+pub fn bytes(word: &[u8], buffer: &[u8], at: u64, count: u64) {
+    let from = desk::least(at as usize, buffer.len());
+    let n = desk::least(count as usize, buffer.len() - from);
     let end = from + n;
-    say::text(b"ok ");
-    say::hex(&heap[from..end]);
+    say::text(word);
+    say::hex(&buffer[from..end]);
     say::end();
 }

@@ -16,7 +16,7 @@ use Rattle.desk.specs.Commands.{reportBy, lentBy, doneBy}
 abbrev keywords : List Keyword
 keywords =
     key.Blank ∷ key.Bad ∷ key.Settings ∷ key.Heap ∷ key.Table ∷ key.Poke ∷ key.Entry ∷ key.State ∷ key.Record ∷ key.Claims ∷ key.Reopen ∷ key.Write ∷ key.Claim
-    ∷ key.Release ∷ key.Prune ∷ key.Read ∷ key.Maintain ∷ key.Counts ∷ key.Check ∷ key.Salvage ∷ key.Load ∷ key.Store ∷ key.Cas ∷ key.Max ∷ key.List ∷ key.Dump ∷ key.Bytes
+    ∷ key.Release ∷ key.Prune ∷ key.Read ∷ key.Through ∷ key.Maintain ∷ key.Counts ∷ key.Check ∷ key.Salvage ∷ key.Load ∷ key.Store ∷ key.Cas ∷ key.Max ∷ key.List ∷ key.Dump ∷ key.Bytes
     ∷ key.Help ∷ []
 
 numbered : (k : Keyword) → getD keywords (number k) key.Bad ≡ k
@@ -36,6 +36,7 @@ numbered key.Claim = refl
 numbered key.Release = refl
 numbered key.Prune = refl
 numbered key.Read = refl
+numbered key.Through = refl
 numbered key.Maintain = refl
 numbered key.Counts = refl
 numbered key.Check = refl
@@ -107,7 +108,7 @@ whole = key.Blank ∷ key.Bad ∷ key.Settings ∷ key.Heap ∷ key.Table ∷ ke
 -- those that are
 abbrev pub parts : List Keyword
 parts =
-    key.Poke ∷ key.Entry ∷ key.Reopen ∷ key.Write ∷ key.Claim ∷ key.Release ∷ key.Prune ∷ key.Read ∷ key.Maintain ∷ key.Counts ∷ key.Load ∷ key.Store ∷ key.Cas
+    key.Poke ∷ key.Entry ∷ key.Reopen ∷ key.Write ∷ key.Claim ∷ key.Release ∷ key.Prune ∷ key.Read ∷ key.Through ∷ key.Maintain ∷ key.Counts ∷ key.Load ∷ key.Store ∷ key.Cas
     ∷ key.Max ∷ key.Bytes ∷ []
 
 pub lent-rest : (n bytes : List ℕ) (d : Desk) (k : Keyword) → Among whole k → badLine d ≡ lentBy k n bytes d
@@ -116,7 +117,7 @@ lent-rest n bytes d = each (λ (k : Keyword). badLine d ≡ lentBy k n bytes d) 
 
 pub done-rest : (n bytes : List ℕ) (d : Desk) (k : Keyword) → Among parts k → onLent (lentBy k n bytes) d ≡ doneBy k n bytes d
 unfolding doneBy
-done-rest n bytes d = each (λ (k : Keyword). onLent (lentBy k n bytes) d ≡ doneBy k n bytes d) parts (refl, (refl, (refl, (refl, (refl, (refl, (refl, (refl, (refl, (refl, (refl, (refl, (refl, (refl, (refl, tt)))))))))))))))
+done-rest n bytes d = each (λ (k : Keyword). onLent (lentBy k n bytes) d ≡ doneBy k n bytes d) parts (refl, (refl, (refl, (refl, (refl, (refl, (refl, (refl, (refl, (refl, (refl, (refl, (refl, (refl, (refl, (refl, tt))))))))))))))))
 
 -- ---- the report
 -- those that leave it
@@ -124,4 +125,4 @@ pub bench-report : (d : Desk) (report : List ℕ) (k : Keyword) → Among atBenc
 bench-report d report = each (λ (k : Keyword). report ≡ reportBy k d report) atBench (refl, (refl, (refl, (refl, (refl, (refl, (refl, (refl, (refl, (refl, tt))))))))))
 
 pub parts-report : (d : Desk) (report : List ℕ) (k : Keyword) → Among parts k → report ≡ reportBy k d report
-parts-report d report = each (λ (k : Keyword). report ≡ reportBy k d report) parts (refl, (refl, (refl, (refl, (refl, (refl, (refl, (refl, (refl, (refl, (refl, (refl, (refl, (refl, (refl, tt)))))))))))))))
+parts-report d report = each (λ (k : Keyword). report ≡ reportBy k d report) parts (refl, (refl, (refl, (refl, (refl, (refl, (refl, (refl, (refl, (refl, (refl, (refl, (refl, (refl, (refl, (refl, tt))))))))))))))))

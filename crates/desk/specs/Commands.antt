@@ -16,10 +16,11 @@ use Rattle.file_map.specs.Records.{labelled}
 use Rattle.location_table.specs.Tables.{withPair}
 use Rattle.numbers.specs.Parts.{putAt}
 use Rattle.losses.specs.Salvage.{Salvaged, salvageCall}
+use Rattle.through.specs.Through.{throughCall}
 use Rattle.script.specs.declared.Keyword.the-variants as key
 use Rattle.desk.specs.Types.{Settings, Record, State, Claims, Keyword, Bench, Comment, Help, Listing, Dump, Check, Bytes, BadLine, Shown, Turn}
 use Rattle.desk.specs.Kinds.{number}
-use Rattle.desk.specs.Desk.{Desk, desk, plain, found, moved, counted, located, compared, raised, emptied, gave, Outcome, left, replied, done, badLine, looked, changed, called, onTable, lentOf, onLent}
+use Rattle.desk.specs.Desk.{Desk, desk, plain, found, pieced, moved, counted, located, compared, raised, emptied, gave, Outcome, left, replied, done, badLine, looked, changed, called, onTable, lentOf, onLent}
 
 -- number k of a line
 abbrev pub nth : List ℕ → ℕ → ℕ
@@ -130,6 +131,7 @@ lentBy key.Entry n bytes d = entryBy (nth n 0) (nth n 1) (nth n 2) d
 lentBy key.Reopen n bytes d = called plain reopenCall d
 lentBy key.Write n bytes d = called plain (λ (w : World). writeCall w bytes) d
 lentBy key.Read n bytes d = called found (λ (w : World). readCall w (nth n 0)) d
+lentBy key.Through n bytes d = called pieced (λ (w : World). throughCall w bytes (nth n 0)) d
 lentBy key.Prune n bytes d = called plain pruneCall d
 lentBy key.Maintain n bytes d = called moved maintainCall d
 lentBy key.Claim n bytes d = called plain (λ (w : World). claimCall w (nth n 0)) d
@@ -174,6 +176,7 @@ doneBy key.Entry n bytes d = onLent (lentBy key.Entry n bytes) d
 doneBy key.Reopen n bytes d = onLent (lentBy key.Reopen n bytes) d
 doneBy key.Write n bytes d = onLent (lentBy key.Write n bytes) d
 doneBy key.Read n bytes d = onLent (lentBy key.Read n bytes) d
+doneBy key.Through n bytes d = onLent (lentBy key.Through n bytes) d
 doneBy key.Prune n bytes d = onLent (lentBy key.Prune n bytes) d
 doneBy key.Maintain n bytes d = onLent (lentBy key.Maintain n bytes) d
 doneBy key.Claim n bytes d = onLent (lentBy key.Claim n bytes) d

@@ -4,7 +4,8 @@ use Rattle.rules.specs.Layout.{Table}
 use Rattle.rules.specs.TableCalls.{TableAfter}
 use Rattle.rules.specs.World.{World, world, Given, accepted, answerGiven, readGiven, maintainGiven, countsGiven, loadGiven, compareGiven, greaterGiven, After}
 use Rattle.salvage.specs.Answers.{salvageGiven}
-use Rattle.desk.specs.Types.{Done, Bench, Look, Reply, BadLine, Answered, Read, Maintained, Counted, Loaded, Compared, Raised, Salvaged, Shown, Turn}
+use Rattle.through.specs.Through.{throughGiven}
+use Rattle.desk.specs.Types.{Done, Bench, Look, Reply, BadLine, Answered, Read, Through, Maintained, Counted, Loaded, Compared, Raised, Salvaged, Shown, Turn}
 
 -- settings, state, claims and how much of each buffer is lent; the two buffers, whole
 pub record Desk : Type 0 where
@@ -17,11 +18,12 @@ abbrev pub desk : Bench → List ℕ → Table → Desk
 desk bench heap table = record { bench = bench; heap = heap; table = table }
 
 -- ---- replies
--- in which words an answer is written: `ok`; a body; a count of ids; four counts; a location; the one that differs; the one held before; a
+-- in which words an answer is written: `ok`; a body; a body, of the batch or of the heap; a count of ids; four counts; a location; the one that differs; the one held before; a
 -- count of slots given up
 pub data Words : Type 0 where
   plain : Words
   found : Words
+  pieced : Words
   moved : Words
   counted : Words
   located : Words
@@ -40,6 +42,7 @@ abbrev pub said : Reply → Said
 said BadLine = bad-line
 said (Answered a) = gave plain (answerGiven a)
 said (Read a) = gave found (readGiven a)
+said (Through a) = gave pieced (throughGiven a)
 said (Maintained a) = gave moved (maintainGiven a)
 said (Counted a) = gave counted (countsGiven a)
 said (Loaded a) = gave located (loadGiven a)

@@ -26,9 +26,10 @@ use Rattle.history_theory.specs.History.{called as calling}
 use Rattle.history_theory.specs.Writes.{refused-unchanged}
 use Rattle.history_theory.specs.Writes.{Plain as PlainCall}
 use Rattle.losses.specs.Salvage.{Salvaged, salvageCall}
+use Rattle.through.specs.Through.{throughCall}
 use Rattle.script.specs.declared.Keyword.the-variants as key
 use Rattle.desk.specs.Types.{Refusal, Limits, Answer, Done, Refused, Keyword, Bench, Check, Bytes, BadLine, Shown}
-use Rattle.desk.specs.Desk.{Desk, desk, Words, plain, found, moved, counted, located, compared, raised, emptied, Said, bad-line, gave, shows, Outcome, left, replied, done, badLine, looked, changed, worldOf, deskOf, answered, called, onTable, lentOf, putBack, onLent}
+use Rattle.desk.specs.Desk.{Desk, desk, Words, plain, found, pieced, moved, counted, located, compared, raised, emptied, Said, bad-line, gave, shows, Outcome, left, replied, done, badLine, looked, changed, worldOf, deskOf, answered, called, onTable, lentOf, putBack, onLent}
 use Rattle.desk.specs.Commands.{nth, recordFrom, withState, withRecord, lendingHeap, lendingTable, heapBy, tableBy, pokeBy, entryBy, checkBy, bytesBy, salvageBy, lentBy, doneBy}
 
 -- `bad line`, or a refusal's number
@@ -55,6 +56,7 @@ Kept key.Claim = Unit {0}
 Kept key.Release = Unit {0}
 Kept key.Prune = Unit {0}
 Kept key.Read = Unit {0}
+Kept key.Through = Unit {0}
 Kept key.Maintain = ⊥
 Kept key.Counts = Unit {0}
 Kept key.Check = Unit {0}
@@ -188,6 +190,10 @@ read-kept : (w : World) (id : ℕ) → readCall w id .world ≡ w
 unfolding readCall
 read-kept w id = refl
 
+through-kept : (w : World) (batch : List ℕ) (id : ℕ) → throughCall w batch id .world ≡ w
+unfolding throughCall
+through-kept w batch id = refl
+
 counts-kept : (w : World) → countsCall w .world ≡ w
 unfolding countsCall
 counts-kept w = refl
@@ -212,6 +218,9 @@ failed-unchanged key.Release p n bytes d h = back-same d (lentBy key.Release n b
 failed-unchanged key.Prune p n bytes d h = back-same d (lentBy key.Prune n bytes (lentOf d)) (call-kept prune tt (lentOf d) h)
 failed-unchanged key.Read p n bytes d h =
     back-same d (lentBy key.Read n bytes (lentOf d)) (world-kept found (λ (w : World). readCall w (nth n 0)) (lentOf d) (read-kept (worldOf (lentOf d)) (nth n 0)))
+failed-unchanged key.Through p n bytes d h =
+    back-same d (lentBy key.Through n bytes (lentOf d))
+    (world-kept pieced (λ (w : World). throughCall w bytes (nth n 0)) (lentOf d) (through-kept (worldOf (lentOf d)) bytes (nth n 0)))
 failed-unchanged key.Maintain p n bytes d h = absurd p
 failed-unchanged key.Counts p n bytes d h = back-same d (lentBy key.Counts n bytes (lentOf d)) (world-kept counted countsCall (lentOf d) (counts-kept (worldOf (lentOf d))))
 failed-unchanged key.Load p n bytes d h =

@@ -14,10 +14,11 @@ pub use Rattle.rules.specs.declared.LoadAnswer.{LoadAnswer}
 pub use Rattle.rules.specs.declared.CompareAnswer.{CompareAnswer}
 pub use Rattle.rules.specs.declared.GreaterAnswer.{GreaterAnswer}
 pub use Rattle.salvage.specs.declared.SalvageAnswer.{SalvageAnswer}
+pub use Rattle.through.specs.declared.ThroughAnswer.{ThroughAnswer}
 pub use Rattle.script.specs.declared.Keyword.{Keyword}
 pub use Rattle.desk.specs.declared.Bench.{Bench}
 pub use Rattle.desk.specs.declared.Look.{Look}
 pub use Rattle.desk.specs.declared.Look.the-variants.{Comment, Help, List as Listing, Dump, Check, Bytes}
 pub use Rattle.desk.specs.declared.Reply.{Reply}
-pub use Rattle.desk.specs.declared.Reply.the-variants.{BadLine, Answered, Read, Maintained, Counted, Loaded, Compared, Raised, Salvaged, Shown}
+pub use Rattle.desk.specs.declared.Reply.the-variants.{BadLine, Answered, Read, Through, Maintained, Counted, Loaded, Compared, Raised, Salvaged, Shown}
 pub use Rattle.desk.specs.declared.Turn.{Turn}

@@ -17,8 +17,9 @@ ghost use Rattle.rules.specs.TableCalls.{loadCall, storeCall, compareCall, grea
 ghost use Rattle.rules.specs.World.{World};
 ghost use Rattle.rules.specs.Layout.{Table};
 ghost use Rattle.rules.specs.Write.{writeCall};
+ghost use Rattle.through.specs.Through.{throughCall};
 ghost use Rattle.desk.specs.Commands.{salvageOn, salvageBy};
-ghost use Rattle.desk.specs.Desk.{desk, left, plain, found, moved, counted, located, compared, raised, called, onTable};
+ghost use Rattle.desk.specs.Desk.{desk, left, plain, found, pieced, moved, counted, located, compared, raised, called, onTable};
 
 pub fn reopen(b: Bench, heap: &[u8], table: &mut [u64]) -> Turn
     ensures { λ r. ⌜ left r (now (heap .entry)) (now (table .exit))
@@ -46,6 +47,19 @@ pub fn read(b: Bench, heap: &[u8], table: &[u64], id: u64) -> Turn
     let answer = marble::read_answer(b.settings, b.state, heap, table, id);
     Turn {
         reply: Reply::Read(answer),
+        bench: b,
+    }
+}
+
+// A read through a batch.
+pub fn through(b: Bench, heap: &[u8], table: &[u64], batch: &[u8], id: u64) -> Turn
+    ensures { λ r. ⌜ left r (now (heap .entry)) (now (table .entry))
+        ≡ called pieced (λ (w : World). throughCall w (now (batch .entry)) id)
+        (desk b (now (heap .entry)) (now (table .entry))) ⌝ }
+{
+    let answer = marble::through_answer(b.settings, b.state, heap, table, batch, id);
+    Turn {
+        reply: Reply::Through(answer),
         bench: b,
     }
 }

@@ -17,6 +17,7 @@ use rules::Settings;
 use rules::State;
 use salvage::SalvageAnswer;
 use script::Keyword;
+use through::ThroughAnswer;
 use turns::bad_line;
 use turns::shown;
 ghost use mathlib.Core.Path.{_≡_};
@@ -52,6 +53,7 @@ pub enum Reply {
     BadLine,
     Answered(Answer),
     Read(ReadAnswer),
+    Through(ThroughAnswer),
     Maintained(MaintainAnswer),
     Counted(CountsAnswer),
     Loaded(LoadAnswer),
@@ -177,6 +179,7 @@ fn after_lent(
         Keyword::Poke => by_hand::poke(b, n[0], bytes, heap),
         Keyword::Reopen => calls::reopen(b, heap, table),
         Keyword::Write => calls::write(b, heap, table, bytes),
+        Keyword::Through => calls::through(b, heap, table, bytes, n[0]),
         Keyword::Prune => calls::prune(b, heap, table),
         Keyword::Maintain => calls::maintain(b, heap, table),
         Keyword::Entry | Keyword::Store | Keyword::Cas | Keyword::Max => {

@@ -23,6 +23,11 @@ use Rattle.writepath.proofs.write.Reads as write
 use Rattle.readpath.specs.Reads.{placeOf}
 use Rattle.readpath.proofs.«read_answer».Reads as answer
 use Rattle.readpath.proofs.read.Reads as reading
+use Rattle.through.specs.declared.ThroughAnswer.{ThroughAnswer}
+use Rattle.through.specs.Through.{throughOf}
+use Rattle.through.specs.Pieces.{throughPlace}
+use Rattle.through.proofs.«through_answer».Reads as through-answer
+use Rattle.through.proofs.through.Reads as through
 use Rattle.claims.specs.declared.ClaimAnswer.{ClaimAnswer}
 use Rattle.claims.proofs.claim.Reads as claim
 use Rattle.claims.proofs.release.Reads as release
@@ -42,7 +47,7 @@ use Rattle.table_calls.proofs.load.Reads as load
 use Rattle.table_calls.proofs.store.Reads as store
 use Rattle.table_calls.proofs.«compare_and_store».Reads as compare
 use Rattle.table_calls.proofs.«store_if_greater».Reads as greater
-use Rattle.marble.specs.Results.{wrote, maintained, pruned, claimed, released, reopened, answered, read, counted, checked, Admitted}
+use Rattle.marble.specs.Results.{wrote, maintained, pruned, claimed, released, reopened, answered, read, answeredThrough, readThrough, counted, checked, Admitted}
 
 -- a lent buffer of numbers: where it is, and what it holds
 abbrev pub Lent : Type 0
@@ -65,6 +70,17 @@ module _ (settings : Settings) (state : State) (heap table : Lent) where
       ≡ (((c : Claims) → Admitted (world settings state c (now heap) (now table)) (read id (now part)))
       × ((c : Claims) → part .ptr ≡ placeOf (readOf (world settings state c (now heap) (now table)) id) (heap .ptr)))
   read-contract κs id part = refl
+
+  pub through-answer-contract : (κs : Lfts 3) (batch : Lent) (id : ℕ) (r : ThroughAnswer)
+      → through-answer.Learnt κs (settings, (state, (heap, (table, (batch, (id, tt)))))) r (settings, (state, (heap, (table, (batch, (id, tt))))))
+      ≡ ((c : Claims) → Admitted (world settings state c (now heap) (now table)) (answeredThrough (now batch) id r))
+  through-answer-contract κs batch id r = refl
+
+  pub through-contract : (κs : Lfts 2) (batch : Lent) (id : ℕ) (part : Lent)
+      → through.Learnt κs (settings, (state, (heap, (table, (batch, (id, tt)))))) part (settings, (state, (heap, (table, (batch, (id, tt))))))
+      ≡ (((c : Claims) → Admitted (world settings state c (now heap) (now table)) (readThrough (now batch) id (now part)))
+      × ((c : Claims) → part .ptr ≡ throughPlace (throughOf (world settings state c (now heap) (now table)) (now batch) id) (batch .ptr) (heap .ptr)))
+  through-contract κs batch id part = refl
 
   pub counts-contract : (κs : Lfts 2) (r : CountsAnswer)
       → counts.Learnt κs (settings, (state, (heap, (table, tt)))) r (settings, (state, (heap, (table, tt))))

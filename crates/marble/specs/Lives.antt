@@ -17,13 +17,14 @@ use Rattle.history_theory.specs.Quiet.{claim, release}
 use Rattle.history_theory.specs.History.{Call, write, maintain, prune, reopen, quiet, called, hears, Life, lived, Starts, Kept, sound-kept}
 use Rattle.history_theory.specs.Clean.{heardAt, resumed, clean-starts}
 use Rattle.history_theory.specs.Writes.{never, got, leftBy, got-last, write-means}
+use Rattle.through_theory.specs.Saved.{gotThrough, sound-through, same-bytes}
 use Rattle.power_cuts.specs.Runs.{runOf}
 use Rattle.power_cuts.specs.Cuts.{CutAt, Survived, hearsCut, done, happened, livedOn}
 use Rattle.power_cuts.specs.Cuts as cuts
 use Rattle.power_cuts.specs.PowerCut.{cut-survived, sound-lived-on}
 use Rattle.recovery.specs.declared.Reopened.{Reopened}
 use Rattle.writepath.specs.declared.Written.{Written}
-use Rattle.marble.specs.Results.{Result, wrote, maintained, pruned, claimed, released, reopened, answered, read, counted, checked, left, Admitted, hearing, Event, gave, cut, Happens, next, lives, AllHappen, begun, Lived, reached, since}
+use Rattle.marble.specs.Results.{Result, wrote, maintained, pruned, claimed, released, reopened, answered, read, answeredThrough, readThrough, counted, checked, left, Admitted, hearing, Event, gave, cut, Happens, next, lives, AllHappen, begun, Lived, reached, since}
 
 -- the bytes that the last operation on an id leaves
 abbrev pub bodyLast : Last → List ℕ
@@ -42,6 +43,8 @@ theCalls (gave (released slot r)) es = done (quiet (release slot)) ∷ es
 theCalls (gave (reopened r table)) es = done reopen ∷ es
 theCalls (gave (answered id r)) es = es
 theCalls (gave (read id part)) es = es
+theCalls (gave (answeredThrough batch id r)) es = es
+theCalls (gave (readThrough batch id part)) es = es
 theCalls (gave (counted r)) es = es
 theCalls (gave (checked before r after)) es = es
 theCalls (cut k c v r table) es = cuts.cut k c v ∷ es
@@ -60,6 +63,8 @@ theCall (released slot r) cs = quiet (release slot) ∷ cs
 theCall (reopened r table) cs = reopen ∷ cs
 theCall (answered id r) cs = cs
 theCall (read id part) cs = cs
+theCall (answeredThrough batch id r) cs = cs
+theCall (readThrough batch id part) cs = cs
 theCall (counted r) cs = cs
 theCall (checked before r after) cs = cs
 
@@ -109,6 +114,8 @@ alike l (e ∷ es) h = go e (h .0) (alike (next l e) es (h .1))
         alike-then l (gave (reopened r table)) (done reopen) es (calls es) (alike-left l (reopened r table) reopen (ap (λ (x : After). x .world) a) refl) b
     go (gave (answered id r)) a b = record { happen = b .happen; same = b .same }
     go (gave (read id part)) a b = record { happen = b .happen; same = b .same }
+    go (gave (answeredThrough batch id r)) a b = record { happen = b .happen; same = b .same }
+    go (gave (readThrough batch id part)) a b = record { happen = b .happen; same = b .same }
     go (gave (counted r)) a b = record { happen = b .happen; same = b .same }
     go (gave (checked before r after)) a b = record { happen = b .happen; same = b .same }
     go (cut k c v r table) a b =
@@ -127,6 +134,8 @@ uncut l (released slot r ∷ rs) = uncut (happened l (done (quiet (release slot)
 uncut l (reopened r table ∷ rs) = uncut (happened l (done reopen)) rs
 uncut l (answered id r ∷ rs) = uncut l rs
 uncut l (read id part ∷ rs) = uncut l rs
+uncut l (answeredThrough batch id r ∷ rs) = uncut l rs
+uncut l (readThrough batch id part ∷ rs) = uncut l rs
 uncut l (counted r ∷ rs) = uncut l rs
 uncut l (checked before r after ∷ rs) = uncut l rs
 
@@ -144,6 +153,8 @@ hearing-behind h (released slot r) = sym (append-nil h)
 hearing-behind h (reopened r table) = sym (append-nil h)
 hearing-behind h (answered id r) = sym (append-nil h)
 hearing-behind h (read id part) = sym (append-nil h)
+hearing-behind h (answeredThrough batch id r) = sym (append-nil h)
+hearing-behind h (readThrough batch id part) = sym (append-nil h)
 hearing-behind h (counted r) = sym (append-nil h)
 hearing-behind h (checked before r after) = sym (append-nil h)
 
@@ -239,6 +250,20 @@ module _ (l : Lived) where
   life-wrote batch r heap table a d id =
       ap (λ (x : After). got (x .world) id) a
       ∙ write-means (reached l .world) (reached l .history) life-sound batch (sym (ap (λ (x : After). x .answer) a) ∙ ap answerGiven d) .reads id
+
+  -- REQUEST P3: where the result of a write says `Done`, a read through its batch gave, before it, what a read gives after it, for every id
+  pub life-foresees : (batch : List ℕ) (r : Written) (heap table : List ℕ) → Admitted (reached l .world) (wrote batch r heap table) → r .answer ≡ Done
+      → (id : ℕ) → gotThrough (reached l .world) batch id ≡ got (left (reached l .world) (wrote batch r heap table)) id
+  life-foresees batch r heap table a d id =
+      sound-through (reached l .world) (reached l .history) life-sound batch (sym (ap (λ (x : After). x .answer) a) ∙ ap answerGiven d) id
+      ∙ sym (ap (λ (x : After). got (x .world) id) a)
+
+  -- so of the bytes alone
+  pub life-foresees-bytes : (batch : List ℕ) (r : Written) (heap table : List ℕ) → Admitted (reached l .world) (wrote batch r heap table) → r .answer ≡ Done
+      → (id : ℕ) (through after : List ℕ) → Admitted (reached l .world) (readThrough batch id through)
+      → Admitted (left (reached l .world) (wrote batch r heap table)) (read id after) → through ≡ after
+  life-foresees-bytes batch r heap table a d id through after p q =
+      p ∙ same-bytes (reached l .world) (left (reached l .world) (wrote batch r heap table)) batch id (life-foresees batch r heap table a d id) ∙ sym q
 
 -- DEMAND 2, reopen: of any heap, whoever wrote it, where the result says `Done`
 pub reopened-opens : (w : World) (r : Reopened) (table : List ℕ) → Admitted w (reopened r table) → r .answer ≡ Done

@@ -22,6 +22,8 @@ use Rattle.gc.specs.declared.Maintained.{Maintained}
 use Rattle.gc.specs.Unique.{Maintains}
 use Rattle.prune.specs.declared.PruneAnswer.{PruneAnswer}
 use Rattle.prune.specs.CallLaws.{Prunes}
+use Rattle.through.specs.declared.ThroughAnswer.{ThroughAnswer}
+use Rattle.through.specs.Through.{throughOf, throughPart}
 use Rattle.faults.specs.Faults.{checkCall}
 use Rattle.checker.specs.declared.CheckAnswer.{CheckAnswer}
 use Rattle.marble.specs.Unique.{Claims-leaves, Checks}
@@ -42,6 +44,9 @@ pub data Result : Type 0 where
   -- id, by `read_answer` and by `read`
   answered : ℕ → ReadAnswer → Result
   read : ℕ → List ℕ → Result
+  -- batch, id, by `through_answer` and by `through`
+  answeredThrough : List ℕ → ℕ → ThroughAnswer → Result
+  readThrough : List ℕ → ℕ → List ℕ → Result
   counted : CountsAnswer → Result
   -- the listing before; after
   checked : List ℕ → CheckAnswer → List ℕ → Result
@@ -56,6 +61,8 @@ left w (released slot r) = withClaims w (r .claims)
 left w (reopened r table) = world (w .settings) (r .state) (r .claims) (w .heap) table
 left w (answered id r) = w
 left w (read id part) = w
+left w (answeredThrough batch id r) = w
+left w (readThrough batch id part) = w
 left w (counted r) = w
 left w (checked before r after) = w
 
@@ -69,6 +76,8 @@ Admitted w (released slot r) = Claims-leaves (w .settings) (w .state) (w .heap) 
 Admitted w (reopened r table) = leaves (w .settings) r (w .heap) table ≡ reopenCall w
 Admitted w (answered id r) = r ≡ readOf w id
 Admitted w (read id part) = part ≡ partOf (readOf w id) (w .heap)
+Admitted w (answeredThrough batch id r) = r ≡ throughOf w batch id
+Admitted w (readThrough batch id part) = part ≡ throughPart (throughOf w batch id) batch (w .heap)
 Admitted w (counted r) = leaving (countsGiven r) w ≡ countsCall w
 Admitted w (checked before r after) = Checks (checkCall (w .settings) (w .heap) (w .table) before) r after
 
@@ -82,6 +91,8 @@ hearing history (released slot r) = history
 hearing history (reopened r table) = history
 hearing history (answered id r) = history
 hearing history (read id part) = history
+hearing history (answeredThrough batch id r) = history
+hearing history (readThrough batch id part) = history
 hearing history (counted r) = history
 hearing history (checked before r after) = history
 

@@ -17,6 +17,12 @@ pub use writepath::write;
 pub use readpath::read;
 pub use readpath::read_answer;
 
+// Request P3, "Let the editor see what it hasn't saved": a part of the batch or of the heap, and the answer beside it.
+pub use through::ThroughAnswer;
+pub use through::seen;
+pub use through::through;
+pub use through::through_answer;
+
 // "Claim, release", "Counts"
 pub use claims::ClaimAnswer;
 pub use claims::claim;

@@ -8,10 +8,11 @@ use Rattle.rules.specs.declared.Settings.{Settings}
 use Rattle.location_table.specs.Tables.{leaving as tableLeaving}
 use Rattle.as_numbers.specs.Shown.{given}
 use Rattle.marble_c.specs.Salvages.{rescue}
-use Rattle.marble_c.specs.Unique.{Reopens, Writes, ReadsOut, ClaimsSlot, Releases, Prunes, Maintains, CountsOut, ChecksOut, SalvagesOut, Loads, Stores, Compares, StoresGreater}
+use Rattle.marble_c.specs.Unique.{Reopens, Writes, ReadsOut, ReadsThroughOut, ClaimsSlot, Releases, Prunes, Maintains, CountsOut, ChecksOut, SalvagesOut, Loads, Stores, Compares, StoresGreater}
 use Rattle.marble_c.proofs.«marble_reopen».Reads as reopen
 use Rattle.marble_c.proofs.«marble_write».Reads as write
 use Rattle.marble_c.proofs.«marble_read».Reads as read
+use Rattle.marble_c.proofs.«marble_read_through».Reads as read-through
 use Rattle.marble_c.proofs.«marble_claim».Reads as claim
 use Rattle.marble_c.proofs.«marble_release».Reads as release
 use Rattle.marble_c.proofs.«marble_prune».Reads as prune
@@ -49,6 +50,12 @@ module _ (settings : Settings) (state claims heap table : Lent) (r : ℕ) (state
       (settings, (state, (heap, (table, (id, (kind′, (offset′, (size′, tt))))))))
       ≡ ReadsOut settings (now state) (now heap) (now table) id r (now kind′ ∷ now offset′ ∷ now size′ ∷ [])
   read-contract κs id kind offset size kind′ offset′ size′ = refl
+
+  pub read-through-contract : (κs : Lfts 5) (batch : Lent) (id : ℕ) (piece piece′ : Lent)
+      → read-through.Learnt κs (settings, (state, (heap, (table, (batch, (id, (piece, tt))))))) r
+      (settings, (state, (heap, (table, (batch, (id, (piece′, tt)))))))
+      ≡ ReadsThroughOut settings (now state) (now heap) (now table) (now batch) id r (now piece′)
+  read-through-contract κs batch id piece piece′ = refl
 
   pub claim-contract : (κs : Lfts 4) (slot : ℕ)
       → claim.Learnt κs (settings, (state, (claims, (heap, (table, (slot, tt)))))) r (settings, (state, (claims′, (heap, (table, (slot, tt))))))

@@ -12,6 +12,7 @@ use Rattle.rules.specs.Reopen.{reopenCall}
 use Rattle.rules.specs.TableCalls.{TableAfter, loadCall, storeCall, compareCall, greaterCall}
 use Rattle.rules.specs.World.{Given, After, world, leaving}
 use Rattle.rules.specs.Write.{writeCall}
+use Rattle.through.specs.Through.{throughCall}
 use Rattle.faults.specs.Faults.{checkCall}
 use Rattle.losses.specs.Salvage.{Salvaged, salvageCall}
 use Rattle.as_numbers.specs.ClaimWords.{claims-one}
@@ -108,11 +109,17 @@ module _ (s : Settings) (state heap table : List ℕ) where
   abbrev pub ReadsOut : ℕ → ℕ → List ℕ → Type 0
   ReadsOut id r values = (c : Claims) → given r values ≡ shown 3 (readCall (world s (stateIn state) c heap table) id .answer)
 
+  abbrev pub ReadsThroughOut : List ℕ → ℕ → ℕ → List ℕ → Type 0
+  ReadsThroughOut batch id r values = (c : Claims) → given r values ≡ shown 4 (throughCall (world s (stateIn state) c heap table) batch id .answer)
+
   abbrev pub CountsOut : ℕ → List ℕ → Type 0
   CountsOut r values = (c : Claims) → given r values ≡ shown 4 (countsCall (world s (stateIn state) c heap table) .answer)
 
   pub read-one : (id r q : ℕ) (vs us : List ℕ) → ReadsOut id r vs → ReadsOut id q us → given r vs ≡ given q us
   read-one id r q vs us e f = e noClaims ∙ sym (f noClaims)
+
+  pub through-one : (batch : List ℕ) (id r q : ℕ) (vs us : List ℕ) → ReadsThroughOut batch id r vs → ReadsThroughOut batch id q us → given r vs ≡ given q us
+  through-one batch id r q vs us e f = e noClaims ∙ sym (f noClaims)
 
   pub counts-one : (r q : ℕ) (vs us : List ℕ) → CountsOut r vs → CountsOut q us → given r vs ≡ given q us
   counts-one r q vs us e f = e noClaims ∙ sym (f noClaims)

@@ -1,6 +1,6 @@
 -- The version of the interface for C, which include/marble.h has as MARBLE_VERSION.
 use Prim.Native.Nat.{ℕ}
 
--- 1,000 times the major number plus the minor one: major 3, minor 0
+-- 1,000 times the major number plus the minor one: major 3, minor 1
 abbrev pub version : ℕ
-version = 3000
+version = 3001

@@ -1,5 +1,8 @@
 // The public calls for a host in C (include/marble.h). State and claim record are lent as words and changed in place; an answer is the
 // paper's number, its values go to out-parameters. The contracts are those of the calls, by the same definitions.
+use as_numbers::answers::DELETED;
+use as_numbers::answers::NEVER_WRITTEN;
+use as_numbers::answers::OBJECT;
 use as_numbers::answers::One;
 use as_numbers::answers::compare_shown;
 use as_numbers::answers::counts_shown;
@@ -12,10 +15,12 @@ use as_numbers::answers::read_shown;
 use as_numbers::answers::refusal_number;
 use as_numbers::claim_words::claims_in;
 use as_numbers::claim_words::put_claims;
+use as_numbers::four_words::put_four;
 use as_numbers::state_words::put_state;
 use as_numbers::state_words::state_in;
 use marble::CheckAnswer;
 use marble::SalvageAnswer;
+use marble::ThroughAnswer;
 use rules::ReadAnswer;
 use rules::Settings;
 ghost use mathlib.Core.Path.{_≡_};
@@ -35,6 +40,7 @@ ghost use Rattle.faults.specs.Faults.{checkCall};
 ghost use Rattle.checker.specs.Answers.{checkGiven};
 ghost use Rattle.losses.specs.Salvage.{salvageCall};
 ghost use Rattle.salvage.specs.Answers.{salvageGiven};
+ghost use Rattle.through.specs.Through.{throughGiven, throughCall};
 ghost use Rattle.as_numbers.specs.Numbered.{numbered};
 ghost use Rattle.as_numbers.specs.Shown.{given, shown, stopAfter, shownTable};
 ghost use Rattle.as_numbers.specs.StateWords.{stateIn};
@@ -47,7 +53,7 @@ ghost use Rattle.marble_c.specs.Version.{version};
 pub extern "C" fn marble_version() -> u64
     ensures { λ r. ⌜ r ≡ version ⌝ }
 {
-    3000
+    3001
 }
 
 // ---- the store
@@ -130,6 +136,80 @@ pub extern "C" fn marble_read(
     *offset = read.second;
     *size = read.third;
     read.number
+}
+
+// A read through a batch: a number, what is there of the id, whether the part is one of the batch, its start and its length.
+struct Piece {
+    number: u64,
+    kind: u64,
+    of_batch: u64,
+    start: u64,
+    size: u64,
+}
+
+// Places that no value comes to are 0.
+fn through_shown(a: ThroughAnswer) -> Piece
+    ensures { λ r. ⌜ given (r .number) (r .kind ∷ r .«of_batch» ∷ r .start ∷ r .size ∷ []) ≡ shown 4 (throughGiven a) ⌝ }
+{
+    match a {
+        ThroughAnswer::InBatch(start, size) => Piece {
+            number: 0,
+            kind: OBJECT,
+            of_batch: 1,
+            start: start,
+            size: size,
+        },
+        ThroughAnswer::InHeap(start, size) => Piece {
+            number: 0,
+            kind: OBJECT,
+            of_batch: 0,
+            start: start,
+            size: size,
+        },
+        ThroughAnswer::ThroughDeleted => Piece {
+            number: 0,
+            kind: DELETED,
+            of_batch: 0,
+            start: 0,
+            size: 0,
+        },
+        ThroughAnswer::ThroughNever => Piece {
+            number: 0,
+            kind: NEVER_WRITTEN,
+            of_batch: 0,
+            start: 0,
+            size: 0,
+        },
+        ThroughAnswer::ThroughRefused(r) => Piece {
+            number: refusal_number(r),
+            kind: 0,
+            of_batch: 0,
+            start: 0,
+            size: 0,
+        },
+    }
+}
+
+// "a read over a batch buffer and the heap": the kind, whether it is the batch's, and the part by its start and length.
+#[no_mangle]
+pub extern "C" fn marble_read_through(
+    settings: Settings,
+    state: &[u64; 1545],
+    heap: &[u8],
+    table: &[u64],
+    batch: &[u8],
+    id: u64,
+    piece: &mut [u64; 4],
+) -> u64
+    ensures { λ r. ⌜ ((c : Claims) → given r (now (piece .exit))
+        ≡ shown 4 (throughCall
+        (world settings (stateIn (now (state .entry))) c (now (heap .entry)) (now (table .entry)))
+        (now (batch .entry)) id .answer)) ⌝ }
+{
+    let stored = found(settings, state, heap, table, id);
+    let seen = through_shown(marble::seen(stored, batch, id));
+    put_four(piece, seen.kind, seen.of_batch, seen.start, seen.size);
+    seen.number
 }
 
 // "21 for a slot out of range, an empty slot, a claimed one (claim)"

@@ -31,6 +31,7 @@ shapes =
     numbers 1 ∷
     numbers 0 ∷
     numbers 1 ∷
+    numbersAndBytes 1 ∷
     numbers 0 ∷
     numbers 0 ∷
     numbers 1 ∷
@@ -67,6 +68,7 @@ tagged key.Claim = refl
 tagged key.Release = refl
 tagged key.Prune = refl
 tagged key.Read = refl
+tagged key.Through = refl
 tagged key.Maintain = refl
 tagged key.Counts = refl
 tagged key.Check = refl

@@ -59,6 +59,8 @@ callNames =
     called (112 ∷ 114 ∷ 117 ∷ 110 ∷ 101 ∷ []) key.Prune ∷
     -- read
     called (114 ∷ 101 ∷ 97 ∷ 100 ∷ []) key.Read ∷
+    -- through
+    called (116 ∷ 104 ∷ 114 ∷ 111 ∷ 117 ∷ 103 ∷ 104 ∷ []) key.Through ∷
     -- maintain
     called (109 ∷ 97 ∷ 105 ∷ 110 ∷ 116 ∷ 97 ∷ 105 ∷ 110 ∷ []) key.Maintain ∷
     -- counts

@@ -31,6 +31,7 @@ shapeOf key.Claim = numbers 1
 shapeOf key.Release = numbers 1
 shapeOf key.Prune = numbers 0
 shapeOf key.Read = numbers 1
+shapeOf key.Through = numbersAndBytes 1
 shapeOf key.Maintain = numbers 0
 shapeOf key.Counts = numbers 0
 shapeOf key.Check = numbers 1

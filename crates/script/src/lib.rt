@@ -35,6 +35,7 @@ pub enum Keyword {
     Release,
     Prune,
     Read,
+    Through,
     Maintain,
     Counts,
     Check,
@@ -108,7 +109,7 @@ pub fn shape_of(keyword: Keyword) -> Shape
             numbers: 9,
             bytes: false,
         },
-        Keyword::Poke => Shape {
+        Keyword::Poke | Keyword::Through => Shape {
             numbers: 1,
             bytes: true,
         },

@@ -50,7 +50,8 @@ fn call(word: &[u8], other: Keyword) -> Keyword
     let check = named(word, b"check", Keyword::Check, salvage);
     let counts = named(word, b"counts", Keyword::Counts, check);
     let maintain = named(word, b"maintain", Keyword::Maintain, counts);
-    let read = named(word, b"read", Keyword::Read, maintain);
+    let through = named(word, b"through", Keyword::Through, maintain);
+    let read = named(word, b"read", Keyword::Read, through);
     let prune = named(word, b"prune", Keyword::Prune, read);
     let release = named(word, b"release", Keyword::Release, prune);
     let claim = named(word, b"claim", Keyword::Claim, release);

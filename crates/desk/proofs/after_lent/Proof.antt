@@ -31,11 +31,20 @@ write-requires c κs = search needs
 enum-told-4 : tie.Need-enum-told-4
 enum-told-4 c = search needs
 
-prune-requires : tie.Need-prune-requires
-prune-requires c κs = search needs
+array-read-through : tie.Need-array-read-through
+array-read-through c = search needs
+
+through-requires : tie.Need-through-requires
+through-requires c κs = search needs
 
 enum-told-5 : tie.Need-enum-told-5
 enum-told-5 c = search needs
+
+prune-requires : tie.Need-prune-requires
+prune-requires c κs = search needs
+
+enum-told-6 : tie.Need-enum-told-6
+enum-told-6 c = search needs
 
 maintain-requires : tie.Need-maintain-requires
 maintain-requires c κs = search needs
@@ -82,6 +91,10 @@ returns-3 : tie.Need-returns-3
 unfolding lentBy
 returns-3 c = let p = c .before .before .before .before in rw (p .before .before .before .enum-told3 .given .1) (p .write .ensures)
 
+returns-4 : tie.Need-returns-4
+unfolding lentBy
+returns-4 c = rw (c .before .before .before .enum-told4 .given .1) (c .through .ensures)
+
 same-length-8 : tie.Need-same-length-8
 same-length-8 c = search needs
 
@@ -91,9 +104,9 @@ same-length-9 c = search needs
 same-length-10 : tie.Need-same-length-10
 same-length-10 c = search needs
 
-returns-4 : tie.Need-returns-4
+returns-5 : tie.Need-returns-5
 unfolding lentBy
-returns-4 c = let p = c .before .before in rw (p .before .before .before .enum-told4 .given .1) (p .prune .ensures)
+returns-5 c = let p = c .before .before in rw (p .before .before .before .enum-told5 .given .1) (p .prune .ensures)
 
 same-length-11 : tie.Need-same-length-11
 same-length-11 c = search needs
@@ -101,22 +114,28 @@ same-length-11 c = search needs
 same-length-12 : tie.Need-same-length-12
 same-length-12 c = search needs
 
-returns-5 : tie.Need-returns-5
-unfolding lentBy
-returns-5 c = let p = c .before .before .before .before in rw (p .before .before .before .enum-told5 .given .1) (p .maintain .ensures)
+same-length-13 : tie.Need-same-length-13
+same-length-13 c = search needs
+
+same-length-14 : tie.Need-same-length-14
+same-length-14 c = search needs
 
 returns-6 : tie.Need-returns-6
-returns-6 c = c .before .before .on-table .ensures _ _
+unfolding lentBy
+returns-6 c = let p = c .before .before .before .before in rw (p .before .before .before .enum-told6 .given .1) (p .maintain .ensures)
 
 returns-7 : tie.Need-returns-7
-returns-7 c = c .asked .ensures _
+returns-7 c = c .before .before .on-table .ensures _ _
 
 returns-8 : tie.Need-returns-8
-returns-8 c =
+returns-8 c = c .asked .ensures _
+
+returns-9 : tie.Need-returns-9
+returns-9 c =
     let m = c .before in
     let a = m .before .before .before .before .args in
     ap (λ (t : Turn). left t (a .heap .now) (a .table .now)) (c .bad-line .ensures)
-    ∙ lent-rest (a .t3) (a .bytes .now) (desk (a .b) (a .heap .now) (a .table .now)) (a .keyword) (m .match .keys8)
+    ∙ lent-rest (a .t3) (a .bytes .now) (desk (a .b) (a .heap .now) (a .table .now)) (a .keyword) (m .match .keys9)
 
 pub after-lent-spec : {M : Type 1} → statement M
 after-lent-spec =
@@ -130,8 +149,11 @@ after-lent-spec =
     enum-told-3
     write-requires
     enum-told-4
-    prune-requires
+    array-read-through
+    through-requires
     enum-told-5
+    prune-requires
+    enum-told-6
     maintain-requires
     on-table-requires
     asked-requires
@@ -151,8 +173,11 @@ after-lent-spec =
     same-length-9
     returns-5
     same-length-10
-    returns-6
     same-length-11
+    returns-6
     same-length-12
     returns-7
-    returns-8)
+    same-length-13
+    same-length-14
+    returns-8
+    returns-9)

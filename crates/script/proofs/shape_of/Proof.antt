@@ -2,7 +2,7 @@ use mathlib.Core.Path.{refl, sym, ap}
 use mathlib.Core.List.{[], _∷_}
 use native.Mathlib.Omega.{arith}
 use borrow.Author.Needs.{needs}
-use Rattle.script.specs.Shapes.{shapeOf, numbers}
+use Rattle.script.specs.Shapes.{shapeOf, numbers, numbersAndBytes}
 use Rattle.script.proofs.Told.{shape-told}
 use Rattle.script.proofs.shape_of.Statement.{statement}
 use Rattle.script.proofs.shape_of.Tie as tie
@@ -22,21 +22,18 @@ enum-told-4 c = search needs
 enum-told-5 : tie.Need-enum-told-5
 enum-told-5 c = search needs
 
-enum-told-6 : tie.Need-enum-told-6
-enum-told-6 c = search needs
-
 returns : tie.Need-returns
 unfolding shapeOf
 returns c = (sym (ap shapeOf (c .enum-told .given .1)), omega arith)
 
 returns-2 : tie.Need-returns-2
-returns-2 c = (shape-told 3 (4 ∷ 12 ∷ 13 ∷ 15 ∷ 18 ∷ 20 ∷ []) (numbers 1) (c .before .args .keyword) (refl, (refl, (refl, (refl, (refl, (refl, (refl, tt))))))) (c .match .keys2), omega arith)
+returns-2 c = (shape-told 3 (4 ∷ 12 ∷ 13 ∷ 15 ∷ 19 ∷ 21 ∷ []) (numbers 1) (c .before .args .keyword) (refl, (refl, (refl, (refl, (refl, (refl, (refl, tt))))))) (c .match .keys2), omega arith)
 
 returns-3 : tie.Need-returns-3
-returns-3 c = (shape-told 21 (23 ∷ 26 ∷ []) (numbers 2) (c .before .args .keyword) (refl, (refl, (refl, tt))) (c .match .keys3), omega arith)
+returns-3 c = (shape-told 22 (24 ∷ 27 ∷ []) (numbers 2) (c .before .args .keyword) (refl, (refl, (refl, tt))) (c .match .keys3), omega arith)
 
 returns-4 : tie.Need-returns-4
-returns-4 c = (shape-told 6 (22 ∷ []) (numbers 3) (c .before .args .keyword) (refl, (refl, tt)) (c .match .keys4), omega arith)
+returns-4 c = (shape-told 6 (23 ∷ []) (numbers 3) (c .before .args .keyword) (refl, (refl, tt)) (c .match .keys4), omega arith)
 
 returns-5 : tie.Need-returns-5
 unfolding shapeOf
@@ -51,15 +48,14 @@ unfolding shapeOf
 returns-7 c = (sym (ap shapeOf (c .enum-told4 .given .1)), omega arith)
 
 returns-8 : tie.Need-returns-8
-unfolding shapeOf
-returns-8 c = (sym (ap shapeOf (c .enum-told5 .given .1)), omega arith)
+returns-8 c = (shape-told 5 (16 ∷ []) (numbersAndBytes 1) (c .before .args .keyword) (refl, (refl, tt)) (c .match .keys8), omega arith)
 
 returns-9 : tie.Need-returns-9
 unfolding shapeOf
-returns-9 c = (sym (ap shapeOf (c .enum-told6 .given .1)), omega arith)
+returns-9 c = (sym (ap shapeOf (c .enum-told5 .given .1)), omega arith)
 
 returns-10 : tie.Need-returns-10
-returns-10 c = (shape-told 0 (1 ∷ 10 ∷ 14 ∷ 16 ∷ 17 ∷ 19 ∷ 24 ∷ 25 ∷ 27 ∷ []) (numbers 0) (c .before .args .keyword) (refl, (refl, (refl, (refl, (refl, (refl, (refl, (refl, (refl, (refl, tt)))))))))) (c .match .keys10), omega arith)
+returns-10 c = (shape-told 0 (1 ∷ 10 ∷ 14 ∷ 17 ∷ 18 ∷ 20 ∷ 25 ∷ 26 ∷ 28 ∷ []) (numbers 0) (c .before .args .keyword) (refl, (refl, (refl, (refl, (refl, (refl, (refl, (refl, (refl, (refl, tt)))))))))) (c .match .keys10), omega arith)
 
 pub shape-of-spec : {M : Type 1} → statement M
 shape-of-spec =
@@ -70,7 +66,6 @@ shape-of-spec =
     enum-told-3
     enum-told-4
     enum-told-5
-    enum-told-6
     returns
     returns-2
     returns-3

@@ -1,0 +1,3 @@
+pub mod Through
+pub mod Pieces
+pub mod ThroughLaws
