@@ -276,10 +276,10 @@ MARBLE_MUST_USE uint64_t marble_write(marble_settings settings, marble_state *st
 MARBLE_MUST_USE uint64_t marble_read(marble_settings settings, const marble_state *state, const uint8_t *heap, size_t heap_len,
                                      const uint64_t *table, size_t words, uint64_t id, uint64_t *kind, uint64_t *offset, uint64_t *size);
 
-/* A read through a batch that is not written yet: what a read would give if the batch were written now. The last operation on the id in the
-   batch decides; where there is none it is marble_read's answer. The bytes are never copied: they are a part of the batch or of the heap,
-   until the next call that changes it. The batch is only looked at: also one that a write would refuse, but for 2. 1, 2, then those of
-   marble_read where the batch has no operation on the id; refused: four zeros. */
+/* A read through a batch that is not written yet: what a read gives after the batch is written, where a write accepts it. The last operation
+   on the id in the batch decides; where there is none it is marble_read's answer. The bytes are never copied: they are a part of the batch or
+   of the heap, good until that buffer is changed, by a call or by the host. The batch is only looked at; one that a write would refuse is
+   shown too, but for 2. 1, 2, then those of marble_read where the batch has no operation on the id; refused: four zeros. */
 MARBLE_MUST_USE uint64_t marble_read_through(marble_settings settings, const marble_state *state, const uint8_t *heap, size_t heap_len,
                                              const uint64_t *table, size_t words, const uint8_t *batch, size_t batch_len, uint64_t id,
                                              marble_piece *piece);

@@ -243,7 +243,7 @@ uint64_t read_through(const uint8_t *batch, size_t len, uint64_t id) {
     guard("read_through", "batch", batch_area, len, sizeof batch_area);
     same("read_through", "batch", BATCH, batch, len);
     piece = *PIECE;
-    expect("a whole number of kinds", piece.kind <= MARBLE_OBJECT && piece.of_batch <= 1, 1);
+    expect("one of the three kinds", piece.kind <= MARBLE_OBJECT && piece.of_batch <= 1, 1);
     expect("within its buffer", piece.offset + piece.size <= (piece.of_batch ? len : w.heap_len), 1);
     if (n != MARBLE_OK || piece.kind != MARBLE_OBJECT) expect("no part", piece.of_batch | piece.offset | piece.size, 0);
     if (n != MARBLE_OK) expect("refused: kind 0", piece.kind, 0);

@@ -10,7 +10,7 @@ static void adds(uint64_t id, const char *body, size_t size) {
 
 static void drops(uint64_t id) { expect("added", marble_batch_delete(batch, sizeof batch, &len, id) != 0, 1); }
 
-/* the bytes are where the answer says, in that buffer itself */
+/* the bytes are at that offset, of the heap or of the batch */
 static void shows(uint64_t id, uint64_t of_batch, const char *body, size_t size) {
     expect("read through", read_through(batch, len, id), MARBLE_OK);
     expect("an object", piece.kind, MARBLE_OBJECT);
@@ -91,7 +91,10 @@ static void refused(void) {
     len = 0;
     expect("a read's own refusal", read_through(batch, len, 1), MARBLE_E_CHECKSUM);
     drops(1);
-    is_kind(1, MARBLE_DELETED); /* the batch decides before the heap is looked at */
+    is_kind(1, MARBLE_DELETED); /* the batch decides, whatever the heap has */
+    len = 0;
+    adds(1, "new", 3);
+    shows(1, 1, "new", 3);
     w.state->next_position = 0;
     batch[len++] = 9;
     expect("1 before 2", read_through(batch, len, 1), MARBLE_E_LIMITS);

@@ -130,8 +130,10 @@ pub fn help() {
     );
     text(b"# A read answers ok HEX, deleted (the last operation on the id is a delete) or never ");
     text(b"(there is none); a load ok RAW, deleted RAW or never.\n");
-    text(b"# A read through a batch answers batch HEX or heap HEX, by whose bytes they are; ");
-    text(b"deleted, never or refused as a read.\n");
+    text(
+        b"# A read through a batch answers batch HEX or heap HEX, by whose bytes they are; deleted or never ",
+    );
+    text(b"as a read does; refused 2 where HEX is no batch. Nothing is written.\n");
     text(
         b"# A check answers fault SLOT NUMBER, or fault SLOT NUMBER POSITION, for each fault that fits, then ok FAULTS.\n",
     );

@@ -3,7 +3,7 @@
 use mathlib.Core.Path.{_≡_, refl, sym, ap, _∙_}
 use mathlib.Core.Bool.{false≢true}
 use lib.ListN.{take-append-drop}
-use Rattle.rules.specs.Base.{Bool, true, false, not, _||_, List, [], _∷_, ℕ, _+_, length, set, replicate, leb, ltb, eqb, pick}
+use Rattle.rules.specs.Base.{Bool, true, false, not, _||_, List, [], _∷_, ℕ, _+_, length, replicate, leb, ltb, eqb, pick}
 use Rattle.rules.specs.declared.Held.{Held}
 use Rattle.rules.specs.declared.Held.the-variants.{Mapped, Unmapped}
 use Rattle.rules.specs.declared.Refusal.the-variants.{TableRoom, NotThere, EqualLocation, Location}
@@ -29,7 +29,7 @@ use Rattle.losses.specs.Salvage.{Salvaged, salvageCall}
 use Rattle.through.specs.Through.{throughCall}
 use Rattle.script.specs.declared.Keyword.the-variants as key
 use Rattle.desk.specs.Types.{Refusal, Limits, Answer, Done, Refused, Keyword, Bench, Check, Bytes, BadLine, Shown}
-use Rattle.desk.specs.Desk.{Desk, desk, Words, plain, found, pieced, moved, counted, located, compared, raised, emptied, Said, bad-line, gave, shows, Outcome, left, replied, done, badLine, looked, changed, worldOf, deskOf, answered, called, onTable, lentOf, putBack, onLent}
+use Rattle.desk.specs.Desk.{Desk, desk, Words, plain, found, pieced, moved, counted, located, compared, raised, Said, bad-line, gave, shows, Outcome, left, replied, done, badLine, looked, changed, worldOf, deskOf, answered, called, onTable, lentOf, putBack, onLent}
 use Rattle.desk.specs.Commands.{nth, recordFrom, withState, withRecord, lendingHeap, lendingTable, heapBy, tableBy, pokeBy, entryBy, checkBy, bytesBy, salvageBy, lentBy, doneBy}
 
 -- `bad line`, or a refusal's number

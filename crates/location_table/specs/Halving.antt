@@ -1,4 +1,4 @@
--- Request P4: a search by halving, and at how many places it may look.
+-- Request P4: a search by halving, and how many turns it may take.
 use mathlib.Core.Path.{_≡_}
 use mathlib.Core.Bool.{true}
 use Prim.Native.Nat.{ℕ, _≤_}
@@ -14,7 +14,8 @@ use Rattle.location_table.specs.Places.{place}
 abbrev pub halvings : ℕ → ℕ
 halvings n = digitsIn 64 n
 
--- "Search the sorted table by halving": the id's place, and at most as many looks as the table's places can be halved
+-- "Search the sorted table by halving": the id's place, and a count of at most as many as the table's places can be halved. The count is the code's own: that it
+-- is one for each turn, and a turn looks at one place, is seen in the loop
 pub record ByHalving (b : Table) (id : ℕ) (r : Searched) : Type 0 where
   pub answer : r .place ≡ place (usedEntries b) id
   pub looks : r .looked ≤ halvings (capacityOf b)

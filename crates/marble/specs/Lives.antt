@@ -1,5 +1,5 @@
 -- The demands of lives of results: whatever the calls gave, as long as their contracts admit it.
-use mathlib.Core.Path.{_≡_, refl, sym, ap, _∙_, subst}
+use mathlib.Core.Path.{_≡_, refl, sym, ap, ap₂, _∙_, subst}
 use mathlib.Core.List.{append-assoc, append-nil}
 use Rattle.rules.specs.Base.{Bool, true, false, List, [], _∷_, _++_, map, ℕ, length, leb, eqb, pick}
 use Rattle.rules.specs.declared.Answer.the-variants.{Done}
@@ -16,8 +16,9 @@ use Rattle.theory.specs.Reopened.{Opened, reopened-means}
 use Rattle.history_theory.specs.Quiet.{claim, release}
 use Rattle.history_theory.specs.History.{Call, write, maintain, prune, reopen, quiet, called, hears, Life, lived, Starts, Kept, sound-kept}
 use Rattle.history_theory.specs.Clean.{heardAt, resumed, clean-starts}
-use Rattle.history_theory.specs.Writes.{never, got, leftBy, got-last, write-means}
-use Rattle.through_theory.specs.Saved.{gotThrough, sound-through, same-bytes}
+use Rattle.history_theory.specs.Writes.{never, gotBy, got, leftBy, got-last, write-means}
+use Rattle.through.specs.declared.ThroughAnswer.{ThroughAnswer}
+use Rattle.through_theory.specs.Saved.{gotThroughBy, gotThrough, sound-through, same-bytes}
 use Rattle.power_cuts.specs.Runs.{runOf}
 use Rattle.power_cuts.specs.Cuts.{CutAt, Survived, hearsCut, done, happened, livedOn}
 use Rattle.power_cuts.specs.Cuts as cuts
@@ -258,7 +259,16 @@ module _ (l : Lived) where
       sound-through (reached l .world) (reached l .history) life-sound batch (sym (ap (λ (x : After). x .answer) a) ∙ ap answerGiven d) id
       ∙ sym (ap (λ (x : After). got (x .world) id) a)
 
-  -- so of the bytes alone
+  -- so of what both calls gave: the kind, and the bytes of an object
+  pub life-foresees-results : (batch : List ℕ) (r : Written) (heap table : List ℕ) → Admitted (reached l .world) (wrote batch r heap table) → r .answer ≡ Done
+      → (id : ℕ) (a : ThroughAnswer) (through : List ℕ) → Admitted (reached l .world) (answeredThrough batch id a)
+      → Admitted (reached l .world) (readThrough batch id through)
+      → (b : ReadAnswer) (after : List ℕ) → Admitted (left (reached l .world) (wrote batch r heap table)) (answered id b)
+      → Admitted (left (reached l .world) (wrote batch r heap table)) (read id after) → gotThroughBy a through ≡ gotBy b after
+  life-foresees-results batch r heap table w d id a through p q b after s t =
+      ap₂ gotThroughBy p q ∙ life-foresees batch r heap table w d id ∙ sym (ap₂ gotBy s t)
+
+  -- and of the bytes alone
   pub life-foresees-bytes : (batch : List ℕ) (r : Written) (heap table : List ℕ) → Admitted (reached l .world) (wrote batch r heap table) → r .answer ≡ Done
       → (id : ℕ) (through after : List ℕ) → Admitted (reached l .world) (readThrough batch id through)
       → Admitted (left (reached l .world) (wrote batch r heap table)) (read id after) → through ≡ after

@@ -19,7 +19,6 @@ pub use readpath::read_answer;
 
 // Request P3, "Let the editor see what it hasn't saved": a part of the batch or of the heap, and the answer beside it.
 pub use through::ThroughAnswer;
-pub use through::seen;
 pub use through::through;
 pub use through::through_answer;
 

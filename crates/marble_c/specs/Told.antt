@@ -1,4 +1,5 @@
--- What number and out-parameters tell a host: the kind which of three answers a read or a load gave; a location 0 that none is held.
+-- What number and out-parameters tell a host: the kind which of three answers a read or a load gave, and whose bytes those of a read through a batch are; a
+-- location 0 that none is held.
 use mathlib.Core.Path.{_≡_, refl, subst}
 use Prim.Native.Nat.{_≤_, _<_}
 use native.Mathlib.Omega.{arith}
@@ -23,6 +24,10 @@ use Rattle.rules.specs.Refusal.{_gives_, decide, after}
 use Rattle.rules.specs.Table.{lookup, load}
 use Rattle.rules.specs.TableCalls.{notForm, loadCall}
 use Rattle.rules.specs.World.{World, Given, refused, recordsOf, mappings, readGiven, loadedGiven}
+use Rattle.through.specs.declared.ThroughAnswer.{ThroughAnswer}
+use Rattle.through.specs.declared.ThroughAnswer.the-variants.{InBatch, InHeap, ThroughDeleted, ThroughNever, ThroughRefused}
+use Rattle.through.specs.Through.{throughOf, throughGiven, throughCall}
+use Rattle.through.specs.ThroughLaws.{throughValues}
 use Rattle.as_numbers.specs.Shown.{shown}
 
 -- ---- read
@@ -36,6 +41,19 @@ read-told w id = go (readOf w id)
     go Deleted e = refl
     go NeverWritten e = refl
     go (ReadRefused r) e = absurd (eqb-false _ 0 (known r .some) e)
+
+-- number 0: the four places say which answer a read through a batch gave
+pub through-told : (w : World) (batch : List ℕ) (id : ℕ) → throughCall w batch id .answer .number ≡ 0
+    → throughOf w batch id ≡ throughValues (shown 4 (throughCall w batch id .answer))
+unfolding throughCall padded
+through-told w batch id = go (throughOf w batch id)
+  where
+    go : (a : ThroughAnswer) → throughGiven a .number ≡ 0 → a ≡ throughValues (shown 4 (throughGiven a))
+    go (InBatch start size) e = refl
+    go (InHeap start size) e = refl
+    go ThroughDeleted e = refl
+    go ThroughNever e = refl
+    go (ThroughRefused r) e = absurd (eqb-false _ 0 (known r .some) e)
 
 -- where a found part starts
 abbrev startOf : ReadAnswer → ℕ

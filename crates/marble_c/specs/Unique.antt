@@ -10,7 +10,7 @@ use Rattle.rules.specs.Prune.{pruneCall}
 use Rattle.rules.specs.Read.{readCall}
 use Rattle.rules.specs.Reopen.{reopenCall}
 use Rattle.rules.specs.TableCalls.{TableAfter, loadCall, storeCall, compareCall, greaterCall}
-use Rattle.rules.specs.World.{Given, After, world, leaving}
+use Rattle.rules.specs.World.{After, world, leaving}
 use Rattle.rules.specs.Write.{writeCall}
 use Rattle.through.specs.Through.{throughCall}
 use Rattle.faults.specs.Faults.{checkCall}

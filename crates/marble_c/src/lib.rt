@@ -103,8 +103,8 @@ pub extern "C" fn marble_write(
     number(answer)
 }
 
-// A read's answer, by the state's words. Whatever reads goes through here, so that the state is handed on once: a function with two
-// callers is compiled into neither, and is given copies of it.
+// A read's answer, by the state's words. Both reads go through here, so that `read_answer` has one caller and is compiled into it: with
+// two, each call would hand it copies of the state.
 fn found(settings: Settings, state: &[u64; 1545], heap: &[u8], table: &[u64], id: u64) -> ReadAnswer
     ensures { λ r. ⌜ ((c : Claims) → r ≡ readOf
         (world settings (stateIn (now (state .entry))) c (now (heap .entry)) (now (table .entry)))
@@ -207,7 +207,7 @@ pub extern "C" fn marble_read_through(
         (now (batch .entry)) id .answer)) ⌝ }
 {
     let stored = found(settings, state, heap, table, id);
-    let seen = through_shown(marble::seen(stored, batch, id));
+    let seen = through_shown(through::seen(stored, batch, id));
     put_four(piece, seen.kind, seen.of_batch, seen.start, seen.size);
     seen.number
 }

@@ -243,7 +243,7 @@ module _ (s : Settings) (t : State) (heap table batch : List ℕ) (id : ℕ) whe
   through-part-one b h m n x y p q = (p .0 noClaims ∙ sym (q .0 noClaims), p .1 noClaims ∙ sym (q .1 noClaims))
 
 -- by the kind, and then which slice, start and length
-abbrev throughValues : Given → ThroughAnswer
+abbrev pub throughValues : Given → ThroughAnswer
 throughValues g =
     pick (eqb (valueAt g 0) 0) ThroughNever
     (pick (eqb (valueAt g 0) 1) ThroughDeleted (pick (eqb (valueAt g 1) 1) (InBatch (valueAt g 2) (valueAt g 3)) (InHeap (valueAt g 2) (valueAt g 3))))

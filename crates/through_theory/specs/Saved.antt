@@ -1,4 +1,4 @@
--- Request P3: "For a store left by its own calls (one that demand 3 covers) and a batch that write would accept, the bytes equal those of the ordinary read after that write."
+-- Request P3: "For a store left by its own calls (here and below: one that demand 3 covers) and a batch that write would accept, the bytes equal those of the ordinary read after that write."
 use mathlib.Core.Path.{_≡_, refl, sym, ap, ap₂, _∙_}
 use native.Mathlib.Omega.{arith}
 use Rattle.rules.specs.Base.{Bool, true, false, List, [], ℕ, length, take, drop}
