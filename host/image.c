@@ -204,7 +204,9 @@ static void told_accepted(void) { printf("reopening: accepted, %llu ids in a tab
    the trailer that lists them */
 static void count_live(uint64_t *live) {
     for (size_t k = 0; k < table_len && MARBLE_TABLE_LOCATION(table, k) != 0; k++) {
-        uint64_t raw = MARBLE_TABLE_LOCATION(table, k), position = MARBLE_LOCATION_POSITION(raw), found = MARBLE_SLOTS_MAX;
+        uint64_t kind, raw, found = MARBLE_SLOTS_MAX;
+        if (marble_load(table, MARBLE_TABLE_WORDS(table_len), MARBLE_TABLE_ID(table, k), &kind, &raw) != MARBLE_OK) continue;
+        uint64_t position = MARBLE_LOCATION_POSITION(raw);
         for (uint64_t slot = 0; slot < MARBLE_SLOTS_MAX; slot++) {
             uint64_t lsn = state.records[slot].lsn;
             if (lsn != 0 && lsn <= position && (found == MARBLE_SLOTS_MAX || lsn > state.records[found].lsn)) found = slot;
@@ -212,7 +214,7 @@ static void count_live(uint64_t *live) {
         if (found == MARBLE_SLOTS_MAX) continue;
         const marble_record *file = &state.records[found];
         live[found] += live[found] == 0 ? 12 + 16 : 16;
-        if (!MARBLE_LOCATION_IS_DELETE(raw)) {
+        if (kind == MARBLE_OBJECT) {
             uint64_t at = position - file->lsn, length = stored(found, at + 12), most = file->trailer_offset - at - 20;
             live[found] += 20 + (length < most ? length : most);
         }
