@@ -13,8 +13,8 @@ use Rattle.disk_location.specs.Locations.{positionOf, deleteOf}
 use Rattle.rules.specs.Object.{Stored, storedAt, badChecksum, objectsFrom, objectsIn}
 use Rattle.rules.specs.ObjectLaws.{stored-position, stored-room}
 use Rattle.rules.specs.SlotFile.{File}
-use Rattle.slot_file.specs.declared.Header.{Header}
-use Rattle.slot_file.specs.Objects.{objectsAt, objects-start, objects-next, objects-end, Walked, CutOff, header-size, header-id, header-room, header-begins}
+use Rattle.stored_object.specs.declared.Header.{Header}
+use Rattle.stored_object.specs.Objects.{objectsAt, objects-start, objects-next, objects-end, Walked, CutOff, header-size, header-id, header-room, header-begins}
 use Rattle.faults.specs.Faults.{line, lineIf, passes, walked, entered, objectFaults, entryFaults, fileFaults}
 use Rattle.file_faults.specs.Types.{Entry, Checksum, CutShort, OtherId, Object, Fault}
 

@@ -13,12 +13,11 @@ use Rattle.numbers.specs.Choice.{pick}
 use Rattle.rules.specs.Base.{sum}
 use Rattle.rules.specs.declared.Record.{Record}
 use Rattle.rules.specs.declared.Counts.{Counts}
-use Rattle.rules.specs.declared.Slot.the-variants.{Is, NoSlot}
-use Rattle.rules.specs.FileMap.{emptyRecord, isEmpty, recordAt, withLive, slotsWhere, emptySlots, lowestEmpty, Lead, fileCount}
+use Rattle.rules.specs.FileMap.{emptyRecord, isEmpty, recordAt, withLive, slotsWhere, emptySlots, lowestEmpty, fileCount}
 use Rattle.rules.specs.FileMapLaws.{where-here, where-next}
 use Rattle.rules.specs.TurnLaws.{left-next, sum-next, sum-end}
 use Rattle.rules.specs.Counts.{countsOf}
-use Rattle.file_map.specs.Lists.{withLives, leadsLsn, leadLsn, slotOf}
+use Rattle.file_lists.specs.Lists.{withLives}
 
 -- an array of structs in a goal is a list under a map: its length
 pub mapped-length : (X Y : Type 0) (f : X → Y) (l : List X) (n : ℕ) → length (map f l) ≡ n → length l ≡ n
@@ -59,40 +58,6 @@ empty-end n i rs h m = ap (slotsWhere (λ (k : ℕ) (r : Record). isEmpty r) i) 
 pub lowest-start : (n : ℕ) (rs : List Record) → lowestEmpty n rs ≡ getD (emptyFrom n 0 rs) 0 n
 unfolding lowestEmpty
 lowest-start n rs = ap (λ (ks : List ℕ). getD ks 0 n) (empty-start n rs)
-
--- ---- the lead among lsns
-module _ (ns : List ℕ) (i location : ℕ) (b : Lead) where
-  pub lead-next : i < length ns → leadLsn (drop i ns) i location b ≡ leadLsn (drop (i + 1) ns) (i + 1) location (leadsLsn (getD ns i 0) i location b)
-  unfolding leadLsn
-  lead-next h = rw (drop-cons ns i 0 h, add-one i)
-
-  pub lead-end : length ns ≤ i → leadLsn (drop i ns) i location b ≡ b
-  unfolding leadLsn
-  lead-end h = rw (drop-of-length-le ns h)
-
-module _ (n i location : ℕ) (b : Lead) where
-  pub leads-took : b .lsn < n → n ≤ location / 2 → leadsLsn n i location b ≡ record { lsn = n; slot = i }
-  unfolding leadsLsn
-  leads-took h k = simp (lt-ltb _ _ h, le-leb (2 * n) location (omega arith))
-
-  pub leads-far : b .lsn < n → location / 2 < n → leadsLsn n i location b ≡ b
-  unfolding leadsLsn
-  leads-far h k = simp (lt-ltb _ _ h, lt-leb (2 * n) location (omega arith))
-
-  pub leads-less : n ≤ b .lsn → leadsLsn n i location b ≡ b
-  unfolding leadsLsn
-  leads-less h = simp (le-ltb _ _ h)
-
-pub slot-none : (b : Lead) → b .lsn ≡ 0 → slotOf b ≡ NoSlot
-unfolding slotOf
-slot-none b h = simp (eq-eqb _ _ h)
-
-pub slot-some : (b : Lead) → (b .lsn ≡ 0 → ⊥) → slotOf b ≡ Is (b .slot)
-unfolding slotOf
-slot-some b h = simp (ne-eqb _ _ h)
-
-pub lead-same : {a b a′ b′ : ℕ} → a ≡ a′ → b ≡ b′ → _≡_ {A = Lead} (record { lsn = a; slot = b }) (record { lsn = a′; slot = b′ })
-lead-same p q = rw (p, q)
 
 -- ---- the counts, some records having been counted
 unfoldable pub countsFrom : ℕ → ℕ → ℕ → ℕ → List Record → Counts

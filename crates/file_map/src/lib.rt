@@ -1,9 +1,6 @@
-// The file map (`src/file_map.rs`): 256 records by value, and the flat lists of lsns and live counts that a call on many ids works on.
-use disk_location::BATCH_BIT;
-use disk_location::POSITIONS;
+// The file map (`src/file_map.rs`): 256 records by value, and their lsns and live counts as flat lists, for a call on many ids.
 use rules::Counts;
 use rules::FileMap;
-use rules::LABEL_BYTES;
 use rules::Label;
 use rules::RECORDS;
 use rules::Record;
@@ -11,14 +8,12 @@ use rules::Settings;
 use rules::Slot;
 use rules::State;
 ghost use mathlib.Core.Path.{_≡_};
-ghost use Prim.Native.Nat.{ℕ, _-_, _<_, _≤_};
+ghost use Prim.Native.Nat.{_<_, _≤_};
 ghost use lib.ListN.{set, length};
 ghost use Rattle.rules.specs.FileMap.{emptyLabel, recorded, emptyRecord, isEmpty, withLive, noFiles, lowestEmpty, fileFor};
-ghost use Rattle.rules.specs.Label.{outOfBounds};
 ghost use Rattle.rules.specs.Counts.{countsOf};
-ghost use Rattle.rules.specs.declared.Slot.the-variants.{Is};
 ghost use Rattle.file_map.specs.Records.{labelled, fresh, stateBy, Bounded};
-ghost use Rattle.file_map.specs.Lists.{lsnsOf, livesOf, withLives, lsnAt, lessAt};
+ghost use Rattle.file_lists.specs.Lists.{lsnsOf, livesOf, withLives};
 
 // ---- a label
 // A label's five numbers.
@@ -84,39 +79,6 @@ pub fn is_empty(r: Record) -> bool
         & (r.label.present_objects == 0)
         & (r.label.generation == 0)
         & (r.live == 0)
-}
-
-// What a slot has behind its label.
-fn room(slot_bytes: u64) -> u64
-    ensures { λ n. ⌜ n ≡ «slot_bytes» - 64 ⌝ }
-{
-    if slot_bytes < LABEL_BYTES as u64 {
-        return 0;
-    }
-    slot_bytes - LABEL_BYTES as u64
-}
-
-// 8's bounds; a sum is only held against what is left of its bound, so that it cannot wrap.
-pub fn out_of_bounds(slot_bytes: u64, l: Label) -> bool
-    ensures { λ b. ⌜ b ≡ outOfBounds «slot_bytes» l ⌝ }
-{
-    if room(slot_bytes) < l.file_size {
-        return true;
-    }
-    if l.file_size < l.trailer_offset {
-        return true;
-    }
-    let at = disk_location::masked(l.lsn);
-    if at == 0 {
-        return true;
-    }
-    if POSITIONS <= l.lsn {
-        return true;
-    }
-    if BATCH_BIT - at <= l.trailer_offset {
-        return true;
-    }
-    255 < l.generation
 }
 
 // ---- the map
@@ -241,50 +203,10 @@ pub fn with_lives(m: FileMap, lives: &[u64]) -> FileMap
     n
 }
 
-// "the file with the greatest own location not above the one sought, the lowest slot of equals":
-// a file's own raw location is twice its lsn, the batch bit in it.
-pub fn lsn_at(lsns: &[u64], location: u64) -> Slot
-    ensures { λ r. ⌜ r ≡ lsnAt (now (lsns .entry)) location ⌝ }
-{
-    let mut best: u64 = 0;
-    let mut slot: usize = 0;
-    let mut i: usize = 0;
-    while i < lsns.len() {
-        let lsn = lsns[i];
-        if best < lsn {
-            if lsn <= location / 2 {
-                best = lsn;
-                slot = i;
-            }
-        }
-        i += 1;
-    }
-    if best == 0 {
-        return Slot::NoSlot;
-    }
-    Slot::Is(slot as u64)
-}
-
-// "loses one live (0 stays 0, and a location with no file takes none)"
-pub fn less_at(lives: &mut [u64], slot: Slot)
-    requires { ⌜ ((k : ℕ) → slot ≡ Is k → k < length (now lives)) ⌝ }
-    ensures { λ _. ⌜ now (lives .exit) ≡ lessAt slot (now (lives .entry)) ⌝ }
-{
-    match slot {
-        Slot::Is(k) => {
-            let i = k as usize;
-            if lives[i] != 0 {
-                lives[i] = lives[i] - 1;
-            }
-        }
-        Slot::NoSlot => {}
-    }
-}
-
 // ---- one lookup, one count: by the flat lists
 pub fn file_for(m: FileMap, location: u64) -> Slot
     ensures { λ r. ⌜ r ≡ fileFor (m .records) location ⌝ }
 {
     let l = lsns(m);
-    lsn_at(&l, location)
+    file_lists::lsn_at(&l, location)
 }

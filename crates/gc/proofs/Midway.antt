@@ -9,10 +9,10 @@ use Rattle.rules.specs.declared.Claims.{Claims}
 use Rattle.rules.specs.Maintenance.{Course, rewriteGroup}
 use Rattle.rules.specs.World.{world}
 use Rattle.gc_candidates.specs.Plan.{planned}
-use Rattle.gc.specs.declared.Halt.the-variants.{Going}
-use Rattle.gc.specs.declared.Run.{Run}
-use Rattle.gc.specs.Runs.{isGoing, standing, stepped, byPlan, Underway}
-use Rattle.gc.specs.RunLaws.{not-due, due}
+use Rattle.gc_course.specs.declared.Halt.the-variants.{Going}
+use Rattle.gc_course.specs.declared.Run.{Run}
+use Rattle.gc_course.specs.Runs.{isGoing, standing, stepped, byPlan, Underway}
+use Rattle.gc_course.specs.RunLaws.{not-due, due}
 
 -- so many generations, from this one on
 abbrev pub steppedFrom : ℕ → ℕ → List ℕ → Course → Course

@@ -1,3 +1,2 @@
-pub mod Runs
-pub mod RunLaws
+pub mod GroupSteps
 pub mod Unique

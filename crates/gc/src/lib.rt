@@ -1,10 +1,14 @@
 // Maintenance (`src/gc.rs`): the groups of the candidates, generation by generation, then a prune.
 
-use gc_candidates::group_count;
 use gc_candidates::plan;
+use gc_course::Halt;
+use gc_course::Run;
+use gc_course::answer_of;
+use gc_course::halt_of;
+use gc_course::is_due;
+use gc_course::is_going;
 use gc_rewrite::rewrite_group;
 use prune::pruned;
-use rules::Answer;
 use rules::Claims;
 use rules::MaintainAnswer;
 use rules::Refusal;
@@ -12,65 +16,20 @@ use rules::Settings;
 use rules::State;
 ghost use mathlib.Core.Path.{_≡_};
 ghost use mathlib.Core.List.{List};
-ghost use mathlib.Core.Bool.{_&&_};
 ghost use Prim.Native.Nat.{ℕ, _+_, _^_, _≤_, _<_};
 ghost use lib.ListN.{length};
-ghost use lib.Dec.{leb};
 ghost use Rattle.rules.specs.declared.Claims.{Claims};
 ghost use Rattle.rules.specs.Condition1Laws.{Passed};
 ghost use Rattle.rules.specs.Maintenance.{rewriteGroup, courseOf, finished, maintainCall};
 ghost use Rattle.rules.specs.World.{world, leaving, maintainGiven};
 ghost use Rattle.prune.specs.Labels.{LabelsIn};
 ghost use Rattle.gc_candidates.specs.Plan.{planned};
-ghost use Rattle.gc.specs.Runs.{isGoing, stopOf, stopGiven, standing, answerOf, byPlan, Underway};
+ghost use Rattle.gc_course.specs.Runs.{standing, byPlan, Underway};
 
 // What maintenance answers, and the state after it.
 pub struct Maintained {
     pub answer: MaintainAnswer,
     pub state: State,
-}
-
-// "A refusal stops the call": its number and generation.
-pub enum Halt {
-    Going,
-    Halted(Refusal, u64),
-}
-
-// Where the call stands between two groups.
-pub struct Run {
-    pub halt: Halt,
-    pub moved: u64,
-    pub state: State,
-}
-
-// No group was refused.
-fn is_going(halt: Halt) -> bool
-    ensures { λ b. ⌜ b ≡ isGoing halt ⌝ }
-{
-    match halt {
-        Halt::Going => true,
-        Halt::Halted(_, _) => false,
-    }
-}
-
-// What a group's answer makes of the call.
-fn halt_of(answer: Answer, generation: u64) -> Halt
-    ensures { λ h. ⌜ stopOf h ≡ stopGiven generation answer ⌝ }
-{
-    match answer {
-        Answer::Done => Halt::Going,
-        Answer::Refused(refusal) => Halt::Halted(refusal, generation),
-    }
-}
-
-// "one with fewer files than min_compaction_files is skipped"; nothing is done once a group was refused.
-fn is_due(halt: Halt, plan: &[u64], least: u64, generation: u64) -> bool
-    ensures { λ r. ⌜ r ≡ (isGoing halt && leb least (length (planned (now (plan .entry)) generation))) ⌝ }
-{
-    if !is_going(halt) {
-        return false;
-    }
-    least <= group_count(plan, generation)
 }
 
 // A group whose turn it is, rewritten.
@@ -151,16 +110,6 @@ fn rewrite_groups(
     let files = state.files;
     let candidates = plan(settings, claims, files);
     generations(settings, state, heap, table, &candidates)
-}
-
-// "gives number, generation and ids moved so far"; "gives the count of ids moved"
-fn answer_of(halt: Halt, moved: u64) -> MaintainAnswer
-    ensures { λ a. ⌜ a ≡ answerOf halt moved ⌝ }
-{
-    match halt {
-        Halt::Going => MaintainAnswer::Moved(moved),
-        Halt::Halted(refusal, generation) => MaintainAnswer::Stopped(refusal, generation, moved),
-    }
 }
 
 // "nothing is pruned. Success prunes and gives the count of ids moved."

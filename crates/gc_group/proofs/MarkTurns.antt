@@ -12,8 +12,8 @@ use Rattle.rules.specs.declared.Entry.{Entry}
 use Rattle.disk_location.specs.Locations.{rawOf}
 use Rattle.rules.specs.Object.{Stored, storedAt}
 use Rattle.rules.specs.Table.{noEntry}
-use Rattle.slot_file.specs.declared.Header.{Header}
-use Rattle.slot_file.specs.Objects.{objectsAt, objects-next, objects-end, Walked, CutOff}
+use Rattle.stored_object.specs.declared.Header.{Header}
+use Rattle.stored_object.specs.Objects.{objectsAt, objects-next, objects-end, Walked, CutOff}
 use Rattle.gc_group.specs.Clear.{Inside}
 use Rattle.gc_group.specs.Marks.{current, objectId, deleteId, marked}
 use Rattle.gc_group.specs.MarkLaws.{mark-append, mark-none}

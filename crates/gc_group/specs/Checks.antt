@@ -19,8 +19,8 @@ use Rattle.disk_location.specs.Locations.{positionOf, deleteOf, told, locatedAt
 use Rattle.disk_location.specs.LocationLaws.{located-large, located-at}
 use Rattle.rules.specs.Refusal.{Test, decide, NoneHolds, clear-when, decide-none, decide-early, decide-late}
 use Rattle.rules.specs.Table.{load, neverWritten}
-use Rattle.slot_file.specs.declared.Header.{Header}
-use Rattle.slot_file.specs.Objects.{objectsAt, objects-next, objects-end, Walked, CutOff, header-size, header-id, header-room, header-begins, header-fits}
+use Rattle.stored_object.specs.declared.Header.{Header}
+use Rattle.stored_object.specs.Objects.{objectsAt, objects-next, objects-end, Walked, CutOff, header-size, header-id, header-room, header-begins, header-fits}
 use Rattle.rules.specs.Trailer.{trailerTests, entriesIn}
 use Rattle.rules.specs.SlotFile.{objectPart, trailerPart}
 use Rattle.rules.specs.Object.{Stored, storedAt, badChecksum, objectsIn}

@@ -16,7 +16,7 @@ use Rattle.disk_location.specs.declared.Located.{Located}
 use Rattle.disk_location.specs.Locations.{positionOf, deleteOf, rawOf, told, locatedAt}
 use Rattle.disk_location.specs.LocationLaws.{delete-raw, located-none, located-at}
 use Rattle.rules.specs.Object.{Stored, storedAt, objectsIn}
-use Rattle.slot_file.specs.Objects.{objectsAt, objects-start, objects-next, objects-end}
+use Rattle.stored_object.specs.Objects.{objectsAt, objects-start, objects-next, objects-end}
 use Rattle.numbers.specs.GroupLaws.{either-way}
 use Rattle.rules.specs.Trailer.{absolute}
 use Rattle.rules.specs.SlotFile.{objectPart, trailerEntries}

@@ -33,7 +33,7 @@ use Rattle.rules.specs.LayoutLaws.{ids-count, locations-count, used-length}
 use Rattle.location_table.specs.Tables.{Formed}
 use Rattle.location_table.specs.LayoutLaws.{used-id, used-location, used-rising}
 use Rattle.location_table.specs.LoadLaws.{either-kind}
-use Rattle.file_map.specs.Lists.{lsnsOf}
+use Rattle.file_lists.specs.Lists.{lsnsOf}
 use Rattle.gc_candidates.specs.Plan.{planned, planned-all}
 use Rattle.gc_group.specs.Source.{Source, source, Ready, part-length}
 use Rattle.gc_group.specs.Checks.{groupChecks}

@@ -16,8 +16,8 @@ use Rattle.rules.specs.Table.{load}
 use Rattle.rules.specs.FileMap.{Lead, lessLive}
 use Rattle.rules.specs.Install.{fileHolding, losing}
 use Rattle.rules.specs.TurnLaws.{left-next, left-none}
-use Rattle.file_map.specs.Lists.{lsnsOf, livesOf, withLives, leadsLsn, leadLsn, slotOf, lsnAt, lessAt}
-use Rattle.file_map.specs.ListLaws.{file-for-with-lives, less-with-lives, length-less, lives-back}
+use Rattle.file_lists.specs.Lists.{lsnsOf, livesOf, withLives, leadsLsn, leadLsn, slotOf, lsnAt, lessAt}
+use Rattle.file_lists.specs.ListLaws.{file-for-with-lives, less-with-lives, length-less, lives-back}
 
 -- "each replaced location's file, found before the new one is added, loses one live", for a trailer's entries
 unfoldable pub losingBy : List Entry → List Entry → List Record → List Record

@@ -32,7 +32,7 @@ use Rattle.rules.specs.Install.{newLabel, newRecord, installed, recordsWith, st
 use Rattle.rules.specs.World.{world, stateWith}
 use Rattle.location_table.specs.Tables.{Formed}
 use Rattle.file_map.specs.Records.{labelled, fresh, new-label, new-record}
-use Rattle.file_map.specs.Lists.{lsnsOf, livesOf, withLives}
+use Rattle.file_lists.specs.Lists.{lsnsOf, livesOf, withLives}
 use Rattle.install.specs.Losing.{losingBy, losingLives, losing-entries, losing-lives}
 use Rattle.install.specs.Adding.{taken, withTaken, Placed, trailerAt, Installable}
 

@@ -19,7 +19,7 @@ ghost use Rattle.rules.specs.TableCalls.{withStored};
 ghost use Rattle.rules.specs.Layout.{usedEntries, capacityOf};
 ghost use Rattle.rules.specs.World.{stateWith};
 ghost use Rattle.location_table.specs.Tables.{Formed};
-ghost use Rattle.file_map.specs.Lists.{lsnAt, lessAt, withLives};
+ghost use Rattle.file_lists.specs.Lists.{lsnAt, lessAt, withLives};
 ghost use Rattle.install.specs.Losing.{slotHolding, losingLives};
 ghost use Rattle.file_map.specs.Records.{labelled, fresh};
 ghost use Rattle.install.specs.Adding.{taken, withTaken, Placed, trailerAt, Installable};
@@ -29,8 +29,8 @@ fn lose_at(lsns: &[u64], lives: &mut [u64], location: u64)
     requires { ⌜ length (now lsns) ≤ length (now lives) ⌝ }
     ensures { λ _. ⌜ now (lives .exit) ≡ lessAt (lsnAt (now (lsns .entry)) location) (now (lives .entry)) ⌝ }
 {
-    let slot = file_map::lsn_at(lsns, location);
-    file_map::less_at(lives, slot);
+    let slot = file_lists::lsn_at(lsns, location);
+    file_lists::less_at(lives, slot);
 }
 
 // The file of the location that the table has for the id.

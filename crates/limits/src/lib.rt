@@ -1,6 +1,6 @@
 // Refusal 1, "first in every call".
 use file_map::is_empty;
-use file_map::out_of_bounds;
+use label_bounds::out_of_bounds;
 use location_table::capacity;
 use location_table::in_form;
 use location_table::lengths_in_range;

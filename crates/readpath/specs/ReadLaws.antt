@@ -34,9 +34,9 @@ use Rattle.rules.specs.Condition1.{refused1}
 use Rattle.rules.specs.Condition1Laws.{Passed}
 use Rattle.rules.specs.World.{World, world, recordsOf, mappings}
 use Rattle.rules.specs.Read.{objectTests, objectIn, readObject, readFile, readLoaded, readOf, partOf}
-use Rattle.slot_file.specs.declared.BodyAnswer.{BodyAnswer}
-use Rattle.slot_file.specs.declared.BodyAnswer.the-variants.{Body, Unread}
-use Rattle.slot_file.specs.Objects.{bodyOf}
+use Rattle.stored_object.specs.declared.BodyAnswer.{BodyAnswer}
+use Rattle.stored_object.specs.declared.BodyAnswer.the-variants.{Body, Unread}
+use Rattle.stored_object.specs.Objects.{bodyOf}
 use Rattle.readpath.specs.Reads.{Lies, FilesLie, inHeap, Within, placeOf}
 
 -- once 1 is decided

@@ -7,8 +7,8 @@ use Rattle.rules.specs.declared.Record.{Record}
 use Rattle.rules.specs.declared.ReadAnswer.{ReadAnswer}
 use Rattle.rules.specs.declared.ReadAnswer.the-variants.{Found, Deleted, NeverWritten, ReadRefused}
 use Rattle.rules.specs.FileMap.{isEmpty, recordAt}
-use Rattle.slot_file.specs.declared.BodyAnswer.{BodyAnswer}
-use Rattle.slot_file.specs.declared.BodyAnswer.the-variants.{Body, Unread}
+use Rattle.stored_object.specs.declared.BodyAnswer.{BodyAnswer}
+use Rattle.stored_object.specs.declared.BodyAnswer.the-variants.{Body, Unread}
 
 -- a label's file lies behind the label of slot k, and the slot, one of 256, in the heap
 pub record Lies (size : ℕ) (l : Label) (k heapLen : ℕ) : Type 0 where

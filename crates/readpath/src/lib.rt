@@ -11,7 +11,7 @@ use rules::Refusal;
 use rules::Settings;
 use rules::Slot;
 use rules::State;
-use slot_file::BodyAnswer;
+use stored_object::BodyAnswer;
 ghost use mathlib.Core.Path.{_≡_};
 ghost use Prim.Native.Nat.{_+_, _*_};
 ghost use lib.ListN.{length, drop};
@@ -20,7 +20,7 @@ ghost use Rattle.rules.specs.SlotFile.{slotBytes, fileIn};
 ghost use Rattle.rules.specs.Object.{storedAt};
 ghost use Rattle.rules.specs.Read.{readOf, partOf};
 ghost use Rattle.rules.specs.World.{world};
-ghost use Rattle.slot_file.specs.Objects.{bodyOf};
+ghost use Rattle.stored_object.specs.Objects.{bodyOf};
 ghost use Rattle.readpath.specs.Reads.{Lies, inHeap, Within, placeOf};
 
 // The label's bytes, where the heap is counted in u64.
@@ -49,7 +49,7 @@ fn object_at(
     ensures { λ x. ⌜ x ≡ inHeap (slot * «slot_bytes» + 64)
         (bodyOf id (storedAt position (drop position (fileIn l (slotBytes «slot_bytes» (now (heap .entry)) slot))))) ⌝ }
 {
-    match slot_file::object::read(file_part(heap, slot_bytes, slot, l), position, id) {
+    match stored_object::object::read(file_part(heap, slot_bytes, slot, l), position, id) {
         BodyAnswer::Body(start, size) => {
             ReadAnswer::Found(slot * slot_bytes + LABEL + start, size)
         }
@@ -78,7 +78,7 @@ pub fn read_answer(
         Loaded::Never => ReadAnswer::NeverWritten,
         Loaded::DeletedAt(_) => ReadAnswer::Deleted,
         Loaded::At(location) => {
-            let Slot::Is(slot) = file_map::lsn_at(&lsns, location) else {
+            let Slot::Is(slot) = file_lists::lsn_at(&lsns, location) else {
                 return ReadAnswer::ReadRefused(Refusal::NotThere);
             };
             let i = slot as usize;

@@ -1,6 +1,6 @@
 use crate::SlotAnswer;
 use crate::label;
-use file_map::out_of_bounds;
+use label_bounds::out_of_bounds;
 use rules::Answer;
 use rules::LABEL_BYTES;
 use rules::Label;

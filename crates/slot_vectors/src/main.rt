@@ -3,9 +3,9 @@
 use as_numbers::answers::refusal_number;
 use rules::Entry;
 use rules::Label;
-use slot_file::BodyAnswer;
 use slot_file::SlotAnswer;
-use slot_file::Step;
+use stored_object::BodyAnswer;
+use stored_object::Step;
 ghost use Prim.Native.Nat.{_≤_, _<_};
 ghost use lib.ListN.{length};
 
@@ -44,7 +44,7 @@ fn show_slot(slot: &[u8]) {
 }
 
 fn show_body(file: &[u8], position: u64, id: u64) {
-    match slot_file::object::read(file, position, id) {
+    match stored_object::object::read(file, position, id) {
         BodyAnswer::Body(start, size) => {
             word(b"body");
             number(start);
@@ -59,7 +59,7 @@ fn show_body(file: &[u8], position: u64, id: u64) {
 }
 
 fn show_step(objects: &[u8], position: u64) {
-    match slot_file::object::step(objects, position) {
+    match stored_object::object::step(objects, position) {
         Step::End => word(b"end"),
         Step::HeaderCut => word(b"cut"),
         Step::Here(h) => {

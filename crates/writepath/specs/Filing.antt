@@ -24,9 +24,9 @@ use Rattle.rules.specs.World.{World, leaving, answerGiven, accepted, unchanged}
 use Rattle.batch.specs.Reading.{opsIn}
 use Rattle.batch.specs.ReadingLaws.{ops-of}
 use Rattle.batch_file.specs.Steps.{Sized}
-use Rattle.writepath.specs.Decisions.{filed, decisionOf, decision-refused, decision-done}
-use Rattle.writepath.specs.declared.decision.Decision.{Decision}
-use Rattle.writepath.specs.declared.decision.Decision.the-variants.{Refused, Nothing, File}
+use Rattle.write_decision.specs.Decisions.{filed, decisionOf, decision-refused, decision-done}
+use Rattle.write_decision.specs.declared.Decision.{Decision}
+use Rattle.write_decision.specs.declared.Decision.the-variants.{Refused, Nothing, File}
 
 -- none of 1 to 7, and the batch is not empty
 pub record Filed (s : Settings) (t : State) (heap : List ℕ) (b : Table) (bytes : List ℕ) (slot count total : ℕ) : Type 0 where

@@ -17,7 +17,7 @@ use Rattle.batch.specs.Reading.{opsIn}
 use Rattle.batch.specs.ReadingLaws.{settled-fit}
 use Rattle.install.specs.Adding.{taken}
 use Rattle.install.specs.Standing.{Addable}
-use Rattle.writepath.specs.NewIds.{newIds, insert-all-new}
+use Rattle.write_decision.specs.NewIds.{newIds, insert-all-new}
 use Rattle.writepath.specs.Filing.{Filed}
 
 -- absolute entries keep their ids and so their order

@@ -1,13 +1,11 @@
 // Write (`src/writepath.rs`): the whole batch is decided first; nothing is stored before.
 
-pub mod decision;
-
-use decision::Decision;
 use install::StoredFile;
 use rules::Answer;
 use rules::Label;
 use rules::Settings;
 use rules::State;
+use write_decision::Decision;
 ghost use mathlib.Core.Path.{_≡_};
 ghost use Prim.Native.Nat.{_+_, _*_, _≤_, _<_, _^_};
 ghost use lib.ListN.{length};
@@ -99,7 +97,7 @@ pub fn write(
         ≡ writeCall (world settings state c (now (heap .entry)) (now (table .entry)))
         (now (batch .entry))) ⌝ }
 {
-    match decision::decided(settings, state, heap, table, batch) {
+    match write_decision::decided(settings, state, heap, table, batch) {
         Decision::Refused(r) => Written {
             answer: Answer::Refused(r),
             state: state,

@@ -3,8 +3,8 @@ use mathlib.Core.Path.{sym, ap, _∙_}
 use borrow.Author.Needs.{needs}
 use Rattle.file_map.proofs.file_for.Statement.{statement}
 use mathlib.Core.List.{List}
-use Rattle.file_map.specs.Lists.{lsnAt}
-use Rattle.file_map.specs.ListLaws.{file-for-lsns}
+use Rattle.file_lists.specs.Lists.{lsnAt}
+use Rattle.file_lists.specs.ListLaws.{file-for-lsns}
 use Rattle.file_map.proofs.file_for.Tie as tie
 
 lsns-requires : tie.Need-lsns-requires

@@ -2,7 +2,7 @@ use mathlib.Core.Path.{ap₂, _∙_}
 use borrow.Author.Needs.{needs}
 use Rattle.rules.specs.declared.MaintainAnswer.{MaintainAnswer}
 use Rattle.rules.specs.World.{World, world, maintainGiven, leaving}
-use Rattle.gc.specs.RunLaws.{finish-run}
+use Rattle.gc_course.specs.RunLaws.{finish-run}
 use Rattle.gc.proofs.finish.Statement.{statement}
 use Rattle.gc.proofs.finish.Tie as tie
 

@@ -2,7 +2,8 @@ use mathlib.Core.Path.{_∙_}
 use native.Mathlib.Omega.{arith}
 use borrow.Author.Needs.{needs}
 use lib.ListN.{length}
-use Rattle.gc.specs.RunLaws.{under-ready, under-after, given-course}
+use Rattle.gc_course.specs.RunLaws.{under-after}
+use Rattle.gc.specs.GroupSteps.{under-ready, given-course}
 use Rattle.gc.proofs.generation_step.Statement.{statement}
 use Rattle.gc.proofs.generation_step.Tie as tie
 

@@ -4,7 +4,7 @@ use lib.ListN.{length}
 use Rattle.rules.specs.Condition1Laws.{passed}
 use Rattle.rules.specs.Maintenance.{finished}
 use Rattle.rules.specs.World.{world}
-use Rattle.gc.specs.RunLaws.{maintain-refused, maintain-accepted}
+use Rattle.gc_course.specs.RunLaws.{maintain-refused, maintain-accepted}
 use Rattle.gc.proofs.maintain.Statement.{statement}
 use Rattle.gc.proofs.maintain.Tie as tie
 

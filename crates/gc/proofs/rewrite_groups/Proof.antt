@@ -5,7 +5,7 @@ use Rattle.rules.specs.World.{world}
 use Rattle.file_map.proofs.RecordTurns.{mapped-length}
 use Rattle.limits.specs.Settled.{passed-bounded}
 use Rattle.prune.specs.Labels.{passed-labels}
-use Rattle.gc.specs.RunLaws.{under-start, by-plan}
+use Rattle.gc_course.specs.RunLaws.{under-start, by-plan}
 use Rattle.gc.proofs.rewrite_groups.Statement.{statement}
 use Rattle.gc.proofs.rewrite_groups.Tie as tie
 

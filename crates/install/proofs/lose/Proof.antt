@@ -8,8 +8,8 @@ use Rattle.rules.specs.Trailer.{countIn, entriesIn}
 use Rattle.rules.specs.Table.{load, noEntry}
 use Rattle.rules.specs.Layout.{usedEntries}
 use Rattle.trailer.specs.Entries.{entries-count}
-use Rattle.file_map.specs.Lists.{lessAt}
-use Rattle.file_map.specs.ListLaws.{length-less}
+use Rattle.file_lists.specs.Lists.{lessAt}
+use Rattle.file_lists.specs.ListLaws.{length-less}
 use Rattle.install.specs.Losing.{slotHolding, losingLives, losing-next, losing-end}
 use Rattle.install.proofs.lose.Statement.{statement}
 use Rattle.install.proofs.lose.Tie as tie

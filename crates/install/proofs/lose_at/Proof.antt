@@ -2,7 +2,7 @@ use mathlib.Core.Path.{sym, ap, _∙_}
 use native.Mathlib.Omega.{arith}
 use borrow.Author.Needs.{needs}
 use Rattle.rules.specs.declared.Slot.{Slot}
-use Rattle.file_map.specs.Lists.{lessAt}
+use Rattle.file_lists.specs.Lists.{lessAt}
 use Rattle.install.specs.Losing.{found-within}
 use Rattle.install.proofs.lose_at.Statement.{statement}
 use Rattle.install.proofs.lose_at.Tie as tie

@@ -3,7 +3,7 @@ use borrow.Author.Needs.{needs}
 use Rattle.rules.specs.declared.Loaded.{Loaded}
 use Rattle.rules.specs.Layout.{usedEntries}
 use Rattle.rules.specs.Table.{load}
-use Rattle.file_map.specs.Lists.{lessAt}
+use Rattle.file_lists.specs.Lists.{lessAt}
 use Rattle.install.specs.Losing.{slotHolding}
 use Rattle.install.proofs.lose_one.Statement.{statement}
 use Rattle.install.proofs.lose_one.Tie as tie

@@ -5,7 +5,7 @@ use borrow.Author.Needs.{needs}
 use lib.ListN.{drop}
 use Rattle.rules.specs.SlotFile.{slotBytes, fileIn}
 use Rattle.rules.specs.Object.{storedAt}
-use Rattle.slot_file.specs.Objects.{bodyOf}
+use Rattle.stored_object.specs.Objects.{bodyOf}
 use Rattle.readpath.specs.Reads.{inHeap}
 use Rattle.readpath.specs.ReadLaws.{file-length, body-in}
 use Rattle.readpath.proofs.object_at.Statement.{statement}

@@ -14,10 +14,10 @@ use Rattle.rules.specs.Object.{storedAt}
 use Rattle.rules.specs.Read.{objectIn, readFile, readLoaded, readOf}
 use Rattle.rules.specs.SlotFile.{slotBytes, fileIn}
 use Rattle.rules.specs.World.{World, world, recordsOf}
-use Rattle.file_map.specs.Lists.{lsnAt}
-use Rattle.file_map.specs.ListLaws.{file-for-lsns}
+use Rattle.file_lists.specs.Lists.{lsnAt}
+use Rattle.file_lists.specs.ListLaws.{file-for-lsns}
 use Rattle.limits.specs.Settled.{passed-formed}
-use Rattle.slot_file.specs.Objects.{bodyOf}
+use Rattle.stored_object.specs.Objects.{bodyOf}
 use Rattle.readpath.specs.Reads.{Lies, inHeap}
 use Rattle.readpath.specs.ReadLaws.{passed-lie, read-refused, read-loaded, read-object}
 use Rattle.readpath.proofs.read_answer.Statement.{statement}

@@ -1,6 +1,6 @@
 use mathlib.Core.Path.{sym, ap, _∙_}
 use mathlib.Core.Bool.{not}
-use Rattle.slot_file.specs.Objects.{Walked, told-by, header-begins, header-fits}
+use Rattle.stored_object.specs.Objects.{Walked, told-by, header-begins, header-fits}
 use Rattle.file_faults.specs.Walks.{cut-passes, short-passes, walked-end, walked-cut, gone-ended, gone-here}
 use borrow.Author.Needs.{needs}
 use native.Mathlib.Omega.{arith}

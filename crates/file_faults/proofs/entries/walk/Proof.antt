@@ -1,7 +1,7 @@
 use mathlib.Core.Path.{_≡_, sym, _∙_}
 use Prim.Native.Nat.{_+_, _-_, _≤_}
 use lib.ListN.{length}
-use Rattle.slot_file.specs.Objects.{Walked, told-by, header-begins, header-fits}
+use Rattle.stored_object.specs.Objects.{Walked, told-by, header-begins, header-fits}
 use Rattle.file_faults.specs.Walks.{Start, Same, cut-passes, short-passes, walked-end, walked-cut, start-next, same-next}
 use borrow.Author.Needs.{needs}
 use native.Mathlib.Omega.{arith}

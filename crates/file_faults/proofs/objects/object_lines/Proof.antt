@@ -6,7 +6,7 @@ use lib.ListN.{length, drop}
 use Rattle.rules.specs.Base.{each}
 use Rattle.rules.specs.Object.{storedAt, badChecksum, objectsIn}
 use Rattle.rules.specs.Trailer.{countIn, entriesIn}
-use Rattle.slot_file.specs.Objects.{Walked, told-by, header-begins, header-fits}
+use Rattle.stored_object.specs.Objects.{Walked, told-by, header-begins, header-fits}
 use Rattle.faults.specs.Faults.{line, objectFaults}
 use Rattle.file_faults.specs.Types.{CutShort, Object, Fault}
 use Rattle.file_faults.specs.Telling.{Going, tells-none, tells-as, going-start, going-as, going-on, going-last}

@@ -9,7 +9,7 @@ use Rattle.numbers.specs.Choice.{pick}
 use Rattle.rules.specs.declared.Answer.the-variants.{Done, Refused}
 use Rattle.rules.specs.declared.Refusal.the-variants.{Checksum}
 use Rattle.rules.specs.Layout.{usedEntries}
-use Rattle.slot_file.specs.Objects.{header-fits}
+use Rattle.stored_object.specs.Objects.{header-fits}
 use Rattle.gc_group.specs.Checks.{moved-large, moved-never, moved-short, moved-sum}
 
 returns : tie.Need-returns

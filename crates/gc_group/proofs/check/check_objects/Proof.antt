@@ -10,7 +10,7 @@ use Rattle.rules.specs.Base.{each}
 use Rattle.rules.specs.Object.{Stored, objectsIn}
 use Rattle.rules.specs.Refusal.{decide}
 use Rattle.rules.specs.Maintenance.{movedTests}
-use Rattle.slot_file.specs.Objects.{Walked, objectsAt, objects-start, told-by}
+use Rattle.stored_object.specs.Objects.{Walked, objectsAt, objects-start, told-by}
 use Rattle.rules.specs.Layout.{usedEntries}
 use Rattle.gc_group.specs.Checks.{walk-end, walk-cut, walk-refused, walk-on, walk-inside}
 

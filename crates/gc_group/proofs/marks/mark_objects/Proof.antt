@@ -8,7 +8,7 @@ use Rattle.gc_group.proofs.marks.mark_objects.Tie as tie
 use Rattle.rules.specs.Base.{each}
 use Rattle.rules.specs.BaseLaws.{All}
 use Rattle.rules.specs.Object.{objectsIn, Stored}
-use Rattle.slot_file.specs.Objects.{Walked, objectsAt, objects-start, told-by}
+use Rattle.stored_object.specs.Objects.{Walked, objectsAt, objects-start, told-by}
 use Rattle.rules.specs.Layout.{usedEntries}
 use Rattle.gc_group.specs.Clear.{Inside}
 use Rattle.gc_group.specs.Marks.{objectId, marked, current}

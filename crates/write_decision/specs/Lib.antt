@@ -1,0 +1,3 @@
+pub mod NewIds
+pub mod Decisions
+pub mod DecisionLaws
