@@ -119,14 +119,14 @@ extern "C" {
 
 /* ---- stack: bytes below the caller that each call was never seen to pass in the tests (tests/c fails where one does). Measured on x86-64,
    not proved; what interrupts take comes on top. */
-#define MARBLE_STACK_REOPEN 47104
-#define MARBLE_STACK_WRITE 45056
+#define MARBLE_STACK_REOPEN 55296
+#define MARBLE_STACK_WRITE 48128
 #define MARBLE_STACK_READ 16384
 #define MARBLE_STACK_READ_THROUGH 16384
 #define MARBLE_STACK_CLAIM 13312
 #define MARBLE_STACK_RELEASE 13312
 #define MARBLE_STACK_PRUNE 25600
-#define MARBLE_STACK_MAINTAIN 589824
+#define MARBLE_STACK_MAINTAIN 592896
 #define MARBLE_STACK_COUNTS 25600
 #define MARBLE_STACK_CHECK 32768
 #define MARBLE_STACK_SALVAGE 8192

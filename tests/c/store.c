@@ -108,7 +108,7 @@ static size_t used[CALLS];
    and out is a loop over words that is no copy of this kind. docs/ARCHITECTURE.md, "Stack and copies", says what each is for; maintenance.c has maintenance's by groups and files. */
 /* 256 labels, five numbers each: a file map is longer */
 #define LABELS_BYTES (256 * 5 * sizeof(uint64_t))
-static const size_t copies_allowed[CALLS] = {6, 5, 0, 0, 0, 0, 1, 25, 1, 259, 0, 0, 0, 0, 0};
+static const size_t copies_allowed[CALLS] = {8, 5, 0, 0, 0, 0, 1, 25, 1, 259, 0, 0, 0, 0, 0};
 static size_t copies, copied[CALLS], last_copied;
 
 void *memcpy(void *to, const void *from, size_t len) {

@@ -1,1 +1,1 @@
-mod LeadTurns
+pub mod LeadTurns

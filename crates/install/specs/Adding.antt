@@ -34,6 +34,7 @@ trailerAt heap start count total = take (12 + 16 * count) (drop (start + 64 + to
 pub record Installable (lsns lives : List ℕ) (b : Table) (heap : List ℕ) (start count total lsn : ℕ) : Type 0 where
   pub formed : Formed b
   pub even : length lsns ≤ length lives
+  pub few : length lsns ≤ 256
   pub inside : start + 64 + total + (12 + 16 * count) ≤ length heap
   pub counted : countIn (trailerAt heap start count total) ≡ count
   pub placed : Placed lsn (entriesIn (trailerAt heap start count total))

@@ -122,13 +122,14 @@ module _ {bit : ℕ} {ops : List Op} {s : Settings} {t : State} {heap : List ℕ
 
     module _ {lsns lives : List ℕ} (x : lsns ≡ lsnsOf (t .files .records)) (y : lives ≡ livesOf (t .files .records)) where
       -- LAW: it can be added
-      pub installable : Formed b → Installable lsns lives b after (slot * s .«slot_bytes») count total (new .lsn)
-      installable formed =
+      pub installable : Formed b → length lsns ≤ 256 → Installable lsns lives b after (slot * s .«slot_bytes») count total (new .lsn)
+      installable formed few =
           let rs = t .files .records in
           let there = ap (λ (l : Label). l .lsn) numbers ∙ base in
           record {
             formed = formed;
             even = omega (arith, ap length x, ap length y, length-map rs (λ (r : Record). r .label .lsn), length-map rs (λ (r : Record). r .live));
+            few = few;
             inside = omega (arith, slot-inside, sizes-small .0, ap length written, made-length (fileStores (slot * s .«slot_bytes») (labelBytes new) (fileBytes ops)) heap);
             counted = count-there;
             placed = rw (there, entries-there) entries-placed;

@@ -1,5 +1,8 @@
 // Adding a file that stands in the heap: table, live counts, record and next position. Write and maintenance share it.
 use disk_location::RelativeDiskLocation;
+use ordered_files::ORDER;
+use ordered_files::file_among;
+use ordered_files::put_if;
 use rules::Entry;
 use rules::FileMap;
 use rules::LABEL_BYTES;
@@ -20,39 +23,52 @@ ghost use Rattle.rules.specs.Layout.{usedEntries, capacityOf};
 ghost use Rattle.rules.specs.World.{stateWith};
 ghost use Rattle.location_table.specs.Tables.{Formed};
 ghost use Rattle.file_lists.specs.Lists.{lsnAt, lessAt, withLives};
+ghost use Rattle.ordered_files.specs.Order.{StandsFor};
 ghost use Rattle.install.specs.Losing.{slotHolding, losingLives};
 ghost use Rattle.file_map.specs.Records.{labelled, fresh};
 ghost use Rattle.install.specs.Adding.{taken, withTaken, Placed, trailerAt, Installable};
 
+// From so many lookups on a call orders the files first. No answer turns on it.
+const MANY: u64 = 64;
+
 // "loses one live": the file of a location, an object's or a delete's.
-fn lose_at(lsns: &[u64], lives: &mut [u64], location: u64)
-    requires { ⌜ length (now lsns) ≤ length (now lives) ⌝ }
+fn lose_at(lsns: &[u64], order: &[u64], ordered: bool, lives: &mut [u64], location: u64)
+    requires { ⌜ (length (now lsns) ≤ length (now lives)) × StandsFor (now lsns) (now order) ordered ⌝ }
     ensures { λ _. ⌜ now (lives .exit) ≡ lessAt (lsnAt (now (lsns .entry)) location) (now (lives .entry)) ⌝ }
 {
-    let slot = file_lists::lsn_at(lsns, location);
+    let slot = file_among(lsns, order, ordered, location);
     file_lists::less_at(lives, slot);
 }
 
 // The file of the location that the table has for the id.
-fn lose_one(lsns: &[u64], lives: &mut [u64], table: &[u64], id: u64)
-    requires { ⌜ Formed (now table) ⌝ }
-    requires { ⌜ length (now lsns) ≤ length (now lives) ⌝ }
+fn lose_one(lsns: &[u64], order: &[u64], ordered: bool, lives: &mut [u64], table: &[u64], id: u64)
+    requires { ⌜ Formed (now table)
+        × (length (now lsns) ≤ length (now lives))
+        × StandsFor (now lsns) (now order) ordered ⌝ }
     ensures { λ _. ⌜ now (lives .exit) ≡ lessAt
         (slotHolding (now (lsns .entry)) (load (usedEntries (now (table .entry))) id))
         (now (lives .entry)) ⌝ }
 {
     match location_table::load(table, id) {
-        Loaded::At(location) => lose_at(lsns, lives, location),
-        Loaded::DeletedAt(location) => lose_at(lsns, lives, location),
+        Loaded::At(location) => lose_at(lsns, order, ordered, lives, location),
+        Loaded::DeletedAt(location) => lose_at(lsns, order, ordered, lives, location),
         Loaded::Never => {}
     }
 }
 
 // "each replaced location's file, found before the new one is added, loses one live"
-fn lose(lsns: &[u64], lives: &mut [u64], table: &[u64], trailer: &[u8])
+fn lose_all(
+    lsns: &[u64],
+    order: &[u64],
+    ordered: bool,
+    lives: &mut [u64],
+    table: &[u64],
+    trailer: &[u8],
+)
     requires { ⌜ Formed (now table)
         × (length (now lsns) ≤ length (now lives))
-        × (12 + 16 * countIn (now trailer) ≤ length (now trailer)) ⌝ }
+        × (12 + 16 * countIn (now trailer) ≤ length (now trailer))
+        × StandsFor (now lsns) (now order) ordered ⌝ }
     ensures { λ _. ⌜ now (lives .exit) ≡ losingLives (now (lsns .entry))
         (usedEntries (now (table .entry)))
         (entriesIn (now (trailer .entry)))
@@ -62,9 +78,26 @@ fn lose(lsns: &[u64], lives: &mut [u64], table: &[u64], trailer: &[u8])
     let mut k: u64 = 0;
     while k < n {
         let e = trailer::entry(trailer, k);
-        lose_one(lsns, lives, table, e.id);
+        lose_one(lsns, order, ordered, lives, table, e.id);
         k += 1;
     }
+}
+
+// The same, the files ordered first where there are many entries.
+fn lose(lsns: &[u64], lives: &mut [u64], table: &[u64], trailer: &[u8])
+    requires { ⌜ Formed (now table)
+        × (length (now lsns) ≤ length (now lives))
+        × (12 + 16 * countIn (now trailer) ≤ length (now trailer))
+        × (length (now lsns) ≤ 256) ⌝ }
+    ensures { λ _. ⌜ now (lives .exit) ≡ losingLives (now (lsns .entry))
+        (usedEntries (now (table .entry)))
+        (entriesIn (now (trailer .entry)))
+        (now (lives .entry)) ⌝ }
+{
+    let many = MANY <= trailer::count(trailer);
+    let mut order = [0u64; ORDER];
+    put_if(&mut order, lsns, many);
+    lose_all(lsns, &order, many, lives, table, trailer);
 }
 
 // "A relative location plus a file's lsn is an absolute one."
@@ -157,7 +190,8 @@ fn by_trailer(lsns: &[u64], lives: &mut [u64], table: &mut [u64], trailer: &[u8]
         × Placed lsn (entriesIn (now trailer))
         × (0 < lsn)
         × (length (insertAll (usedEntries (now table)) (taken lsn (entriesIn (now trailer))))
-        ≤ capacityOf (now table)) ⌝ }
+        ≤ capacityOf (now table))
+        × (length (now lsns) ≤ 256) ⌝ }
     ensures lives { λ _. ⌜ now (lives .exit) ≡ losingLives (now (lsns .entry))
         (usedEntries (now (table .entry)))
         (entriesIn (now (trailer .entry)))

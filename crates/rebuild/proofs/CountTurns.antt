@@ -1,6 +1,5 @@
 -- One turn of each loop that counts, and its end.
 use mathlib.Core.Path.{_≡_, refl, sym, ap, _∙_}
-use mathlib.Core.Bool.{true, false}
 use mathlib.Core.Logic.{_⊎_, inl, inr}
 use mathlib.Core.List.{List, [], _∷_, _++_, map, append-nil}
 use Prim.Native.Nat.{ℕ, zero, suc, _+_, _<_, _≤_, zero-le}
@@ -11,13 +10,11 @@ use borrow.Author.Tests.{le-leb, lt-leb}
 use lib.ListN.{length, getD, set, take, drop, drop-of-length-le}
 use lib.Seq.{take-suc, take-all}
 use Rattle.numbers.specs.GroupLaws.{either-way}
-use Rattle.rules.specs.Base.{keep, larger, greatest}
+use Rattle.rules.specs.Base.{larger, greatest}
 use Rattle.rules.specs.FileMap.{emptyLabel}
-use Rattle.rules.specs.Reopen.{inRange, maskedPosition, mappedInto}
-use Rattle.rules.specs.Table.{noEntry}
 use Rattle.rules.specs.TurnLaws.{left-next}
 use Rattle.reopen_tests.specs.Labels.{labelAt}
-use Rattle.rebuild.specs.Types.{Label, Record, Entry}
+use Rattle.rebuild.specs.Types.{Label}
 
 module _ {A : Type 0} (default : A) (xs : List A) (i : ℕ) where
   pub taken : i < length xs → take (i + 1) xs ≡ take i xs ++ (getD xs i default ∷ [])
@@ -32,35 +29,21 @@ taken-map {A = A} {B = B} f default xs i h = rw (add-one i) (go xs i h)
     go (y ∷ ys) zero q = refl
     go (y ∷ ys) (suc j) q = ap (λ (zs : List B). f y ∷ zs) (go ys j (le-of-suc-le-suc q))
 
--- ---- ids mapped into a file
-module _ (es : List Entry) (l : Label) (i : ℕ) where
-  pub count-here : i < length es → inRange l (maskedPosition (getD es i noEntry)) ≡ true → mappedInto (drop i es) l ≡ suc (mappedInto (drop (i + 1) es) l)
-  unfolding mappedInto keep
-  count-here h e = rw (left-next es i noEntry h, e) refl
-
-  pub count-later : i < length es → inRange l (maskedPosition (getD es i noEntry)) ≡ false → mappedInto (drop i es) l ≡ mappedInto (drop (i + 1) es) l
-  unfolding mappedInto keep
-  count-later h e = rw (left-next es i noEntry h, e) refl
-
-  pub count-end : length es ≤ i → mappedInto (drop i es) l ≡ 0
-  unfolding mappedInto keep
-  count-end h = rw (drop-of-length-le es {i = i} h) refl
-
--- ---- each label once: the records up to k are made, those behind are as they were
-abbrev pub mapTo : (Label → Record) → ℕ → List Label → List Record → List Record
+-- ---- something made of each label: those up to k are made, what stands behind is as it was
+abbrev pub mapTo : {A : Type 0} → (Label → A) → ℕ → List Label → List A → List A
 mapTo f k ls rs = map f (take k ls) ++ drop k rs
 
-module _ (f : Label → Record) where
-  pub map-next : (ls : List Label) (rs : List Record) (k : ℕ) → k < length ls → k < length rs → set (mapTo f k ls rs) k (f (labelAt ls k)) ≡ mapTo f (k + 1) ls rs
+module _ {A : Type 0} (f : Label → A) where
+  pub map-next : (ls : List Label) (rs : List A) (k : ℕ) → k < length ls → k < length rs → set (mapTo f k ls rs) k (f (labelAt ls k)) ≡ mapTo f (k + 1) ls rs
   map-next ls rs k h m = rw (add-one k) (go ls rs k h m)
     where
-      go : (xs : List Label) (ys : List Record) (j : ℕ) → j < length xs → j < length ys → set (mapTo f j xs ys) j (f (labelAt xs j)) ≡ mapTo f (suc j) xs ys
+      go : (xs : List Label) (ys : List A) (j : ℕ) → j < length xs → j < length ys → set (mapTo f j xs ys) j (f (labelAt xs j)) ≡ mapTo f (suc j) xs ys
       go [] ys j q w = absurd (not-suc-le-zero q)
       go (x ∷ xs) [] j q w = absurd (not-suc-le-zero w)
       go (x ∷ xs) (y ∷ ys) zero q w = refl
-      go (x ∷ xs) (y ∷ ys) (suc j) q w = ap (λ (zs : List Record). f x ∷ zs) (go xs ys j (le-of-suc-le-suc q) (le-of-suc-le-suc w))
+      go (x ∷ xs) (y ∷ ys) (suc j) q w = ap (λ (zs : List A). f x ∷ zs) (go xs ys j (le-of-suc-le-suc q) (le-of-suc-le-suc w))
 
-  pub map-end : (ls : List Label) (rs : List Record) (k : ℕ) → length ls ≤ k → length rs ≤ k → mapTo f k ls rs ≡ map f ls
+  pub map-end : (ls : List Label) (rs : List A) (k : ℕ) → length ls ≤ k → length rs ≤ k → mapTo f k ls rs ≡ map f ls
   map-end ls rs k h m = rw (take-all k ls h, drop-of-length-le rs {i = k} m) (append-nil (map f ls))
 
 -- ---- the greatest

@@ -16,9 +16,13 @@ use Rattle.reopen_tests.specs.Labels.{noFile, labelOf, labelsOf}
 use Rattle.reopen_tests.specs.Shown.{label-some, Sound}
 use Rattle.rebuild.specs.Types.{Label, Record, Entry}
 
--- "the label's five numbers and the live count": of a file's label
+-- a slot's record: "the label's five numbers and the live count", empty for a slot without a file
+abbrev pub slotRecord : Label → ℕ → Record
+slotRecord l live = pick (noFile l) emptyRecord (recorded l live)
+
+-- with the ids mapped into its file
 abbrev pub counted : List Entry → Label → Record
-counted table l = pick (noFile l) emptyRecord (recorded l (mappedInto table l))
+counted table l = slotRecord l (mappedInto table l)
 
 abbrev pub maskedLsn : Label → ℕ
 maskedLsn l = maskedOf (l .lsn)
@@ -84,7 +88,7 @@ module _ (f : Label → ℕ) (none : f emptyLabel ≡ 0) where
   greatest-most most m [] a = rw (greatest-blank m) zero-le
   greatest-most most m (v ∷ vs) a = larger-most (f (labelOf v)) (greatest f (map labelOf vs ++ replicate m emptyLabel)) most (a .0) (greatest-most most m vs (a .1))
 
-masked-none : maskedLsn emptyLabel ≡ 0
+pub masked-none : maskedLsn emptyLabel ≡ 0
 unfolding maskedOf
 masked-none = refl
 

@@ -5,6 +5,9 @@ use file_map::no_files;
 use file_map::recorded;
 use location_table::location_at;
 use location_table::used;
+use ordered_files::ORDER;
+use ordered_files::file_at;
+use ordered_files::put_all;
 use reopen_tests::Labels;
 use reopen_tests::overlap::in_range;
 use reopen_tests::slots::no_file;
@@ -12,51 +15,93 @@ use rules::FileMap;
 use rules::Label;
 use rules::RECORDS;
 use rules::Record;
+use rules::Slot;
 ghost use mathlib.Core.Path.{_≡_};
 ghost use mathlib.Core.List.{map};
 ghost use Prim.Native.Nat.{_^_, _<_};
 ghost use Rattle.rules.specs.Base.{larger};
-ghost use Rattle.rules.specs.Layout.{usedEntries};
-ghost use Rattle.rules.specs.Reopen.{mappedInto};
+ghost use Rattle.rules.specs.Layout.{laidOut, usedEntries};
 ghost use Rattle.location_table.specs.Tables.{Formed};
-ghost use Rattle.rebuild.specs.Records.{counted, nextFrom};
+ghost use Rattle.ordered_files.specs.Order.{inOrder};
+ghost use Rattle.rebuild.specs.Records.{slotRecord, counted, maskedLsn, nextFrom};
+ghost use Rattle.rebuild.specs.Counting.{Apart, indexOf, liveOf};
 
-// "a file's live count is the ids mapped into it, deletes included"
-fn mapped_into(table: &[u64], l: Label) -> u64
-    requires { ⌜ Formed (now table) ⌝ }
-    ensures { λ n. ⌜ n ≡ mappedInto (usedEntries (now (table .entry))) l ⌝ }
+// The files' masked lsns; 0 for a slot without a file.
+fn masked_lsns(slots: Labels) -> [u64; RECORDS]
+    ensures { λ r. ⌜ r ≡ map maskedLsn (slots .labels) ⌝ }
+{
+    let mut lsns = [0u64; RECORDS];
+    let mut k: usize = 0;
+    while k < RECORDS {
+        lsns[k] = masked(slots.labels[k].lsn);
+        k += 1;
+    }
+    lsns
+}
+
+// A slot that was found, or one past the last.
+fn index(slot: Slot) -> u64
+    ensures { λ k. ⌜ k ≡ indexOf slot ⌝ }
+{
+    match slot {
+        Slot::Is(k) => k,
+        Slot::NoSlot => RECORDS as u64,
+    }
+}
+
+// "a file's live count is the ids mapped into it, deletes included": in one pass over the table, each entry counted for the one file that
+// may have it, the last that begins at or before its position.
+fn counted_in(table: &[u64], order: &[u64], slots: Labels) -> [u64; RECORDS]
+    requires { ⌜ Formed (now table) × Apart (slots .labels) × (now order ≡ laidOut 256 (inOrder (map maskedLsn (slots .labels)))) ⌝ }
+    ensures { λ r. ⌜ r ≡ map (liveOf (usedEntries (now (table .entry)))) (slots .labels) ⌝ }
 {
     let all = used(table);
-    let mut n: u64 = 0;
+    let mut lives = [0u64; RECORDS];
     let mut i: usize = 0;
     while i < all {
-        if in_range(l, masked_position(location_at(table, i))) {
-            n += 1;
+        let location = location_at(table, i);
+        let position = masked_position(location);
+        let k = index(file_at(order, 2 * position)) as usize;
+        if k < RECORDS {
+            if in_range(slots.labels[k], position) {
+                lives[k] += 1;
+            }
         }
         i += 1;
     }
-    n
+    lives
+}
+
+// The same, the files put in order first.
+fn live_counts(table: &[u64], slots: Labels) -> [u64; RECORDS]
+    requires { ⌜ Formed (now table) × Apart (slots .labels) ⌝ }
+    ensures { λ r. ⌜ r ≡ map (liveOf (usedEntries (now (table .entry)))) (slots .labels) ⌝ }
+{
+    let lsns = masked_lsns(slots);
+    let mut order = [0u64; ORDER];
+    put_all(&mut order, &lsns);
+    counted_in(table, &order, slots)
 }
 
 // A slot's record: its file's label and live count; empty for a slot without a file.
-fn counted(table: &[u64], l: Label) -> Record
-    requires { ⌜ Formed (now table) ⌝ }
-    ensures { λ r. ⌜ r ≡ counted (usedEntries (now (table .entry))) l ⌝ }
+fn slot_record(l: Label, live: u64) -> Record
+    ensures { λ r. ⌜ r ≡ slotRecord l live ⌝ }
 {
     if no_file(l) {
         return empty();
     }
-    recorded(l, mapped_into(table, l))
+    recorded(l, live)
 }
 
 pub fn with_live_counts(table: &[u64], slots: Labels) -> FileMap
-    requires { ⌜ Formed (now table) ⌝ }
+    requires { ⌜ Formed (now table) × Apart (slots .labels) ⌝ }
     ensures { λ m. ⌜ m .records ≡ map (counted (usedEntries (now (table .entry)))) (slots .labels) ⌝ }
 {
+    let lives = live_counts(table, slots);
     let mut m = no_files();
     let mut k: usize = 0;
     while k < RECORDS {
-        m.records[k] = counted(table, slots.labels[k]);
+        m.records[k] = slot_record(slots.labels[k], lives[k]);
         k += 1;
     }
     m

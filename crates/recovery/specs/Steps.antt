@@ -7,11 +7,11 @@ use native.Mathlib.Omega.{arith}
 use borrow.Author.Tests.{le-ltb, lt-ltb, leb-true, leb-false}
 use lib.ListN.{length-replicate}
 use Rattle.rules.specs.Base.{true, false, List, [], _∷_, _++_, ℕ, zero, suc, _*_, _/_, _%_, length, replicate, leb, ltb, any, each, padded}
-use Rattle.rules.specs.Refusal.{Test, _gives_, decide, after, decide-early, decide-late, decide-first, decide-next, decide-none, after-refused, after-done}
+use Rattle.rules.specs.Refusal.{Test, _gives_, NoneHolds, decide, after, clear-when, none-rest, decide-early, decide-late, decide-first, decide-next, decide-none, after-refused, after-done}
 use Rattle.rules.specs.Claims.{noClaims}
 use Rattle.rules.specs.Condition1.{outOfRange}
 use Rattle.rules.specs.Layout.{Table, alternating, capacityOf, usedEntries, laidOut, cleared}
-use Rattle.rules.specs.SlotFile.{View}
+use Rattle.rules.specs.SlotFile.{View, viewsIn}
 use Rattle.rules.specs.Reopen.{viewTests, filesIn, overlapping, latestFrom, tableOf, reopenTests, recordsFrom, nextAfter, givenUp, opened, reopenCall}
 use Rattle.rules.specs.World.{World, world, After}
 use Rattle.file_map.specs.Records.{stateBy}
@@ -20,10 +20,13 @@ use Rattle.rules.specs.TableLaws.{rise-end}
 use Rattle.rules.specs.LayoutLaws.{used-laid-out}
 use Rattle.location_table.specs.LayoutLaws.{laid-out-formed}
 use Rattle.reopen_tests.specs.Ascending.{fileFalls}
+use Rattle.reopen_tests.specs.Labels.{overlaps}
+use Rattle.reopen_tests.specs.Overlaps.{overlapping-labels}
+use Rattle.reopen_tests.specs.Shown.{Surveyed, sound-views}
 use Rattle.reopen_tests.specs.Tests.{fileTests}
 use Rattle.rebuild.specs.Filled.{rowsOf}
 use Rattle.recovery.specs.declared.Reopened.{Reopened}
-use Rattle.recovery.specs.Types.{Settings, Record, Entry, State, Claims, Refusal, Limits, TableRoom, Overlap, NotRising, Answer, Done, Refused}
+use Rattle.recovery.specs.Types.{Settings, Label, Record, Entry, State, Claims, Refusal, Limits, TableRoom, Overlap, NotRising, Answer, Done, Refused}
 use Rattle.recovery.specs.Reopening.{handedBack, leaves, bare, Blank, pastSlots, pastLimits, pastTests}
 
 -- ---- 1
@@ -58,6 +61,15 @@ module _ (w : World) (views : List View) where
 
   pub tests-clear : decide (fileTests views) ≡ Done → pastSlots w views ≡ pastTests w views
   tests-clear e = ap (λ (a : Answer). after a (givenUp w) (opened w views)) (ap decide tests-are ∙ decide-late (fileTests views) room e)
+
+-- 14 is clear
+pub tests-apart : (n size : ℕ) (heap : List ℕ) (ls : List Label) → Surveyed n size heap ls → decide (fileTests (viewsIn n size heap)) ≡ Done → overlaps ls ≡ false
+unfolding fileTests NoneHolds
+tests-apart n size heap ls w e =
+    let views = viewsIn n size heap in
+    ap overlaps (w .labels)
+    ∙ sym (overlapping-labels size views (sound-views n size heap ls w))
+    ∙ none-rest (each viewTests views) _ (clear-when (fileTests views) e) .0
 
 -- ---- a cleared table
 zeros-in-turn : (n : ℕ) → alternating (replicate n 0) (replicate n 0) ≡ replicate (2 * n) 0

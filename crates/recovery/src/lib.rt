@@ -17,12 +17,14 @@ use rules::Refusal;
 use rules::Settings;
 use rules::State;
 ghost use mathlib.Core.Path.{_≡_};
+ghost use mathlib.Core.Bool.{false};
 ghost use Prim.Native.Nat.{_≤_};
 ghost use lib.ListN.{length};
 ghost use Rattle.rules.specs.Condition1Laws.{InLimits};
 ghost use Rattle.rules.specs.Reopen.{reopenCall};
 ghost use Rattle.rules.specs.SlotFile.{viewsIn};
 ghost use Rattle.rules.specs.World.{answerGiven, leaving, world};
+ghost use Rattle.reopen_tests.specs.Labels.{overlaps};
 ghost use Rattle.reopen_tests.specs.Shown.{Surveyed};
 ghost use Rattle.recovery.specs.Reopening.{handedBack, leaves, bare, Blank, pastTests, pastSlots, pastLimits};
 
@@ -53,7 +55,10 @@ fn rebuilt(
     slots: Labels,
     table: &mut [u64],
 ) -> Reopened
-    requires { ⌜ Surveyed n size (now heap) (slots .labels) × (size ≤ 1048576) × Blank (now table) ⌝ }
+    requires { ⌜ Surveyed n size (now heap) (slots .labels)
+        × (size ≤ 1048576)
+        × Blank (now table)
+        × (overlaps (slots .labels) ≡ false) ⌝ }
     ensures { λ r. ⌜ leaves settings r (now (heap .entry)) (now (table .exit))
         ≡ pastTests (bare settings (now (heap .entry)) (now (table .entry))) (viewsIn n size (now (heap .entry))) ⌝ }
 {

@@ -1,6 +1,8 @@
 use mathlib.Core.Path.{sym}
 use native.Mathlib.Nat.{add-zero}
+use Prim.Native.Nat.{_≤_}
 use native.Mathlib.Omega.{arith}
+use lib.ListN.{length}
 use borrow.Author.Needs.{needs}
 use Rattle.limits.specs.Settled.{passed-formed}
 use Rattle.install.specs.Standing.{sizes-small, record-fits, installable, added}
@@ -36,7 +38,8 @@ install-requires c κs =
     let p = l .before .before .before .before .before in
     let n = p .before .before .before .before in
     let f = n .before .before .before .before .before .pre .0 in
-    installable f (sym (add-zero _)) (n .new-label .ensures) (p .put-piece .ensures) (l .before .lsns .ensures) (l .lives .ensures) (passed-formed _ _ _ _ (f .limits))
+    let few : length (l .before .lsns .result) ≤ 256 = search needs in
+    installable f (sym (add-zero _)) (n .new-label .ensures) (p .put-piece .ensures) (l .before .lsns .ensures) (l .lives .ensures) (passed-formed _ _ _ _ (f .limits)) few
 
 slice-aggregate-with-file : tie.Need-slice-aggregate-with-file
 slice-aggregate-with-file c = search needs

@@ -39,7 +39,7 @@ by-trailer-requires c κs =
     let from = a .file .start + 64 + a .file .total in
     let size : from + (12 + 16 * a .file .count) - from ≡ 12 + 16 * a .file .count = omega arith in
     let long = length-take-le (12 + 16 * a .file .count) (drop from (a .heap .now)) (omega (arith, length-drop from (a .heap .now), w .inside)) in
-    rw size (w .formed, w .even, omega (arith, long, w .counted), w .placed, w .some, w .room)
+    rw size (w .formed, w .even, omega (arith, long, w .counted), w .placed, w .some, w .room, w .few)
 
 same-length : tie.Need-same-length
 same-length c = search needs

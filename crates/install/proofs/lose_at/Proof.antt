@@ -7,13 +7,13 @@ use Rattle.install.specs.Losing.{found-within}
 use Rattle.install.proofs.lose_at.Statement.{statement}
 use Rattle.install.proofs.lose_at.Tie as tie
 
-lsn-at-requires : tie.Need-lsn-at-requires
-lsn-at-requires c κs = search needs
+file-among-requires : tie.Need-file-among-requires
+file-among-requires c κs = search needs
 
 less-at-requires : tie.Need-less-at-requires
 less-at-requires c κs =
-    let start = c .before .before .before .before in
-    λ k e. omega (arith, found-within (start .args .lsns .now) _ k (sym (c .before .lsn-at .ensures) ∙ e), start .pre)
+    let start = c .before .before .before .before .before in
+    λ k e. omega (arith, found-within (start .args .lsns .now) _ k (sym (c .before .file-among .ensures) ∙ e), start .pre .0)
 
 same-length : tie.Need-same-length
 same-length c = search needs
@@ -22,8 +22,8 @@ returns : tie.Need-returns
 returns c =
     let less = c .before .before in
     let found = less .before .before in
-    let a = found .before .before .before .args in
-    less .less-at .ensures ∙ ap (λ (s : Slot). lessAt s (a .lives .now)) (found .lsn-at .ensures)
+    let a = found .before .before .before .before .args in
+    less .less-at .ensures ∙ ap (λ (s : Slot). lessAt s (a .lives .now)) (found .file-among .ensures)
 
 pub lose-at-spec : {M : Type 1} → statement M
-lose-at-spec = tie.close (tie.spec lsn-at-requires less-at-requires same-length returns)
+lose-at-spec = tie.close (tie.spec file-among-requires less-at-requires same-length returns)

@@ -10,10 +10,10 @@ use Rattle.install.proofs.lose_one.Tie as tie
 
 -- what is loaded decides
 told : (li : tie.After-load) {l : Loaded} → li .load .result ≡ l
-    → let a = li .before .before .before .before .args in
+    → let a = li .before .before .before .before .before .args in
     lessAt (slotHolding (a .lsns .now) l) (a .lives .now) ≡ lessAt (slotHolding (a .lsns .now) (load (usedEntries (a .table .now)) (a .id))) (a .lives .now)
 told li e =
-    let a = li .before .before .before .before .args in
+    let a = li .before .before .before .before .before .args in
     ap (λ (x : Loaded). lessAt (slotHolding (a .lsns .now) x) (a .lives .now)) (sym e ∙ li .load .ensures)
 
 load-requires : tie.Need-load-requires

@@ -5,6 +5,7 @@ use borrow.Author.Tests.{not-true, not-false}
 use Rattle.rules.specs.SlotFile.{viewsIn}
 use Rattle.rules.specs.Reopen.{filesIn, tableOf}
 use Rattle.reopen_tests.specs.Shown.{sound-views}
+use Rattle.rebuild.specs.Counting.{surveyed-apart}
 use Rattle.rebuild.specs.Records.{counted, nextFrom, records-counted, next-labels, next-low}
 use Rattle.recovery.specs.Types.{Entry, TableRoom}
 use Rattle.recovery.specs.Steps.{blank-formed, gives-up, past-full, past-room}
@@ -46,7 +47,7 @@ with-live-counts-requires c κs =
     let a = start .args in
     let views = viewsIn (a .n) (a .size) (a .heap .now) in
     let sound = sound-views (a .n) (a .size) (a .heap .now) _ (start .pre .0) in
-    room-formed (a .table .now) (start .pre .2) views _ _ (c .before .before .before .before .fill .ensures) (a .size) sound (not-false _ (c .before .if1 .left))
+    (room-formed (a .table .now) (start .pre .2) views _ _ (c .before .before .before .before .fill .ensures) (a .size) sound (not-false _ (c .before .if1 .left)), surveyed-apart (a .n) (a .size) (a .heap .now) _ (start .pre .0) (start .pre .3))
 
 next-position-requires : tie.Need-next-position-requires
 next-position-requires c κs =

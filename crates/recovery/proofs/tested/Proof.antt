@@ -1,7 +1,7 @@
 use mathlib.Core.Path.{sym, _∙_}
 use Rattle.rules.specs.SlotFile.{viewsIn}
 use Rattle.recovery.specs.Reopening.{bare}
-use Rattle.recovery.specs.Steps.{tests-refuse, tests-clear, gives-up}
+use Rattle.recovery.specs.Steps.{tests-refuse, tests-clear, tests-apart, gives-up}
 use borrow.Author.Needs.{needs}
 use Rattle.recovery.proofs.tested.Statement.{statement}
 use Rattle.recovery.proofs.tested.Tie as tie
@@ -22,7 +22,11 @@ enum-told : tie.Need-enum-told
 enum-told c = search needs
 
 rebuilt-requires : tie.Need-rebuilt-requires
-rebuilt-requires c κs = search needs
+rebuilt-requires c κs =
+    let told = c .before in
+    let start = told .before .before .before .before .before in
+    let a = start .args in
+    (start .pre .0, start .pre .1, start .pre .2, tests-apart (a .n) (a .size) (a .heap .now) _ (start .pre .0) (sym (told .before .before .check .ensures) ∙ told .enum-told .given .1))
 
 returns : tie.Need-returns
 returns c =

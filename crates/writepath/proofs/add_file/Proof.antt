@@ -1,5 +1,7 @@
 use mathlib.Core.Path.{refl}
+use Prim.Native.Nat.{_≤_}
 use native.Mathlib.Omega.{arith}
+use lib.ListN.{length}
 use borrow.Author.Needs.{needs}
 use Rattle.limits.specs.Settled.{passed-formed}
 use Rattle.install.specs.Standing.{slot-inside, sizes-small, record-fits, installable, added}
@@ -40,7 +42,8 @@ install-requires c κs =
     let p = l .before .before .before .before .before in
     let n = p .before .before .before in
     let f = filed-addable (n .before .before .before .before .pre) in
-    installable f refl (n .new-label .ensures) (p .put-file .ensures) (l .before .lsns .ensures) (l .lives .ensures) (passed-formed _ _ _ _ (f .limits))
+    let few : length (l .before .lsns .result) ≤ 256 = search needs in
+    installable f refl (n .new-label .ensures) (p .put-file .ensures) (l .before .lsns .ensures) (l .lives .ensures) (passed-formed _ _ _ _ (f .limits)) few
 
 slice-aggregate-with-file : tie.Need-slice-aggregate-with-file
 slice-aggregate-with-file c = search needs
