@@ -1,2 +1,3 @@
 pub mod CheckTurns
-pub mod LowestTurns
+pub mod NoteLaws
+pub mod ListTurns

@@ -5,5 +5,6 @@ pub mod Order
 pub mod OrderLaws
 pub mod Walk
 pub mod WalkLaws
+pub mod Listing
 pub mod Sizes
 pub mod SizeLaws

@@ -1,5 +1,6 @@
 // The file of a batch, straight into the heap: objects and trailer by walks over the operations that count, then the label.
 // Each writer makes as many stores of the file's run as `left` reaches, and answers how many are left.
+use batch::Cursor;
 use batch::Operation;
 use batch::Step;
 use disk_location::RelativeDiskLocation;
@@ -22,6 +23,7 @@ ghost use Rattle.rules.specs.Stores.{storesOf, fileStores};
 ghost use Rattle.stores.specs.Runs.{Made};
 ghost use Rattle.batch.specs.Reading.{opIn, opsIn};
 ghost use Rattle.batch.specs.Sizes.{sizeIn};
+ghost use Rattle.batch.specs.Walk.{Begins};
 ghost use Rattle.batch_file.specs.Steps.{entryIn, Sized};
 
 // "A delete's relative position is the object bytes before it", and an object's too.
@@ -47,26 +49,6 @@ fn behind(position: u64, o: Operation) -> u64
     position + (OBJECT_HEADER as u64 + o.len as u64)
 }
 
-// "checksum 4, over all that follows it": the count and the entries.
-fn sum(batch: &[u8], count: u64) -> u32
-    requires { ⌜ count ≡ length (settled (opsIn (now batch))) ⌝ }
-    requires { ⌜ length (objectsOf (settled (opsIn (now batch)))) < 2 ^ 62 ⌝ }
-    ensures { λ r. ⌜ r ≡ crc32 (listed (entriesOf 0 (settled (opsIn (now (batch .entry)))))) ⌝ }
-{
-    let mut register = write::sum_count(count);
-    let mut position: u64 = 0;
-    let mut cursor = batch::start(batch);
-    loop {
-        let Step::Next(o, after) = batch::next(batch, cursor) else {
-            return write::sum_end(register);
-        };
-        let e = entry_of(o, position);
-        register = write::sum_entry(register, e);
-        position = behind(position, o);
-        cursor = after;
-    }
-}
-
 // An operation's object, its body a piece of the batch. "Deletes have no object bytes."
 fn put_content(file: &mut [u8], at: usize, batch: &[u8], o: Operation, left: u64) -> u64
     requires { ⌜ at + sizeIn o ≤ length (now file) ⌝ }
@@ -82,18 +64,37 @@ fn put_content(file: &mut [u8], at: usize, batch: &[u8], o: Operation, left: u64
     slot_writer::put_object(file, at, o.id, &batch[start..end], left)
 }
 
-// The object bytes, ids ascending.
-fn put_objects(file: &mut [u8], batch: &[u8], left: u64) -> u64
-    requires { ⌜ length (objectsOf (settled (opsIn (now batch)))) ≤ length (now file) ⌝ }
-    ensures { λ r. ⌜ Made left (storesOf 0 (objectsOf (settled (opsIn (now (batch .entry)))))) (now (file .entry)) (now (file .exit)) r ⌝ }
+// What is left behind the objects: stores, and the trailer's checksum.
+struct Objects {
+    left: u64,
+    checksum: u32,
+}
+
+// The object bytes, ids ascending. "checksum 4, over all that follows it": the count and the entries, which stand behind it, so that it is
+// taken here.
+fn put_objects(file: &mut [u8], batch: &[u8], begin: Cursor, count: u64, left: u64) -> Objects
+    requires { ⌜ Begins (now batch) begin
+        × (count ≡ length (settled (opsIn (now batch))))
+        × (length (objectsOf (settled (opsIn (now batch)))) ≤ length (now file))
+        × (length (objectsOf (settled (opsIn (now batch)))) < 2 ^ 62) ⌝ }
+    ensures made { λ r. ⌜ Made left (storesOf 0 (objectsOf (settled (opsIn (now (batch .entry))))))
+        (now (file .entry)) (now (file .exit)) (r .left) ⌝ }
+    ensures summed { λ r. ⌜ r .checksum ≡ crc32 (listed (entriesOf 0 (settled (opsIn (now (batch .entry)))))) ⌝ }
 {
+    let mut register = write::sum_count(count);
     let mut rest = left;
     let mut position: u64 = 0;
-    let mut cursor = batch::start(batch);
+    let mut order = [0u64; batch::ORDER_WORDS];
+    let mut cursor = begin;
     loop {
-        let Step::Next(o, after) = batch::next(batch, cursor) else {
-            return rest;
+        let Step::Next(o, after) = batch::next(&mut order, batch, cursor) else {
+            return Objects {
+                left: rest,
+                checksum: write::sum_end(register),
+            };
         };
+        let e = entry_of(o, position);
+        register = write::sum_entry(register, e);
         rest = put_content(file, position as usize, batch, o, rest);
         position = behind(position, o);
         cursor = after;
@@ -101,18 +102,20 @@ fn put_objects(file: &mut [u8], batch: &[u8], left: u64) -> u64
 }
 
 // The entries, from `at` on.
-fn put_entries(file: &mut [u8], at: usize, batch: &[u8], left: u64) -> u64
-    requires { ⌜ at + 16 * length (settled (opsIn (now batch))) ≤ length (now file) ⌝ }
-    requires { ⌜ length (objectsOf (settled (opsIn (now batch)))) < 2 ^ 62 ⌝ }
+fn put_entries(file: &mut [u8], at: usize, batch: &[u8], begin: Cursor, left: u64) -> u64
+    requires { ⌜ Begins (now batch) begin
+        × (at + 16 * length (settled (opsIn (now batch))) ≤ length (now file))
+        × (length (objectsOf (settled (opsIn (now batch)))) < 2 ^ 62) ⌝ }
     ensures { λ r. ⌜ Made left (storesOf at (each entryBytes (entriesOf 0 (settled (opsIn (now (batch .entry)))))))
         (now (file .entry)) (now (file .exit)) r ⌝ }
 {
     let mut rest = left;
     let mut place = at;
     let mut position: u64 = 0;
-    let mut cursor = batch::start(batch);
+    let mut order = [0u64; batch::ORDER_WORDS];
+    let mut cursor = begin;
     loop {
-        let Step::Next(o, after) = batch::next(batch, cursor) else {
+        let Step::Next(o, after) = batch::next(&mut order, batch, cursor) else {
             return rest;
         };
         let e = entry_of(o, position);
@@ -123,17 +126,26 @@ fn put_entries(file: &mut [u8], at: usize, batch: &[u8], left: u64) -> u64
     }
 }
 
-// The trailer, from `at` on: its checksum stands first, so that the operations are gone through twice.
-fn put_trailer(file: &mut [u8], at: usize, batch: &[u8], count: u64, left: u64) -> u64
-    requires { ⌜ (count ≡ length (settled (opsIn (now batch))))
+// The trailer, from `at` on.
+fn put_trailer(
+    file: &mut [u8],
+    at: usize,
+    batch: &[u8],
+    begin: Cursor,
+    checksum: u32,
+    count: u64,
+    left: u64,
+) -> u64
+    requires { ⌜ Begins (now batch) begin
+        × (checksum ≡ crc32 (listed (entriesOf 0 (settled (opsIn (now batch))))))
+        × (count ≡ length (settled (opsIn (now batch))))
         × (at + (12 + 16 * count) ≤ length (now file))
         × (length (objectsOf (settled (opsIn (now batch)))) < 2 ^ 62) ⌝ }
     ensures { λ r. ⌜ Made left (storesOf at (trailerBytes (entriesOf 0 (settled (opsIn (now (batch .entry)))))))
         (now (file .entry)) (now (file .exit)) r ⌝ }
 {
-    let checksum = sum(batch, count);
     let rest = write::put_head(file, at, checksum, count, left);
-    put_entries(file, at + TRAILER_HEAD, batch, rest)
+    put_entries(file, at + TRAILER_HEAD, batch, begin, rest)
 }
 
 // The whole file, in the heap's part behind its slot's label: the objects, then the trailer.
@@ -142,8 +154,17 @@ fn put_file(file: &mut [u8], batch: &[u8], count: u64, total: u64, left: u64) ->
     requires { ⌜ length (fileBytes (settled (opsIn (now batch)))) ≤ length (now file) ⌝ }
     ensures { λ r. ⌜ Made left (storesOf 0 (fileBytes (settled (opsIn (now (batch .entry)))))) (now (file .entry)) (now (file .exit)) r ⌝ }
 {
-    let rest = put_objects(file, batch, left);
-    put_trailer(file, total as usize, batch, count, rest)
+    let begin = batch::start(batch);
+    let objects = put_objects(file, batch, begin, count, left);
+    put_trailer(
+        file,
+        total as usize,
+        batch,
+        begin,
+        objects.checksum,
+        count,
+        objects.left,
+    )
 }
 
 // A file and its label into the slot that begins at `start`, in the order of the file's run.

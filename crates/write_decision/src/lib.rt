@@ -1,5 +1,6 @@
 // Refusals 1 to 7, "in order on the whole batch", and what the batch comes to where none is given.
 
+use batch::Cursor;
 use batch::Room;
 use batch::Step;
 use limits::Rest;
@@ -24,6 +25,7 @@ ghost use Rattle.rules.specs.World.{world};
 ghost use Rattle.location_table.specs.Tables.{Formed};
 ghost use Rattle.limits.specs.Settled.{stateOf};
 ghost use Rattle.batch.specs.Reading.{opsIn};
+ghost use Rattle.batch.specs.Walk.{Begins};
 ghost use Rattle.write_decision.specs.NewIds.{newIds, isNew, idsOf};
 ghost use Rattle.write_decision.specs.Decisions.{decisionOf, Parsed};
 
@@ -45,15 +47,16 @@ fn is_new(table: &[u64], id: u64) -> u64
 }
 
 // How many of the batch's ids the table does not have.
-fn new_ids(table: &[u64], batch: &[u8]) -> u64
-    requires { ⌜ Formed (now table) ⌝ }
+fn new_ids(table: &[u64], batch: &[u8], begin: Cursor) -> u64
+    requires { ⌜ Formed (now table) × Begins (now batch) begin ⌝ }
     ensures counts { λ r. ⌜ r ≡ newIds (usedEntries (now (table .entry))) (idsOf (settled (opsIn (now (batch .entry))))) ⌝ }
     ensures within { λ r. ⌜ r ≤ length (now (batch .entry)) ⌝ }
 {
     let mut count: u64 = 0;
-    let mut cursor = batch::start(batch);
+    let mut order = [0u64; batch::ORDER_WORDS];
+    let mut cursor = begin;
     loop {
-        let Step::Next(o, after) = batch::next(batch, cursor) else {
+        let Step::Next(o, after) = batch::next(&mut order, batch, cursor) else {
             return count;
         };
         count += is_new(table, o.id);
@@ -62,15 +65,15 @@ fn new_ids(table: &[u64], batch: &[u8]) -> u64
 }
 
 // "6 more distinct ids than table entries": the table's and the batch's together.
-fn too_many(table: &[u64], batch: &[u8]) -> bool
-    requires { ⌜ Formed (now table) ⌝ }
+fn too_many(table: &[u64], batch: &[u8], begin: Cursor) -> bool
+    requires { ⌜ Formed (now table) × Begins (now batch) begin ⌝ }
     ensures { λ r. ⌜ r ≡ tooManyIds
         (capacityOf (now (table .entry)))
         (usedEntries (now (table .entry)))
         (settled (opsIn (now (batch .entry)))) ⌝ }
 {
     let used = location_table::used(table) as u64;
-    let more = new_ids(table, batch);
+    let more = new_ids(table, batch, begin);
     (location_table::capacity(table) as u64) < used + more
 }
 
@@ -88,7 +91,8 @@ fn room(
         (world settings (stateOf rest files) c (now (heap .entry)) (now (table .entry)))
         (now (batch .entry))) ⌝ }
 {
-    let Room::Fits(count, total) = batch::sizes(batch, settings.slot_bytes) else {
+    let begin = batch::start(batch);
+    let Room::Fits(count, total) = batch::sizes(batch, begin, settings.slot_bytes) else {
         return Decision::Refused(Refusal::SlotRoom);
     };
     if count == 0 {
@@ -99,7 +103,7 @@ fn room(
     if n <= slot {
         return Decision::Refused(Refusal::NoEmptySlot);
     }
-    if too_many(table, batch) {
+    if too_many(table, batch, begin) {
         return Decision::Refused(Refusal::TableRoom);
     }
     if spent(rest.next_position, total + 1) {

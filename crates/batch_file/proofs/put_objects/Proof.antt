@@ -1,27 +1,47 @@
-use mathlib.Core.Path.{ap}
+use mathlib.Core.Path.{_≡_, refl, ap, _∙_}
 use native.Mathlib.Omega.{arith}
 use borrow.Author.Needs.{needs}
-use lib.ListN.{length}
+use lib.ListN.{length, replicate}
 use Rattle.rules.specs.Ops.{settled}
 use Rattle.batch.specs.Reading.{opsIn}
 use Rattle.batch.specs.Walk.{left}
 use Rattle.batch.specs.WalkLaws.{stepped, stepped-end}
 use Rattle.batch_file.specs.Putting.{Putting, objectsFrom, putting-start, object-fits, object-put, objects-put}
+use Rattle.batch_file.specs.Summing.{Summing, summing-start, summing-next, summing-end}
 use Rattle.batch_file.proofs.put_objects.Statement.{statement}
 use Rattle.batch_file.proofs.put_objects.Tie as tie
 
 abbrev Inv-loop : tie.InvT-loop
-Inv-loop file₀ batch left₀ rest₀ position₀ cursor₀ file rest position cursor =
-    Putting objectsFrom left₀ 0 (settled (opsIn batch)) file₀ rest position position (left batch cursor) file
+Inv-loop file₀ batch count left₀ register₀ rest₀ position₀ order₀ cursor₀ file register rest position order cursor =
+    (length order ≡ 256)
+    × Summing (settled (opsIn batch)) (left batch order cursor) register position
+    × Putting objectsFrom left₀ 0 (settled (opsIn batch)) file₀ rest position position (left batch order cursor) file
 
 abbrev μ-loop : tie.MeasureT-loop
-μ-loop file₀ batch left₀ rest₀ position₀ cursor₀ file rest position cursor = length (left batch cursor)
+μ-loop file₀ batch count left₀ register₀ rest₀ position₀ order₀ cursor₀ file register rest position order cursor = length (left batch order cursor)
 
-start-requires : tie.Need-start-requires Inv-loop μ-loop
-start-requires c κs = search needs
+-- ---- the call, as each place has it
+abbrev begun : tie.At-loop Inv-loop μ-loop → tie.Start Inv-loop μ-loop
+begun l = l .before .before .before .before
+
+abbrev called : tie.After-o Inv-loop μ-loop → tie.After-next Inv-loop μ-loop
+called o = o .before .before .before
+
+abbrev turn : tie.After-o Inv-loop μ-loop → tie.At-loop Inv-loop μ-loop
+turn o = called o .before .before
+
+-- ---- the call
+sum-count-requires : tie.Need-sum-count-requires Inv-loop μ-loop
+sum-count-requires c κs = search needs
 
 loop-holds : tie.Need-loop-holds Inv-loop μ-loop
-loop-holds c = putting-start objectsFrom _ 0 _ _ _ (c .start .ensures)
+loop-holds c =
+    let start = c .before .before .before in
+    let e = start .pre .0 (replicate 256 0) in
+    (refl, summing-start e (start .pre .1) (start .pre .3) (c .sum-count .ensures), putting-start objectsFrom _ 0 _ _ _ e)
+
+slice-aggregate-next : tie.Need-slice-aggregate-next Inv-loop μ-loop
+slice-aggregate-next c = search needs
 
 next-requires : tie.Need-next-requires Inv-loop μ-loop
 next-requires c κs = search needs
@@ -32,41 +52,54 @@ enum-known-o c = search needs
 enum-told : tie.Need-enum-told Inv-loop μ-loop
 enum-told c = search needs
 
+sum-end-requires : tie.Need-sum-end-requires Inv-loop μ-loop
+sum-end-requires c κs = search needs
+
 same-length : tie.Need-same-length Inv-loop μ-loop
 same-length c = search needs
 
 returns : tie.Need-returns Inv-loop μ-loop
 returns c =
-    let n = c .before .before in
-    let l = n .before in
-    objects-put (l .loop .inv) (stepped-end (l .before .before .before .before .args .batch .now) (n .next .ensures .0) (c .enum-told .given .1))
+    let n = c .before .before .before .before in
+    let l = n .before .before in
+    let none = stepped-end (begun l .args .batch .now) _ (n .next .ensures .0) (c .before .enum-told .given .1) in
+    (objects-put (l .loop .inv .2) none, c .sum-end .ensures ∙ summing-end (l .loop .inv .1) none)
+
+entry-of-requires : tie.Need-entry-of-requires Inv-loop μ-loop
+entry-of-requires c κs = omega (arith, turn (c .before) .loop .inv .1 .low)
+
+sum-entry-requires : tie.Need-sum-entry-requires Inv-loop μ-loop
+sum-entry-requires c κs = search needs
 
 put-content-requires : tie.Need-put-content-requires Inv-loop μ-loop
 put-content-requires c κs =
-    let o = c .before .before in
-    let n = o .before .before in
-    let l = n .before in
-    let e = stepped (n .next .ensures) (o .o .given .1) in
-    (omega (arith, object-fits (l .loop .inv) e, l .before .before .before .before .pre, l .loop .inv .way .size), e .inside)
+    let o = c .before .before .before .before in
+    let l = turn o in
+    let e = stepped _ (called o .next .ensures) (o .o .given .1) in
+    (omega (arith, object-fits (l .loop .inv .2) e, begun l .pre .2, l .loop .inv .2 .way .size), e .inside)
 
 behind-requires : tie.Need-behind-requires Inv-loop μ-loop
 behind-requires c κs =
-    let o = c .before .before .before .before .before in
-    let n = o .before .before in
-    let start = n .before .before .before .before .before in
-    omega (arith, object-fits (n .before .loop .inv) (stepped (n .next .ensures) (o .o .given .1)), start .pre, start .good)
+    let o = c .before .before .before .before .before .before .before in
+    let start = begun (turn o) in
+    omega (arith, object-fits (turn o .loop .inv .2) (stepped _ (called o .next .ensures) (o .o .given .1)), start .pre .2, start .good)
 
 loop-less : tie.Need-loop-less Inv-loop μ-loop
 loop-less c =
-    let o = c .before .before .before .before .before .before in
-    omega (arith, ap length (stepped (o .before .before .next .ensures) (o .o .given .1) .next))
+    let o = c .before .before .before .before .before .before .before .before in
+    omega (arith, ap length (stepped _ (called o .next .ensures) (o .o .given .1) .next))
 
 loop-again : tie.Need-loop-again Inv-loop μ-loop
 loop-again c =
-    let o = c .before .before .before .before .before .before in
-    let n = o .before .before in
-    let e = stepped (n .next .ensures) (o .o .given .1) in
-    object-put (n .before .loop .inv) e (c .behind .ensures) (omega (arith, c .behind .ensures)) (c .before .before .before .put-content .ensures)
+    let p = c .before .before .before in
+    let w = p .before .before in
+    let o = w .before .before .before in
+    let inv = turn o .loop .inv in
+    let e = stepped _ (called o .next .ensures) (o .o .given .1) in (
+      omega arith,
+      summing-next (inv .1) e (w .before .entry-of .ensures) (w .sum-entry .ensures) (c .behind .ensures),
+      object-put (inv .2) e (c .behind .ensures) (omega (arith, c .behind .ensures)) (p .put-content .ensures),
+    )
 
 pub put-objects-spec : {M : Type 1} → statement M
 put-objects-spec =
@@ -74,13 +107,17 @@ put-objects-spec =
     (tie.spec
     Inv-loop
     μ-loop
-    start-requires
+    sum-count-requires
     loop-holds
+    slice-aggregate-next
     next-requires
     enum-known-o
     enum-told
+    sum-end-requires
     same-length
     returns
+    entry-of-requires
+    sum-entry-requires
     put-content-requires
     behind-requires
     loop-less

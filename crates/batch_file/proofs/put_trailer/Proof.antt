@@ -3,9 +3,6 @@ use Rattle.batch_file.specs.Summing.{trailer-of}
 use Rattle.batch_file.proofs.put_trailer.Statement.{statement}
 use Rattle.batch_file.proofs.put_trailer.Tie as tie
 
-sum-requires : tie.Need-sum-requires
-sum-requires c κs = search needs
-
 put-head-requires : tie.Need-put-head-requires
 put-head-requires c κs = search needs
 
@@ -22,15 +19,13 @@ returns : tie.Need-returns
 returns c =
     let second = c .before .before in
     let first = second .before .before .before .before in
-    let s = first .before .before in
-    let start = s .before .before .before in
-    trailer-of (start .args .at) _ (start .pre .0) (s .sum .ensures) (first .put-head .ensures) (second .put-entries .ensures)
+    let start = first .before .before .before .before in
+    trailer-of (start .args .at) _ (start .pre .2) (start .pre .1) (first .put-head .ensures) (second .put-entries .ensures)
 
 pub put-trailer-spec : {M : Type 1} → statement M
 put-trailer-spec =
     tie.close
     (tie.spec
-    sum-requires
     put-head-requires
     add-put-entries
     put-entries-requires

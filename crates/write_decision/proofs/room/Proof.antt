@@ -23,7 +23,7 @@ use Rattle.write_decision.proofs.room.Tie as tie
 
 -- ---- the call, as each place has it
 abbrev begun : tie.After-sizes → tie.Start
-begun z = z .before .before .before .before
+begun z = z .before .before .before .before .before
 
 abbrev counted : tie.Else1 → tie.After-count
 counted e = e .before .before
@@ -66,8 +66,11 @@ room-left : (e : tie.Else2) (claims : Claims) → let w = seen (sized (counted (
 room-left e claims = omega (arith, e .if2 .left, e .before .lowest-empty .ensures)
 
 -- ---- the call
+start-requires : tie.Need-start-requires
+start-requires c κs = search needs
+
 sizes-requires : tie.Need-sizes-requires
-sizes-requires c κs = search needs
+sizes-requires c κs = c .start .ensures
 
 enum-known-count : tie.Need-enum-known-count
 enum-known-count c = search needs
@@ -104,7 +107,7 @@ too-many-requires : tie.Need-too-many-requires
 too-many-requires c κs =
     let z = sized (counted (free c)) in
     let a = begun z .args in
-    passed-formed (a .settings) _ (a .table .now) (given z) (clear z)
+    (passed-formed (a .settings) _ (a .table .now) (given z) (clear z), z .before .start .ensures)
 
 returns-4 : tie.Need-returns-4
 returns-4 c =
@@ -148,6 +151,7 @@ pub room-spec : {M : Type 1} → statement M
 room-spec =
     tie.close
     (tie.spec
+    start-requires
     sizes-requires
     enum-known-count
     enum-told

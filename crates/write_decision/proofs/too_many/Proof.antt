@@ -40,7 +40,7 @@ returns c =
     let b = start .args .table .now in
     let ops = settled (opsIn (start .args .batch .now)) in
     let all : u .used .result + n .new-ids .result ≡ length (insertAll (usedEntries b) (entriesOf 0 ops)) =
-    omega (arith, u .used .ensures, n .new-ids .ensures .0, entries-new (usedEntries b) ops (form-rising b (start .pre .form)) (settled-rising (opsIn (start .args .batch .now)))) in
+    omega (arith, u .used .ensures, n .new-ids .ensures .0, entries-new (usedEntries b) ops (form-rising b (start .pre .0 .form)) (settled-rising (opsIn (start .args .batch .now)))) in
     ap₂ ltb (c .capacity .ensures) all
 
 pub too-many-spec : {M : Type 1} → statement M
