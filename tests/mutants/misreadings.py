@@ -91,12 +91,6 @@ MUTANTS = [
      'pick (ltb (o .id) (p .id)) (o',
      'pick (ltb (p .id) (o .id)) (o'),
     # ---- write
-    ('large-before-malformed', 'Write',
-     'Write decides 1 to 7 in order',
-     '    ∷ isMalformed batch gives BatchBytes\n'
-     '    ∷ anyTooLarge (w .settings .«max_object_size») (opsOf batch) gives ObjectSize',
-     '    ∷ anyTooLarge (w .settings .«max_object_size») (opsOf batch) gives ObjectSize\n'
-     '    ∷ isMalformed batch gives BatchBytes'),
     ('overridden-not-refused', 'Write',
      'overridden ones included',
      'anyTooLarge (w .settings .«max_object_size») (opsOf batch) gives ObjectSize',

@@ -1,4 +1,5 @@
--- the worlds; the table, and that it holds; what a refused maintenance leaves
+-- the worlds; the table of orders, and that it holds; what a refused maintenance leaves; single points
 pub mod Worlds
 pub mod Orders
 pub mod Stops
+pub mod Points

@@ -1,6 +1,6 @@
 -- "A refusal stops the call, keeps finished groups .. nothing is pruned. Success prunes": one world, worked out both ways.
 use mathlib.Core.Path.{_≡_, refl}
-use Rattle.rules.specs.Base.{List, [], _∷_, _++_, ℕ, length, replicate, any, zeros, keep, each, sum, padded, _+_, _*_, getD}
+use Rattle.rules.specs.Base.{List, [], _∷_, _++_, ℕ, length, replicate, any, zeros, keep, each, sum, greatest, padded, _+_}
 use Rattle.numbers.specs.LittleEndian.{leBytes, leValue}
 use Rattle.numbers.specs.Groups.{groupsOf}
 use Rattle.checksum.specs.Checksum.{shiftBit, shifts, crcFrom, crc32, objectSum}
@@ -21,10 +21,10 @@ use Rattle.rules.specs.Install.{newLabel, newRecord, losing, recordsWith, store
 use Rattle.rules.specs.Claims.{isClaimed}
 use Rattle.rules.specs.Prune.{isDead, emptiedFrom, pruneStores, pruned}
 use Rattle.rules.specs.Maintenance.{worthIt, cutOff, joining, splitFrom, filesOf, isCandidate, group, movedTests, deleteTests, deletesOf, fileTests, objectsFound, deletesFound, found, groupTests, rewriteGroup, groupsFrom, courseOf, maintainCall}
-use Rattle.theory.specs.Types.{Label, Record}
-use Rattle.rules.specs.World.{World, recordsOf, After}
+use Rattle.theory.specs.Types.{Label}
+use Rattle.rules.specs.World.{World, After}
 use Rattle.rules.specs.Lines.{told, mapping}
-use Rattle.orders.specs.Worlds.{two, labelOf, slot, trailing, holding}
+use Rattle.orders.specs.Worlds.{two, labelOf, slot, trailing, holding, seenAt}
 
 -- five slots: object 1 in a file of generation 0; object 2 in one of generation 1, with a trailer; two empty ones, and between them a file with nothing live
 abbrev pub groups : List ℕ → World
@@ -37,12 +37,6 @@ groups trailer =
     holding (recorded a 1 ∷ recorded b 1 ∷ emptyRecord ∷ recorded d 0 ∷ []) 200
     (slot a (objectBytes 1 [] ++ good) ++ (slot b (objectBytes 2 [] ++ trailer) ++ (replicate 128 0 ++ (slot d gone ++ replicate 128 0))))
     (two 1 2 2 200)
-
--- of a slot: lsn, generation, live and the first byte
-abbrev pub seenAt : World → ℕ → List ℕ
-seenAt w k =
-    let r = getD (recordsOf w) k emptyRecord in
-    r .label .lsn ∷ r .label .generation ∷ r .live ∷ getD (w .heap) (k * 128) 0 ∷ []
 
 -- the answer, the next position, and the five slots
 abbrev pub left : After → List ℕ
@@ -59,7 +53,7 @@ pub stopped-stands :
     ∷ 50 ∷ 0 ∷ 0 ∷ 50
     ∷ 0 ∷ 0 ∷ 0 ∷ 0
     ∷ []
-unfolding any zeros keep each sum padded outOfRange notTheStates badRecord badFrom conditionOne isEmpty noFiles slotsWhere emptySlots lowestEmpty leads leadFrom fileFor fileCount newLabel newRecord losing recordsWith storesFor tableWith nextWith installed installedAll roomTests positionTests labelBytes outOfBounds tableIds tableLocations alternating lengthsInRange formFrom inForm usedIn usedEntries laidOut worthIt cutOff joining splitFrom filesOf objectBytes storedAt objectsFrom objectsIn badChecksum objectsOf entriesOf fileBytes joined settled decide inRanges heapInRange sameSettings slotBytes made storesOf fileStores lookup insert insertAll listed trailerBytes trailerTests entriesFrom entriesIn isDead emptiedFrom pruneStores pruned isClaimed isCandidate group movedTests deleteTests deletesOf fileTests objectsFound deletesFound found groupTests rewriteGroup groupsFrom courseOf maintainCall leBytes leValue groupsOf shiftBit shifts crcFrom crc32 objectSum maskedOf digitsIn
+unfolding any zeros keep each sum greatest padded outOfRange notTheStates badRecord badFrom conditionOne isEmpty noFiles slotsWhere emptySlots lowestEmpty leads leadFrom fileFor fileCount newLabel newRecord losing recordsWith storesFor tableWith nextWith installed installedAll roomTests positionTests labelBytes outOfBounds tableIds tableLocations alternating lengthsInRange formFrom inForm usedIn usedEntries laidOut worthIt cutOff joining splitFrom filesOf objectBytes storedAt objectsFrom objectsIn badChecksum objectsOf entriesOf fileBytes joined settled decide inRanges heapInRange sameSettings slotBytes made storesOf fileStores lookup insert insertAll listed trailerBytes trailerTests entriesFrom entriesIn isDead emptiedFrom pruneStores pruned isClaimed isCandidate group movedTests deleteTests deletesOf fileTests objectsFound deletesFound found groupTests rewriteGroup groupsFrom courseOf maintainCall leBytes leValue groupsOf shiftBit shifts crcFrom crc32 objectSum maskedOf digitsIn
 stopped-stands = refl
 
 -- LAW: with that trailer as it should be both ids are moved, each to a file of its generation, and what has nothing live is pruned
@@ -72,5 +66,5 @@ pub finished-pruned :
     ∷ 0 ∷ 0 ∷ 0 ∷ 0
     ∷ 221 ∷ 2 ∷ 1 ∷ 0xdd
     ∷ []
-unfolding any zeros keep each sum padded outOfRange notTheStates badRecord badFrom conditionOne isEmpty noFiles slotsWhere emptySlots lowestEmpty leads leadFrom fileFor fileCount newLabel newRecord losing recordsWith storesFor tableWith nextWith installed installedAll roomTests positionTests labelBytes outOfBounds tableIds tableLocations alternating lengthsInRange formFrom inForm usedIn usedEntries laidOut worthIt cutOff joining splitFrom filesOf objectBytes storedAt objectsFrom objectsIn badChecksum objectsOf entriesOf fileBytes joined settled decide inRanges heapInRange sameSettings slotBytes made storesOf fileStores lookup insert insertAll listed trailerBytes trailerTests entriesFrom entriesIn isDead emptiedFrom pruneStores pruned isClaimed isCandidate group movedTests deleteTests deletesOf fileTests objectsFound deletesFound found groupTests rewriteGroup groupsFrom courseOf maintainCall leBytes leValue groupsOf shiftBit shifts crcFrom crc32 objectSum maskedOf digitsIn
+unfolding any zeros keep each sum greatest padded outOfRange notTheStates badRecord badFrom conditionOne isEmpty noFiles slotsWhere emptySlots lowestEmpty leads leadFrom fileFor fileCount newLabel newRecord losing recordsWith storesFor tableWith nextWith installed installedAll roomTests positionTests labelBytes outOfBounds tableIds tableLocations alternating lengthsInRange formFrom inForm usedIn usedEntries laidOut worthIt cutOff joining splitFrom filesOf objectBytes storedAt objectsFrom objectsIn badChecksum objectsOf entriesOf fileBytes joined settled decide inRanges heapInRange sameSettings slotBytes made storesOf fileStores lookup insert insertAll listed trailerBytes trailerTests entriesFrom entriesIn isDead emptiedFrom pruneStores pruned isClaimed isCandidate group movedTests deleteTests deletesOf fileTests objectsFound deletesFound found groupTests rewriteGroup groupsFrom courseOf maintainCall leBytes leValue groupsOf shiftBit shifts crcFrom crc32 objectSum maskedOf digitsIn
 finished-pruned = refl

@@ -1,5 +1,5 @@
 -- Small worlds in which several conditions of a call hold at once: slots of 128 bytes, a table of one entry or two.
-use Rattle.rules.specs.Base.{Bool, true, false, List, [], _∷_, _++_, ℕ, _+_, _-_, _^_, length, replicate, padded}
+use Rattle.rules.specs.Base.{Bool, true, false, List, [], _∷_, _++_, ℕ, _+_, _-_, _*_, _^_, length, getD, replicate, padded}
 use Rattle.theory.specs.Types.{Settings, Entry, Label, Record, State}
 use Rattle.numbers.specs.LittleEndian.{leBytes}
 use Rattle.checksum.specs.Checksum.{crc32, objectSum}
@@ -10,7 +10,7 @@ use Rattle.rules.specs.Label.{labelBytes}
 use Rattle.rules.specs.Layout.{Table, capacityOf}
 use Rattle.rules.specs.FileMap.{recorded, emptyRecord}
 use Rattle.rules.specs.Claims.{noClaims}
-use Rattle.rules.specs.World.{World, noState}
+use Rattle.rules.specs.World.{World, recordsOf, noState}
 use Rattle.rules.specs.Lines.{mapping}
 
 -- slots of 128 bytes; every file with something live is a candidate, and one is a group; objects of 16 bytes at most
@@ -87,6 +87,12 @@ mismatched w = record {
   heap = w .heap;
   table = w .table;
 }
+
+-- of a slot: lsn, generation, live and the first byte
+abbrev pub seenAt : World → ℕ → List ℕ
+seenAt w k =
+    let r = getD (recordsOf w) k emptyRecord in
+    r .label .lsn ∷ r .label .generation ∷ r .live ∷ getD (w .heap) (k * 128) 0 ∷ []
 
 -- ---- for a write
 -- one slot, taken; a full table, of id 1

@@ -7,24 +7,11 @@ use native.Mathlib.Omega.{arith}
 use lib.ListN.{length-set, getD-replicate, length-replicate}
 use lib.Seq.{getD-set-same, getD-set-other}
 use borrow.Author.Tests.{ltb-true, ltb-false}
-use Rattle.disk_location.specs.Locations.{digitsIn}
 use Rattle.rules.specs.Base.{Bool, true, false, List, [], _∷_, _++_, map, ℕ, zero, suc, _+_, length, getD, set, replicate, ltb, pick, keep, sum}
 use Rattle.rules.specs.BaseLaws.{All, all-append, same?, replicate-at}
 use Rattle.rules.specs.Ops.{Op, sizeOf, shardFor}
 use Rattle.rules.specs.OpsLaws.{shard-most}
 use Rattle.rules.specs.Maintenance.{Shard, noEntries, Split, cutOff, joining, splitFrom, hasEntries, filesOf}
-use Rattle.rules.specs.Lines.{object}
-
--- each file's ids
-abbrev pub idsOf : List (List Op) → List (List ℕ)
-idsOf files = map (λ (f : List Op). map (λ (o : Op). o .id) f) files
-
--- LAW: beside line P9: a shard of just the target is not cut; one that was cut restarts at 0, and is cut again
-pub cut-lines :
-    (idsOf (filesOf 160 (object 1 60 ∷ object 2 60 ∷ object 3 60 ∷ [])) ≡ (1 ∷ 2 ∷ 3 ∷ []) ∷ [])
-    × (idsOf (filesOf 100 (object 1 60 ∷ object 2 60 ∷ object 3 60 ∷ object 4 60 ∷ object 5 60 ∷ [])) ≡ (5 ∷ []) ∷ (1 ∷ 2 ∷ []) ∷ (3 ∷ 4 ∷ []) ∷ [])
-unfolding keep cutOff joining splitFrom filesOf digitsIn
-cut-lines = (refl, refl)
 
 -- "an object adds 20 + length, a delete 0"
 abbrev pub sizeIn : List Op → ℕ
