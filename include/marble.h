@@ -34,14 +34,15 @@
    where a call says so below. Every number, length and byte is answered; an empty buffer may be (NULL, 0).
 
    What the host must do:
-   - Lend buffers that do not overlap, u64 buffers aligned for uint64_t; out-parameters and state are real places, never NULL.
-     A length counts elements: bytes of the heap and the batch, uint64_t of the table and of a listing.
+   - Lend buffers that do not overlap, u64 buffers and records aligned for uint64_t; out-parameters and state are real places, never NULL.
+     A length counts elements: bytes of the heap and the batch, uint64_t of the table and of a listing, records of a list of them.
    - Lend the table as one buffer of words that alternate id and location: place k has its id at word 2k and its location at word 2k + 1.
      Its entries are words / 2, 1 to 65,536. An odd number of words is refused with 1 by every call, nothing changes, and the last word,
      which is in no place, is never looked at or changed. MARBLE_TABLE_WORDS, MARBLE_TABLE_ID and MARBLE_TABLE_LOCATION below.
    - Keep a batch out of the heap, also behind its files: the file is written while the batch is read. A body that a read found is put
      again through a batch buffer, into which marble_batch_put copies it.
-   - Keep heap, table and state unchanged between calls (the four table calls are there for the table), and one caller at a time.
+   - Keep heap, table and state unchanged between calls (the four table calls are there for the table, marble_sync
+     for the marks in the state), and one caller at a time.
    - Give every call the settings and lengths of the accepted reopening. Others are refused with 1.
    - After power comes back, heap alone is enough: zero the rest and reopen.
    - A reopening refused with any number but 1 leaves an empty store that a write would use, from slot 0 on, over files that are
@@ -70,8 +71,8 @@ extern "C" {
 #endif
 
 /* ---- version: the header's. marble_version() is the archive's; a host stops where they differ. A new major number: a host must change. */
-#define MARBLE_VERSION_MAJOR 3
-#define MARBLE_VERSION_MINOR 1
+#define MARBLE_VERSION_MAJOR 4
+#define MARBLE_VERSION_MINOR 0
 #define MARBLE_VERSION (MARBLE_VERSION_MAJOR * 1000 + MARBLE_VERSION_MINOR)
 
 /* ---- limits: the column "Range" */
@@ -119,15 +120,17 @@ extern "C" {
 
 /* ---- stack: bytes below the caller that each call was never seen to pass in the tests (tests/c fails where one does). Measured on x86-64,
    not proved; what interrupts take comes on top. */
-#define MARBLE_STACK_REOPEN 55296
-#define MARBLE_STACK_WRITE 48128
-#define MARBLE_STACK_READ 16384
-#define MARBLE_STACK_READ_THROUGH 16384
-#define MARBLE_STACK_CLAIM 13312
-#define MARBLE_STACK_RELEASE 13312
-#define MARBLE_STACK_PRUNE 25600
-#define MARBLE_STACK_MAINTAIN 592896
-#define MARBLE_STACK_COUNTS 25600
+#define MARBLE_STACK_REOPEN 59392
+#define MARBLE_STACK_WRITE 54272
+#define MARBLE_STACK_READ 18432
+#define MARBLE_STACK_READ_THROUGH 18432
+#define MARBLE_STACK_CLAIM 15360
+#define MARBLE_STACK_RELEASE 15360
+#define MARBLE_STACK_PRUNE 29696
+#define MARBLE_STACK_MAINTAIN 601088
+#define MARBLE_STACK_COUNTS 29696
+#define MARBLE_STACK_UNSYNCED 128
+#define MARBLE_STACK_SYNC 128
 #define MARBLE_STACK_CHECK 32768
 #define MARBLE_STACK_SALVAGE 8192
 #define MARBLE_STACK_TABLE 128 /* each of the four table calls */
@@ -180,7 +183,9 @@ typedef struct marble_settings {
     uint64_t max_object_size;
 } marble_settings;
 
-/* A file: its label's five numbers and its live count. All zeros: the slot is empty. */
+/* A file: its label's five numbers, its live count, and whether it is known to be on the flash: synced is 0 from its writing on, 1 from a
+   marble_sync or a reopening on. Any other number, and a record of nothing but the mark, is refused with 1 by every call that takes the
+   state, but for marble_reopen, which makes it anew. All zeros: the slot is empty. */
 typedef struct marble_record {
     uint64_t lsn;
     uint64_t trailer_offset;
@@ -188,9 +193,10 @@ typedef struct marble_record {
     uint64_t present_objects;
     uint64_t generation;
     uint64_t live;
+    uint64_t synced;
 } marble_record;
 
-/* 12,360 bytes, the host's to keep and to read, the calls' to change. All zeros before the first reopening. */
+/* 14,408 bytes, the host's to keep and to read, the calls' to change. All zeros before the first reopening. */
 typedef struct marble_state {
     marble_settings settings;
     uint64_t heap_len;  /* bytes */
@@ -245,10 +251,10 @@ typedef struct marble_loss {
 #endif
 MARBLE_HOLDS(lengths_of_64_bits, sizeof(size_t) == 8 && sizeof(void *) == 8);
 MARBLE_HOLDS(settings_of_six_words, sizeof(marble_settings) == 48);
-MARBLE_HOLDS(record_of_six_words, sizeof(marble_record) == 48);
-MARBLE_HOLDS(state_of_1545_words, sizeof(marble_state) == 12360);
+MARBLE_HOLDS(record_of_seven_words, sizeof(marble_record) == 56);
+MARBLE_HOLDS(state_of_1801_words, sizeof(marble_state) == 14408);
 MARBLE_HOLDS(records_from_word_8, offsetof(marble_state, records) == 64);
-MARBLE_HOLDS(next_position_last, offsetof(marble_state, next_position) == 12352);
+MARBLE_HOLDS(next_position_last, offsetof(marble_state, next_position) == 14400);
 MARBLE_HOLDS(claims_of_four_words, sizeof(marble_claims) == 32);
 MARBLE_HOLDS(totals_of_four_words, sizeof(marble_totals) == 32);
 MARBLE_HOLDS(piece_of_four_words, sizeof(marble_piece) == 32);
@@ -306,6 +312,17 @@ MARBLE_MUST_USE uint64_t marble_maintain(marble_settings settings, marble_state 
 /* "Counts": files, bytes, present, live, summed over files. Refused with 1: four zeros. */
 MARBLE_MUST_USE uint64_t marble_counts(marble_settings settings, const marble_state *state, const uint8_t *heap, size_t heap_len,
                                        const uint64_t *table, size_t words, marble_totals *counts);
+
+/* ---- what has reached the flash. A host that keeps the heap on flash flushes it from time to time. These two calls look at records alone:
+   lend state.records and MARBLE_SLOTS_MAX, or fewer of them; lent a copy, a sync marks the copy alone. An empty record is never counted or
+   marked. A list of more than MARBLE_SLOTS_MAX records is refused with 1; nothing else is asked of them. A reopening leaves no file
+   unsynced, but where it is refused with 1, which changes nothing. Flush, then marble_sync; no write, maintenance included, between the
+   flush and the mark: it would mark a file that is not on the flash. */
+/* How many of the records are of files that are not synced. 1; refused: unsynced 0. */
+MARBLE_MUST_USE uint64_t marble_unsynced(const marble_record *records, size_t count, uint64_t *unsynced);
+
+/* Has them marked; changed is 1 if a mark changed, else 0. 1; refused: no record changes, changed 0. */
+MARBLE_MUST_USE uint64_t marble_sync(marble_record *records, size_t count, uint64_t *changed);
 
 /* ---- the checker: for a heap that another hand made. It is lent what a reopening is, all of it only to be read; no state, no claims. */
 /* "Check": everything wrong with the heap, ascending by slot. The first of 8 to 13 and 15 is a slot's only line. A slot without one has its

@@ -11,6 +11,7 @@ int memcmp(const void *, const void *, size_t);
 #define BATCH_MOST 4096
 #define BATCH_BIT (1ull << 62)
 #define LISTING_MOST (4 * 16)
+#define RECORDS_MOST (MARBLE_SLOTS_MAX + 1)
 
 /* ---- checks */
 void expect(const char *what, uint64_t got, uint64_t want);
@@ -45,6 +46,9 @@ uint64_t release(uint64_t slot);
 uint64_t prune(void);
 uint64_t maintain(void);
 uint64_t counts(void);
+/* of so many records */
+uint64_t unsynced(const marble_record *records, size_t count);
+uint64_t sync(marble_record *records, size_t count);
 /* a listing of so many words */
 uint64_t check(size_t words);
 uint64_t salvage(void);
@@ -109,3 +113,4 @@ void refusals(void);
 void faults(void);
 void rescue(void);
 void through(void);
+void flushed(void);

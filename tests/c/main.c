@@ -10,6 +10,7 @@ int main(void) {
     faults();
     rescue();
     through();
+    flushed();
     printf("state %llu\n", (unsigned long long)sizeof(marble_state));
     costs_told();
     printf("tests/c: %llu checks, %s\n", (unsigned long long)checks(), failed() ? "some failed" : "all passed");

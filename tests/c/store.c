@@ -25,6 +25,7 @@ GUARDED(claims_area, sizeof(marble_claims));
 GUARDED(out_area, 4 * GUARD);
 GUARDED(totals_area, sizeof(marble_totals));
 GUARDED(piece_area, sizeof(marble_piece));
+GUARDED(records_area, RECORDS_MOST * sizeof(marble_record));
 GUARDED(listing_area, 8 * LISTING_MOST);
 GUARDED(report_area, MARBLE_SLOTS_MAX * sizeof(marble_loss));
 /* what stood there before a call */
@@ -44,6 +45,7 @@ const marble_loss *given_up = (const marble_loss *)(report_area + GUARD);
 #define KIND OUT(2)
 #define TOTALS ((marble_totals *)(totals_area + GUARD))
 #define PIECE ((marble_piece *)(piece_area + GUARD))
+#define RECORDS ((marble_record *)(records_area + GUARD))
 #define LISTING ((uint64_t *)(listing_area + GUARD))
 #define REPORT ((marble_loss *)(report_area + GUARD))
 
@@ -95,12 +97,12 @@ marble_settings small(uint64_t slot_bytes) {
 
 /* ---- stack: painted before each call, looked at behind it */
 #define DEPTH (4096 * 1024)
-enum { REOPEN, WRITE, READ, READ_THROUGH, CLAIM, RELEASE, PRUNE, MAINTAIN, COUNTS, CHECK, SALVAGE, LOAD, STORE, COMPARE, GREATER, CALLS };
-static const char *const names[CALLS] = {"reopen", "write", "read", "read_through", "claim", "release", "prune", "maintain", "counts", "check", "salvage", "load", "store", "compare_and_store", "store_if_greater"};
+enum { REOPEN, WRITE, READ, READ_THROUGH, CLAIM, RELEASE, PRUNE, MAINTAIN, COUNTS, UNSYNCED, SYNC, CHECK, SALVAGE, LOAD, STORE, COMPARE, GREATER, CALLS };
+static const char *const names[CALLS] = {"reopen", "write", "read", "read_through", "claim", "release", "prune", "maintain", "counts", "unsynced", "sync", "check", "salvage", "load", "store", "compare_and_store", "store_if_greater"};
 /* a call that needs more than the header says fails here */
 static const size_t allowed[CALLS] = {
     MARBLE_STACK_REOPEN, MARBLE_STACK_WRITE,  MARBLE_STACK_READ,  MARBLE_STACK_READ_THROUGH, MARBLE_STACK_CLAIM, MARBLE_STACK_RELEASE, MARBLE_STACK_PRUNE, MARBLE_STACK_MAINTAIN,
-    MARBLE_STACK_COUNTS, MARBLE_STACK_CHECK,  MARBLE_STACK_SALVAGE, MARBLE_STACK_TABLE, MARBLE_STACK_TABLE, MARBLE_STACK_TABLE, MARBLE_STACK_TABLE,
+    MARBLE_STACK_COUNTS, MARBLE_STACK_UNSYNCED, MARBLE_STACK_SYNC, MARBLE_STACK_CHECK,  MARBLE_STACK_SALVAGE, MARBLE_STACK_TABLE, MARBLE_STACK_TABLE, MARBLE_STACK_TABLE, MARBLE_STACK_TABLE,
 };
 static size_t used[CALLS];
 
@@ -108,7 +110,7 @@ static size_t used[CALLS];
    and out is a loop over words that is no copy of this kind. docs/ARCHITECTURE.md, "Stack and copies", says what each is for; maintenance.c has maintenance's by groups and files. */
 /* 256 labels, five numbers each: a file map is longer */
 #define LABELS_BYTES (256 * 5 * sizeof(uint64_t))
-static const size_t copies_allowed[CALLS] = {8, 5, 0, 0, 0, 0, 1, 25, 1, 259, 0, 0, 0, 0, 0};
+static const size_t copies_allowed[CALLS] = {8, 5, 0, 0, 0, 0, 1, 25, 1, 0, 0, 259, 0, 0, 0, 0, 0};
 static size_t copies, copied[CALLS], last_copied;
 
 void *memcpy(void *to, const void *from, size_t len) {
@@ -201,7 +203,7 @@ uint64_t reopen(void) {
         for (size_t i = 0; i < w.words; i++) left |= w.table[i];
         for (size_t i = 0; i < MARBLE_SLOTS_MAX; i++) {
             const marble_record *r = &w.state->records[i];
-            left |= r->lsn | r->trailer_offset | r->file_size | r->present_objects | r->generation | r->live;
+            left |= r->lsn | r->trailer_offset | r->file_size | r->present_objects | r->generation | r->live | r->synced;
         }
         expect("refused reopening: zeroed", left, 0);
         expect("refused reopening: next position", w.state->next_position, 1);
@@ -294,6 +296,37 @@ uint64_t counts(void) {
     behind(COUNTS, ALL);
     totals = *TOTALS;
     if (n != MARBLE_OK) expect("refused counts: zeros", totals.files | totals.bytes | totals.present | totals.live, 0);
+    return n;
+}
+
+/* the list is lent from a guarded place */
+uint64_t unsynced(const marble_record *records, size_t count) {
+    paint(records_area, count * sizeof *records, sizeof records_area);
+    if (count) memcpy(RECORDS, records, count * sizeof *records);
+    before();
+    stack_below(UNSYNCED, 1);
+    uint64_t n = marble_unsynced(count ? RECORDS : NULL, count, OUT(0));
+    stack_below(UNSYNCED, 0);
+    behind(UNSYNCED, ALL);
+    guard("unsynced", "records", records_area, count * sizeof *records, sizeof records_area);
+    same("unsynced", "records", RECORDS, records, count * sizeof *records);
+    if (n != MARBLE_OK) expect("refused: none", out[0], 0);
+    return n;
+}
+
+/* and comes back from there */
+uint64_t sync(marble_record *records, size_t count) {
+    paint(records_area, count * sizeof *records, sizeof records_area);
+    if (count) memcpy(RECORDS, records, count * sizeof *records);
+    before();
+    stack_below(SYNC, 1);
+    uint64_t n = marble_sync(count ? RECORDS : NULL, count, OUT(0));
+    stack_below(SYNC, 0);
+    behind(SYNC, ALL);
+    guard("sync", "records", records_area, count * sizeof *records, sizeof records_area);
+    if (n != MARBLE_OK) expect("refused: no mark changed", out[0], 0);
+    if (n != MARBLE_OK || !out[0]) same("sync", "records", RECORDS, records, count * sizeof *records);
+    if (count) memcpy(records, RECORDS, count * sizeof *records);
     return n;
 }
 

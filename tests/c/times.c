@@ -352,7 +352,7 @@ static int in_form(uint64_t *used) {
     }
     for (k = 0; k < MARBLE_SLOTS_MAX; k++) {
         const marble_record *r = &state.records[k];
-        if (r->lsn && (k >= heap_len / settings.slot_bytes || !in_range(r) || r->present_objects > r->file_size || r->live > words / 2)) return 0;
+        if (r->lsn && (k >= heap_len / settings.slot_bytes || !in_range(r) || r->present_objects > r->file_size || r->live > words / 2 || r->synced > 1)) return 0;
     }
     return state.next_position != 0;
 }
@@ -469,7 +469,7 @@ static int plain_write(void) {
     return 0;
 }
 
-/* 8 to 13 of a slot that is not empty, its record, and its entries behind the count */
+/* 8 to 13 of a slot that is not empty, its record with the mark set, and its entries behind the count */
 static int recorded(uint64_t slot, uint64_t *count) {
     const uint8_t *label = heap + slot * settings.slot_bytes, *end = label + MARBLE_LABEL_BYTES, *at = label;
     marble_record *r = &state.records[slot];
@@ -482,6 +482,7 @@ static int recorded(uint64_t slot, uint64_t *count) {
         if (*at) return 0;
     }
     if (!in_range(r) || r->file_size - r->trailer_offset < 20) return 0;
+    r->synced = 1;
     const uint8_t *trailer = end + r->trailer_offset;
     const uint64_t len = r->file_size - r->trailer_offset, listed = number_at(trailer + 4);
     memcpy(&sum, trailer, 4);

@@ -189,8 +189,8 @@ IN_MODEL = {
          'numbers = (lsn, trailer_offset, len(data), sum(b is not None for _, b in entries), generation)'),
     ],
     'live-without-deletes': [
-        ('self.records[slot] = numbers + (len(entries),)',
-         'self.records[slot] = numbers + (sum(b is not None for _, b in entries),)'),
+        ('self.records[slot] = numbers + (len(entries), 0)  # clear on writing',
+         'self.records[slot] = numbers + (sum(b is not None for _, b in entries), 0)'),
     ],
     'T-with-trailer': [
         ('numbers = (lsn, trailer_offset, len(data), len(entries), generation)',
@@ -205,12 +205,12 @@ IN_MODEL = {
          'numbers = (lsn, trailer_offset, 64 + len(data), len(entries), generation)'),
     ],
     'file-found-after-adding': [
-        ('        self.records[slot] = numbers + (len(entries),)\n',
+        ('        self.records[slot] = numbers + (len(entries), 0)  # clear on writing\n',
          ''),
         ('        for ident, _ in places:\n'
          '            loser',
          '        numbers = (lsn, trailer_offset, len(data), len(entries), generation)\n'
-         '        self.records[slot] = numbers + (len(entries),)\n'
+         '        self.records[slot] = numbers + (len(entries), 0)  # clear on writing\n'
          '        for ident, _ in places:\n'
          '            loser'),
     ],
@@ -680,8 +680,8 @@ IN_MODEL = {
          'Counter(b[2] for b in best.values() if b[1] % 2 == 0)'),
     ],
     'reopened-live-as-present': [
-        ('records[slot] = numbers + (live[slot],)',
-         'records[slot] = numbers + (numbers[3],)'),
+        ('records[slot] = numbers + (live[slot], 1)',
+         'records[slot] = numbers + (numbers[3], 1)'),
     ],
     'delete-at-T-not-live': [
         ('Counter(b[2] for b in best.values())',
@@ -948,7 +948,7 @@ IN_MODEL = {
     ],
     'empty-whatever-live': [
         ('if r is not EMPTY and r != EMPTY]',
-         'if any(r[:5])]'),
+         'if any(r[:5]) or r[6]]'),
     ],
     'dead-files-not-counted': [
         ('return len(files), sum(r[2]',

@@ -23,7 +23,7 @@ class Case:
     def left(self):
         """next position, files, table, checksum of the heap"""
         s = self.console.store
-        files = ''.join(' file %d %d %d %d %d %d %d' % (slot, *record) for slot, record in s.files())
+        files = ''.join(' file %d %d %d %d %d %d %d %d' % (slot, *record) for slot, record in s.files())
         ids, locations = ' '.join(map(str, s.ids())), ' '.join(map(str, s.locations()))
         return f'next {s.next}{files} ids {ids} locations {locations} heap {zlib.crc32(s.heap)}'
 

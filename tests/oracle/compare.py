@@ -4,7 +4,8 @@
     compare.py [--model | --console PATH --host PATH] [--rust PATH | --stored FILE] [--seed S].. [--calls N] [--number FILE]
     compare.py .. [--seed S] [--limit KIND].. [--from K] [--count N] [--small] [--store FILE]
 
-After every call: each id's read, the answer, the growth of the next position, counts, each file's numbers, live count and claim;
+After every call: each id's read, the answer, the growth of the next position, counts, each file's numbers, live count, synced mark and
+claim, and how many are not synced;
 after reopenings and rewrites also each file as a set of entries. At a scenario's end the heap that the port wrote is renamed to the
 original's files, opened and read by it, and every number must be the same; the files that the original wrote until then are labelled,
 put into slots, reopened and read by the port. A difference that is not in known.py fails. The port's bytes are the model's bytes: the console shows the heap's
@@ -24,7 +25,7 @@ from model import BATCH_BIT, HEADER, LABEL, Console, batch_operations, label_num
 from port import Difference, Ended, Model, Port, Rust, Stored, in_the_originals_words, store_answers
 from scenarios import from_files, scenario
 
-File = collections.namedtuple('File', 'lsn trailer_offset file_size present generation live claimed')
+File = collections.namedtuple('File', 'lsn trailer_offset file_size present generation live synced claimed')
 
 
 def shape(file):
@@ -72,7 +73,7 @@ class Step:
         return self.heap[at:at + file.file_size]
 
 
-CALLS = ('reopen', 'write', 'claim', 'release', 'prune', 'maintain')
+CALLS = ('reopen', 'write', 'claim', 'release', 'prune', 'maintain', 'sync')
 TABLE_CALLS = ('load', 'store', 'cas', 'max')
 LOOKED_AT = ('reopen', 'claim', 'release', 'prune', 'maintain')  # after these the files' bytes are compared
 
@@ -112,20 +113,20 @@ def taken_over(console):
 
 
 def script(steps, ids):
-    """the console's lines: after each call a dump, the counts and every id's read"""
+    """the console's lines: after each call a dump, the counts, how many files are not synced and every id's read"""
     lines = []
     for step in steps:
         lines.append(step.line)
         if step.line.split()[0] in CALLS:
-            lines += ['dump', 'counts'] + [f'read {i}' for i in ids]
+            lines += ['dump', 'counts', 'unsynced'] + [f'read {i}' for i in ids]
     return lines
 
 
 class PortView:
     """what the port said after a call"""
 
-    def __init__(self, answer, dump, counts, reads):
-        self.answer, self.counts, self.reads = answer[0], counts[0], [r[0] for r in reads]
+    def __init__(self, answer, dump, counts, unsynced, reads):
+        self.answer, self.counts, self.unsynced, self.reads = answer[0], counts[0], unsynced[0], [r[0] for r in reads]
         self.files, self.entries, claimed = {}, {}, set()
         for line in dump:
             word, *numbers = line.split()
@@ -150,7 +151,7 @@ def views(steps, answers, ids):
     for step in steps:
         answer, word = next(said), step.line.split()[0]
         if word in CALLS:
-            out.append(PortView(answer, next(said), next(said), [next(said) for _ in ids]))
+            out.append(PortView(answer, next(said), next(said), next(said), [next(said) for _ in ids]))
         else:
             out.append(answer[0] if word in TABLE_CALLS else None)
     return out
@@ -340,6 +341,11 @@ class Comparison:
         must(view.answer == 'ok' == got, 'prune', view.answer, got)
         self.alike(step, view, entries=True)
 
+    def sync(self, step, view):
+        got = self.one('sync')
+        must(view.answer == got, 'whether a mark changed', view.answer, got)
+        self.alike(step, view)
+
     def claim(self, step, view, slot):
         self.claimed(step, view, 'claim', int(slot))
 
@@ -389,6 +395,7 @@ class Comparison:
             self.tables(view)
         must(view.counts == self.one('counts'), 'counts', view.counts, 'another')
         rust = self.rust_files()
+        must(view.unsynced == f'ok {sum(f.synced == 0 for f in rust)}', 'files not synced', view.unsynced, rust)
         mine, theirs = sorted(map(shape, view.files.values())), sorted(map(shape, rust))
         must(mine == theirs, 'files', mine, theirs)
         if entries:

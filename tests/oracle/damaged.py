@@ -491,7 +491,7 @@ class Maker:
         self.lines += [f'poke {k * size} {data.hex()}' for k, data in enumerate(self.heap) if any(data) and (k + 1) * size <= heap]
         if self.chance(10):  # neither table nor state matters
             self.lines += [f'entry {r.randrange(self.table)} {self.edge()} {self.edge()}' for _ in range(3 if words == 2 * self.table else 0)]
-            self.lines += [f'record {r.randrange(256)}' + ''.join(f' {self.edge()}' for _ in range(6)), f'state{" 7" * 9}', 'claims 1 2 3 4']
+            self.lines += [f'record {r.randrange(256)}' + ''.join(f' {self.edge()}' for _ in range(6)) + f' {r.randrange(2)}', f'state{" 7" * 9}', 'claims 1 2 3 4']
             self.met.add('a table not in form')
         faults = len(self.faults)
         rooms = [FULL, r.choice([0, 1, 2, 3, max(0, faults - 1), faults, faults + 1, 2 * faults, FULL])]

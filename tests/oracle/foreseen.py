@@ -17,7 +17,7 @@ def rewriting(store):
         try:
             for slot in group:
                 kept = store.survivors(slot, table)
-                *_, present, _, live = store.records[slot]
+                *_, present, _, live, _ = store.records[slot]
                 sunk = sunk or met and len(kept) > live
                 small = small or met and live * 100 // max(present, 1) >= given.percent
                 for body in kept.values():

@@ -53,10 +53,10 @@ static void dump(void) {
     printf("next %llu\n", (unsigned long long)state.next_position);
     for (unsigned k = 0; k < 256; k++) {
         const marble_record *f = &state.records[k];
-        if (f->lsn | f->trailer_offset | f->file_size | f->present_objects | f->generation | f->live)
-            printf("record %u %llu %llu %llu %llu %llu %llu\n", k, (unsigned long long)f->lsn, (unsigned long long)f->trailer_offset,
+        if (f->lsn | f->trailer_offset | f->file_size | f->present_objects | f->generation | f->live | f->synced)
+            printf("record %u %llu %llu %llu %llu %llu %llu %llu\n", k, (unsigned long long)f->lsn, (unsigned long long)f->trailer_offset,
                    (unsigned long long)f->file_size, (unsigned long long)f->present_objects, (unsigned long long)f->generation,
-                   (unsigned long long)f->live);
+                   (unsigned long long)f->live, (unsigned long long)f->synced);
     }
     for (unsigned k = 0; k < 256; k++)
         if (claims.word[k / 64] >> k % 64 & 1) printf("claimed %u\n", k);
@@ -158,6 +158,12 @@ static void line(const char *word) {
         refusal = marble_counts(s, &state, LENT, &t);
         if (refusal != 0) said(refusal);
         else printf("ok %llu %llu %llu %llu\n", (unsigned long long)t.files, (unsigned long long)t.bytes, (unsigned long long)t.present, (unsigned long long)t.live);
+    } else if (is(word, "unsynced")) {
+        refusal = marble_unsynced(state.records, MARBLE_SLOTS_MAX, &a);
+        found(refusal, "ok", "ok 0", a);
+    } else if (is(word, "sync")) {
+        refusal = marble_sync(state.records, MARBLE_SLOTS_MAX, &a);
+        found(refusal, "ok", "ok 0", a);
     } else if (is(word, "load")) {
         a = number(), refusal = marble_load(TABLE, a, &c, &b);
         found(refusal, c == MARBLE_DELETED ? "deleted" : "ok", "never", b);

@@ -29,15 +29,18 @@ FORMS = {word: re.compile(f'({form})$') for words, form in {
     'through': f'(batch|heap) (-|([0-9a-f][0-9a-f])+)|deleted|never|{REFUSED}',
     'maintain': f'ok {NUMBER}|{REFUSED} [0-3] {NUMBER}',
     'counts': f'ok {NUMBER} {NUMBER} {NUMBER} {NUMBER}|{REFUSED}',
+    'unsynced': f'ok {NUMBER}',
+    'sync': 'ok [01]',
     'load': f'ok {NUMBER}|deleted {NUMBER}|never|{REFUSED}',
     'cas': f'ok|differs {NUMBER}|{REFUSED}',
     'max': f'ok {NUMBER}|ok nothing|{REFUSED}',
 }.items() for word in words.split()}
-DUMP = re.compile(f'(next {NUMBER}|record{f" {NUMBER}" * 7}|claimed {NUMBER}|entry{f" {NUMBER}" * 3}|heap {NUMBER}|end)$')
+DUMP = re.compile(f'(next {NUMBER}|record{f" {NUMBER}" * 7} [01]|claimed {NUMBER}|entry{f" {NUMBER}" * 3}|heap {NUMBER}|end)$')
 LIST = re.compile(f'({NUMBER}{f" {NUMBER}" * 5}|ids {NUMBER})$')
 # scripts follow each other in one process: an accepted reopening empties map and claims, then the state is as before the first one
 RESET = ['settings 128 0 1 1 0 1', 'heap 128', 'table 2', 'reopen', f'state{" 0" * 9}']
-STATE_CALLS = ('reopen', 'write', 'claim', 'release', 'prune', 'maintain', 'read', 'through', 'counts', 'list', 'load', 'store', 'cas', 'max')
+STATE_CALLS = ('reopen', 'write', 'claim', 'release', 'prune', 'maintain', 'read', 'through', 'counts', 'unsynced', 'sync', 'list', 'load', 'store',
+               'cas', 'max')
 
 
 def first_word(line):
@@ -139,6 +142,7 @@ class Maker:
         live = r.randint(0, max(present, 1)) if r.random() < 0.5 else r.randint(1, self.room)
         live = min(live, self.room)
         fields = [self.rarely(n, self.edge(), 0.005) for n in (lsn, t, size, present, generation, live)]
+        fields.append(self.rarely(r.randrange(2), 2, 0.005))
         self.lines.append(f'record {self.rarely(slot, r.randrange(260), 0.01)} {" ".join(map(str, fields))}')
         records.append(lsn)
         return min((lsn & ~BATCH_BIT) + t + r.choice([1, 1, 1, 1, 1, 1, 1, 1, 5, 0]), BATCH_BIT - 1) or 1
@@ -168,14 +172,14 @@ class Maker:
         slot, raw = self.rarely(r.randrange(self.slots + 1), self.edge(), 0.1), r.choice([1, 2, 3, self.edge()])
         calls = ['maintain'] * 5 + [f'write {self.batch()}'] * 5 + [f'read {i}' for i in self.ids]
         calls += [self.through(ident)] * 3
-        calls += ['prune', 'counts', 'list', 'reopen', f'claim {slot}', f'claim {slot}', f'release {slot}', f'load {ident}', f'store {ident} {raw}',
+        calls += ['prune', 'counts', 'unsynced', 'sync', 'sync', 'list', 'reopen', f'claim {slot}', f'claim {slot}', f'release {slot}', f'load {ident}', f'store {ident} {raw}',
                   f'cas {ident} {raw} {self.edge()}', f'max {ident} {raw}', self.bad_line()]
         return r.choice(calls)
 
     def bad_line(self):
         big = 2 ** 64 + self.r.randrange(5)
         return self.r.choice(['nonsense', '', ' \t', 'read', 'read x', f'read {big}', 'through 1', 'through x -', 'through 1 0', 'write 0', 'write xy', 'heap 1048577', 'table 131073', 'table 2 2',
-                              'table', f'poke {self.heap_bytes} 00', f'entry {self.words // 2} 1 1', f'entry {2 ** 63} 1 1', 'record 256 1 1 1 1 1 1', 'claims 1 2 3', 'reopen now', 'settings 1 2 3 4 5', 'read -1'])
+                              'table', f'poke {self.heap_bytes} 00', f'entry {self.words // 2} 1 1', f'entry {2 ** 63} 1 1', 'record 256 1 1 1 1 1 1 0', 'record 0 1 1 1 1 1 1', 'record 0 1 1 1 1 1 1 2', 'sync 1', 'unsynced 0', 'claims 1 2 3', 'reopen now', 'settings 1 2 3 4 5', 'read -1'])
 
 
 # ---- what must hold ------------------------------------------------------------------------------
@@ -216,13 +220,13 @@ def check_call(maker, line, answer, before, after):
     """one call between two dumps; gives the slots whose heap bytes it may have changed"""
     word = first_word(line)
     refused, number = answer.startswith('refused'), answer.split()[1] if answer.startswith('refused') else ''
-    if answer == 'bad line' or word in ('read', 'through', 'counts', 'load', 'list') or refused and (number == '1' or word not in ('reopen', 'maintain')):
+    if answer == 'bad line' or word in ('read', 'through', 'counts', 'unsynced', 'load', 'list') or refused and (number == '1' or word not in ('reopen', 'maintain')):
         if before != after:
             raise wrong(maker, line, answer, 'a call that changes nothing changed the dump')
         return []
     if word == 'reopen' and refused and after != ['next 1', heap_sum(before), 'end']:
         raise wrong(maker, line, answer, 'a refused reopening leaves an empty store')
-    if word in ('reopen', 'claim', 'release', 'store', 'cas', 'max') and heap_sum(before) != heap_sum(after):
+    if word in ('reopen', 'sync', 'claim', 'release', 'store', 'cas', 'max') and heap_sum(before) != heap_sum(after):
         raise wrong(maker, line, answer, 'the heap changed')
     if word in ('prune', 'maintain', 'write') and of(before, 'claimed') != of(after, 'claimed'):
         raise wrong(maker, line, answer, 'claims changed')
@@ -233,13 +237,19 @@ def check_call(maker, line, answer, before, after):
             raise wrong(maker, line, answer, 'more than a claim changed')
     if word in ('store', 'cas', 'max') and [l for l in before if not l.startswith('entry')] != [l for l in after if not l.startswith('entry')]:
         raise wrong(maker, line, answer, 'more than the table changed')
+    if word == 'sync':
+        marked = [re.sub('^(record.*) 0$', r'\1 1', l) for l in before]
+        if after != marked or answer != ('ok 0' if before == marked else 'ok 1'):
+            raise wrong(maker, line, answer, 'sync sets the marks that are clear, says whether there were any, and changes nothing else')
+    if word == 'reopen' and any(l.endswith(' 0') for l in of(after, 'record').values()):
+        raise wrong(maker, line, answer, 'a reopening leaves no file unsynced')
     if word == 'prune':
         gone = of(before, 'record').items() - of(after, 'record').items()
-        if of(after, 'record').items() - of(before, 'record').items() or any(g[1].split()[-1] != '0' or g[0] in of(before, 'claimed') for g in gone):
+        if of(after, 'record').items() - of(before, 'record').items() or any(g[1].split()[-2] != '0' or g[0] in of(before, 'claimed') for g in gone):
             raise wrong(maker, line, answer, 'prune takes unclaimed files with live 0')
     if word in ('write', 'prune', 'maintain'):
-        # by everything but the live count
-        mine, theirs = ({k: l.rsplit(' ', 1)[0] for k, l in of(d, 'record').items()} for d in (before, after))
+        # by everything but the live count and the mark
+        mine, theirs = ({k: l.rsplit(' ', 2)[0] for k, l in of(d, 'record').items()} for d in (before, after))
         slots = {int(k) for k in mine.keys() | theirs.keys() if mine.get(k) != theirs.get(k)}
         if word == 'maintain' and slots:  # a file can be written and pruned in one call
             slots |= {k for k in range(maker.slots) if str(k) not in mine}

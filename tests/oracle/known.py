@@ -216,9 +216,9 @@ def directed():
         case(29, 'no file to lose a live one', nothing, ['store 7 10', 'write 07010141'], 'ok',
              ['store 7 10', 'write 7=41'], 'panic file_map.rs:298'),
         # records by hand: the original takes them from names that 13 and 14 refuse here
-        case(30, 'live and no present', Made(one()), ['record 0 1 21 49 0 0 1', 'maintain'], 'ok 1',
+        case(30, 'live and no present', Made(one()), ['record 0 1 21 49 0 0 1 0', 'maintain'], 'ok 1',
              ['wipe', Made.raw((1, 21, body + listed, 0, 0)), 'open', 'maintain'], 'panic file_map.rs:96'),
-        case(31, 'two files with one location', Made(one()), [nothing.poke(1, two(1)), 'record 1 1 21 49 1 0 1', 'read 1'], 'ok 41',
+        case(31, 'two files with one location', Made(one()), [nothing.poke(1, two(1)), 'record 1 1 21 49 1 0 1 0', 'read 1'], 'ok 41',
              [Made.raw(two(1, 1)), 'reopen'], 'panic recovery.rs:102'),
         case(31, '.. by writes near 2^62', Made(one(BATCH_BIT + 22), two(BATCH_BIT - 50)), ['write 01010142', 'write 01010142'], 'refused 7',
              ['write 1=42', 'write 1=42'], 'panic file_map.rs:164'),

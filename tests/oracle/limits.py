@@ -68,7 +68,7 @@ def full_heap(r):
     files = [(slot, [(1 + r.randrange(60), body())], r.choice([0, 1, 2, 3, 200, 255]), r.choice([0, BATCH_BIT])) for slot in r.sample(range(256), made)]
     lines = store(settings(4096, r.choice([0, 75, 100]), r.choice([1, 2, 3])), 256, 64) + poked(4096, files, r.choice([1, 2 ** 40]))
     lines += ['reopen'] + [put((1 + r.randrange(60), body())) for _ in range(256 - made)]
-    lines += ['reopen', put((61, b'no room')), 'claim 255', 'maintain', 'prune', 'release 255']
+    lines += ['sync', 'reopen', put((61, b'no room')), 'claim 255', 'maintain', 'prune', 'release 255']
     lines += [put((1 + r.randrange(60), body())) for _ in dead]
     return lines + ['maintain', 'reopen', 'prune']
 
@@ -111,7 +111,7 @@ def many_files(r):
         if r.random() < 0.02:
             lines.append(r.choice(['maintain', 'prune', 'reopen']))
     chosen = settings(slot_bytes, 100, r.choice([1, 2]), MIB, 256, 100)
-    return lines + ['maintain', chosen, 'reopen', 'maintain', 'prune'] + [put((k, b'again')) for k in range(1, 4)] + ['maintain']
+    return lines + ['sync', 'maintain', chosen, 'reopen', 'maintain', 'prune'] + [put((k, b'again')) for k in range(1, 4)] + ['maintain']
 
 
 def three_groups(r):

@@ -32,7 +32,7 @@ class Case:
     def show(self, word):
         """next position, files, table, checksum of the heap"""
         s = self.console.store
-        files = ''.join(' file %d %d %d %d %d %d %d' % (slot, *record) for slot, record in s.files())
+        files = ''.join(' file %d %d %d %d %d %d %d %d' % (slot, *record) for slot, record in s.files())
         ids, locations = ' '.join(map(str, s.ids())), ' '.join(map(str, s.locations()))
         print(f'{word} next {s.next}{files} ids {ids} locations {locations} heap {zlib.crc32(s.heap)}')
 
@@ -56,12 +56,12 @@ class Case:
             listed = bytes(s.heap[start + total + 4:start + size])
             self.ask(f'poke {start + total} {zlib.crc32(listed).to_bytes(4, "little").hex()}')
         for slot, size in sizes:
-            lsn, total, _, present, generation, live = s.records[slot]
-            self.ask(f'record {slot} {lsn} {total} {size} {present} {generation} {live}')
+            lsn, total, _, present, generation, live, synced = s.records[slot]
+            self.ask(f'record {slot} {lsn} {total} {size} {present} {generation} {live} {synced}')
         for slot, generation in enumerate(generations):
             if generation:
-                lsn, total, size, present, _, live = s.records[slot]
-                self.ask(f'record {slot} {lsn} {total} {size} {present} {generation} {live}')
+                lsn, total, size, present, _, live, synced = s.records[slot]
+                self.ask(f'record {slot} {lsn} {total} {size} {present} {generation} {live} {synced}')
         if next_position:
             self.ask(f'state {self.settings} {HEAP} 8 {next_position}')
         self.ask(f'claims {claimed} 0 0 0')

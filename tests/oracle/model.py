@@ -1,6 +1,6 @@
 #!/usr/bin/env python3
 """Document 01 as plain Python, read from the paper alone: a second opinion beside the port. Of document 02: request P1's
-kinds, request P3's read through a batch, request P5's checker, request P9's salvage.
+kinds, request P3's read through a batch, request P5's checker, request P6's mark, request P9's salvage.
 
 Reads the console's script on standard input and prints its answers. Nothing here is taken from crates/;
 where the paper leaves a choice, the reading D1..D15 of docs/DECISIONS.md is named at the line. 12 is as document 02's request P2 mends it."""
@@ -17,7 +17,7 @@ LABEL = 64
 HEADER = 20
 MAX_RECORDS = 256
 NEVER, DELETED, OBJECT = 'never', 'deleted', 'ok'  # what a read or a load tells of an id
-EMPTY = (0, 0, 0, 0, 0, 0)  # lsn, trailer_offset, file_size, present_objects, generation, live
+EMPTY = (0, 0, 0, 0, 0, 0, 0)  # lsn, trailer_offset, file_size, present_objects, generation, live, synced
 # a line of the checker's list; position is None where it has none; of: what the fault is of, which the call does not give
 Fault = namedtuple('Fault', 'slot number position of')
 Loss = namedtuple('Loss', 'slot number')  # a line of the salvage's report
@@ -235,9 +235,9 @@ class Store:
         return rising and not any(ids[used:]) and not any(locations[used:])
 
     def record_wrong(self, slot, record):
-        lsn, trailer_offset, file_size, present, generation, live = record
+        lsn, trailer_offset, file_size, present, generation, live, synced = record
         return (slot >= self.slots() or outside_bounds(self.given.slot_bytes, lsn, trailer_offset, file_size, generation)
-                or present > file_size or live > self.entries())
+                or present > file_size or live > self.entries() or synced > 1)
 
     def check_state(self):
         refuse_if(not self.lengths_in_range(), 1)
@@ -278,12 +278,12 @@ class Store:
         for ident, _ in places:
             loser = self.found(table[ident]) if ident in table else None  # D5: once for each id
             if loser is not None:
-                *kept, live = self.records[loser]
-                self.records[loser] = (*kept, max(live - 1, 0))
+                *kept, live, synced = self.records[loser]
+                self.records[loser] = (*kept, max(live - 1, 0), synced)
         numbers = (lsn, trailer_offset, len(data), len(entries), generation)
         at = slot * self.given.slot_bytes
         self.heap[at:at + LABEL + len(data)] = label_bytes(numbers) + data
-        self.records[slot] = numbers + (len(entries),)
+        self.records[slot] = numbers + (len(entries), 0)  # clear on writing
         self.set_table({**table, **{i: r + 2 * lsn for i, r in places}})
         self.next += trailer_offset + 1
 
@@ -345,12 +345,25 @@ class Store:
         files = [r for _, r in self.files()]
         return len(files), sum(r[2] for r in files), sum(r[3] for r in files), sum(r[5] for r in files)
 
+    # -- marks (document 02, request P6)
+
+    def unsynced(self):
+        """how many of the files aren't synced"""
+        return sum(record[6] == 0 for _, record in self.files())
+
+    def sync(self):
+        """has them marked; gives whether any mark changed"""
+        changed = self.unsynced() > 0
+        for slot, record in self.files():
+            self.records[slot] = record if record[6] else (*record[:6], 1)
+        return changed
+
     # -- maintenance
 
     def candidates(self):
         """slots by new generation"""
         s, count, groups = self.given, len(self.files()), {}  # D7: all files count for the threshold
-        for slot, (_, _, file_size, present, generation, live) in self.files():
+        for slot, (_, _, file_size, present, generation, live, _) in self.files():
             sparse = live * 100 // max(present, 1) < s.percent
             small = count >= s.threshold and file_size * s.min_files < s.target
             if live != 0 and not self.claimed(slot) and (sparse or small):
@@ -444,7 +457,7 @@ class Store:
         refuse_if(len(best) > self.entries(), 6)
         records, live = [EMPTY] * MAX_RECORDS, Counter(b[2] for b in best.values())
         for slot, (numbers, _) in found.items():
-            records[slot] = numbers + (live[slot],)
+            records[slot] = numbers + (live[slot], 1)  # set on reopening
         heads = [n for n, _ in found.values()]
         next_position = max(masked(n[0]) for n in heads) + max(n[2] for n in heads) + 1 if heads else 1
         return records, {i: b[1] for i, b in best.items()}, next_position
@@ -666,7 +679,7 @@ class Console:
 
     def do_record(self, *words):
         numbers = tuple(number(w) for w in words)
-        if len(numbers) != 7 or numbers[0] >= MAX_RECORDS:
+        if len(numbers) != 8 or numbers[0] >= MAX_RECORDS or numbers[7] > 1:
             raise BadLine
         self.store.records[numbers[0]] = numbers[1:]
 
@@ -705,6 +718,12 @@ class Console:
 
     def do_counts(self):
         return 'ok %d %d %d %d' % self.store.counts()
+
+    def do_unsynced(self):
+        return f'ok {self.store.unsynced()}'
+
+    def do_sync(self):
+        return f'ok {int(self.store.sync())}'
 
     def do_load(self, ident):
         kind, raw = self.store.load(number(ident))
@@ -750,7 +769,7 @@ class Console:
     def do_dump(self):
         s = self.store
         lines = [f'next {s.next}']
-        lines += ['record %d %d %d %d %d %d %d' % (k, *r) for k, r in s.files()]
+        lines += ['record %d %d %d %d %d %d %d %d' % (k, *r) for k, r in s.files()]
         lines += [f'claimed {k}' for k in range(MAX_RECORDS if s.claims else 0) if s.claimed(k)]
         lines += [f'entry {k} {i} {r}' for k, (i, r) in enumerate(zip(s.ids(), s.locations())) if (i, r) != (0, 0)]
         return lines + [f'heap {zlib.crc32(s.heap)}', 'end']

@@ -54,9 +54,9 @@ def lent(heap, table, given=SETTINGS):
 
 
 def holding(records, after, heap, table, given=SETTINGS):
-    """a world of records, each a label and a live count, and a next position"""
+    """a world of records, each a label and a live count, its mark set, and a next position"""
     return (lent(heap, table, given) + [f'state {SETTINGS} {len(heap)} {len(table)} {after}']
-            + [f'record {k} {" ".join(map(str, label))} {live}' for k, (label, live) in enumerate(records)])
+            + [f'record {k} {" ".join(map(str, label))} {live} 1' for k, (label, live) in enumerate(records)])
 
 
 def busy(after, given=SETTINGS):

@@ -19,6 +19,7 @@ def operation(ident, body):
 class Maker:
     def __init__(self, seed, number, small=False):
         self.r = random.Random(f'{seed} {number}')
+        self.marks = random.Random(f'{seed} {number} marks')
         self.small = small
         self.one_shard = self.r.random() < 0.25  # bodies of about one size: shards are cut
         self.ids = list(range(1, self.r.randint(3, 8 if small else 14))) + self.r.sample(STRANGE_IDS, self.r.randint(0, 3))
@@ -78,6 +79,8 @@ class Maker:
             else:
                 settings = self.settings(slot_bytes)
                 lines += [settings, 'reopen']
+            if self.marks.random() < 0.15:
+                lines.append('sync')
         return lines
 
     def own(self):

@@ -48,6 +48,15 @@ SLIPS = {  # name: (text of the model, the wrong text)
         except Refused:
             bodies = []
 '''),
+    'empty records counted as not synced': ('sum(record[6] == 0 for _, record in self.files())', 'sum(record[6] == 0 for record in self.records)'),
+    'a mark kept where its slot is written again': ('''        self.heap[at:at + LABEL + len(data)] = label_bytes(numbers) + data
+        self.records[slot] = numbers + (len(entries), 0)  # clear on writing
+''', '''        kept = int(any(self.heap[at + 1:at + LABEL]))
+        self.heap[at:at + LABEL + len(data)] = label_bytes(numbers) + data
+        self.records[slot] = numbers + (len(entries), kept)
+'''),
+    'sync answers the count': ('changed = self.unsynced() > 0', 'changed = self.unsynced()'),
+    'a reopening leaves the marks clear': ('numbers + (live[slot], 1)  # set on reopening', 'numbers + (live[slot], 0)'),
     'next after reopening by trailer_offset': ('max(n[2] for n in heads) + 1', 'max(n[1] for n in heads) + 1'),
 }
 # these need a store at a limit: name: (text, wrong text, kind of limits.py)

@@ -70,7 +70,7 @@ def call_told(word, said, view):
         return told(said, view)  # of a table call the answer alone
     if said == 'err Unsupported':
         return 'refused 3'
-    return ' '.join(said.split()[:2]) if word == 'maintain' else said.split()[0]
+    return ' '.join(said.split()[:2]) if word in ('maintain', 'sync') else said.split()[0]
 
 
 def checksums():

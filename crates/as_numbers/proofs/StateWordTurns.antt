@@ -16,16 +16,16 @@ use Rattle.as_numbers.specs.StateLaws.{record-length}
 -- ---- from words: the first k records are read, the others are still to be read
 module _ (rs : List Record) (ws : List ℕ) (k : ℕ) where
   pub read-next : k < 256 → length rs ≡ 256
-      → take (k + 1) (set rs k (recordAt ws (8 + 6 * k))) ++ recordsFrom (256 - (k + 1)) ws (8 + 6 * (k + 1)) ≡ take k rs ++ recordsFrom (256 - k) ws (8 + 6 * k)
+      → take (k + 1) (set rs k (recordAt ws (8 + 7 * k))) ++ recordsFrom (256 - (k + 1)) ws (8 + 7 * (k + 1)) ≡ take k rs ++ recordsFrom (256 - k) ws (8 + 7 * k)
   unfolding recordsFrom
   read-next h e =
-      let r = recordAt ws (8 + 6 * k) in
+      let r = recordAt ws (8 + 7 * k) in
       let left : 256 - k ≡ suc (256 - (k + 1)) = omega arith in
-      let far : 8 + 6 * k + 6 ≡ 8 + 6 * (k + 1) = omega arith in
+      let far : 8 + 7 * k + 7 ≡ 8 + 7 * (k + 1) = omega arith in
       let first : take (k + 1) (set rs k r) ≡ take k rs ++ (r ∷ []) = rw (add-one k) (take-suc-set rs k r (omega arith)) in
-      rw (first, left, far) (append-snoc (take k rs) r (recordsFrom (256 - (k + 1)) ws (8 + 6 * (k + 1))))
+      rw (first, left, far) (append-snoc (take k rs) r (recordsFrom (256 - (k + 1)) ws (8 + 7 * (k + 1))))
 
-  pub read-end : 256 ≤ k → k ≤ 256 → length rs ≡ 256 → take k rs ++ recordsFrom (256 - k) ws (8 + 6 * k) ≡ rs
+  pub read-end : 256 ≤ k → k ≤ 256 → length rs ≡ 256 → take k rs ++ recordsFrom (256 - k) ws (8 + 7 * k) ≡ rs
   unfolding recordsFrom
   read-end h l e =
       let none : 256 - k ≡ 0 = omega arith in
@@ -33,15 +33,15 @@ module _ (rs : List Record) (ws : List ℕ) (k : ℕ) where
 
 -- ---- to words: from record k on they are still to be written
 module _ (rs : List Record) (ws : List ℕ) (k : ℕ) where
-  pub write-next : k < length rs → 8 + 6 * k ≤ length ws
-      → putAt (putAt ws (8 + 6 * k) (recordWords (getD rs k emptyRecord))) (8 + 6 * (k + 1)) (recordsWords (drop (k + 1) rs)) ≡ putAt ws (8 + 6 * k) (recordsWords (drop k rs))
+  pub write-next : k < length rs → 8 + 7 * k ≤ length ws
+      → putAt (putAt ws (8 + 7 * k) (recordWords (getD rs k emptyRecord))) (8 + 7 * (k + 1)) (recordsWords (drop (k + 1) rs)) ≡ putAt ws (8 + 7 * k) (recordsWords (drop k rs))
   unfolding recordsWords
   write-next h l =
       let r = getD rs k emptyRecord in
-      let far : 8 + 6 * (k + 1) ≡ 8 + 6 * k + length (recordWords r) = omega (arith, record-length r) in
+      let far : 8 + 7 * (k + 1) ≡ 8 + 7 * k + length (recordWords r) = omega (arith, record-length r) in
       let here : drop k rs ≡ r ∷ drop (k + 1) rs = rw (add-one k) (drop-cons rs k emptyRecord h) in
-      rw (far, here) (put-put ws (8 + 6 * k) (recordWords r) (recordsWords (drop (k + 1) rs)) l)
+      rw (far, here) (put-put ws (8 + 7 * k) (recordWords r) (recordsWords (drop (k + 1) rs)) l)
 
-  pub write-end : length rs ≤ k → putAt ws (8 + 6 * k) (recordsWords (drop k rs)) ≡ ws
+  pub write-end : length rs ≤ k → putAt ws (8 + 7 * k) (recordsWords (drop k rs)) ≡ ws
   unfolding recordsWords
-  write-end h = rw (drop-of-length-le rs {i = k} h) (put-none ws (8 + 6 * k))
+  write-end h = rw (drop-of-length-le rs {i = k} h) (put-none ws (8 + 7 * k))

@@ -1,4 +1,4 @@
--- The state as 1,545 words: six settings, two lengths, 256 records of six, the next position; the fields of `State` in their order.
+-- The state as 1,801 words: six settings, two lengths, 256 records of seven, the next position; the fields of `State` in their order.
 use Rattle.rules.specs.Base.{List, [], _∷_, _++_, ℕ, zero, suc, _+_, getD}
 use Rattle.rules.specs.declared.Settings.{Settings}
 use Rattle.rules.specs.declared.Record.{Record}
@@ -10,12 +10,12 @@ use Rattle.file_map.specs.Records.{labelled}
 -- the record whose first word stands at a place
 unfoldable pub recordAt : List ℕ → ℕ → Record
 recordAt ws at =
-    recorded (labelled (getD ws at 0) (getD ws (at + 1) 0) (getD ws (at + 2) 0) (getD ws (at + 3) 0) (getD ws (at + 4) 0)) (getD ws (at + 5) 0)
+    recorded (labelled (getD ws at 0) (getD ws (at + 1) 0) (getD ws (at + 2) 0) (getD ws (at + 3) 0) (getD ws (at + 4) 0)) (getD ws (at + 5) 0) (getD ws (at + 6) 0)
 
 -- n records from a place on
 unfoldable pub recordsFrom : ℕ → List ℕ → ℕ → List Record
 recordsFrom zero ws at = []
-recordsFrom (suc n) ws at = recordAt ws at ∷ recordsFrom n ws (at + 6)
+recordsFrom (suc n) ws at = recordAt ws at ∷ recordsFrom n ws (at + 7)
 
 -- the settings
 unfoldable pub settingsIn : List ℕ → Settings
@@ -28,20 +28,20 @@ settingsIn ws = record {
   «max_object_size» = getD ws 5 0;
 }
 
--- the state that 1,545 words hold
+-- the state that 1,801 words hold
 unfoldable pub stateIn : List ℕ → State
 stateIn ws = record {
   settings = settingsIn ws;
   «heap_len» = getD ws 6 0;
   «table_len» = getD ws 7 0;
   files = record { records = recordsFrom 256 ws 8 };
-  «next_position» = getD ws 1544 0;
+  «next_position» = getD ws 1800 0;
 }
 
 -- ---- to words
--- a record's six
+-- a record's seven
 unfoldable pub recordWords : Record → List ℕ
-recordWords r = r .label .lsn ∷ r .label .«trailer_offset» ∷ r .label .«file_size» ∷ r .label .«present_objects» ∷ r .label .generation ∷ r .live ∷ []
+recordWords r = r .label .lsn ∷ r .label .«trailer_offset» ∷ r .label .«file_size» ∷ r .label .«present_objects» ∷ r .label .generation ∷ r .live ∷ r .synced ∷ []
 
 -- of records, one after the other
 unfoldable pub recordsWords : List Record → List ℕ

@@ -1,4 +1,4 @@
-// The state as 1,545 lent words: the fields of `State` in their order, of each record its six.
+// The state as 1,801 lent words: the fields of `State` in their order, of each record its seven.
 use file_map::labelled;
 use file_map::no_files;
 use file_map::recorded;
@@ -15,9 +15,9 @@ ghost use Rattle.numbers.specs.Parts.{putAt};
 ghost use Rattle.as_numbers.specs.StateWords.{recordAt, recordsFrom, settingsIn, stateIn, recordWords, recordsWords, settingsWords};
 
 // ---- from words
-// "A record holds the label's five numbers and the live count"
+// "A record holds the label's five numbers and the live count", and the synced mark.
 fn record_at(words: &[u64], at: usize) -> Record
-    requires { ⌜ at + 6 ≤ length (now words) ⌝ }
+    requires { ⌜ at + 7 ≤ length (now words) ⌝ }
     ensures { λ r. ⌜ r ≡ recordAt (now (words .entry)) at ⌝ }
 {
     let label = labelled(
@@ -27,18 +27,18 @@ fn record_at(words: &[u64], at: usize) -> Record
         words[at + 3],
         words[at + 4],
     );
-    recorded(label, words[at + 5])
+    recorded(label, words[at + 5], words[at + 6])
 }
 
 // "a file map of 256 records"
 fn files_in(words: &[u64]) -> FileMap
-    requires { ⌜ length (now words) ≡ 1545 ⌝ }
+    requires { ⌜ length (now words) ≡ 1801 ⌝ }
     ensures { λ m. ⌜ m .records ≡ recordsFrom 256 (now (words .entry)) 8 ⌝ }
 {
     let mut files = no_files();
     let mut k: usize = 0;
     while k < RECORDS {
-        let r = record_at(words, 8 + 6 * k);
+        let r = record_at(words, 8 + 7 * k);
         files.records[k] = r;
         k += 1;
     }
@@ -46,7 +46,7 @@ fn files_in(words: &[u64]) -> FileMap
 }
 
 fn settings_in(words: &[u64]) -> Settings
-    requires { ⌜ length (now words) ≡ 1545 ⌝ }
+    requires { ⌜ length (now words) ≡ 1801 ⌝ }
     ensures { λ s. ⌜ s ≡ settingsIn (now (words .entry)) ⌝ }
 {
     Settings {
@@ -61,17 +61,17 @@ fn settings_in(words: &[u64]) -> Settings
 
 // The state that the words hold.
 pub fn state_in(words: &[u64]) -> State
-    requires { ⌜ length (now words) ≡ 1545 ⌝ }
+    requires { ⌜ length (now words) ≡ 1801 ⌝ }
     ensures { λ s. ⌜ s ≡ stateIn (now (words .entry)) ⌝ }
 {
     let settings = settings_in(words);
     let files = files_in(words);
-    state_of(settings, words[6], words[7], files, words[1544])
+    state_of(settings, words[6], words[7], files, words[1800])
 }
 
 // ---- to words
 fn put_record(words: &mut [u64], at: usize, r: Record)
-    requires { ⌜ at + 6 ≤ length (now words) ⌝ }
+    requires { ⌜ at + 7 ≤ length (now words) ⌝ }
     ensures { λ _. ⌜ now (words .exit) ≡ putAt (now (words .entry)) at (recordWords r) ⌝ }
 {
     words[at] = r.label.lsn;
@@ -80,21 +80,22 @@ fn put_record(words: &mut [u64], at: usize, r: Record)
     words[at + 3] = r.label.present_objects;
     words[at + 4] = r.label.generation;
     words[at + 5] = r.live;
+    words[at + 6] = r.synced;
 }
 
 fn put_files(words: &mut [u64], files: FileMap)
-    requires { ⌜ length (now words) ≡ 1545 ⌝ }
+    requires { ⌜ length (now words) ≡ 1801 ⌝ }
     ensures { λ _. ⌜ now (words .exit) ≡ putAt (now (words .entry)) 8 (recordsWords (files .records)) ⌝ }
 {
     let mut k: usize = 0;
     while k < RECORDS {
-        put_record(words, 8 + 6 * k, files.records[k]);
+        put_record(words, 8 + 7 * k, files.records[k]);
         k += 1;
     }
 }
 
 fn put_settings(words: &mut [u64], s: Settings)
-    requires { ⌜ length (now words) ≡ 1545 ⌝ }
+    requires { ⌜ length (now words) ≡ 1801 ⌝ }
     ensures { λ _. ⌜ now (words .exit) ≡ putAt (now (words .entry)) 0 (settingsWords s) ⌝ }
 {
     words[0] = s.slot_bytes;
@@ -107,7 +108,7 @@ fn put_settings(words: &mut [u64], s: Settings)
 
 // The words of a state, in the place of what stood there.
 pub fn put_state(words: &mut [u64], s: State)
-    requires { ⌜ length (now words) ≡ 1545 ⌝ }
+    requires { ⌜ length (now words) ≡ 1801 ⌝ }
     ensures { λ _. ⌜ stateIn (now (words .exit)) ≡ s ⌝ }
 {
     let settings = s.settings;
@@ -116,5 +117,5 @@ pub fn put_state(words: &mut [u64], s: State)
     words[6] = s.heap_len;
     words[7] = s.table_len;
     put_files(words, files);
-    words[1544] = s.next_position;
+    words[1800] = s.next_position;
 }

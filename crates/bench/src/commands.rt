@@ -175,6 +175,7 @@ fn written(turn: Turn, id: u64, line: &[u8], heap: &[u8], table: &[u64], report:
         Reply::Through(answer) => through(answer, b, line, heap),
         Reply::Maintained(answer) => say::maintained(answer),
         Reply::Counted(answer) => counted(answer),
+        Reply::Marks(n) => say::named(b"ok", n),
         Reply::Loaded(answer) => loaded(answer),
         Reply::Compared(answer) => compared(answer),
         Reply::Raised(answer) => raised(answer),

@@ -108,7 +108,7 @@ pub fn help() {
         b"# poke OFFSET HEX       entry K ID RAW                     changes heap bytes, a table place\n",
     );
     text(b"# state S PERCENT MINFILES TARGET THRESHOLD MAXOBJECT HEAPBYTES TABLE NEXT\n");
-    text(b"# record SLOT LSN T SIZE PRESENT GEN LIVE                  changes the state by hand\n");
+    text(b"# record SLOT LSN T SIZE PRESENT GEN LIVE SYNCED           changes the state by hand\n");
     text(
         b"# claims A B C D                                           changes the claims by hand\n",
     );
@@ -117,6 +117,9 @@ pub fn help() {
     );
     text(
         b"# through ID HEX                                           reads as if the batch HEX had been written\n",
+    );
+    text(
+        b"# unsynced              sync                               counts the files not known to be on the flash; marks them\n",
     );
     text(b"# load ID   store ID RAW   cas ID OLD NEW   max ID RAW     the table alone\n");
     text(b"# check ROOM            bytes OFFSET COUNT                 ");
@@ -134,6 +137,10 @@ pub fn help() {
         b"# A read through a batch answers batch HEX or heap HEX, by whose bytes they are; deleted or never ",
     );
     text(b"as a read does; refused 2 where HEX is no batch. Nothing is written.\n");
+    text(
+        b"# Unsynced answers ok FILES, sync ok 1 if a mark changed, else ok 0. Flush, then sync: ",
+    );
+    text(b"no write between the flush and the mark.\n");
     text(
         b"# A check answers fault SLOT NUMBER, or fault SLOT NUMBER POSITION, for each fault that fits, then ok FAULTS.\n",
     );

@@ -70,6 +70,7 @@ fn record_line(slot: u64, r: Record) {
     say::number(r.label.present_objects);
     say::number(r.label.generation);
     say::number(r.live);
+    say::number(r.synced);
     say::end();
 }
 

@@ -1,3 +1,4 @@
 pub mod Orders
 pub mod Lending
 pub mod Tables
+pub mod Marking

@@ -16,8 +16,8 @@ use Rattle.desk.specs.Commands.{reportBy, lentBy, doneBy}
 abbrev keywords : List Keyword
 keywords =
     key.Blank ∷ key.Bad ∷ key.Settings ∷ key.Heap ∷ key.Table ∷ key.Poke ∷ key.Entry ∷ key.State ∷ key.Record ∷ key.Claims ∷ key.Reopen ∷ key.Write ∷ key.Claim
-    ∷ key.Release ∷ key.Prune ∷ key.Read ∷ key.Through ∷ key.Maintain ∷ key.Counts ∷ key.Check ∷ key.Salvage ∷ key.Load ∷ key.Store ∷ key.Cas ∷ key.Max ∷ key.List ∷ key.Dump ∷ key.Bytes
-    ∷ key.Help ∷ []
+    ∷ key.Release ∷ key.Prune ∷ key.Read ∷ key.Through ∷ key.Maintain ∷ key.Counts ∷ key.Unsynced ∷ key.Sync ∷ key.Check ∷ key.Salvage ∷ key.Load ∷ key.Store ∷ key.Cas
+    ∷ key.Max ∷ key.List ∷ key.Dump ∷ key.Bytes ∷ key.Help ∷ []
 
 numbered : (k : Keyword) → getD keywords (number k) key.Bad ≡ k
 numbered key.Blank = refl
@@ -39,6 +39,8 @@ numbered key.Read = refl
 numbered key.Through = refl
 numbered key.Maintain = refl
 numbered key.Counts = refl
+numbered key.Unsynced = refl
+numbered key.Sync = refl
 numbered key.Check = refl
 numbered key.Salvage = refl
 numbered key.Load = refl
@@ -103,7 +105,7 @@ last told z k p h = last-one told z k p (not-told (map number told) keywords (nu
 -- ---- the commands on the lent parts
 -- those that are not
 abbrev pub whole : List Keyword
-whole = key.Blank ∷ key.Bad ∷ key.Settings ∷ key.Heap ∷ key.Table ∷ key.State ∷ key.Record ∷ key.Claims ∷ key.Check ∷ key.Salvage ∷ key.List ∷ key.Dump ∷ key.Help ∷ []
+whole = key.Blank ∷ key.Bad ∷ key.Settings ∷ key.Heap ∷ key.Table ∷ key.State ∷ key.Record ∷ key.Claims ∷ key.Unsynced ∷ key.Sync ∷ key.Check ∷ key.Salvage ∷ key.List ∷ key.Dump ∷ key.Help ∷ []
 
 -- those that are
 abbrev pub parts : List Keyword
@@ -113,7 +115,7 @@ parts =
 
 pub lent-rest : (n bytes : List ℕ) (d : Desk) (k : Keyword) → Among whole k → badLine d ≡ lentBy k n bytes d
 unfolding lentBy
-lent-rest n bytes d = each (λ (k : Keyword). badLine d ≡ lentBy k n bytes d) whole (refl, (refl, (refl, (refl, (refl, (refl, (refl, (refl, (refl, (refl, (refl, (refl, (refl, tt)))))))))))))
+lent-rest n bytes d = each (λ (k : Keyword). badLine d ≡ lentBy k n bytes d) whole (refl, (refl, (refl, (refl, (refl, (refl, (refl, (refl, (refl, (refl, (refl, (refl, (refl, (refl, (refl, tt)))))))))))))))
 
 pub done-rest : (n bytes : List ℕ) (d : Desk) (k : Keyword) → Among parts k → onLent (lentBy k n bytes) d ≡ doneBy k n bytes d
 unfolding doneBy
@@ -122,7 +124,7 @@ done-rest n bytes d = each (λ (k : Keyword). onLent (lentBy k n bytes) d ≡ do
 -- ---- the report
 -- those that leave it
 pub bench-report : (d : Desk) (report : List ℕ) (k : Keyword) → Among atBench k → report ≡ reportBy k d report
-bench-report d report = each (λ (k : Keyword). report ≡ reportBy k d report) atBench (refl, (refl, (refl, (refl, (refl, (refl, (refl, (refl, (refl, (refl, tt))))))))))
+bench-report d report = each (λ (k : Keyword). report ≡ reportBy k d report) atBench (refl, (refl, (refl, (refl, (refl, (refl, (refl, (refl, (refl, (refl, (refl, (refl, tt))))))))))))
 
 pub parts-report : (d : Desk) (report : List ℕ) (k : Keyword) → Among parts k → report ≡ reportBy k d report
 parts-report d report = each (λ (k : Keyword). report ≡ reportBy k d report) parts (refl, (refl, (refl, (refl, (refl, (refl, (refl, (refl, (refl, (refl, (refl, (refl, (refl, (refl, (refl, (refl, tt))))))))))))))))

@@ -9,6 +9,7 @@ use Rattle.rules.specs.Maintenance.{maintainCall}
 use Rattle.rules.specs.Prune.{pruneCall}
 use Rattle.rules.specs.Read.{readCall}
 use Rattle.rules.specs.Reopen.{reopenCall}
+use Rattle.rules.specs.Sync.{unsyncedCall, syncState}
 use Rattle.rules.specs.TableCalls.{loadCall, storeCall, compareCall, greaterCall}
 use Rattle.rules.specs.World.{World, Given, noState}
 use Rattle.rules.specs.Write.{writeCall}
@@ -20,7 +21,7 @@ use Rattle.through.specs.Through.{throughCall}
 use Rattle.script.specs.declared.Keyword.the-variants as key
 use Rattle.desk.specs.Types.{Settings, Record, State, Claims, Keyword, Bench, Comment, Help, Listing, Dump, Check, Bytes, BadLine, Shown, Turn}
 use Rattle.desk.specs.Kinds.{number}
-use Rattle.desk.specs.Desk.{Desk, desk, plain, found, pieced, moved, counted, located, compared, raised, emptied, gave, Outcome, left, replied, done, badLine, looked, changed, called, onTable, lentOf, onLent}
+use Rattle.desk.specs.Desk.{Desk, desk, plain, found, pieced, moved, counted, marks, located, compared, raised, emptied, gave, Outcome, left, replied, done, badLine, looked, changed, called, onTable, lentOf, onLent}
 
 -- number k of a line
 abbrev pub nth : List ℕ → ℕ → ℕ
@@ -42,9 +43,9 @@ settingsFrom n = record {
 abbrev pub stateFrom : List ℕ → State → State
 stateFrom n s = record { settings = settingsFrom n; «heap_len» = nth n 6; «table_len» = nth n 7; files = s .files; «next_position» = nth n 8 }
 
--- `record SLOT LSN T SIZE PRESENT GEN LIVE`
+-- `record SLOT LSN T SIZE PRESENT GEN LIVE SYNCED`
 abbrev pub recordFrom : List ℕ → Record
-recordFrom n = recorded (labelled (nth n 1) (nth n 2) (nth n 3) (nth n 4) (nth n 5)) (nth n 6)
+recordFrom n = recorded (labelled (nth n 1) (nth n 2) (nth n 3) (nth n 4) (nth n 5)) (nth n 6) (nth n 7)
 
 -- `claims A B C D`
 abbrev pub claimsFrom : List ℕ → Claims
@@ -66,9 +67,9 @@ withClaims b c = record { settings = b .settings; state = b .state; claims = c; 
 abbrev pub withRecord : State → ℕ → Record → State
 withRecord s slot r = record { settings = s .settings; «heap_len» = s .«heap_len»; «table_len» = s .«table_len»; files = record { records = set (s .files .records) slot r }; «next_position» = s .«next_position» }
 
--- a slot past the file map: `bad line`
+-- a slot past the file map, or a mark that is neither 0 nor 1: `bad line`
 abbrev pub recordBy : List ℕ → Bench → Turn
-recordBy n b = pick (leb 256 (nth n 0)) (replied BadLine b) (done (withState b (withRecord (b .state) (nth n 0) (recordFrom n))))
+recordBy n b = pick (leb 256 (nth n 0) || ltb 1 (nth n 7)) (replied BadLine b) (done (withState b (withRecord (b .state) (nth n 0) (recordFrom n))))
 
 -- ---- buffers by hand
 -- another heap length lent
@@ -96,6 +97,11 @@ pokeBy at bytes d = pick (ltb (length (d .heap)) (at + length bytes)) (badLine d
 -- `entry K ID RAW`: a place of the lent table
 abbrev pub entryBy : ℕ → ℕ → ℕ → Desk → Outcome
 entryBy k id raw d = pick (leb (capacityOf (d .table)) k) (badLine d) (changed (desk (d .bench) (d .heap) (withPair (d .table) k id raw)))
+
+-- ---- the state's own records
+-- `unsynced`: nothing changes
+abbrev pub unsyncedBy : Desk → Outcome
+unsyncedBy d = record { reply = gave marks (unsyncedCall (d .bench .state .files .records)); desk = d }
 
 -- ---- looks
 -- `check ROOM`: room for so many lines, up to 4,096
@@ -150,6 +156,8 @@ lentBy key.Table n bytes d = badLine d
 lentBy key.State n bytes d = badLine d
 lentBy key.Record n bytes d = badLine d
 lentBy key.Claims n bytes d = badLine d
+lentBy key.Unsynced n bytes d = badLine d
+lentBy key.Sync n bytes d = badLine d
 lentBy key.Check n bytes d = badLine d
 lentBy key.Salvage n bytes d = badLine d
 lentBy key.List n bytes d = badLine d
@@ -164,6 +172,8 @@ doneBy key.Settings n bytes d = left (done (withSettings (d .bench) (settingsFro
 doneBy key.State n bytes d = left (done (withState (d .bench) (stateFrom n (d .bench .state)))) (d .heap) (d .table)
 doneBy key.Record n bytes d = left (recordBy n (d .bench)) (d .heap) (d .table)
 doneBy key.Claims n bytes d = left (done (withClaims (d .bench) (claimsFrom n))) (d .heap) (d .table)
+doneBy key.Unsynced n bytes d = unsyncedBy d
+doneBy key.Sync n bytes d = called marks syncState d
 doneBy key.Heap n bytes d = heapBy (nth n 0) d
 doneBy key.Table n bytes d = tableBy (nth n 0) d
 doneBy key.Check n bytes d = left (checkBy (nth n 0) (d .bench)) (d .heap) (d .table)

@@ -1,11 +1,11 @@
 -- The desk: what the console's commands are given and change; what a command leaves.
-use Rattle.rules.specs.Base.{List, [], _++_, ℕ, take, drop}
+use Rattle.rules.specs.Base.{List, [], _∷_, _++_, ℕ, take, drop}
 use Rattle.rules.specs.Layout.{Table}
 use Rattle.rules.specs.TableCalls.{TableAfter}
 use Rattle.rules.specs.World.{World, world, Given, accepted, answerGiven, readGiven, maintainGiven, countsGiven, loadGiven, compareGiven, greaterGiven, After}
 use Rattle.salvage.specs.Answers.{salvageGiven}
 use Rattle.through.specs.Through.{throughGiven}
-use Rattle.desk.specs.Types.{Done, Bench, Look, Reply, BadLine, Answered, Read, Through, Maintained, Counted, Loaded, Compared, Raised, Salvaged, Shown, Turn}
+use Rattle.desk.specs.Types.{Done, Bench, Look, Reply, BadLine, Answered, Read, Through, Maintained, Counted, Marks, Loaded, Compared, Raised, Salvaged, Shown, Turn}
 
 -- settings, state, claims and how much of each buffer is lent; the two buffers, whole
 pub record Desk : Type 0 where
@@ -18,14 +18,15 @@ abbrev pub desk : Bench → List ℕ → Table → Desk
 desk bench heap table = record { bench = bench; heap = heap; table = table }
 
 -- ---- replies
--- in which words an answer is written: `ok`; a body; a body, of the batch or of the heap; a count of ids; four counts; a location; the one that differs; the one held before; a
--- count of slots given up
+-- in which words an answer is written: `ok`; a body; a body, of the batch or of the heap; a count of ids; four counts; how many files are not synced,
+-- or whether a mark changed; a location; the one that differs; the one held before; a count of slots given up
 pub data Words : Type 0 where
   plain : Words
   found : Words
   pieced : Words
   moved : Words
   counted : Words
+  marks : Words
   located : Words
   compared : Words
   raised : Words
@@ -45,6 +46,7 @@ said (Read a) = gave found (readGiven a)
 said (Through a) = gave pieced (throughGiven a)
 said (Maintained a) = gave moved (maintainGiven a)
 said (Counted a) = gave counted (countsGiven a)
+said (Marks n) = gave marks (accepted (n ∷ []))
 said (Loaded a) = gave located (loadGiven a)
 said (Compared a) = gave compared (compareGiven a)
 said (Raised a) = gave raised (greaterGiven a)

@@ -15,9 +15,10 @@ use Rattle.rules.specs.Maintenance.{maintainCall, courseOf, finished}
 use Rattle.rules.specs.Read.{readCall}
 use Rattle.rules.specs.Reopen.{reopenCall, reopenTests, givenUp}
 use Rattle.rules.specs.SlotFile.{viewsIn}
+use Rattle.rules.specs.Sync.{Synced, tooLong, syncCall, syncState}
 use Rattle.rules.specs.Table.{lookup, unmapped, mappedTo, full}
 use Rattle.rules.specs.TableCalls.{TableAfter, notForm, same, below, withStored, loadCall, storeCall, compareCall, greaterCall}
-use Rattle.rules.specs.World.{World, Given, accepted, refused, heldGiven, slotsOf, After}
+use Rattle.rules.specs.World.{World, Given, accepted, refused, heldGiven, recordsOf, slotsOf, stateWith, After}
 use Rattle.location_table.specs.Tables.{withPair}
 use Rattle.numbers.specs.Parts.{putAt}
 use Rattle.history_theory.specs.History.{Call, write, prune, quiet}
@@ -29,7 +30,7 @@ use Rattle.losses.specs.Salvage.{Salvaged, salvageCall}
 use Rattle.through.specs.Through.{throughCall}
 use Rattle.script.specs.declared.Keyword.the-variants as key
 use Rattle.desk.specs.Types.{Refusal, Limits, Answer, Done, Refused, Keyword, Bench, Check, Bytes, BadLine, Shown}
-use Rattle.desk.specs.Desk.{Desk, desk, Words, plain, found, pieced, moved, counted, located, compared, raised, Said, bad-line, gave, shows, Outcome, left, replied, done, badLine, looked, changed, worldOf, deskOf, answered, called, onTable, lentOf, putBack, onLent}
+use Rattle.desk.specs.Desk.{Desk, desk, Words, plain, found, pieced, moved, counted, marks, located, compared, raised, Said, bad-line, gave, shows, Outcome, left, replied, done, badLine, looked, changed, worldOf, deskOf, answered, called, onTable, lentOf, putBack, onLent}
 use Rattle.desk.specs.Commands.{nth, recordFrom, withState, withRecord, lendingHeap, lendingTable, heapBy, tableBy, pokeBy, entryBy, checkBy, bytesBy, salvageBy, lentBy, doneBy}
 
 -- `bad line`, or a refusal's number
@@ -59,6 +60,8 @@ Kept key.Read = Unit {0}
 Kept key.Through = Unit {0}
 Kept key.Maintain = ⊥
 Kept key.Counts = Unit {0}
+Kept key.Unsynced = Unit {0}
+Kept key.Sync = Unit {0}
 Kept key.Check = Unit {0}
 Kept key.Salvage = Unit {0}
 Kept key.Load = Unit {0}
@@ -71,8 +74,8 @@ Kept key.Bytes = Unit {0}
 Kept key.Help = Unit {0}
 
 -- a refused answer is no success
-not-accepted : (g : Given) → not (eqb (g .number) 0) ≡ true → g ≡ accepted [] → ⊥
-not-accepted g h p = false≢true (sym (ap (λ (x : Given). not (eqb (x .number) 0)) p) ∙ h)
+not-accepted : (g : Given) → not (eqb (g .number) 0) ≡ true → g .number ≡ 0 → ⊥
+not-accepted g h p = false≢true (sym (ap (λ (n : ℕ). not (eqb n 0)) p) ∙ h)
 
 -- ---- by hand
 bad-kept : (t : Bool) (d e : Desk) → failing (pick t (badLine d) (changed e) .reply) ≡ true → pick t (badLine d) (changed e) .desk ≡ d
@@ -95,6 +98,20 @@ record-kept : (t : Bool) (d : Desk) (b : Bench) → failing (left (pick t (repli
     → left (pick t (replied BadLine (d .bench)) (done b)) (d .heap) (d .table) .desk ≡ d
 record-kept true d b h = refl
 record-kept false d b h = absurd (false≢true h)
+
+-- ---- marks
+-- a refused sync leaves the records
+sync-kept : (d : Desk) → failing (called marks syncState d .reply) ≡ true → called marks syncState d .desk ≡ d
+unfolding syncState syncCall
+sync-kept d h = go (decide (tooLong (recordsOf (worldOf d)) gives Limits ∷ [])) _ refl h
+  where
+    gone : Refusal → Synced
+    gone r = record { answer = refused r; records = recordsOf (worldOf d) }
+
+    go : (a : Answer) (x : Synced) → x .answer .number ≡ 0 → not (eqb (after a gone x .answer .number) 0) ≡ true
+        → desk (withState (d .bench) (stateWith (d .bench .state) (after a gone x .records) (d .bench .state .«next_position»))) (d .heap) (d .table) ≡ d
+    go Done x z h = absurd (false≢true (sym (ap (λ (k : ℕ). not (eqb k 0)) z) ∙ h))
+    go (Refused r) x z h = refl
 
 -- ---- looks
 -- LAW: a check changes nothing, whatever is said
@@ -209,7 +226,7 @@ failed-unchanged key.Table p n bytes d h = lending-kept (nth n 0) d h
 failed-unchanged key.Poke p n bytes d h = back-same d (lentBy key.Poke n bytes (lentOf d)) (poke-kept (nth n 0) bytes (lentOf d) h)
 failed-unchanged key.Entry p n bytes d h = back-same d (lentBy key.Entry n bytes (lentOf d)) (entry-kept (nth n 0) (nth n 1) (nth n 2) (lentOf d) h)
 failed-unchanged key.State p n bytes d h = absurd (false≢true h)
-failed-unchanged key.Record p n bytes d h = record-kept (leb 256 (nth n 0)) d (withState (d .bench) (withRecord (d .bench .state) (nth n 0) (recordFrom n))) h
+failed-unchanged key.Record p n bytes d h = record-kept (leb 256 (nth n 0) || ltb 1 (nth n 7)) d (withState (d .bench) (withRecord (d .bench .state) (nth n 0) (recordFrom n))) h
 failed-unchanged key.Claims p n bytes d h = absurd (false≢true h)
 failed-unchanged key.Reopen p n bytes d h = absurd p
 failed-unchanged key.Write p n bytes d h = back-same d (lentBy key.Write n bytes (lentOf d)) (call-kept (write bytes) tt (lentOf d) h)
@@ -223,6 +240,8 @@ failed-unchanged key.Through p n bytes d h =
     (world-kept pieced (λ (w : World). throughCall w bytes (nth n 0)) (lentOf d) (through-kept (worldOf (lentOf d)) bytes (nth n 0)))
 failed-unchanged key.Maintain p n bytes d h = absurd p
 failed-unchanged key.Counts p n bytes d h = back-same d (lentBy key.Counts n bytes (lentOf d)) (world-kept counted countsCall (lentOf d) (counts-kept (worldOf (lentOf d))))
+failed-unchanged key.Unsynced p n bytes d h = refl
+failed-unchanged key.Sync p n bytes d h = sync-kept d h
 failed-unchanged key.Load p n bytes d h =
     back-same d (lentBy key.Load n bytes (lentOf d)) (on-table located (λ (t : Table). loadCall t (nth n 0)) (lentOf d) (load-kept (worldOf (lentOf d) .table) (nth n 0)))
 failed-unchanged key.Bytes p n bytes d h = back-same d (lentBy key.Bytes n bytes (lentOf d)) (bytes-unchanged (nth n 0) (nth n 1) (lentOf d))

@@ -16,7 +16,7 @@ Among ks k = OneOf (map number ks) (number k)
 
 -- commands that touch no buffer
 abbrev pub atBench : List Keyword
-atBench = key.Blank ∷ key.Bad ∷ key.Settings ∷ key.State ∷ key.Record ∷ key.Claims ∷ key.Check ∷ key.List ∷ key.Dump ∷ key.Help ∷ []
+atBench = key.Blank ∷ key.Bad ∷ key.Settings ∷ key.State ∷ key.Record ∷ key.Claims ∷ key.Unsynced ∷ key.Sync ∷ key.Check ∷ key.List ∷ key.Dump ∷ key.Help ∷ []
 
 -- commands that look at the buffers and change none
 abbrev pub asking : List Keyword

@@ -20,5 +20,5 @@ pub use Rattle.desk.specs.declared.Bench.{Bench}
 pub use Rattle.desk.specs.declared.Look.{Look}
 pub use Rattle.desk.specs.declared.Look.the-variants.{Comment, Help, List as Listing, Dump, Check, Bytes}
 pub use Rattle.desk.specs.declared.Reply.{Reply}
-pub use Rattle.desk.specs.declared.Reply.the-variants.{BadLine, Answered, Read, Through, Maintained, Counted, Loaded, Compared, Raised, Salvaged, Shown}
+pub use Rattle.desk.specs.declared.Reply.the-variants.{BadLine, Answered, Read, Through, Maintained, Counted, Marks, Loaded, Compared, Raised, Salvaged, Shown}
 pub use Rattle.desk.specs.declared.Turn.{Turn}

@@ -116,7 +116,8 @@ pub fn state(b: Bench, n: [u64; 9]) -> Turn
 fn record_of(n: [u64; 9]) -> Record
     ensures { λ r. ⌜ r ≡ recordFrom n ⌝ }
 {
-    file_map::recorded(file_map::labelled(n[1], n[2], n[3], n[4], n[5]), n[6])
+    let label = file_map::labelled(n[1], n[2], n[3], n[4], n[5]);
+    file_map::recorded(label, n[6], n[7])
 }
 
 pub fn record(b: Bench, n: [u64; 9]) -> Turn
@@ -125,6 +126,9 @@ pub fn record(b: Bench, n: [u64; 9]) -> Turn
     let mut next = b;
     let slot = n[0];
     if RECORDS as u64 <= slot {
+        return bad_line(b);
+    }
+    if 1 < n[7] {
         return bad_line(b);
     }
     let mut s = b.state;

@@ -13,13 +13,15 @@ ghost use Rattle.rules.specs.Maintenance.{maintainCall};
 ghost use Rattle.rules.specs.Prune.{pruneCall};
 ghost use Rattle.rules.specs.Read.{readCall};
 ghost use Rattle.rules.specs.Reopen.{reopenCall};
+ghost use Rattle.rules.specs.Sync.{syncState};
 ghost use Rattle.rules.specs.TableCalls.{loadCall, storeCall, compareCall, greaterCall};
 ghost use Rattle.rules.specs.World.{World};
 ghost use Rattle.rules.specs.Layout.{Table};
 ghost use Rattle.rules.specs.Write.{writeCall};
 ghost use Rattle.through.specs.Through.{throughCall};
-ghost use Rattle.desk.specs.Commands.{salvageOn, salvageBy};
-ghost use Rattle.desk.specs.Desk.{desk, left, plain, found, pieced, moved, counted, located, compared, raised, called, onTable};
+ghost use Rattle.desk.specs.Commands.{unsyncedBy, salvageOn, salvageBy};
+ghost use Rattle.desk.specs.Desk.{desk, left, called, onTable};
+ghost use Rattle.desk.specs.Desk.{plain, found, pieced, moved, counted, marks, located, compared, raised};
 
 pub fn reopen(b: Bench, heap: &[u8], table: &mut [u64]) -> Turn
     ensures { λ r. ⌜ left r (now (heap .entry)) (now (table .exit))
@@ -129,6 +131,32 @@ pub fn salvage(b: Bench, heap: &mut [u8], table: &[u64], report: &mut [u64; 512]
     Turn {
         reply: Reply::Salvaged(answer),
         bench: b,
+    }
+}
+
+// Of the state's own records: how many are not synced.
+pub fn unsynced(b: Bench) -> Turn
+    ensures { λ r. ⌜ ((heap table : List ℕ) → left r heap table ≡ unsyncedBy (desk b heap table)) ⌝ }
+{
+    let state = b.state;
+    let n = record_marks::unsynced(state.files);
+    Turn {
+        reply: Reply::Marks(n),
+        bench: b,
+    }
+}
+
+// The state's own records marked.
+pub fn sync(b: Bench) -> Turn
+    ensures { λ r. ⌜ ((heap table : List ℕ) → left r heap table ≡ called marks syncState (desk b heap table)) ⌝ }
+{
+    let mut state = b.state;
+    let done = record_marks::sync(state.files);
+    let after = done.files;
+    state.files = after;
+    Turn {
+        reply: Reply::Marks(done.changed),
+        bench: with_state(b, state),
     }
 }
 

@@ -48,7 +48,7 @@ pub enum Look {
     Bytes(u64, u64),
 }
 
-// What a command answers.
+// What a command answers. Marks: how many files are not synced, or whether a mark changed.
 pub enum Reply {
     BadLine,
     Answered(Answer),
@@ -56,6 +56,7 @@ pub enum Reply {
     Through(ThroughAnswer),
     Maintained(MaintainAnswer),
     Counted(CountsAnswer),
+    Marks(u64),
     Loaded(LoadAnswer),
     Compared(CompareAnswer),
     Raised(GreaterAnswer),
@@ -122,6 +123,8 @@ fn at_bench(b: Bench, keyword: Keyword, n: [u64; 9]) -> Turn
         Keyword::State => by_hand::state(b, n),
         Keyword::Record => by_hand::record(b, n),
         Keyword::Claims => by_hand::claims(b, n),
+        Keyword::Unsynced => calls::unsynced(b),
+        Keyword::Sync => calls::sync(b),
         Keyword::Check => looks::check(b, n),
         Keyword::List => shown(Look::List, b),
         Keyword::Dump => shown(Look::Dump, b),
@@ -255,6 +258,8 @@ pub fn after_order(
         | Keyword::State
         | Keyword::Record
         | Keyword::Claims
+        | Keyword::Unsynced
+        | Keyword::Sync
         | Keyword::Check
         | Keyword::List
         | Keyword::Dump

@@ -15,9 +15,9 @@ abbrev pub labelled : ℕ → ℕ → ℕ → ℕ → ℕ → Label
 labelled lsn offset size present generation =
     record { lsn = lsn; «trailer_offset» = offset; «file_size» = size; «present_objects» = present; generation = generation }
 
--- "the new file has all its entries live"
+-- "the new file has all its entries live"; the mark is "clear on writing"
 abbrev pub fresh : Label → Record
-fresh l = recorded l (l .«present_objects»)
+fresh l = recorded l (l .«present_objects») 0
 
 -- a state of these settings and lengths
 abbrev pub stateBy : Settings → ℕ → ℕ → List Record → ℕ → State

@@ -37,13 +37,14 @@ pub fn no_label() -> Label
 }
 
 // ---- a record: made in one place for each origin
-// "A record holds the label's five numbers and the live count".
-pub fn recorded(label: Label, live: u64) -> Record
-    ensures { λ r. ⌜ r ≡ recorded label live ⌝ }
+// "A record holds the label's five numbers and the live count", and the synced mark: 0 clear, 1 set.
+pub fn recorded(label: Label, live: u64, synced: u64) -> Record
+    ensures { λ r. ⌜ r ≡ recorded label live synced ⌝ }
 {
     Record {
         label: label,
         live: live,
+        synced: synced,
     }
 }
 
@@ -51,10 +52,10 @@ pub fn recorded(label: Label, live: u64) -> Record
 pub fn empty() -> Record
     ensures { λ r. ⌜ r ≡ emptyRecord ⌝ }
 {
-    recorded(no_label(), 0)
+    recorded(no_label(), 0, 0)
 }
 
-// The same file with another live count.
+// The same file with another live count; its mark stays.
 pub fn with_live(r: Record, live: u64) -> Record
     ensures { λ s. ⌜ s ≡ withLive r live ⌝ }
 {
@@ -63,11 +64,11 @@ pub fn with_live(r: Record, live: u64) -> Record
     s
 }
 
-// "the new file has all its entries live"
+// "the new file has all its entries live"; the mark is "clear on writing"
 pub fn fresh(label: Label) -> Record
     ensures { λ r. ⌜ r ≡ fresh label ⌝ }
 {
-    recorded(label, label.present_objects)
+    recorded(label, label.present_objects, 0)
 }
 
 pub fn is_empty(r: Record) -> bool
@@ -79,6 +80,7 @@ pub fn is_empty(r: Record) -> bool
         & (r.label.present_objects == 0)
         & (r.label.generation == 0)
         & (r.live == 0)
+        & (r.synced == 0)
 }
 
 // ---- the map

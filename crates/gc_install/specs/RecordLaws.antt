@@ -50,6 +50,7 @@ module _ (s : Settings) (heapLen : ℕ) (b after : Table) (same : capacityOf aft
         bounds = subst (InBounds (s .«slot_bytes»)) (sym label) (g .bounds);
         present = omega (arith, g .present);
         live = omega (arith, g .live);
+        mark = omega (arith, ap (λ (x : Record). x .synced) kept, g .mark);
       }
 
 -- ---- the empty slots

@@ -1,7 +1,7 @@
 -- A file of a group added to a store: refusal 1 does not hold again, the table keeps its ids, and the other empty slots stay empty.
 use mathlib.Core.Path.{_≡_, refl, sym, ap, _∙_}
 use mathlib.Core.Logic.{_⊎_, inl, inr}
-use Prim.Native.Nat.{_≤_, _<_}
+use Prim.Native.Nat.{_≤_, _<_, zero-le}
 use native.Mathlib.Omega.{arith}
 use lib.Seq.{getD-set-same, getD-set-other}
 use Rattle.rules.specs.Base.{false, List, _∷_, ℕ, _+_, _/_, _^_, length, set}
@@ -78,6 +78,7 @@ module _ (generation : ℕ) (w : World) (ops : List Op) (f : Rewritable generati
         };
         present = omega arith;
         live = omega (arith, f .few, same-ids .words);
+        mark = zero-le;
       }
 
   -- every other record is as empty as before

@@ -1,11 +1,14 @@
--- Reopening a store of the invariant: accepted, with the same table, records and live counts, and a next position above every file.
+-- Reopening a store of the invariant: accepted, with the same table, records and live counts, every file's mark set, and a next position
+-- above every file.
 use mathlib.Core.Path.{_≡_, refl, sym, ap, _∙_, subst}
 use Prim.Native.Nat.{_≤_}
 use native.Mathlib.Omega.{arith}
+use lib.ListN.{length-map}
 use lib.Seq.{ext-getD}
+use Rattle.disk_location.specs.LocationLaws.{masked-pos}
 use borrow.Author.Tests.{le-ltb}
 use Rattle.rules.specs.Base.{List, [], ℕ, length, each}
-use Rattle.theory.specs.Types.{Entry, Held, Mapped, Unmapped, Slot, Is, NoSlot}
+use Rattle.theory.specs.Types.{Label, Record, Entry, Held, Mapped, Unmapped, Slot, Is, NoSlot}
 use Rattle.rules.specs.Refusal.{decide, NoneHolds, decide-clear, none-append}
 use Rattle.rules.specs.Condition1Laws.{limits-in}
 use Rattle.rules.specs.SlotFile.{File, View, empty, damaged, holds}
@@ -13,21 +16,24 @@ use Rattle.rules.specs.Table.{lookup}
 use Rattle.rules.specs.Layout.{capacityOf, laidOut}
 use Rattle.rules.specs.LayoutLaws.{laid-out-used}
 use Rattle.rules.specs.FileMap.{recorded, emptyRecord, recordAt, fileFor}
+use Rattle.rules.specs.FileMapLaws.{not-empty}
+use Rattle.rules.specs.Sync.{marked, markedAll}
 use Rattle.rules.specs.Claims.{noClaims}
 use Rattle.rules.specs.Reopen.{viewTests, filesIn, notRising, tableOf, reopenTests, mappedInto, recordOf, recordsFrom, nextAfter, opened, reopenCall}
 use Rattle.rules.specs.ReopenLaws.{records-from-length}
 use Rattle.rules.specs.World.{World, recordsOf, stateWith, accepted}
-use Rattle.theory.specs.Places.{viewAt, record-holds, record-empty, no-damage}
+use Rattle.theory.specs.Places.{viewAt, record-holds, mark-fits, record-empty, no-damage}
+use Rattle.theory.specs.Marks.{marked-empty, marked-set, marked-at, markedPicture, sound-marked}
 use Rattle.theory.specs.Files.{no-file, no-damage-tests, no-overlap, next-positive, next-above, record-from}
 use Rattle.theory.specs.Picture.{Picture, viewsOf, pictureOf, Said, slotSays, heldSays, pictureSays}
 use Rattle.theory.specs.Says.{held-same}
-use Rattle.theory.specs.SoundWorld.{SoundWorld}
+use Rattle.theory.specs.SoundWorld.{boundsOf, SoundWorld}
 
--- the same store without claims, its next position worked out again
+-- the same store without claims, every file's mark set, its next position worked out again
 abbrev pub again : World → World
 again w = record {
   settings = w .settings;
-  state = stateWith (w .state) (recordsOf w) (nextAfter (filesIn (viewsOf w)));
+  state = stateWith (w .state) (markedAll (recordsOf w)) (nextAfter (filesIn (viewsOf w)));
   claims = noClaims;
   heap = w .heap;
   table = w .table;
@@ -50,20 +56,25 @@ module _ (w : World) (told : ℕ → Said) (s : SoundWorld w told) where
   fits : length (viewsOf w) ≤ 256
   fits = let a = s .sound .filed .fits in let b = s .sound .sized in omega arith
 
-  -- LAW: each record and live count is found again
-  records-again : recordsFrom (tableOf (filesIn (viewsOf w))) (viewsOf w) ≡ recordsOf w
+  -- LAW: each record and live count is found again, with the mark set
+  records-again : recordsFrom (tableOf (filesIn (viewsOf w))) (viewsOf w) ≡ markedAll (recordsOf w)
   records-again =
-      ext-getD emptyRecord (recordsFrom (tableOf (filesIn (viewsOf w))) (viewsOf w)) (recordsOf w)
-      (records-from-length (tableOf (filesIn (viewsOf w))) (viewsOf w) fits ∙ sym (s .sound .sized))
-      (λ k h. record-from (tableOf (filesIn (viewsOf w))) (viewsOf w) k ∙ go k (viewAt (viewsOf w) k) refl)
+      ext-getD emptyRecord (recordsFrom (tableOf (filesIn (viewsOf w))) (viewsOf w)) (markedAll (recordsOf w))
+      (records-from-length (tableOf (filesIn (viewsOf w))) (viewsOf w) fits ∙ sym (s .sound .sized) ∙ sym (length-map (recordsOf w) marked))
+      (λ k h. record-from (tableOf (filesIn (viewsOf w))) (viewsOf w) k ∙ go k (viewAt (viewsOf w) k) refl ∙ sym (marked-at (recordsOf w) k))
     where
-      go : (k : ℕ) (v : View) → viewAt (viewsOf w) k ≡ v → recordOf (tableOf (filesIn (viewsOf w))) v ≡ recordAt (recordsOf w) k
-      go k empty e = sym (record-empty (viewsOf w) (recordsOf w) (s .sound .filed) k e)
+      go : (k : ℕ) (v : View) → viewAt (viewsOf w) k ≡ v → recordOf (tableOf (filesIn (viewsOf w))) v ≡ marked (recordAt (recordsOf w) k)
+      go k empty e = sym (ap marked (record-empty (viewsOf w) (recordsOf w) (s .sound .filed) k e) ∙ marked-empty)
       go k (damaged r) e = absurd (no-damage (viewsOf w) (recordsOf w) (s .sound .filed) k r e)
       go k (holds f) e =
-          ap (λ (t : List Entry). recorded (f .label) (mappedInto t (f .label))) (sym (s .sound .newest))
-          ∙ ap (recorded (f .label)) (sym (s .sound .counted k f e))
-          ∙ sym (record-holds (viewsOf w) (recordsOf w) (s .sound .filed) k f e)
+          let q = record-holds (viewsOf w) (recordsOf w) (s .sound .filed) k f e in
+          let l : recordAt (recordsOf w) k .label .lsn ≡ f .label .lsn = ap (λ (r : Record). r .label .lsn) q in
+          let a = masked-pos (f .label .lsn) (s .sound .filed .made k f e .placed) in
+          ap (λ (t : List Entry). recorded (f .label) (mappedInto t (f .label)) 1) (sym (s .sound .newest))
+          ∙ ap (λ (n : ℕ). recorded (f .label) n 1) (sym (s .sound .counted k f e))
+          ∙ ap (λ (c : Label). recorded c (recordAt (recordsOf w) k .live) 1) (sym (ap (λ (r : Record). r .label) q))
+          ∙ sym (marked-set (recordAt (recordsOf w) k) (not-empty (recordAt (recordsOf w) k) (omega arith))
+          (mark-fits (viewsOf w) (recordsOf w) (s .sound .filed) k f e))
 
   -- LAW: each id's location is found again, in the same buffer
   table-again : laidOut (capacityOf (w .table)) (tableOf (filesIn (viewsOf w))) ≡ w .table
@@ -113,7 +124,7 @@ module _ (w : World) (told : ℕ → Said) (s : SoundWorld w told) where
   pub sound-again : SoundWorld (again w) told
   sound-again =
       let t = s .tidy in
-      let p = s .sound in
+      let p = sound-marked (boundsOf w) (pictureOf w) told (s .sound) in
       record {
         tidy = record { limits = t .limits; settings = t .settings; heap-len = t .heap-len; table-len = t .table-len; form = t .form };
         sound = record {
@@ -126,6 +137,6 @@ module _ (w : World) (told : ℕ → Said) (s : SoundWorld w told) where
           room = p .room;
           narrow = p .narrow;
           counted = p .counted;
-          says = λ x. says-next (pictureOf w) (nextAfter (filesIn (viewsOf w))) x ∙ p .says x;
+          says = λ x. says-next (markedPicture (pictureOf w)) (nextAfter (filesIn (viewsOf w))) x ∙ p .says x;
         };
       }

@@ -1,7 +1,7 @@
 -- Demand 3: whatever calls were made, reads give the last accepted put, and a reopening finds the store as it was.
 use mathlib.Core.Path.{_≡_, sym, ap, _∙_, subst}
 use Prim.Native.Nat.{_<_}
-use Rattle.rules.specs.Base.{false, List, [], _∷_, ℕ, _+_, length}
+use Rattle.rules.specs.Base.{false, List, [], _∷_, map, ℕ, _+_, length}
 use Rattle.theory.specs.Types.{Record}
 use Rattle.disk_location.specs.Locations.{maskedOf}
 use Rattle.rules.specs.Condition1.{outOfRange}
@@ -13,9 +13,11 @@ use Rattle.rules.specs.Write.{writeCall}
 use Rattle.rules.specs.Maintenance.{maintainCall}
 use Rattle.rules.specs.Prune.{pruneCall}
 use Rattle.rules.specs.Reopen.{reopenCall}
+use Rattle.rules.specs.Sync.{markedAll}
 use Rattle.rules.specs.World.{World, recordsOf, accepted, After}
 use Rattle.theory.specs.Places.{not-empty, record-holds}
 use Rattle.theory.specs.Picture.{viewsOf}
+use Rattle.theory.specs.Marks.{withoutMark, marks-alone}
 use Rattle.theory.specs.SoundWorld.{SoundWorld, SmallWorld}
 use Rattle.history_theory.specs.Writing.{engine, heard, sound-write}
 use Rattle.history_theory.specs.Reading.{Reads, sound-read}
@@ -64,10 +66,12 @@ lived l (c ∷ cs) = lived (record { world = called (l .world) c .world; history
 pub record Kept (w : World) (history : List Op) : Type 0 where
   -- a read gives the body of the last accepted put, "deleted" after a delete, "never written" where there was neither
   pub reads : (id : ℕ) → Reads w (readOf w id) (lastOn history id)
-  -- a reopening is accepted, with the same location for each id, and the same record and live count for each slot
+  -- a reopening is accepted, with the same location for each id, and the same record and live count for each slot, compared without the mark
   pub reopens : reopenCall w .answer ≡ accepted []
   pub same-table : reopenCall w .world .table ≡ w .table
-  pub same-records : recordsOf (reopenCall w .world) ≡ recordsOf w
+  pub same-records : map withoutMark (recordsOf (reopenCall w .world)) ≡ map withoutMark (recordsOf w)
+  -- the mark is "set on reopening", of every file and of nothing else
+  pub all-marked : recordsOf (reopenCall w .world) ≡ markedAll (recordsOf w)
   -- the next position, held or reopened, lies above every file
   pub above : (k : ℕ) → isEmpty (recordAt (recordsOf w) k) ≡ false
       → maskedOf (recordAt (recordsOf w) k .label .lsn) + recordAt (recordsOf w) k .label .«trailer_offset» < w .state .«next_position»
@@ -82,6 +86,14 @@ above-record w history s k h =
     subst (λ (r : Record). maskedOf (r .label .lsn) + r .label .«trailer_offset» < w .state .«next_position»)
     (sym (record-holds (viewsOf w) (recordsOf w) (s .sound .filed) k (f .0) (f .1))) (s .sound .above k (f .0) (f .1))
 
+-- reopened, too
+above-again : (w : World) (history : List Op) → SoundWorld w (engine history) → (k : ℕ) → isEmpty (recordAt (recordsOf w) k) ≡ false
+    → maskedOf (recordAt (recordsOf w) k .label .lsn) + recordAt (recordsOf w) k .label .«trailer_offset» < again w .state .«next_position»
+above-again w history s k h =
+    let f = file-slot w (engine history) s k h in
+    subst (λ (r : Record). maskedOf (r .label .lsn) + r .label .«trailer_offset» < again w .state .«next_position»)
+    (sym (record-holds (viewsOf w) (recordsOf w) (s .sound .filed) k (f .0) (f .1))) (sound-again w (engine history) s .sound .above k (f .0) (f .1))
+
 pub sound-kept : (w : World) (history : List Op) → SoundWorld w (engine history) → Kept w history
 sound-kept w history s =
     let e = reopen-accepted w (engine history) s in
@@ -89,11 +101,12 @@ sound-kept w history s =
       reads = sound-read w history s;
       reopens = ap (λ (a : After). a .answer) e;
       same-table = ap (λ (a : After). a .world .table) e;
-      same-records = ap (λ (a : After). recordsOf (a .world)) e;
+      same-records = ap (λ (a : After). map withoutMark (recordsOf (a .world))) e ∙ marks-alone (recordsOf w);
+      all-marked = ap (λ (a : After). recordsOf (a .world)) e;
       above = above-record w history s;
       above-reopened = λ k h.
           subst (λ (a : After). maskedOf (recordAt (recordsOf w) k .label .lsn) + recordAt (recordsOf w) k .label .«trailer_offset» < a .world .state .«next_position») (sym e)
-          (above-record (again w) history (sound-again w (engine history) s) k h);
+          (above-again w history s k h);
     }
 
 -- each call keeps the invariant

@@ -2,6 +2,7 @@
 pub mod Writing
 pub mod Reading
 pub mod Again
+pub mod Syncing
 pub mod Pruning
 pub mod Quiet
 pub mod Fresh
@@ -16,3 +17,5 @@ pub mod Clean
 pub mod Ends
 pub mod Accepting
 pub mod Writes
+-- request P6: the marks
+pub mod MarksLeft

@@ -17,6 +17,7 @@ use Rattle.rules.specs.WriteLaws.{opsIn, write-accepted}
 use Rattle.rules.specs.Reopen.{reopenCall}
 use Rattle.rules.specs.World.{World, recordsOf, Given, accepted, After, unchanged}
 use Rattle.theory.specs.SoundWorld.{SoundWorld}
+use Rattle.rules.specs.Sync.{markedAll}
 use Rattle.theory.specs.Reopened.{refused-not}
 use Rattle.theory.specs.Standing.{Stood, fitting-stands}
 use Rattle.history_theory.specs.Writing.{engine, heard, fits-write, sound-write}
@@ -56,10 +57,10 @@ pub record Wrote (w : World) (batch : List ℕ) : Type 0 where
   pub stands : 0 < length (opsIn batch) → (writeCall w batch .world ≡ installed (2 ^ 62) 0 w (opsIn batch)) × Stood (2 ^ 62) 0 w (opsIn batch)
   -- each id of the batch reads as its last put or as deleted, every other id as before
   pub reads : (id : ℕ) → got (writeCall w batch .world) id ≡ leftBy (lastOn (opsOf (batchIn batch)) id) (got w id)
-  -- a reopening is accepted, with the table, the records and the live counts that the write left
+  -- a reopening is accepted, with the table, the records and the live counts that the write left, every file's mark set
   pub reopens : reopenCall (writeCall w batch .world) .answer ≡ accepted []
   pub same-table : reopenCall (writeCall w batch .world) .world .table ≡ writeCall w batch .world .table
-  pub same-records : recordsOf (reopenCall (writeCall w batch .world) .world) ≡ recordsOf (writeCall w batch .world)
+  pub same-records : recordsOf (reopenCall (writeCall w batch .world) .world) ≡ markedAll (recordsOf (writeCall w batch .world))
 
 -- a read by the engine's last word
 pub got-last : (w : World) (history : List Op) → SoundWorld w (engine history) → (id : ℕ) → got w id ≡ leftBy (lastOn history id) never
@@ -165,13 +166,13 @@ Plain prune = Unit {0}
 Plain reopen = ⊥
 Plain (quiet q) = Unit {0}
 
-or-unchanged : (w v : World) (a : Answer) → (after a (unchanged w) (record { answer = accepted []; world = v }) .answer ≡ accepted [] → ⊥)
+or-unchanged : (w v : World) (a : Answer) → (after a (unchanged w) (record { answer = accepted []; world = v }) .answer .number ≡ 0 → ⊥)
     → after a (unchanged w) (record { answer = accepted []; world = v }) .world ≡ w
 or-unchanged w v Done n = absurd (n refl)
 or-unchanged w v (Refused r) n = refl
 
 -- LAW: "A refusal changes no state or buffer", on any world
-pub refused-unchanged : (w : World) (c : Call) → Plain c → (called w c .answer ≡ accepted [] → ⊥) → called w c .world ≡ w
+pub refused-unchanged : (w : World) (c : Call) → Plain c → (called w c .answer .number ≡ 0 → ⊥) → called w c .world ≡ w
 unfolding writeCall pruneCall
 refused-unchanged w (write batch) p n = or-unchanged w (written w (settled (opsOf (batchIn batch)))) (decide (writeTests w batch)) n
 refused-unchanged w maintain p n = absurd p

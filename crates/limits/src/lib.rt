@@ -109,7 +109,8 @@ fn the_states(s: Settings, heap: u64, entries: u64, rest: Rest) -> bool
     same_settings(s, t) & (heap == rest.heap_len) & (entries == rest.table_len)
 }
 
-// "a non-empty record at slot N or above, outside 8's bounds, or with present over file_size or live over the table's length"
+// "a non-empty record at slot N or above, outside 8's bounds, or with present over file_size or live over the table's length"; or with a
+// synced mark that is neither 0 nor 1
 fn bad_record(s: Settings, heap: u64, table: &[u64], slot: u64, r: Record) -> bool
     requires { ⌜ 128 ≤ s .«slot_bytes» ⌝ }
     requires { ⌜ s .«slot_bytes» ≤ 1048576 ⌝ }
@@ -127,7 +128,10 @@ fn bad_record(s: Settings, heap: u64, table: &[u64], slot: u64, r: Record) -> bo
     if r.label.file_size < r.label.present_objects {
         return true;
     }
-    (capacity(table) as u64) < r.live
+    if (capacity(table) as u64) < r.live {
+        return true;
+    }
+    1 < r.synced
 }
 
 // Some record is such, or S is out of its range. Every call asks this before its first branch: there, compiled, it reads the caller's

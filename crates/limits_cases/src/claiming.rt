@@ -1,4 +1,5 @@
 use crate::show::answer;
+use crate::states::marked_2;
 use crate::states::settings;
 use crate::states::store;
 use claims::ClaimAnswer;
@@ -46,7 +47,8 @@ fn release(claims: Claims, state: State, slot: u64) -> Claims {
     ))
 }
 
-// "21 for a slot out of range, an empty slot, a claimed one (claim) or an unclaimed one (release)"; and 1 first.
+// "21 for a slot out of range, an empty slot, a claimed one (claim) or an unclaimed one (release)"; and 1 first: for next position 0,
+// then for a mark of 2.
 pub fn claims_and_releases() {
     let a = claim(claims::no_claims(), store(), 0);
     let b = claim(a, store(), 1);
@@ -57,6 +59,8 @@ pub fn claims_and_releases() {
     let mut spent = store();
     spent.next_position = 0;
     let g = release(f, spent, 1);
-    let h = release(g, store(), 1);
-    release(h, store(), 1);
+    let h = release(g, marked_2(), 1);
+    let i = release(h, store(), 1);
+    let j = release(i, store(), 1);
+    claim(j, marked_2(), 1);
 }

@@ -19,7 +19,7 @@ fn label() -> Label {
 }
 
 fn file() -> Record {
-    recorded(label(), 2)
+    recorded(label(), 2, 0)
 }
 
 fn with(slot: usize, r: Record) -> State
@@ -78,24 +78,24 @@ fn records() {
     counts(b"slot 255:", with(255, file()));
     let mut large = label();
     large.file_size = 65;
-    counts(b"file_size over S - 64:", with(1, recorded(large, 2)));
+    counts(b"file_size over S - 64:", with(1, recorded(large, 2, 0)));
     let mut offset = label();
     offset.trailer_offset = 65;
-    counts(b"T over file_size:", with(1, recorded(offset, 2)));
+    counts(b"T over file_size:", with(1, recorded(offset, 2, 0)));
     let mut present = label();
     present.present_objects = 65;
-    counts(b"present over file_size:", with(1, recorded(present, 2)));
-    counts(b"live over the table:", with(1, recorded(label(), 3)));
+    counts(b"present over file_size:", with(1, recorded(present, 2, 0)));
+    counts(b"live over the table:", with(1, recorded(label(), 3, 0)));
     let mut generation = label();
     generation.generation = 256;
-    counts(b"generation 256:", with(1, recorded(generation, 2)));
+    counts(b"generation 256:", with(1, recorded(generation, 2, 0)));
 }
 
 // "masked lsn 0, lsn of 2^63 or more, or masked lsn + T of 2^62 or more"
 fn lsn(word: &[u8], n: u64) {
     let mut l = label();
     l.lsn = n;
-    counts(word, with(1, recorded(l, 2)));
+    counts(word, with(1, recorded(l, 2, 0)));
 }
 
 fn lsns() {
@@ -106,13 +106,28 @@ fn lsns() {
     lsn(b"masked lsn + T 2^62:", 4611686018427387884);
 }
 
-// "An empty record is all zeros.": a record with one number is not empty.
+// "An empty record is all zeros.", and "has [the mark] clear": a record with one number is not empty.
 fn empty() {
     counts(b"all zeros:", with(1, file_map::empty()));
     counts(
         b"zeros but live 1:",
-        with(1, recorded(file_map::no_label(), 1)),
+        with(1, recorded(file_map::no_label(), 1, 0)),
     );
+    counts(
+        b"zeros but the mark:",
+        with(1, recorded(file_map::no_label(), 0, 1)),
+    );
+}
+
+// A store whose file has a synced mark that is neither 0 nor 1.
+pub fn marked_2() -> State {
+    with(1, recorded(label(), 2, 2))
+}
+
+// The mark: 0 clear, 1 set, and no other number.
+fn marks() {
+    counts(b"mark 1:", with(1, recorded(label(), 2, 1)));
+    counts(b"mark 2:", marked_2());
 }
 
 pub fn condition_one() {
@@ -121,4 +136,5 @@ pub fn condition_one() {
     records();
     lsns();
     empty();
+    marks();
 }

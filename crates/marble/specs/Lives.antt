@@ -1,19 +1,33 @@
 -- The demands of lives of results: whatever the calls gave, as long as their contracts admit it.
 use mathlib.Core.Path.{_≡_, refl, sym, ap, ap₂, _∙_, subst}
 use mathlib.Core.List.{append-assoc, append-nil}
-use Rattle.rules.specs.Base.{Bool, true, false, List, [], _∷_, _++_, map, ℕ, length, leb, eqb, pick}
+use Prim.Native.Nat.{_<_, _≤_}
+use native.Mathlib.Omega.{arith}
+use borrow.Author.Tests.{le-ltb}
+use Rattle.rules.specs.Base.{Bool, true, false, not, _||_, List, [], _∷_, _++_, map, ℕ, length, getD, leb, eqb, any, pick, padded}
 use Rattle.rules.specs.declared.Answer.the-variants.{Done}
 use Rattle.rules.specs.declared.ReadAnswer.{ReadAnswer}
+use Rattle.rules.specs.Refusal.{decide}
 use Rattle.rules.specs.Ops.{Op, put, delete}
 use Rattle.rules.specs.Batch.{batchIn, opsOf}
 use Rattle.rules.specs.SettledLaws.{Last, silent, last, orEarlier, lastOn, last-append}
 use Rattle.rules.specs.Read.{readOf, partOf}
 use Rattle.rules.specs.Write.{writeCall}
-use Rattle.rules.specs.World.{World, After, answerGiven}
-use Rattle.history_theory.specs.Writing.{heard}
+use Rattle.rules.specs.WriteLaws.{opsIn}
+use Rattle.rules.specs.FileMap.{recordAt}
+use Rattle.rules.specs.Install.{newSlot}
+use Rattle.rules.specs.Sync.{isUnsynced, unsyncedIn, tooLong, unsyncedCall, syncState}
+use Rattle.rules.specs.declared.Record.{Record}
+use Rattle.as_numbers.specs.declared.answers.One.{One}
+use Rattle.as_numbers.specs.Shown.{given, shown}
+use Rattle.theory.specs.Marks.{any-counted}
+use Rattle.rules.specs.World.{World, world, recordsOf, stateWith, Given, accepted, After, answerGiven}
+use Rattle.history_theory.specs.Writing.{engine, heard}
+use Rattle.history_theory.specs.Syncing.{sync-accepted, syncedFrom, sound-synced-from}
+use Rattle.history_theory.specs.MarksLeft.{Carries, maintain-carries, reopen-marks, sync-marks, write-marks}
 use Rattle.history_theory.specs.Reading.{Reads}
 use Rattle.theory.specs.Reopened.{Opened, reopened-means}
-use Rattle.history_theory.specs.Quiet.{claim, release}
+use Rattle.history_theory.specs.Quiet.{claim, release, sync}
 use Rattle.history_theory.specs.History.{Call, write, maintain, prune, reopen, quiet, called, hears, Life, lived, Starts, Kept, sound-kept}
 use Rattle.history_theory.specs.Clean.{heardAt, resumed, clean-starts}
 use Rattle.history_theory.specs.Writes.{never, gotBy, got, leftBy, got-last, write-means}
@@ -25,7 +39,8 @@ use Rattle.power_cuts.specs.Cuts as cuts
 use Rattle.power_cuts.specs.PowerCut.{cut-survived, sound-lived-on}
 use Rattle.recovery.specs.declared.Reopened.{Reopened}
 use Rattle.writepath.specs.declared.Written.{Written}
-use Rattle.marble.specs.Results.{Result, wrote, maintained, pruned, claimed, released, reopened, answered, read, answeredThrough, readThrough, counted, checked, left, Admitted, hearing, Event, gave, cut, Happens, next, lives, AllHappen, begun, Lived, reached, since}
+use Rattle.gc.specs.declared.Maintained.{Maintained}
+use Rattle.marble.specs.Results.{Result, wrote, maintained, pruned, claimed, released, reopened, answered, read, answeredThrough, readThrough, counted, unsyncedCounted, synced, checked, left, Admitted, hearing, Event, gave, cut, Happens, next, lives, AllHappen, begun, Lived, reached, since}
 
 -- the bytes that the last operation on an id leaves
 abbrev pub bodyLast : Last → List ℕ
@@ -47,6 +62,8 @@ theCalls (gave (read id part)) es = es
 theCalls (gave (answeredThrough batch id r)) es = es
 theCalls (gave (readThrough batch id part)) es = es
 theCalls (gave (counted r)) es = es
+theCalls (gave (unsyncedCounted r)) es = es
+theCalls (gave (synced r records)) es = done (quiet sync) ∷ es
 theCalls (gave (checked before r after)) es = es
 theCalls (cut k c v r table) es = cuts.cut k c v ∷ es
 
@@ -67,6 +84,8 @@ theCall (read id part) cs = cs
 theCall (answeredThrough batch id r) cs = cs
 theCall (readThrough batch id part) cs = cs
 theCall (counted r) cs = cs
+theCall (unsyncedCounted r) cs = cs
+theCall (synced r records) cs = quiet sync ∷ cs
 theCall (checked before r after) cs = cs
 
 unfoldable pub callsOf : List Result → List Call
@@ -94,6 +113,12 @@ alike-then l e d es ds a b = record {
 alike-left : (l : Life) (r : Result) (c : Call) → left (l .world) r ≡ called (l .world) c .world → hearing (l .history) r ≡ hears (l .world) (l .history) c → Alike l (gave r) (done c)
 alike-left l r c p q = record { happens = tt; same = λ i. record { world = p i; history = q i } }
 
+-- a sync leaves the records that the definition leaves, and nothing else changed
+synced-left : (w : World) (r : One) (records : List Record) → Admitted w (synced r records) → left w (synced r records) ≡ syncState w .world
+unfolding syncState
+synced-left w r records a =
+    ap (λ (rs : List Record). world (w .settings) (stateWith (w .state) rs (w .state .«next_position»)) (w .claims) (w .heap) (w .table)) (a .1)
+
 -- event by event
 alike : (l : Life) (es : List Event) → AllHappen l es → AllAlike l es (calls es)
 unfolding lives livedOn AllHappen cuts.AllHappen calls
@@ -118,6 +143,9 @@ alike l (e ∷ es) h = go e (h .0) (alike (next l e) es (h .1))
     go (gave (answeredThrough batch id r)) a b = record { happen = b .happen; same = b .same }
     go (gave (readThrough batch id part)) a b = record { happen = b .happen; same = b .same }
     go (gave (counted r)) a b = record { happen = b .happen; same = b .same }
+    go (gave (unsyncedCounted r)) a b = record { happen = b .happen; same = b .same }
+    go (gave (synced r records)) a b =
+        alike-then l (gave (synced r records)) (done (quiet sync)) es (calls es) (alike-left l (synced r records) (quiet sync) (synced-left (l .world) r records a) refl) b
     go (gave (checked before r after)) a b = record { happen = b .happen; same = b .same }
     go (cut k c v r table) a b =
         alike-then l (cut k c v r table) (cuts.cut k c v) es (calls es)
@@ -138,6 +166,8 @@ uncut l (read id part ∷ rs) = uncut l rs
 uncut l (answeredThrough batch id r ∷ rs) = uncut l rs
 uncut l (readThrough batch id part ∷ rs) = uncut l rs
 uncut l (counted r ∷ rs) = uncut l rs
+uncut l (unsyncedCounted r ∷ rs) = uncut l rs
+uncut l (synced r records ∷ rs) = uncut (happened l (done (quiet sync))) rs
 uncut l (checked before r after ∷ rs) = uncut l rs
 
 -- ---- what is heard is heard behind what was heard before
@@ -157,6 +187,8 @@ hearing-behind h (read id part) = sym (append-nil h)
 hearing-behind h (answeredThrough batch id r) = sym (append-nil h)
 hearing-behind h (readThrough batch id part) = sym (append-nil h)
 hearing-behind h (counted r) = sym (append-nil h)
+hearing-behind h (unsyncedCounted r) = sym (append-nil h)
+hearing-behind h (synced r records) = sym (append-nil h)
 hearing-behind h (checked before r after) = sym (append-nil h)
 
 hears-behind : (w : World) (h : List Op) (c : Call) → hears w h c ≡ h ++ hears w [] c
@@ -274,6 +306,61 @@ module _ (l : Lived) where
       → Admitted (left (reached l .world) (wrote batch r heap table)) (read id after) → through ≡ after
   life-foresees-bytes batch r heap table a d id through after p q =
       p ∙ same-bytes (reached l .world) (left (reached l .world) (wrote batch r heap table)) batch id (life-foresees batch r heap table a d id) ∙ sym q
+
+  -- REQUEST P6: the count is never refused, and is how many files are unsynced
+  pub life-unsynced : (r : One) → Admitted (reached l .world) (unsyncedCounted r)
+      → (r .number ≡ 0) × (r .value ≡ unsyncedIn (recordsOf (reached l .world)))
+  unfolding unsyncedCall tooLong decide padded
+  life-unsynced r a =
+      let sized = life-sound .sound .sized in
+      let fits : length (recordsOf (reached l .world)) ≤ 256 = omega arith in
+      let n : given (r .number) (r .value ∷ []) ≡ given 0 (unsyncedIn (recordsOf (reached l .world)) ∷ []) = rw (le-ltb 256 (length (recordsOf (reached l .world))) fits) at a in
+      (ap (λ (g : Given). g .number) n, ap (λ (g : Given). getD (g .values) 0 0) n)
+
+  -- a sync of fewer of the records, as many as `count` from slot `from` on: demand 3 holds of what it leaves
+  pub life-synced-from : (from count : ℕ) → Kept (syncedFrom from count (reached l .world)) (reached l .history)
+  life-synced-from from count =
+      sound-kept (syncedFrom from count (reached l .world)) (reached l .history)
+      (sound-synced-from (reached l .world) (engine (reached l .history)) life-sound from count)
+
+  -- maintenance: each slot's file is as it was, and its mark too; or it was written by the call, and its mark is clear; or the record was emptied
+  pub life-marks-maintained : (r : Maintained) (heap table : List ℕ) → Admitted (reached l .world) (maintained r heap table)
+      → Carries 0 (reached l .world) (left (reached l .world) (maintained r heap table))
+  life-marks-maintained r heap table a = subst (λ (x : After). Carries 0 (reached l .world) (x .world)) (sym a) (maintain-carries (reached l .world))
+
+  -- a sync is never refused, leaves no file unsynced, and tells whether one was
+  pub life-synced : (r : One) (records : List Record) → Admitted (reached l .world) (synced r records)
+      → (r .number ≡ 0) × (r .value ≡ pick (eqb (unsyncedIn (recordsOf (reached l .world))) 0) 0 1) × (unsyncedIn records ≡ 0)
+  unfolding syncState padded
+  life-synced r records a =
+      let w = reached l .world in
+      let e = sync-accepted w (engine (reached l .history)) life-sound in
+      let n : given (r .number) (r .value ∷ []) ≡ shown 1 (accepted (pick (any isUnsynced (recordsOf w)) 1 0 ∷ [])) = a .0 ∙ ap (λ (x : After). shown 1 (x .answer)) e in (
+        ap (λ (g : Given). g .number) n,
+        ap (λ (g : Given). getD (g .values) 0 0) n ∙ told (any isUnsynced (recordsOf w)) (unsyncedIn (recordsOf w)) (any-counted (recordsOf w)),
+        ap unsyncedIn (a .1) ∙ sync-marks w (engine (reached l .history)) life-sound,
+      )
+    where
+      told : (b : Bool) (n : ℕ) → b ≡ not (eqb n 0) → _≡_ {A = ℕ} (pick b 1 0) (pick (eqb n 0) 0 1)
+      told b n q = ap (λ (c : Bool). pick {A = ℕ} c 1 0) q ∙ go (eqb n 0)
+        where
+          go : (t : Bool) → _≡_ {A = ℕ} (pick (not t) 1 0) (pick t 0 1)
+          go true = refl
+          go false = refl
+
+  -- "set on reopening": whatever it answered, unless 1, no file is unsynced after it
+  pub life-marks-reopened : (r : Reopened) (table : List ℕ) → Admitted (reached l .world) (reopened r table) → (answerGiven (r .answer) .number ≡ 1 → ⊥)
+      → unsyncedIn (recordsOf (left (reached l .world) (reopened r table))) ≡ 0
+  life-marks-reopened r table a n =
+      ap (λ (x : After). unsyncedIn (recordsOf (x .world))) a ∙ reopen-marks (reached l .world) (λ z. n (ap (λ (x : After). x .answer .number) a ∙ z))
+
+  -- "clear on writing": where the result of a write of something says `Done`, the new file is unsynced, and every other as it was
+  pub life-marks-written : (batch : List ℕ) (r : Written) (heap table : List ℕ) → Admitted (reached l .world) (wrote batch r heap table) → r .answer ≡ Done
+      → 0 < length (opsIn batch) → (k : ℕ) → isUnsynced (recordAt (recordsOf (left (reached l .world) (wrote batch r heap table))) k)
+      ≡ (eqb k (newSlot (reached l .world)) || isUnsynced (recordAt (recordsOf (reached l .world)) k))
+  life-marks-written batch r heap table a d some k =
+      ap (λ (x : After). isUnsynced (recordAt (recordsOf (x .world)) k)) a
+      ∙ write-marks (reached l .world) (reached l .history) life-sound batch (sym (ap (λ (x : After). x .answer) a) ∙ ap answerGiven d) some k
 
 -- DEMAND 2, reopen: of any heap, whoever wrote it, where the result says `Done`
 pub reopened-opens : (w : World) (r : Reopened) (table : List ℕ) → Admitted w (reopened r table) → r .answer ≡ Done

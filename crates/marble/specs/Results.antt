@@ -3,12 +3,13 @@ use mathlib.Core.Path.{_≡_}
 use Rattle.rules.specs.Base.{List, [], _∷_, ℕ}
 use Rattle.rules.specs.declared.ReadAnswer.{ReadAnswer}
 use Rattle.rules.specs.declared.CountsAnswer.{CountsAnswer}
+use Rattle.rules.specs.declared.Record.{Record}
 use Rattle.rules.specs.Ops.{Op}
 use Rattle.rules.specs.Claims.{withClaims, claimCall, releaseCall}
 use Rattle.rules.specs.Counts.{countsCall}
 use Rattle.rules.specs.Read.{readOf, partOf}
 use Rattle.rules.specs.Reopen.{reopenCall}
-use Rattle.rules.specs.World.{World, world, leaving, answerGiven, countsGiven}
+use Rattle.rules.specs.World.{World, world, recordsOf, stateWith, leaving, answerGiven, countsGiven}
 use Rattle.history_theory.specs.Writing.{heard}
 use Rattle.history_theory.specs.History.{Call, Life}
 use Rattle.history_theory.specs.Clean.{Clean, heardAt}
@@ -24,6 +25,9 @@ use Rattle.prune.specs.declared.PruneAnswer.{PruneAnswer}
 use Rattle.prune.specs.CallLaws.{Prunes}
 use Rattle.through.specs.declared.ThroughAnswer.{ThroughAnswer}
 use Rattle.through.specs.Through.{throughOf, throughPart}
+use Rattle.as_numbers.specs.declared.answers.One.{One}
+use Rattle.as_numbers.specs.Shown.{given, shown}
+use Rattle.rules.specs.Sync.{unsyncedCall, syncCall}
 use Rattle.faults.specs.Faults.{checkCall}
 use Rattle.checker.specs.declared.CheckAnswer.{CheckAnswer}
 use Rattle.marble.specs.Unique.{Claims-leaves, Checks}
@@ -48,6 +52,9 @@ pub data Result : Type 0 where
   answeredThrough : List ℕ → ℕ → ThroughAnswer → Result
   readThrough : List ℕ → ℕ → List ℕ → Result
   counted : CountsAnswer → Result
+  -- the records, lent: by `unsynced`; by `sync`, which leaves them so
+  unsyncedCounted : One → Result
+  synced : One → List Record → Result
   -- the listing before; after
   checked : List ℕ → CheckAnswer → List ℕ → Result
 
@@ -64,6 +71,8 @@ left w (read id part) = w
 left w (answeredThrough batch id r) = w
 left w (readThrough batch id part) = w
 left w (counted r) = w
+left w (unsyncedCounted r) = w
+left w (synced r records) = world (w .settings) (stateWith (w .state) records (w .state .«next_position»)) (w .claims) (w .heap) (w .table)
 left w (checked before r after) = w
 
 -- the contract of its call admits it, where the host had w and handed it on
@@ -79,6 +88,9 @@ Admitted w (read id part) = part ≡ partOf (readOf w id) (w .heap)
 Admitted w (answeredThrough batch id r) = r ≡ throughOf w batch id
 Admitted w (readThrough batch id part) = part ≡ throughPart (throughOf w batch id) batch (w .heap)
 Admitted w (counted r) = leaving (countsGiven r) w ≡ countsCall w
+Admitted w (unsyncedCounted r) = given (r .number) (r .value ∷ []) ≡ shown 1 (unsyncedCall (recordsOf w))
+Admitted w (synced r records) =
+    (given (r .number) (r .value ∷ []) ≡ shown 1 (syncCall (recordsOf w) .answer)) × (records ≡ syncCall (recordsOf w) .records)
 Admitted w (checked before r after) = Checks (checkCall (w .settings) (w .heap) (w .table) before) r after
 
 -- the plain engine hears the operations of a write whose result says `Done`, and nothing else
@@ -94,6 +106,8 @@ hearing history (read id part) = history
 hearing history (answeredThrough batch id r) = history
 hearing history (readThrough batch id part) = history
 hearing history (counted r) = history
+hearing history (unsyncedCounted r) = history
+hearing history (synced r records) = history
 hearing history (checked before r after) = history
 
 -- ---- a life

@@ -26,6 +26,7 @@ pub use Rattle.readpath.specs.ReadLaws.{read-one, part-one}
 pub use Rattle.through.specs.ThroughLaws.{through-one, through-part-one}
 pub use Rattle.gc.specs.Unique.{maintain-one}
 pub use Rattle.prune.specs.CallLaws.{prune-one}
+pub use Rattle.marks_in_place.specs.Unique.{one-count, one-sync}
 pub use Rattle.salvage.specs.Answers.{salvage-one}
 
 -- ---- claim and release: what their contracts say of a result, for the call's definition

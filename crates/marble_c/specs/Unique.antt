@@ -3,12 +3,14 @@ use mathlib.Core.Path.{_≡_, sym, ap, _∙_}
 use Rattle.rules.specs.Base.{List, [], ℕ, length}
 use Rattle.rules.specs.declared.Settings.{Settings}
 use Rattle.rules.specs.declared.Claims.{Claims}
+use Rattle.rules.specs.declared.Record.{Record}
 use Rattle.rules.specs.Claims.{noClaims, claimCall, releaseCall}
 use Rattle.rules.specs.Counts.{countsCall}
 use Rattle.rules.specs.Maintenance.{maintainCall}
 use Rattle.rules.specs.Prune.{pruneCall}
 use Rattle.rules.specs.Read.{readCall}
 use Rattle.rules.specs.Reopen.{reopenCall}
+use Rattle.rules.specs.Sync.{unsyncedCall, syncCall}
 use Rattle.rules.specs.TableCalls.{TableAfter, loadCall, storeCall, compareCall, greaterCall}
 use Rattle.rules.specs.World.{After, world, leaving}
 use Rattle.rules.specs.Write.{writeCall}
@@ -33,7 +35,7 @@ pub record Left : Type 0 where
 
 -- arrays have the lengths of their types
 pub record Sized (l : Left) : Type 0 where
-  pub state : length (l .state) ≡ 1545
+  pub state : length (l .state) ≡ 1801
   pub claims : length (l .claims) ≡ 4
 
 -- the same, as the calls' definitions say it
@@ -95,7 +97,7 @@ module _ (s : Settings) (state heap table : List ℕ) where
   abbrev pub Writes : List ℕ → ℕ → List ℕ → List ℕ → List ℕ → Type 0
   Writes batch r ws hs ts = (c : Claims) → leaving (given r []) (world s (stateIn ws) c hs ts) ≡ writeCall (world s (stateIn state) c heap table) batch
 
-  pub write-one : (batch : List ℕ) (r q : ℕ) (ws vs hs ks ts us : List ℕ) → length ws ≡ 1545 → length vs ≡ 1545
+  pub write-one : (batch : List ℕ) (r q : ℕ) (ws vs hs ks ts us : List ℕ) → length ws ≡ 1801 → length vs ≡ 1801
       → Writes batch r ws hs ts → Writes batch q vs ks us → (r ≡ q) × (ws ≡ vs) × (hs ≡ ks) × (ts ≡ us)
   write-one batch r q ws vs hs ks ts us m n e f =
       let both = e noClaims ∙ sym (f noClaims) in (
@@ -123,6 +125,20 @@ module _ (s : Settings) (state heap table : List ℕ) where
 
   pub counts-one : (r q : ℕ) (vs us : List ℕ) → CountsOut r vs → CountsOut q us → given r vs ≡ given q us
   counts-one r q vs us e f = e noClaims ∙ sym (f noClaims)
+
+-- ---- the calls on a lent list of records: number, out-parameter and the list after
+module _ (list : List Record) where
+  abbrev pub CountsUnsynced : ℕ → List ℕ → Type 0
+  CountsUnsynced r values = given r values ≡ shown 1 (unsyncedCall list)
+
+  abbrev pub Syncs : ℕ → List ℕ → List Record → Type 0
+  Syncs r values after = (given r values ≡ shown 1 (syncCall list .answer)) × (after ≡ syncCall list .records)
+
+  pub unsynced-one : (r q : ℕ) (vs us : List ℕ) → CountsUnsynced r vs → CountsUnsynced q us → given r vs ≡ given q us
+  unsynced-one r q vs us e f = e ∙ sym f
+
+  pub sync-one : (r q : ℕ) (vs us : List ℕ) (after ends : List Record) → Syncs r vs after → Syncs q us ends → (given r vs ≡ given q us) × (after ≡ ends)
+  sync-one r q vs us after ends e f = (e .0 ∙ sym (f .0), e .1 ∙ sym (f .1))
 
 -- ---- check, which is lent no state: number, out-parameter and the lent listing after
 module _ (s : Settings) (heap table listing : List ℕ) where

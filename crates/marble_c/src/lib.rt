@@ -22,6 +22,7 @@ use marble::CheckAnswer;
 use marble::SalvageAnswer;
 use marble::ThroughAnswer;
 use rules::ReadAnswer;
+use rules::Record;
 use rules::Settings;
 ghost use mathlib.Core.Path.{_≡_};
 ghost use mathlib.Core.List.{[], _∷_};
@@ -32,6 +33,7 @@ ghost use Rattle.rules.specs.Maintenance.{maintainCall};
 ghost use Rattle.rules.specs.Prune.{pruneCall};
 ghost use Rattle.rules.specs.Read.{readOf, readCall};
 ghost use Rattle.rules.specs.Reopen.{reopenCall};
+ghost use Rattle.rules.specs.Sync.{unsyncedCall, syncCall};
 ghost use Rattle.rules.specs.TableCalls.{loadCall, storeCall, compareCall, greaterCall};
 ghost use Rattle.rules.specs.World.{world, leaving};
 ghost use Rattle.rules.specs.Write.{writeCall};
@@ -53,7 +55,7 @@ ghost use Rattle.marble_c.specs.Version.{version};
 pub extern "C" fn marble_version() -> u64
     ensures { λ r. ⌜ r ≡ version ⌝ }
 {
-    3001
+    4000
 }
 
 // ---- the store
@@ -61,7 +63,7 @@ pub extern "C" fn marble_version() -> u64
 #[no_mangle]
 pub extern "C" fn marble_reopen(
     settings: Settings,
-    state: &mut [u64; 1545],
+    state: &mut [u64; 1801],
     claims: &mut [u64; 4],
     heap: &[u8],
     table: &mut [u64],
@@ -85,7 +87,7 @@ pub extern "C" fn marble_reopen(
 #[no_mangle]
 pub extern "C" fn marble_write(
     settings: Settings,
-    state: &mut [u64; 1545],
+    state: &mut [u64; 1801],
     heap: &mut [u8],
     table: &mut [u64],
     batch: &[u8],
@@ -105,7 +107,7 @@ pub extern "C" fn marble_write(
 
 // A read's answer, by the state's words. Both reads go through here, so that `read_answer` has one caller and is compiled into it: with
 // two, each call would hand it copies of the state.
-fn found(settings: Settings, state: &[u64; 1545], heap: &[u8], table: &[u64], id: u64) -> ReadAnswer
+fn found(settings: Settings, state: &[u64; 1801], heap: &[u8], table: &[u64], id: u64) -> ReadAnswer
     ensures { λ r. ⌜ ((c : Claims) → r ≡ readOf
         (world settings (stateIn (now (state .entry))) c (now (heap .entry)) (now (table .entry)))
         id) ⌝ }
@@ -118,7 +120,7 @@ fn found(settings: Settings, state: &[u64; 1545], heap: &[u8], table: &[u64], id
 #[no_mangle]
 pub extern "C" fn marble_read(
     settings: Settings,
-    state: &[u64; 1545],
+    state: &[u64; 1801],
     heap: &[u8],
     table: &[u64],
     id: u64,
@@ -194,7 +196,7 @@ fn through_shown(a: ThroughAnswer) -> Piece
 #[no_mangle]
 pub extern "C" fn marble_read_through(
     settings: Settings,
-    state: &[u64; 1545],
+    state: &[u64; 1801],
     heap: &[u8],
     table: &[u64],
     batch: &[u8],
@@ -216,7 +218,7 @@ pub extern "C" fn marble_read_through(
 #[no_mangle]
 pub extern "C" fn marble_claim(
     settings: Settings,
-    state: &[u64; 1545],
+    state: &[u64; 1801],
     claims: &mut [u64; 4],
     heap: &[u8],
     table: &[u64],
@@ -239,7 +241,7 @@ pub extern "C" fn marble_claim(
 #[no_mangle]
 pub extern "C" fn marble_release(
     settings: Settings,
-    state: &[u64; 1545],
+    state: &[u64; 1801],
     claims: &mut [u64; 4],
     heap: &[u8],
     table: &[u64],
@@ -262,7 +264,7 @@ pub extern "C" fn marble_release(
 #[no_mangle]
 pub extern "C" fn marble_prune(
     settings: Settings,
-    state: &mut [u64; 1545],
+    state: &mut [u64; 1801],
     claims: &[u64; 4],
     heap: &mut [u8],
     table: &[u64],
@@ -284,7 +286,7 @@ pub extern "C" fn marble_prune(
 #[no_mangle]
 pub extern "C" fn marble_maintain(
     settings: Settings,
-    state: &mut [u64; 1545],
+    state: &mut [u64; 1801],
     claims: &[u64; 4],
     heap: &mut [u8],
     table: &mut [u64],
@@ -312,7 +314,7 @@ pub extern "C" fn marble_maintain(
 #[no_mangle]
 pub extern "C" fn marble_counts(
     settings: Settings,
-    state: &[u64; 1545],
+    state: &[u64; 1801],
     heap: &[u8],
     table: &[u64],
     counts: &mut [u64; 4],
@@ -324,6 +326,27 @@ pub extern "C" fn marble_counts(
     let done = counts_shown(marble::counts(settings, was, heap, table));
     let sums = done.counts;
     put_counts(counts, sums);
+    done.number
+}
+
+// "The host lends its list of file records and asks how many aren't synced"
+#[no_mangle]
+pub extern "C" fn marble_unsynced(records: &[Record], unsynced: &mut u64) -> u64
+    ensures { λ r. ⌜ given r (now (unsynced .exit) ∷ []) ≡ shown 1 (unsyncedCall (now (records .entry))) ⌝ }
+{
+    let was = marks_in_place::unsynced(records);
+    *unsynced = was.value;
+    was.number
+}
+
+// "then has them marked. Sync gives whether any mark changed": 1 for yes, 0 for no.
+#[no_mangle]
+pub extern "C" fn marble_sync(records: &mut [Record], changed: &mut u64) -> u64
+    ensures { λ r. ⌜ (given r (now (changed .exit) ∷ []) ≡ shown 1 (syncCall (now (records .entry)) .answer))
+        × (now (records .exit) ≡ syncCall (now (records .entry)) .records) ⌝ }
+{
+    let done = marks_in_place::sync(records);
+    *changed = done.value;
     done.number
 }
 

@@ -13,7 +13,7 @@ use Rattle.file_lists.specs.ListLaws.{file-for-lsns}
 
 -- files that have these lsns and nothing else
 abbrev bare : ℕ → Record
-bare n = recorded (record { lsn = n; «trailer_offset» = 0; «file_size» = 0; «present_objects» = 0; generation = 0 }) 0
+bare n = recorded (record { lsn = n; «trailer_offset» = 0; «file_size» = 0; «present_objects» = 0; generation = 0 }) 0 0
 
 bare-lsns : (ns : List ℕ) → lsnsOf (map bare ns) ≡ ns
 bare-lsns [] = refl

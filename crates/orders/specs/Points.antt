@@ -15,7 +15,7 @@ use Rattle.rules.specs.Label.{labelBytes, fiveIn, labelIn, outOfBounds}
 use Rattle.rules.specs.SlotFile.{slotBytes, slotTests, viewIn, viewsIn}
 use Rattle.rules.specs.Table.{lookup, insert, insertAll, full}
 use Rattle.rules.specs.Layout.{Table, tableIds, tableLocations, alternating, lengthsInRange, formFrom, inForm, usedIn, usedEntries, laidOut}
-use Rattle.rules.specs.FileMap.{recorded, emptyRecord, isEmpty, recordAt, noFiles, slotsWhere, emptySlots, lowestEmpty, leads, leadFrom, fileFor, fileCount}
+use Rattle.rules.specs.FileMap.{emptyLabel, recorded, emptyRecord, isEmpty, recordAt, noFiles, slotsWhere, emptySlots, lowestEmpty, leads, leadFrom, fileFor, fileCount}
 use Rattle.rules.specs.Condition1.{outOfRange, notTheStates, badRecord, badFrom, conditionOne, refused1}
 use Rattle.rules.specs.Batch.{putOperation, operationAt, batchFrom, batchIn, anyTooLarge}
 use Rattle.rules.specs.Stores.{made, storesOf, fileStores}
@@ -61,9 +61,9 @@ sixOf s =
 abbrev pub aged : ℕ → Label
 aged generation = record { lsn = 1; «trailer_offset» = 0; «file_size» = 64; «present_objects» = 1; generation = generation }
 
--- a record of an lsn, sizes and a live count
+-- a record of an lsn, sizes and a live count, its mark clear
 abbrev pub kept : ℕ → ℕ → ℕ → ℕ → ℕ → Record
-kept lsn offset size present live = recorded (labelled lsn offset size present) live
+kept lsn offset size present live = recorded (labelled lsn offset size present) live 0
 
 -- the world of `idle` with another record, heap or table lent, the state as it was
 abbrev pub lent : List ℕ → Table → World
@@ -177,7 +177,7 @@ limitPoints =
           ∷ []);
       paper = 0 ∷ 1 ∷ 0 ∷ 1 ∷ 1 ∷ 1 ∷ 0 ∷ 1 ∷ 0 ∷ 1 ∷ 0 ∷ 1 ∷ 0 ∷ 1 ∷ [];
     }
-    -- "An empty record is all zeros": and each of its six numbers alone is not
+    -- "An empty record is all zeros": and each of its seven numbers alone is not
     ∷ record {
       ours =
           map (λ (r : Record). bit (isEmpty r))
@@ -187,9 +187,10 @@ limitPoints =
           ∷ kept 0 0 1 0 0
           ∷ kept 0 0 0 1 0
           ∷ kept 0 0 0 0 1
-          ∷ recorded (record { lsn = 0; «trailer_offset» = 0; «file_size» = 0; «present_objects» = 0; generation = 1 }) 0
+          ∷ recorded (record { lsn = 0; «trailer_offset» = 0; «file_size» = 0; «present_objects» = 0; generation = 1 }) 0 0
+          ∷ recorded emptyLabel 0 1
           ∷ []);
-      paper = 1 ∷ 0 ∷ 0 ∷ 0 ∷ 0 ∷ 0 ∷ 0 ∷ [];
+      paper = 1 ∷ 0 ∷ 0 ∷ 0 ∷ 0 ∷ 0 ∷ 0 ∷ 0 ∷ [];
     }
     -- "1": nothing wrong; settings, heap length, table length not the state's; next position 0; a table not in form; an odd number of words;
     -- a heap that is not exact
@@ -336,7 +337,7 @@ abbrev pub halting : World
 halting =
     let a = labelled 50 0 19 1 in
     let b : Label = record { lsn = 100; «trailer_offset» = 0; «file_size» = 28; «present_objects» = 1; generation = 1 } in
-    holding (recorded a 1 ∷ recorded b 1 ∷ []) 300 (slot a (replicate 19 0) ++ (slot b (trailerBytes (mapping 4 1 ∷ [])) ++ replicate 128 0)) (two 3 101 4 201)
+    holding (recorded a 1 1 ∷ recorded b 1 1 ∷ []) 300 (slot a (replicate 19 0) ++ (slot b (trailerBytes (mapping 4 1 ∷ [])) ++ replicate 128 0)) (two 3 101 4 201)
 
 -- deletes of ids 3 and 4 in one file; an empty slot behind it
 abbrev pub bothDeleted : World
@@ -421,7 +422,7 @@ filePoints =
     -- "grouped by new generation min(g + 1, 3)": the slots of generations 1, 2 and 3
     ∷ record {
       ours =
-          let w = holding (map (λ (g : ℕ). recorded (aged g) 1) (0 ∷ 1 ∷ 2 ∷ 3 ∷ 255 ∷ 0 ∷ [])) 100 (replicate 768 0) (one 1 20) in
+          let w = holding (map (λ (g : ℕ). recorded (aged g) 1 1) (0 ∷ 1 ∷ 2 ∷ 3 ∷ 255 ∷ 0 ∷ [])) 100 (replicate 768 0) (one 1 20) in
           each (λ (g : ℕ). g ∷ group w g) (1 ∷ 2 ∷ 3 ∷ []);
       paper = 1 ∷ 0 ∷ 5 ∷ 2 ∷ 1 ∷ 3 ∷ 2 ∷ 3 ∷ 4 ∷ [];
     }

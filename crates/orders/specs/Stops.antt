@@ -34,7 +34,7 @@ groups trailer =
     let a = labelOf 1 1 (objectBytes 1 []) good in
     let b : Label = record { lsn = 100; «trailer_offset» = 20; «file_size» = 20 + length trailer; «present_objects» = 1; generation = 1 } in
     let d = labelOf 50 1 [] gone in
-    holding (recorded a 1 ∷ recorded b 1 ∷ emptyRecord ∷ recorded d 0 ∷ []) 200
+    holding (recorded a 1 1 ∷ recorded b 1 1 ∷ emptyRecord ∷ recorded d 0 1 ∷ []) 200
     (slot a (objectBytes 1 [] ++ good) ++ (slot b (objectBytes 2 [] ++ trailer) ++ (replicate 128 0 ++ (slot d gone ++ replicate 128 0))))
     (two 1 2 2 200)
 

@@ -97,11 +97,11 @@ seenAt w k =
 -- ---- for a write
 -- one slot, taken; a full table, of id 1
 abbrev pub busy : ℕ → World
-busy next = holding (recorded (labelled 10 20 48 1) 1 ∷ []) next (replicate 128 0) (one 1 20)
+busy next = holding (recorded (labelled 10 20 48 1) 1 1 ∷ []) next (replicate 128 0) (one 1 20)
 
 -- an empty slot behind it
 abbrev pub idle : ℕ → World
-idle next = holding (recorded (labelled 10 20 48 1) 1 ∷ []) next (replicate 256 0) (one 1 20)
+idle next = holding (recorded (labelled 10 20 48 1) 1 1 ∷ []) next (replicate 256 0) (one 1 20)
 
 -- a put of 17 bytes, of id 2
 abbrev pub tooLarge : List ℕ
@@ -121,7 +121,7 @@ abbrev pub filed : List ℕ → ℕ → World
 filed object location =
     let trailer = trailerBytes (mapping 5 0 ∷ []) in
     let label = labelOf 10 1 object trailer in
-    holding (recorded label 1 ∷ []) 100 (slot label (object ++ trailer)) (one 5 location)
+    holding (recorded label 1 1 ∷ []) 100 (slot label (object ++ trailer)) (one 5 location)
 
 -- ---- for a group
 -- 19 bytes of an object's header, with a length that is too great
@@ -132,21 +132,21 @@ cutHeader = leBytes 4 0 ++ (leBytes 8 9 ++ leBytes 7 17)
 abbrev pub alone : List ℕ → List ℕ → World
 alone objects trailer =
     let label = labelOf 1 1 objects trailer in
-    holding (recorded label 1 ∷ []) 100 (slot label (objects ++ trailer) ++ replicate 128 0) (one 1 2)
+    holding (recorded label 1 1 ∷ []) 100 (slot label (objects ++ trailer) ++ replicate 128 0) (one 1 2)
 
 -- objects 1 and 2, of no bytes, in two files that fill the heap
 abbrev pub pair : List ℕ → List ℕ → ℕ → World
 pair first second next =
     let a = labelOf 1 1 (objectBytes 1 []) first in
     let b = labelOf 100 1 (objectBytes 2 []) second in
-    holding (recorded a 1 ∷ recorded b 1 ∷ []) next (slot a (objectBytes 1 [] ++ first) ++ slot b (objectBytes 2 [] ++ second)) (two 1 2 2 200)
+    holding (recorded a 1 1 ∷ recorded b 1 1 ∷ []) next (slot a (objectBytes 1 [] ++ first) ++ slot b (objectBytes 2 [] ++ second)) (two 1 2 2 200)
 
 -- object 1 in a file; `more` is the heap behind it
 abbrev pub moving : List ℕ → ℕ → World
 moving more next =
     let trailer = trailerBytes (mapping 1 0 ∷ []) in
     let label = labelOf 1 1 (objectBytes 1 []) trailer in
-    holding (recorded label 1 ∷ []) next (slot label (objectBytes 1 [] ++ trailer) ++ more) (one 1 2)
+    holding (recorded label 1 1 ∷ []) next (slot label (objectBytes 1 [] ++ trailer) ++ more) (one 1 2)
 
 -- ---- for a reopening
 -- a slot without objects: lsn, present_objects, trailer

@@ -17,3 +17,5 @@ pub mod Shards
 pub mod Maintenance
 -- demand 3: a delete told from an id never written
 pub mod Deletes
+-- request P6: the synced mark
+pub mod Sync

@@ -260,7 +260,7 @@ pub record-live : (es : List Entry) (ls : List Label) (k : ℕ) → slotRecord (
 record-live es [] k = refl
 record-live es (l ∷ ls) zero = go (noFile l)
   where
-    go : (t : Bool) → pick t emptyRecord (recorded l (pick t 0 (mappedInto es l))) ≡ pick t emptyRecord (recorded l (mappedInto es l))
+    go : (t : Bool) → pick t emptyRecord (recorded l (pick t 0 (mappedInto es l)) 1) ≡ pick t emptyRecord (recorded l (mappedInto es l) 1)
     go true = refl
     go false = refl
 record-live es (l ∷ ls) (suc k) = record-live es ls k

@@ -16,9 +16,9 @@ use Rattle.reopen_tests.specs.Labels.{noFile, labelOf, labelsOf}
 use Rattle.reopen_tests.specs.Shown.{label-some, Sound}
 use Rattle.rebuild.specs.Types.{Label, Record, Entry}
 
--- a slot's record: "the label's five numbers and the live count", empty for a slot without a file
+-- a slot's record: "the label's five numbers and the live count", and the mark, "set on reopening"; empty for a slot without a file
 abbrev pub slotRecord : Label → ℕ → Record
-slotRecord l live = pick (noFile l) emptyRecord (recorded l live)
+slotRecord l live = pick (noFile l) emptyRecord (recorded l live 1)
 
 -- with the ids mapped into its file
 abbrev pub counted : List Entry → Label → Record
@@ -48,7 +48,7 @@ views-counted size table (empty ∷ vs) a = ap₂ (λ (r : Record) (rs : List Re
 views-counted size table (damaged n ∷ vs) a = absurd (a .0)
 views-counted size table (holds f ∷ vs) a = ap₂ (λ (r : Record) (rs : List Record). r ∷ rs) one (views-counted size table vs (a .1))
   where
-    one : counted table (f .label) ≡ recorded (f .label) (mappedInto table (f .label))
+    one : counted table (f .label) ≡ recorded (f .label) (mappedInto table (f .label)) 1
     one = rw (label-some size (f .label) (a .0)) refl
 
 -- each label with its live count is the slot's record

@@ -83,14 +83,14 @@ fn live_counts(table: &[u64], slots: Labels) -> [u64; RECORDS]
     counted_in(table, &order, slots)
 }
 
-// A slot's record: its file's label and live count; empty for a slot without a file.
+// A slot's record: its file's label and live count, and the mark, "set on reopening"; empty for a slot without a file.
 fn slot_record(l: Label, live: u64) -> Record
     ensures { λ r. ⌜ r ≡ slotRecord l live ⌝ }
 {
     if no_file(l) {
         return empty();
     }
-    recorded(l, live)
+    recorded(l, live, 1)
 }
 
 pub fn with_live_counts(table: &[u64], slots: Labels) -> FileMap

@@ -43,16 +43,18 @@ pub record GoodRecord (s : Settings) (heapLen : ℕ) (b : Table) (slot : ℕ) (r
   pub bounds : InBounds (s .«slot_bytes») (r .label)
   pub present : r .label .«present_objects» ≤ r .label .«file_size»
   pub live : r .live ≤ capacityOf b
+  pub mark : r .synced ≤ 1
 
 -- a record that is not bad, and not empty, is good
 pub good-record : (s : Settings) (heapLen : ℕ) (b : Table) (slot : ℕ) (r : Record) → isEmpty r ≡ false → badRecord s heapLen b slot r ≡ false → GoodRecord s heapLen b slot r
 unfolding badRecord
 good-record s heapLen b slot r some e =
     let f = rw some at e in
-    let w4 = or-false _ _ f in
+    let w5 = or-false _ _ f in
+    let w4 = or-false _ _ (w5 .0) in
     let w3 = or-false _ _ (w4 .0) in
     let w2 = or-false _ _ (w3 .0) in
-    record { place = leb-false _ _ (w2 .0); bounds = in-bounds (s .«slot_bytes») (r .label) (w2 .1); present = ltb-false _ _ (w3 .1); live = ltb-false _ _ (w4 .1) }
+    record { place = leb-false _ _ (w2 .0); bounds = in-bounds (s .«slot_bytes») (r .label) (w2 .1); present = ltb-false _ _ (w3 .1); live = ltb-false _ _ (w4 .1); mark = ltb-false _ _ (w5 .1) }
 
 -- and back
 pub record-good : (s : Settings) (heapLen : ℕ) (b : Table) (slot : ℕ) (r : Record) → (isEmpty r ≡ false → GoodRecord s heapLen b slot r) → badRecord s heapLen b slot r ≡ false
@@ -61,7 +63,7 @@ record-good s heapLen b slot r good = ⊎-elim
     (λ e. rw e)
     (λ e.
     let w = good e in
-    rw (e, lt-leb (slotsIn s heapLen) slot (w .place), bounds-in (s .«slot_bytes») (r .label) (w .bounds), le-ltb (r .label .«file_size») (r .label .«present_objects») (w .present), le-ltb (capacityOf b) (r .live) (w .live)))
+    rw (e, lt-leb (slotsIn s heapLen) slot (w .place), bounds-in (s .«slot_bytes») (r .label) (w .bounds), le-ltb (r .label .«file_size») (r .label .«present_objects») (w .present), le-ltb (capacityOf b) (r .live) (w .live), le-ltb 1 (r .synced) (w .mark)))
     (empty-or-not r)
 
 -- every record passes

@@ -24,7 +24,8 @@ empty-is r e =
     let d = zeros-true _ _ (c .1) in
     let f = zeros-true _ _ (d .1) in
     let g = zeros-true _ _ (f .1) in
-    λ i. recorded (record { lsn = a .0 i; «trailer_offset» = b .0 i; «file_size» = c .0 i; «present_objects» = d .0 i; generation = f .0 i }) (g .0 i)
+    let h = zeros-true _ _ (g .1) in
+    λ i. recorded (record { lsn = a .0 i; «trailer_offset» = b .0 i; «file_size» = c .0 i; «present_objects» = d .0 i; generation = f .0 i }) (g .0 i) (h .0 i)
 
 -- it is one
 pub is-empty : isEmpty emptyRecord ≡ true
@@ -46,7 +47,7 @@ empty-or-not r = go (isEmpty r) refl
 
 -- ---- "File lookup"
 -- on "raw, unmasked locations": a batch file of masked lsn 1 is above location 2
-pub lookup-is-raw : fileFor (recorded (record { lsn = 2 ^ 62 + 1; «trailer_offset» = 0; «file_size» = 0; «present_objects» = 0; generation = 0 }) 0 ∷ []) 2 ≡ NoSlot
+pub lookup-is-raw : fileFor (recorded (record { lsn = 2 ^ 62 + 1; «trailer_offset» = 0; «file_size» = 0; «present_objects» = 0; generation = 0 }) 0 0 ∷ []) 2 ≡ NoSlot
 unfolding fileFor leadFrom leads
 lookup-is-raw = refl
 

@@ -21,9 +21,9 @@ newLabel lsn generation ops = record {
   generation = generation;
 }
 
--- its record: "the new file has all its entries live"
+-- its record: "the new file has all its entries live"; the mark is "clear on writing"
 unfoldable pub newRecord : ℕ → ℕ → List Op → Record
-newRecord lsn generation ops = recorded (newLabel lsn generation ops) (length ops)
+newRecord lsn generation ops = recorded (newLabel lsn generation ops) (length ops) 0
 
 -- the file of a location loaded, an object's or a delete's, if any
 abbrev pub fileHolding : List Record → Loaded → Slot

@@ -55,7 +55,7 @@ mapping id location = record { id = id; location = location }
 
 -- a file with so many live of so many
 abbrev pub lived : ℕ → ℕ → Record
-lived live present = recorded (record { lsn = 1; «trailer_offset» = 0; «file_size» = 0; «present_objects» = present; generation = 0 }) live
+lived live present = recorded (record { lsn = 1; «trailer_offset» = 0; «file_size» = 0; «present_objects» = present; generation = 0 }) live 0
 
 -- "at 75": the defaults but for the percentage, which a line of document 01 names itself
 abbrev pub atPercent : ℕ → Settings

@@ -82,9 +82,9 @@ reopenTests w views =
 unfoldable pub mappedInto : List Entry → Label → ℕ
 mappedInto table l = length (keep (λ (e : Entry). inRange l (maskedPosition e)) table)
 
--- a slot's record: "the label's five numbers and the live count"
+-- a slot's record: "the label's five numbers and the live count"; the mark is "set on reopening", and clear in an empty record
 abbrev pub recordOf : List Entry → View → Record
-recordOf table (holds f) = recorded (f .label) (mappedInto table (f .label))
+recordOf table (holds f) = recorded (f .label) (mappedInto table (f .label)) 1
 recordOf table empty = emptyRecord
 recordOf table (damaged r) = emptyRecord
 

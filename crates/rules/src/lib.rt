@@ -42,11 +42,13 @@ pub struct Label {
     pub generation: u64,
 }
 
-// "A record holds the label's five numbers and the live count"; all zeros: empty.
+// "A record holds the label's five numbers and the live count" and, since request P6, "the synced mark": 0 clear, 1 set.
+// All zeros: empty.
 #[repr(C)]
 pub struct Record {
     pub label: Label,
     pub live: u64,
+    pub synced: u64,
 }
 
 // An id and a raw location: relative in a trailer, absolute in the table.

@@ -23,7 +23,7 @@ shapes =
     numbersAndBytes 1 ∷
     numbers 3 ∷
     numbers 9 ∷
-    numbers 7 ∷
+    numbers 8 ∷
     numbers 4 ∷
     numbers 0 ∷
     numbersAndBytes 0 ∷
@@ -32,6 +32,8 @@ shapes =
     numbers 0 ∷
     numbers 1 ∷
     numbersAndBytes 1 ∷
+    numbers 0 ∷
+    numbers 0 ∷
     numbers 0 ∷
     numbers 0 ∷
     numbers 1 ∷
@@ -71,6 +73,8 @@ tagged key.Read = refl
 tagged key.Through = refl
 tagged key.Maintain = refl
 tagged key.Counts = refl
+tagged key.Unsynced = refl
+tagged key.Sync = refl
 tagged key.Check = refl
 tagged key.Salvage = refl
 tagged key.Load = refl

@@ -65,6 +65,10 @@ callNames =
     called (109 ∷ 97 ∷ 105 ∷ 110 ∷ 116 ∷ 97 ∷ 105 ∷ 110 ∷ []) key.Maintain ∷
     -- counts
     called (99 ∷ 111 ∷ 117 ∷ 110 ∷ 116 ∷ 115 ∷ []) key.Counts ∷
+    -- unsynced
+    called (117 ∷ 110 ∷ 115 ∷ 121 ∷ 110 ∷ 99 ∷ 101 ∷ 100 ∷ []) key.Unsynced ∷
+    -- sync
+    called (115 ∷ 121 ∷ 110 ∷ 99 ∷ []) key.Sync ∷
     -- check
     called (99 ∷ 104 ∷ 101 ∷ 99 ∷ 107 ∷ []) key.Check ∷
     -- salvage

@@ -38,6 +38,8 @@ pub enum Keyword {
     Through,
     Maintain,
     Counts,
+    Unsynced,
+    Sync,
     Check,
     Salvage,
     Load,
@@ -102,7 +104,7 @@ pub fn shape_of(keyword: Keyword) -> Shape
             bytes: false,
         },
         Keyword::Record => Shape {
-            numbers: 7,
+            numbers: 8,
             bytes: false,
         },
         Keyword::State => Shape {

@@ -48,7 +48,9 @@ fn call(word: &[u8], other: Keyword) -> Keyword
 {
     let salvage = named(word, b"salvage", Keyword::Salvage, other);
     let check = named(word, b"check", Keyword::Check, salvage);
-    let counts = named(word, b"counts", Keyword::Counts, check);
+    let sync = named(word, b"sync", Keyword::Sync, check);
+    let unsynced = named(word, b"unsynced", Keyword::Unsynced, sync);
+    let counts = named(word, b"counts", Keyword::Counts, unsynced);
     let maintain = named(word, b"maintain", Keyword::Maintain, counts);
     let through = named(word, b"through", Keyword::Through, maintain);
     let read = named(word, b"read", Keyword::Read, through);

@@ -50,6 +50,7 @@ fn file(slot: u64, r: Record) {
     number(r.label.present_objects);
     number(r.label.generation);
     number(r.live);
+    number(r.synced);
 }
 
 fn files(m: FileMap) {

@@ -1,7 +1,7 @@
 -- A file of operations is added above all others: the invariant holds again, and the file's entries count before what was said.
 use mathlib.Core.Path.{_≡_, refl, sym, ap, _∙_, subst}
 use mathlib.Core.Logic.{_⊎_, inl, inr, ⊎-elim}
-use Prim.Native.Nat.{_<_, _≤_}
+use Prim.Native.Nat.{_<_, _≤_, zero-le}
 use native.Mathlib.Omega.{arith}
 use lib.ListN.{length-set}
 use lib.Seq.{getD-set-same, getD-set-other}
@@ -16,7 +16,7 @@ use Rattle.rules.specs.OpsLaws.{RisingOps, IdsFit, file-length, entries-of-risi
 use Rattle.rules.specs.SlotFile.{File, View, empty, damaged, holds}
 use Rattle.rules.specs.Table.{lookup, insertAll}
 use Rattle.rules.specs.TableLaws.{Rising, Has, lookup-has, table-ext, orElse, rising-insert-all, lookup-insert-all, has-lookup}
-use Rattle.rules.specs.FileMap.{emptyRecord, recordAt, withLive, fileFor}
+use Rattle.rules.specs.FileMap.{recorded, emptyRecord, recordAt, withLive, fileFor}
 use Rattle.rules.specs.Install.{newLabel, newRecord, losing}
 use Rattle.rules.specs.InstallLaws.{losing-length, Less, losing-record}
 use Rattle.rules.specs.Reopen.{filesIn, tableOf, inRange, mappedInto}
@@ -96,7 +96,10 @@ module _ (bounds : ℕ) (p : Picture) (told : ℕ → Said) (s : Sound bounds p 
       let n : t .live ≡ 0 = omega arith in
       z .same ∙ ap (withLive r) n ∙ ap (λ (r : Record). withLive r 0) h
   agrees-less (damaged n) r t h z = h
-  agrees-less (holds c) r t h z = z .same ∙ ap (λ (r : Record). withLive r (t .live)) h
+  agrees-less (holds c) r t h z =
+      let m : t .synced ≡ r .synced = ap (λ (r : Record). r .synced) (z .same) in
+      let f = h .1 in
+      (z .same ∙ ap (λ (r : Record). withLive r (t .live)) (h .0) ∙ ap (recorded (c .label) (t .live)) (sym m), omega arith)
 
   apart-new : (j : ℕ) (h : File) → viewAt (p .views) j ≡ holds h → Apart (fileOfOps lsn g os) h
   unfolding newRecord newLabel
@@ -124,7 +127,7 @@ module _ (bounds : ℕ) (p : Picture) (told : ℕ → Said) (s : Sound bounds p 
   }
     where
       agree : (j : ℕ) → (j ≡ k) ⊎ (j ≡ k → ⊥) → Agrees (viewAt (added lsn g p k os .views) j) (recordAt (added lsn g p k os .records) j)
-      agree j (inl z) = rw (z, view-new, record-new) refl
+      agree j (inl z) = rw (z, view-new, record-new) (refl, zero-le)
       agree j (inr z) =
           rw (view-old j z, record-old j z)
           (agrees-less (viewAt (p .views) j) (recordAt (p .records) j) (recordAt (losing (p .table) os (p .records)) j)

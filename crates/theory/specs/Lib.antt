@@ -15,6 +15,7 @@ pub mod Sound
 pub mod Whole
 pub mod Installed
 pub mod Emptied
+pub mod Marks
 -- G: what an accepted reopening means
 pub mod Reopened
 -- the invariant in bytes, and a file added to them

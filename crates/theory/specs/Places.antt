@@ -53,11 +53,11 @@ Apart f g =
     (maskedOf (f .label .lsn) + f .label .«trailer_offset» < maskedOf (g .label .lsn))
     ⊎ (maskedOf (g .label .lsn) + g .label .«trailer_offset» < maskedOf (f .label .lsn))
 
--- a slot's record is empty, or has the five numbers of its label
+-- a slot's record is empty, or has the five numbers of its label, and a mark that is clear or set
 abbrev pub Agrees : View → Record → Type 0
 Agrees empty r = r ≡ emptyRecord
 Agrees (damaged n) r = ⊥
-Agrees (holds f) r = r ≡ recorded (f .label) (r .live)
+Agrees (holds f) r = (r ≡ recorded (f .label) (r .live) (r .synced)) × (r .synced ≤ 1)
 
 -- views and records tell of the same files, and the files are well made and apart
 pub record Filed (views : List View) (rs : List Record) : Type 0 where
@@ -165,8 +165,12 @@ has-stands (v ∷ vs) x l h = go (has-stands vs x l) v refl h
 
 module _ (views : List View) (rs : List Record) (filed : Filed views rs) where
   -- the record of a slot with a file
-  pub record-holds : (k : ℕ) (f : File) → viewAt views k ≡ holds f → recordAt rs k ≡ recorded (f .label) (recordAt rs k .live)
-  record-holds k f h = subst (λ (v : View). Agrees v (recordAt rs k)) h (filed .agree k)
+  pub record-holds : (k : ℕ) (f : File) → viewAt views k ≡ holds f → recordAt rs k ≡ recorded (f .label) (recordAt rs k .live) (recordAt rs k .synced)
+  record-holds k f h = subst (λ (v : View). Agrees v (recordAt rs k)) h (filed .agree k) .0
+
+  -- and its mark is 0 or 1
+  pub mark-fits : (k : ℕ) (f : File) → viewAt views k ≡ holds f → recordAt rs k .synced ≤ 1
+  mark-fits k f h = subst (λ (v : View). Agrees v (recordAt rs k)) h (filed .agree k) .1
 
   -- of an empty one
   pub record-empty : (k : ℕ) → viewAt views k ≡ empty → recordAt rs k ≡ emptyRecord

@@ -47,8 +47,8 @@ pub record Opened (w v : World) : Type 0 where
   pub unmentioned : (x l : ℕ) → lookup (mappings v) x ≡ Unmapped → Mentioned w x l → ⊥
   -- the location is looked up in the file where the entry stands
   pub found : (x l k : ℕ) → Stands (viewsOf w) x l k → fileFor (recordsOf v) l ≡ Is k
-  -- a slot's record has its label's five numbers, and as live count the number of ids that are mapped into the file
-  pub labelled : (k : ℕ) (f : File) → viewAt (viewsOf w) k ≡ holds f → recordAt (recordsOf v) k ≡ recorded (f .label) (liveAt (recordsOf v) k)
+  -- a slot's record has its label's five numbers, as live count the number of ids that are mapped into the file, and the mark set
+  pub labelled : (k : ℕ) (f : File) → viewAt (viewsOf w) k ≡ holds f → recordAt (recordsOf v) k ≡ recorded (f .label) (liveAt (recordsOf v) k) 1
   pub counted : (k : ℕ) (f : File) → viewAt (viewsOf w) k ≡ holds f
       → liveAt (recordsOf v) k ≡ count (λ (l : ℕ). isAt k (fileFor (recordsOf v) l)) (mappings v)
   -- the next position lies above every file
@@ -142,7 +142,7 @@ module _ (w : World) (p : Passed w) where
       agrees : (k : ℕ) (v : View) → viewAt (viewsOf w) k ≡ v → Agrees v (recordOf (tableOf (filesIn (viewsOf w))) v)
       agrees k empty e = refl
       agrees k (damaged r) e = p .whole k r e
-      agrees k (holds f) e = refl
+      agrees k (holds f) e = (refl, omega arith)
 
   -- the ids mapped into a file's masked range are those whose location is looked up in it
   mapped-into : (k : ℕ) (f : File) → viewAt (viewsOf w) k ≡ holds f → mappedInto (tableOf (filesIn (viewsOf w))) (f .label)
@@ -173,7 +173,9 @@ module _ (w : World) (p : Passed w) where
             subst (Newest (Has (rowsOf (viewsOf w)) x)) (sym (ap (λ (t : List Entry). lookup t x) table) ∙ h) (newest-table (viewsOf w) x) l
             (stands-has (viewsOf w) x l (s .0) (s .1));
         found = λ x l k s. own-file (viewsOf w) reopenedRecords filed-reopened x l k s;
-        labelled = λ k f h. subst (λ (v : View). Agrees v (recordAt reopenedRecords k)) h (filed-reopened .agree k);
+        labelled = λ k f h.
+            let q = record-from reopenedTable (viewsOf w) k ∙ ap (recordOf reopenedTable) h in
+            q ∙ ap (λ (r : Record). recorded (f .label) (r .live) 1) (sym q);
         counted = λ k f h.
             ap (λ (r : Record). r .live) (record-from reopenedTable (viewsOf w) k ∙ ap (recordOf reopenedTable) h)
             ∙ mapped-into k f h ∙ ap (count (λ (l : ℕ). isAt k (fileFor reopenedRecords l))) (sym table);

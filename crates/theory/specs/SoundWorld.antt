@@ -21,7 +21,7 @@ use Rattle.rules.specs.Reopen.{inRange, mappedInto}
 use Rattle.rules.specs.World.{World, recordsOf, mappings, slotsOf}
 use Rattle.theory.specs.Counting.{count-le}
 use Rattle.theory.specs.Newest.{maskedAt}
-use Rattle.theory.specs.Places.{viewAt, holds-lt, record-holds, record-empty, no-damage}
+use Rattle.theory.specs.Places.{viewAt, holds-lt, record-holds, mark-fits, record-empty, no-damage}
 use Rattle.rules.specs.SlotLaws.{slot-length, views-length, views-at}
 use Rattle.rules.specs.SeenLaws.{Seen, seen}
 use Rattle.theory.specs.Picture.{viewsOf, pictureOf, Said}
@@ -119,6 +119,7 @@ module _ (w : World) (told : ℕ → Said) (s : SoundWorld w told) where
             bounds = shown-bounds k f e;
             present = present-fits (slotBytes (w .settings .«slot_bytes») (w .heap) k) f (z .1);
             live = live-fits k f e;
+            mark = mark-fits (viewsOf w) (recordsOf w) (s .sound .filed) k f e;
           })
 
   -- LAW: 1 does not hold

@@ -1,12 +1,13 @@
 -- A life that was worked out, every call of demand 3 in it: a delete is moved by maintenance while the put that it deletes still stands in a
--- claimed file, then that file's other id; an id is put again, the file that it leaves is pruned, and the store reopened.
+-- claimed file, then that file's other id; an id is put again, the file that it leaves is pruned, and the store reopened. Each file's mark is seen.
 use mathlib.Core.Path.{_≡_, refl}
-use Rattle.rules.specs.Base.{Bool, true, false, not, List, [], _∷_, map, take, replicate}
+use Rattle.rules.specs.Base.{List, [], _∷_, map, take, replicate, pick}
+use Rattle.rules.specs.Sync.{isUnsynced, marked, tooLong, syncCall, syncState}
 use Rattle.theory.specs.Types.{Record, Claim, Moved}
 use Rattle.rules.specs.Claims.{noClaims}
 use Rattle.rules.specs.World.{World, recordsOf, noState, Given, accepted, refused, maintainGiven, After}
 use Rattle.history_theory.specs.History.{Call, write, maintain, prune, reopen, quiet, called}
-use Rattle.history_theory.specs.Quiet.{claim, release}
+use Rattle.history_theory.specs.Quiet.{claim, release, sync}
 use Rattle.checksum.specs.Checksum.{shiftBit, shifts, crcFrom, crc32, objectSum}
 use Rattle.disk_location.specs.Locations.{maskedOf, digitsIn}
 use Rattle.numbers.specs.Groups.{groupsOf, readGroups, numberIn}
@@ -45,17 +46,27 @@ small = record {
   table = replicate 8 0;
 }
 
--- a call's answer, which of the four slots hold a file after it, and what ids 6, 7, 8 and 9 read as
+-- a slot after a call: no file, or one whose mark is clear or set
+pub data Mark : Type 0 where
+  none : Mark
+  clear : Mark
+  set : Mark
+
+-- by its record
+abbrev pub markOf : Record → Mark
+markOf r = pick (isEmpty r) none (pick (isUnsynced r) clear set)
+
+-- a call's answer, what the four slots hold after it, and what ids 6, 7, 8 and 9 read as
 pub record Stage : Type 0 where
   pub answer : Given
-  pub files : List Bool
+  pub files : List Mark
   pub reads : List Got
 
 -- after a call
 unfoldable pub seen : After → Stage
 seen a = record {
   answer = a .answer;
-  files = map (λ (r : Record). not (isEmpty r)) (take 4 (recordsOf (a .world)));
+  files = map markOf (take 4 (recordsOf (a .world)));
   reads = got (a .world) 6 ∷ got (a .world) 7 ∷ got (a .world) 8 ∷ got (a .world) 9 ∷ [];
 }
 
@@ -66,11 +77,13 @@ stages a (c ∷ cs) = seen a ∷ stages (called (a .world) c) cs
 
 -- "maintain" moves the deletes of 6, never put, and of 7 out of slot 1, which it prunes; both stay deleted for the reopening, though 7's put stands
 -- in slot 0. That reopening cleared the claim, so the release is refused, and the next maintenance moves 8 out of slot 0, which it prunes.
+-- Each file written, by a write or by maintenance, has its mark clear until a sync or a reopening.
 pub moves :
     stages (reopenCall small) (
     write (0x07 ∷ 0x01 ∷ 0x01 ∷ 0x41 ∷ 0x08 ∷ 0x01 ∷ 0x01 ∷ 0x42 ∷ [])
     ∷ write (0x06 ∷ 0x00 ∷ 0x07 ∷ 0x00 ∷ 0x09 ∷ 0x01 ∷ 0x01 ∷ 0x43 ∷ [])
     ∷ write (0x09 ∷ 0x01 ∷ 0x01 ∷ 0x44 ∷ [])
+    ∷ quiet sync
     ∷ quiet (claim 0)
     ∷ maintain
     ∷ reopen
@@ -78,21 +91,26 @@ pub moves :
     ∷ maintain
     ∷ write (0x09 ∷ 0x01 ∷ 0x01 ∷ 0x45 ∷ [])
     ∷ prune
+    ∷ quiet sync
+    ∷ quiet sync
     ∷ reopen
     ∷ []
     )
-    ≡ record { answer = accepted []; files = false ∷ false ∷ false ∷ false ∷ []; reads = never ∷ never ∷ never ∷ never ∷ [] }
-    ∷ record { answer = accepted []; files = true ∷ false ∷ false ∷ false ∷ []; reads = never ∷ bytes (0x41 ∷ []) ∷ bytes (0x42 ∷ []) ∷ never ∷ [] }
-    ∷ record { answer = accepted []; files = true ∷ true ∷ false ∷ false ∷ []; reads = deleted ∷ deleted ∷ bytes (0x42 ∷ []) ∷ bytes (0x43 ∷ []) ∷ [] }
-    ∷ record { answer = accepted []; files = true ∷ true ∷ true ∷ false ∷ []; reads = deleted ∷ deleted ∷ bytes (0x42 ∷ []) ∷ bytes (0x44 ∷ []) ∷ [] }
-    ∷ record { answer = accepted []; files = true ∷ true ∷ true ∷ false ∷ []; reads = deleted ∷ deleted ∷ bytes (0x42 ∷ []) ∷ bytes (0x44 ∷ []) ∷ [] }
-    ∷ record { answer = maintainGiven (Moved 2); files = true ∷ false ∷ true ∷ true ∷ []; reads = deleted ∷ deleted ∷ bytes (0x42 ∷ []) ∷ bytes (0x44 ∷ []) ∷ [] }
-    ∷ record { answer = accepted []; files = true ∷ false ∷ true ∷ true ∷ []; reads = deleted ∷ deleted ∷ bytes (0x42 ∷ []) ∷ bytes (0x44 ∷ []) ∷ [] }
-    ∷ record { answer = refused Claim; files = true ∷ false ∷ true ∷ true ∷ []; reads = deleted ∷ deleted ∷ bytes (0x42 ∷ []) ∷ bytes (0x44 ∷ []) ∷ [] }
-    ∷ record { answer = maintainGiven (Moved 1); files = false ∷ true ∷ true ∷ true ∷ []; reads = deleted ∷ deleted ∷ bytes (0x42 ∷ []) ∷ bytes (0x44 ∷ []) ∷ [] }
-    ∷ record { answer = accepted []; files = true ∷ true ∷ true ∷ true ∷ []; reads = deleted ∷ deleted ∷ bytes (0x42 ∷ []) ∷ bytes (0x45 ∷ []) ∷ [] }
-    ∷ record { answer = accepted []; files = true ∷ true ∷ false ∷ true ∷ []; reads = deleted ∷ deleted ∷ bytes (0x42 ∷ []) ∷ bytes (0x45 ∷ []) ∷ [] }
-    ∷ record { answer = accepted []; files = true ∷ true ∷ false ∷ true ∷ []; reads = deleted ∷ deleted ∷ bytes (0x42 ∷ []) ∷ bytes (0x45 ∷ []) ∷ [] }
+    ≡ record { answer = accepted []; files = none ∷ none ∷ none ∷ none ∷ []; reads = never ∷ never ∷ never ∷ never ∷ [] }
+    ∷ record { answer = accepted []; files = clear ∷ none ∷ none ∷ none ∷ []; reads = never ∷ bytes (0x41 ∷ []) ∷ bytes (0x42 ∷ []) ∷ never ∷ [] }
+    ∷ record { answer = accepted []; files = clear ∷ clear ∷ none ∷ none ∷ []; reads = deleted ∷ deleted ∷ bytes (0x42 ∷ []) ∷ bytes (0x43 ∷ []) ∷ [] }
+    ∷ record { answer = accepted []; files = clear ∷ clear ∷ clear ∷ none ∷ []; reads = deleted ∷ deleted ∷ bytes (0x42 ∷ []) ∷ bytes (0x44 ∷ []) ∷ [] }
+    ∷ record { answer = accepted (1 ∷ []); files = set ∷ set ∷ set ∷ none ∷ []; reads = deleted ∷ deleted ∷ bytes (0x42 ∷ []) ∷ bytes (0x44 ∷ []) ∷ [] }
+    ∷ record { answer = accepted []; files = set ∷ set ∷ set ∷ none ∷ []; reads = deleted ∷ deleted ∷ bytes (0x42 ∷ []) ∷ bytes (0x44 ∷ []) ∷ [] }
+    ∷ record { answer = maintainGiven (Moved 2); files = set ∷ none ∷ set ∷ clear ∷ []; reads = deleted ∷ deleted ∷ bytes (0x42 ∷ []) ∷ bytes (0x44 ∷ []) ∷ [] }
+    ∷ record { answer = accepted []; files = set ∷ none ∷ set ∷ set ∷ []; reads = deleted ∷ deleted ∷ bytes (0x42 ∷ []) ∷ bytes (0x44 ∷ []) ∷ [] }
+    ∷ record { answer = refused Claim; files = set ∷ none ∷ set ∷ set ∷ []; reads = deleted ∷ deleted ∷ bytes (0x42 ∷ []) ∷ bytes (0x44 ∷ []) ∷ [] }
+    ∷ record { answer = maintainGiven (Moved 1); files = none ∷ clear ∷ set ∷ set ∷ []; reads = deleted ∷ deleted ∷ bytes (0x42 ∷ []) ∷ bytes (0x44 ∷ []) ∷ [] }
+    ∷ record { answer = accepted []; files = clear ∷ clear ∷ set ∷ set ∷ []; reads = deleted ∷ deleted ∷ bytes (0x42 ∷ []) ∷ bytes (0x45 ∷ []) ∷ [] }
+    ∷ record { answer = accepted []; files = clear ∷ clear ∷ none ∷ set ∷ []; reads = deleted ∷ deleted ∷ bytes (0x42 ∷ []) ∷ bytes (0x45 ∷ []) ∷ [] }
+    ∷ record { answer = accepted (1 ∷ []); files = set ∷ set ∷ none ∷ set ∷ []; reads = deleted ∷ deleted ∷ bytes (0x42 ∷ []) ∷ bytes (0x45 ∷ []) ∷ [] }
+    ∷ record { answer = accepted (0 ∷ []); files = set ∷ set ∷ none ∷ set ∷ []; reads = deleted ∷ deleted ∷ bytes (0x42 ∷ []) ∷ bytes (0x45 ∷ []) ∷ [] }
+    ∷ record { answer = accepted []; files = set ∷ set ∷ none ∷ set ∷ []; reads = deleted ∷ deleted ∷ bytes (0x42 ∷ []) ∷ bytes (0x45 ∷ []) ∷ [] }
     ∷ []
-unfolding any zeros keep each sum greatest padded putOperation operationAt batchFrom batchIn anyTooLarge outOfRange notTheStates badRecord badFrom conditionOne isEmpty noFiles slotsWhere emptySlots lowestEmpty leads leadFrom fileFor fileCount newRecord newLabel losing recordsWith storesFor tableWith nextWith installed installedAll roomTests positionTests labelBytes fiveIn labelIn outOfBounds tableIds tableLocations alternating lengthsInRange formFrom inForm usedIn usedEntries laidOut worthIt cutOff joining splitFrom filesOf objectBytes storedAt objectsOf entriesOf fileBytes joined settled decide filesIn overlapping notRising latest latestFrom tableOf reopenTests mappedInto recordsFrom nextAfter opened reopenCall inRanges heapInRange sameSettings slotTests viewIn viewsIn made storesOf fileStores lookup insert insertAll listed trailerBytes trailerTests entriesFrom entriesIn misplaced tooManyIds writeTests written writeCall leBytes leValue groupsOf readGroups numberIn shiftBit shifts crcFrom crc32 objectSum maskedOf digitsIn isDead emptiedFrom pruneStores pruned pruneCall isClaimed isCandidate group movedTests deleteTests deletesOf fileTests objectsFound deletesFound found groupTests rewriteGroup groupsFrom courseOf maintainCall objectsFrom objectsIn badChecksum objectTests readOf slotBytes lastOn givenUp claimSet claimCleared claimCall releaseCall seen stages
+unfolding isUnsynced marked tooLong syncCall syncState any zeros keep each sum greatest padded putOperation operationAt batchFrom batchIn anyTooLarge outOfRange notTheStates badRecord badFrom conditionOne isEmpty noFiles slotsWhere emptySlots lowestEmpty leads leadFrom fileFor fileCount newRecord newLabel losing recordsWith storesFor tableWith nextWith installed installedAll roomTests positionTests labelBytes fiveIn labelIn outOfBounds tableIds tableLocations alternating lengthsInRange formFrom inForm usedIn usedEntries laidOut worthIt cutOff joining splitFrom filesOf objectBytes storedAt objectsOf entriesOf fileBytes joined settled decide filesIn overlapping notRising latest latestFrom tableOf reopenTests mappedInto recordsFrom nextAfter opened reopenCall inRanges heapInRange sameSettings slotTests viewIn viewsIn made storesOf fileStores lookup insert insertAll listed trailerBytes trailerTests entriesFrom entriesIn misplaced tooManyIds writeTests written writeCall leBytes leValue groupsOf readGroups numberIn shiftBit shifts crcFrom crc32 objectSum maskedOf digitsIn isDead emptiedFrom pruneStores pruned pruneCall isClaimed isCandidate group movedTests deleteTests deletesOf fileTests objectsFound deletesFound found groupTests rewriteGroup groupsFrom courseOf maintainCall objectsFrom objectsIn badChecksum objectTests readOf slotBytes lastOn givenUp claimSet claimCleared claimCall releaseCall seen stages
 moves = refl

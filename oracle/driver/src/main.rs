@@ -151,6 +151,7 @@ fn call(store: &Marble, words: &[&str]) -> String {
             Ok(format!("ok {}", next()))
         }),
         ["maintain"] => guarded(|| Ok(format!("ok {} {}", store.maintenance()?, next()))),
+        ["sync"] => guarded(|| Ok(format!("ok {}", u8::from(store.sync()?)))),
         ["prune"] => guarded(|| store.prune().map(|()| "ok".into())),
         // one line, the answers apart by commas
         ["read", ids @ ..] => ids.iter().map(|id| read(store, id)).collect::<Vec<_>>().join(","),
@@ -171,8 +172,8 @@ fn call(store: &Marble, words: &[&str]) -> String {
         }
         ["records"] => {
             let lines = store.records().into_iter().map(|r| {
-                let claimed = u8::from(r.claimed);
-                format!("record {} {} {} {} {} {} {claimed}\n", r.lsn, r.trailer_offset, r.file_size, r.present, r.generation, r.live)
+                let (synced, claimed) = (u8::from(r.synced), u8::from(r.claimed));
+                format!("record {} {} {} {} {} {} {synced} {claimed}\n", r.lsn, r.trailer_offset, r.file_size, r.present, r.generation, r.live)
             });
             lines.collect::<String>() + "end"
         }

@@ -46,17 +46,29 @@ claims-requires c κs = search needs
 enum-told-7 : tie.Need-enum-told-7
 enum-told-7 c = search needs
 
-check-requires : tie.Need-check-requires
-check-requires c κs = search needs
+unsynced-requires : tie.Need-unsynced-requires
+unsynced-requires c κs = search needs
 
 enum-told-8 : tie.Need-enum-told-8
 enum-told-8 c = search needs
 
-shown-requires-2 : tie.Need-shown-requires-2
-shown-requires-2 c κs = search needs
+sync-requires : tie.Need-sync-requires
+sync-requires c κs = search needs
 
 enum-told-9 : tie.Need-enum-told-9
 enum-told-9 c = search needs
+
+check-requires : tie.Need-check-requires
+check-requires c κs = search needs
+
+enum-told-10 : tie.Need-enum-told-10
+enum-told-10 c = search needs
+
+shown-requires-2 : tie.Need-shown-requires-2
+shown-requires-2 c κs = search needs
+
+enum-told-11 : tie.Need-enum-told-11
+enum-told-11 c = search needs
 
 shown-requires-3 : tie.Need-shown-requires-3
 shown-requires-3 c κs = search needs
@@ -90,22 +102,31 @@ returns-6 c = λ bytes heap table. rw (c .claims .ensures, c .before .enum-told6
 
 returns-7 : tie.Need-returns-7
 unfolding doneBy
-returns-7 c = λ bytes heap table. rw (c .check .ensures, c .before .enum-told7 .given .1) refl
+returns-7 c = λ bytes heap table. rw (c .before .enum-told7 .given .1) (c .unsynced .ensures heap table)
 
 returns-8 : tie.Need-returns-8
 unfolding doneBy
-returns-8 c = λ bytes heap table. rw (c .shown2 .ensures, c .before .enum-told8 .given .1) refl
+returns-8 c = λ bytes heap table. rw (c .before .enum-told8 .given .1) (c .sync .ensures heap table)
 
 returns-9 : tie.Need-returns-9
 unfolding doneBy
-returns-9 c = λ bytes heap table. rw (c .shown3 .ensures, c .before .enum-told9 .given .1) refl
+returns-9 c = λ bytes heap table. rw (c .check .ensures, c .before .enum-told9 .given .1) refl
 
 returns-10 : tie.Need-returns-10
 unfolding doneBy
-returns-10 c =
+returns-10 c = λ bytes heap table. rw (c .shown2 .ensures, c .before .enum-told10 .given .1) refl
+
+returns-11 : tie.Need-returns-11
+unfolding doneBy
+returns-11 c = λ bytes heap table. rw (c .shown3 .ensures, c .before .enum-told11 .given .1) refl
+
+returns-12 : tie.Need-returns-12
+unfolding doneBy
+returns-12 c =
     let m = c .before in
     let s = m .before in
-    let help = last (key.Blank ∷ key.Bad ∷ key.Settings ∷ key.State ∷ key.Record ∷ key.Claims ∷ key.Check ∷ key.List ∷ key.Dump ∷ []) key.Help (s .args .keyword) (s .pre) (m .match .keys10) in
+    let told = key.Blank ∷ key.Bad ∷ key.Settings ∷ key.State ∷ key.Record ∷ key.Claims ∷ key.Unsynced ∷ key.Sync ∷ key.Check ∷ key.List ∷ key.Dump ∷ [] in
+    let help = last told key.Help (s .args .keyword) (s .pre) (m .match .keys12) in
     λ bytes heap table. rw (c .shown4 .ensures, help) refl
 
 pub at-bench-spec : {M : Type 1} → statement M
@@ -125,10 +146,14 @@ at-bench-spec =
     enum-told-6
     claims-requires
     enum-told-7
-    check-requires
+    unsynced-requires
     enum-told-8
-    shown-requires-2
+    sync-requires
     enum-told-9
+    check-requires
+    enum-told-10
+    shown-requires-2
+    enum-told-11
     shown-requires-3
     shown-requires-4
     returns
@@ -140,4 +165,6 @@ at-bench-spec =
     returns-7
     returns-8
     returns-9
-    returns-10)
+    returns-10
+    returns-11
+    returns-12)

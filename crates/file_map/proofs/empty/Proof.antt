@@ -12,7 +12,7 @@ recorded-requires : tie.Need-recorded-requires
 recorded-requires c κs = search needs
 
 returns : tie.Need-returns
-returns c = c .recorded .ensures ∙ ap (λ (l : Label). recorded l 0) (c .before .«no-label» .ensures)
+returns c = c .recorded .ensures ∙ ap (λ (l : Label). recorded l 0 0) (c .before .«no-label» .ensures)
 
 pub empty-spec : {M : Type 1} → statement M
 empty-spec = tie.close (tie.spec no-label-requires recorded-requires returns)

@@ -1,8 +1,8 @@
-use Prim.Native.Nat.{_/_}
-use mathlib.Core.Path.{_≡_, refl, sym, _∙_}
+use Prim.Native.Nat.{ℕ, _/_}
+use mathlib.Core.Path.{_≡_, refl, sym, ap, _∙_}
 use mathlib.Core.Bool.{false}
 use borrow.Author.Needs.{needs}
-use lib.Dec.{leb}
+use lib.Dec.{leb, ltb}
 use Rattle.limits.proofs.bad_record.Statement.{statement}
 use borrow.Author.Tests.{le-leb, lt-leb, lt-ltb, le-ltb}
 use Rattle.rules.specs.FileMap.{isEmpty}
@@ -70,11 +70,22 @@ capacity-requires c κs = search needs
 returns-5 : tie.Need-returns-5
 unfolding badRecord
 returns-5 c =
-    let p = c .before in
+    let p = c .before .before in
     let z = p .before .before .before in
     let w = second z in
     let r = begun (first w) .args .r in
-    rw (some (first w), below w, bounded z, le-ltb (r .label .«file_size») (r .label .«present_objects») (p .before .if4 .left), p .capacity .ensures) refl
+    let over = ap (λ (n : ℕ). ltb n (r .live)) (sym (p .capacity .ensures)) ∙ lt-ltb (p .capacity .result) (r .live) (c .if5 .taken) in
+    rw (some (first w), below w, bounded z, le-ltb (r .label .«file_size») (r .label .«present_objects») (p .before .if4 .left), over) refl
+
+returns-6 : tie.Need-returns-6
+unfolding badRecord
+returns-6 c =
+    let p = c .before .before .before in
+    let z = p .before .before .before in
+    let w = second z in
+    let r = begun (first w) .args .r in
+    let within = ap (λ (n : ℕ). ltb n (r .live)) (sym (p .capacity .ensures)) ∙ le-ltb (p .capacity .result) (r .live) (c .before .if5 .left) in
+    rw (some (first w), below w, bounded z, le-ltb (r .label .«file_size») (r .label .«present_objects») (p .before .if4 .left), within) refl
 
 pub bad-record-spec : {M : Type 1} → statement M
 bad-record-spec =
@@ -88,4 +99,5 @@ bad-record-spec =
     returns-3
     returns-4
     capacity-requires
-    returns-5)
+    returns-5
+    returns-6)

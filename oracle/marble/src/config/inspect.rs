@@ -12,6 +12,7 @@ pub struct Record {
     pub present: u64,
     pub generation: u8,
     pub live: u64,
+    pub synced: bool,
     pub claimed: bool,
 }
 
@@ -27,6 +28,7 @@ impl Marble {
                 present: m.present_objects,
                 generation: fam.generation,
                 live: fam.live_objects.load(SeqCst),
+                synced: fam.synced.load(SeqCst),
                 claimed: fam.rewrite_claim.load(SeqCst),
             }
         });
@@ -41,6 +43,10 @@ impl Marble {
     pub fn set_claim(&self, lsn: u64, to: bool) -> bool {
         let fam = self.file_map.fams.get(&Reverse(DiskLocation::new_fam(lsn)));
         fam.map_or(false, |f| f.rewrite_claim.swap(to, SeqCst) != to)
+    }
+    /// whether any file was synced, which `Marble::sync_all` does not tell
+    pub fn sync(&self) -> io::Result<bool> {
+        self.file_map.sync_all()
     }
     pub fn prune(&self) -> io::Result<()> {
         self.prune_empty_files()

@@ -15,7 +15,7 @@ use Rattle.as_numbers.proofs.state_words.files_in.Statement.{statement}
 use Rattle.as_numbers.proofs.state_words.files_in.Tie as tie
 
 abbrev Inv-loop : tie.InvT-loop
-Inv-loop words files₀ k₀ files k = (k ≤ 256) × (length (files .records) ≡ 256) × (take k (files .records) ++ recordsFrom (256 - k) words (8 + 6 * k) ≡ recordsFrom 256 words 8)
+Inv-loop words files₀ k₀ files k = (k ≤ 256) × (length (files .records) ≡ 256) × (take k (files .records) ++ recordsFrom (256 - k) words (8 + 7 * k) ≡ recordsFrom 256 words 8)
 
 abbrev μ-loop : tie.MeasureT-loop
 μ-loop words files₀ k₀ files k = 256 - k
@@ -58,7 +58,7 @@ loop-again c =
     let read = c .record-at .ensures in (
       omega arith,
       length-set rs (l .k) (c .record-at .result) ∙ l .inv .1,
-      ap (λ (r : Record). take (l .k + 1) (set rs (l .k) r) ++ recordsFrom (256 - (l .k + 1)) ws (8 + 6 * (l .k + 1))) read ∙ read-next rs ws (l .k) (omega arith) (l .inv .1) ∙ l .inv .2,
+      ap (λ (r : Record). take (l .k + 1) (set rs (l .k) r) ++ recordsFrom (256 - (l .k + 1)) ws (8 + 7 * (l .k + 1))) read ∙ read-next rs ws (l .k) (omega arith) (l .inv .1) ∙ l .inv .2,
     )
 
 returns : tie.Need-returns Inv-loop μ-loop

@@ -17,7 +17,7 @@ use Rattle.as_numbers.proofs.state_words.put_files.Statement.{statement
 use Rattle.as_numbers.proofs.state_words.put_files.Tie as tie
 
 abbrev Inv-loop : tie.InvT-loop
-Inv-loop words₀ files k₀ words k = (k ≤ 256) × (length words ≡ 1545) × (putAt words (8 + 6 * k) (recordsWords (drop k (files .records))) ≡ putAt words₀ 8 (recordsWords (files .records)))
+Inv-loop words₀ files k₀ words k = (k ≤ 256) × (length words ≡ 1801) × (putAt words (8 + 7 * k) (recordsWords (drop k (files .records))) ≡ putAt words₀ 8 (recordsWords (files .records)))
 
 abbrev μ-loop : tie.MeasureT-loop
 μ-loop words₀ files k₀ words k = 256 - k
@@ -54,8 +54,8 @@ loop-again c =
     let l = at-loop .loop in
     let put = c .before .before .put-record .ensures in (
       omega arith,
-      ap length put ∙ put-length (l .words) (8 + 6 * l .k) (recordWords (getD rs (l .k) emptyRecord)) (omega (arith, record-length (getD rs (l .k) emptyRecord))) ∙ l .inv .1,
-      ap (λ (ws : List ℕ). putAt ws (8 + 6 * (l .k + 1)) (recordsWords (drop (l .k + 1) rs))) put ∙ write-next rs (l .words) (l .k) (omega arith) (omega arith) ∙ l .inv .2,
+      ap length put ∙ put-length (l .words) (8 + 7 * l .k) (recordWords (getD rs (l .k) emptyRecord)) (omega (arith, record-length (getD rs (l .k) emptyRecord))) ∙ l .inv .1,
+      ap (λ (ws : List ℕ). putAt ws (8 + 7 * (l .k + 1)) (recordsWords (drop (l .k + 1) rs))) put ∙ write-next rs (l .words) (l .k) (omega arith) (omega arith) ∙ l .inv .2,
     )
 
 same-length : tie.Need-same-length Inv-loop μ-loop

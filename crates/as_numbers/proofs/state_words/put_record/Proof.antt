@@ -1,5 +1,5 @@
 use Rattle.as_numbers.specs.StateWords.{recordWords}
-use Rattle.as_numbers.specs.StateLaws.{put-six}
+use Rattle.as_numbers.specs.StateLaws.{put-seven}
 use native.Mathlib.Omega.{arith}
 use borrow.Author.Needs.{needs}
 use lib.ListN.{length-set}
@@ -57,6 +57,15 @@ mul-words-6 c = search needs
 slice-write-words-6 : tie.Need-slice-write-words-6
 slice-write-words-6 c = simp length-set (omega arith)
 
+add-words-6 : tie.Need-add-words-6
+add-words-6 c = search needs
+
+mul-words-7 : tie.Need-mul-words-7
+mul-words-7 c = search needs
+
+slice-write-words-7 : tie.Need-slice-write-words-7
+slice-write-words-7 c = simp length-set (omega arith)
+
 same-length : tie.Need-same-length
 same-length c = search needs
 
@@ -64,7 +73,7 @@ returns : tie.Need-returns
 unfolding recordWords
 returns c =
     let r = c .args .r in
-    put-six (c .args .words .now) (c .args .at) (r .label .lsn) (r .label .«trailer_offset») (r .label .«file_size») (r .label .«present_objects») (r .label .generation) (r .live) (c .pre)
+    put-seven (c .args .words .now) (c .args .at) (r .label .lsn) (r .label .«trailer_offset») (r .label .«file_size») (r .label .«present_objects») (r .label .generation) (r .live) (r .synced) (c .pre)
 
 pub put-record-spec : {M : Type 1} → statement M
 put-record-spec =
@@ -87,5 +96,8 @@ put-record-spec =
     add-words-5
     mul-words-6
     slice-write-words-6
+    add-words-6
+    mul-words-7
+    slice-write-words-7
     same-length
     returns)

@@ -62,14 +62,24 @@ mul-recorded c = search needs
 shared-slice-read-recorded : tie.Need-shared-slice-read-recorded
 shared-slice-read-recorded c = search needs
 
+add-recorded-2 : tie.Need-add-recorded-2
+add-recorded-2 c = search needs
+
+mul-recorded-2 : tie.Need-mul-recorded-2
+mul-recorded-2 c = search needs
+
+shared-slice-read-recorded-2 : tie.Need-shared-slice-read-recorded-2
+shared-slice-read-recorded-2 c = search needs
+
 recorded-requires : tie.Need-recorded-requires
 recorded-requires c κs = search needs
 
 returns : tie.Need-returns
 unfolding recordAt
 returns c =
-    let a = c .before .before .before .before .before .before .before .before .before .args in
-    c .recorded .ensures ∙ ap (λ (l : Label). recorded l (getD (a .words .now) (a .at + 5) 0)) (c .before .before .labelled .ensures)
+    let w = c .before .before .before in
+    let a = w .before .before .before .before .before .before .before .args in
+    c .recorded .ensures ∙ ap (λ (l : Label). recorded l (getD (a .words .now) (a .at + 5) 0) (getD (a .words .now) (a .at + 6) 0)) (w .labelled .ensures)
 
 pub record-at-spec : {M : Type 1} → statement M
 record-at-spec =
@@ -93,5 +103,8 @@ record-at-spec =
     add-recorded
     mul-recorded
     shared-slice-read-recorded
+    add-recorded-2
+    mul-recorded-2
+    shared-slice-read-recorded-2
     recorded-requires
     returns)

@@ -27,11 +27,16 @@ labelled-requires c κs = search needs
 array-read-recorded : tie.Need-array-read-recorded
 array-read-recorded c = search needs
 
+array-read-recorded-2 : tie.Need-array-read-recorded-2
+array-read-recorded-2 c = search needs
+
 recorded-requires : tie.Need-recorded-requires
 recorded-requires c κs = search needs
 
 returns : tie.Need-returns
-returns c = c .recorded .ensures ∙ ap (λ (l : Label). recorded l (nth (c .before .before .args .t1) 6)) (c .before .labelled .ensures)
+returns c =
+    let n = c .before .before .args .t1 in
+    c .recorded .ensures ∙ ap (λ (l : Label). recorded l (nth n 6) (nth n 7)) (c .before .labelled .ensures)
 
 pub record-of-spec : {M : Type 1} → statement M
-record-of-spec = tie.close (tie.spec array-read-labelled array-read-labelled-2 array-read-labelled-3 array-read-labelled-4 array-read-labelled-5 labelled-requires array-read-recorded recorded-requires returns)
+record-of-spec = tie.close (tie.spec array-read-labelled array-read-labelled-2 array-read-labelled-3 array-read-labelled-4 array-read-labelled-5 labelled-requires array-read-recorded array-read-recorded-2 recorded-requires returns)

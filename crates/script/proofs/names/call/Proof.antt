@@ -69,9 +69,23 @@ slice-aggregate-named-11 c = search needs
 named-requires-11 : tie.Need-named-requires-11
 named-requires-11 c κs = search needs
 
+slice-aggregate-named-12 : tie.Need-slice-aggregate-named-12
+slice-aggregate-named-12 c = search needs
+
+named-requires-12 : tie.Need-named-requires-12
+named-requires-12 c κs = search needs
+
+slice-aggregate-named-13 : tie.Need-slice-aggregate-named-13
+slice-aggregate-named-13 c = search needs
+
+named-requires-13 : tie.Need-named-requires-13
+named-requires-13 c κs = search needs
+
 returns : tie.Need-returns
 returns c =
-    let n10 = c .before .before in
+    let n12 = c .before .before in
+    let n11 = n12 .before .before in
+    let n10 = n11 .before .before in
     let n9 = n10 .before .before in
     let n8 = n9 .before .before in
     let n7 = n8 .before .before in
@@ -81,7 +95,7 @@ returns c =
     let n3 = n4 .before .before in
     let n2 = n3 .before .before in
     let n1 = n2 .before .before in
-    name-before _ _ _ _ _ _ (c .named11 .ensures) (name-before _ _ _ _ _ _ (n10 .named10 .ensures) (name-before _ _ _ _ _ _ (n9 .named9 .ensures) (name-before _ _ _ _ _ _ (n8 .named8 .ensures) (name-before _ _ _ _ _ _ (n7 .named7 .ensures) (name-before _ _ _ _ _ _ (n6 .named6 .ensures) (name-before _ _ _ _ _ _ (n5 .named5 .ensures) (name-before _ _ _ _ _ _ (n4 .named4 .ensures) (name-before _ _ _ _ _ _ (n3 .named3 .ensures) (name-before _ _ _ _ _ _ (n2 .named2 .ensures) (name-before _ _ _ _ _ _ (n1 .named .ensures) (name-end _ _)))))))))))
+    name-before _ _ _ _ _ _ (c .named13 .ensures) (name-before _ _ _ _ _ _ (n12 .named12 .ensures) (name-before _ _ _ _ _ _ (n11 .named11 .ensures) (name-before _ _ _ _ _ _ (n10 .named10 .ensures) (name-before _ _ _ _ _ _ (n9 .named9 .ensures) (name-before _ _ _ _ _ _ (n8 .named8 .ensures) (name-before _ _ _ _ _ _ (n7 .named7 .ensures) (name-before _ _ _ _ _ _ (n6 .named6 .ensures) (name-before _ _ _ _ _ _ (n5 .named5 .ensures) (name-before _ _ _ _ _ _ (n4 .named4 .ensures) (name-before _ _ _ _ _ _ (n3 .named3 .ensures) (name-before _ _ _ _ _ _ (n2 .named2 .ensures) (name-before _ _ _ _ _ _ (n1 .named .ensures) (name-end _ _)))))))))))))
 
 pub call-spec : {M : Type 1} → statement M
 call-spec =
@@ -109,4 +123,8 @@ call-spec =
     named-requires-10
     slice-aggregate-named-11
     named-requires-11
+    slice-aggregate-named-12
+    named-requires-12
+    slice-aggregate-named-13
+    named-requires-13
     returns)
