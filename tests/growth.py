@@ -1,12 +1,12 @@
 #!/usr/bin/env python3
 """How long the calls of the C library take, and how that grows: growth.py [--table]. tests/c/times.c measures, linked with the archive that is
-compiled here with no proof: processor time of one call, the least of five, at each row's sizes; beside it, of a write and a reopening, the same
+compiled here with no proof: processor time of one call, the least of five or more, at each row's sizes; beside it, of a write and a reopening, the same
 work in plain C. Two kinds of figures have a limit:
 - at twice the size: how many times as long the call takes, worked out from each step to the next size, also where that is tenfold; the greatest;
 - beside rising ids: a write of ids in another order, at its largest size, by one of the same ids rising.
 How many times as long as plain C a call takes is printed and not judged: it is another figure on another processor.
-Fails where a figure is over its limit and NOT_YET has not named it, or where one that NOT_YET names is clearly within it, so that it must be taken
-out there; as others may use the machine, only after that row was measured twice more, the least taken of all. With --table every figure is
+Fails where a figure is over its limit and NOT_YET has not named it, or where one that NOT_YET names is half as much again as its figure there; as
+others may use the machine, only after that row was measured twice more, the least taken of all. One that NOT_YET names and that is clearly within its limit is told. With --table every figure is
 printed, as a table in Markdown, and nothing is judged: ARCHITECTURE, "What a call costs", has it."""
 import math
 import os
@@ -20,16 +20,16 @@ from port import console_command  # noqa: E402
 ARCHIVE, PROGRAM = (os.path.join(os.path.dirname(HERE), 'target', 'tests', name) for name in ('libmarble_c.a', 'times'))
 TWICE, RISING = 'at twice the size', 'beside rising ids'
 LIMIT = {TWICE: 3, RISING: 5}
-# what is named in NOT_YET must be under this part of its limit to count as mended
-CLEARLY = 2.5 / 3
+# what is named in NOT_YET is told where it is under this part of its limit, and fails where it is over so many times its figure there
+CLEARLY, WORSE = 2.5 / 3, 1.5
 TRIES = 3
 IN_ORDER = 'write, held ids rising, table of 1,024'
 OTHER_ORDERS = ('write, held ids in any order, table of 1,024', 'write, held ids falling, table of 1,024')
 # over its limit today, or so close to it that noise could decide; with what was measured
 NOT_YET = {
-    ('write, held ids in any order, table of 1,024', TWICE): 3.3,
+    ('write, held ids in any order, table of 1,024', TWICE): 3.7,
     ('write, held ids falling, table of 1,024', TWICE): 3.6,
-    ('write, held ids falling, table of 1,024', RISING): 5.0,
+    ('write, held ids falling, table of 1,024', RISING): 5.1,
     ('reopening, ids dealt out over the files in turn', TWICE): 4.2,
     ('reopening, later files have lower ids', TWICE): 4.6,
     ('check, ids ascend from file to file', TWICE): 2.9,
@@ -87,8 +87,8 @@ def complaint(name, kind, figure):
     most, known = LIMIT[kind], NOT_YET.get((name, kind))
     if known is None and figure > most:
         return f'growth: {name}: {kind} {figure:.1f}, over its limit of {most}'
-    if known is not None and figure < CLEARLY * most:
-        return f'growth: {name}: {kind} {figure:.1f}, within its limit of {most}: NOT_YET need not name it any more (it was {known})'
+    if known is not None and figure > WORSE * known:
+        return f'growth: {name}: {kind} {figure:.1f}, where NOT_YET has {known}'
     return None
 
 
@@ -112,6 +112,10 @@ def judged():
         wrong += complaints(name, rows)
     if wrong:
         sys.exit('\n'.join(wrong))
+    for name, kind in NOT_YET:
+        figure = figures(name, rows)[kind]
+        if figure < CLEARLY * LIMIT[kind]:
+            print(f'growth: {name}: {kind} {figure:.1f} here, within its limit of {LIMIT[kind]}: does NOT_YET still need it?')
     count = sum(len(figures(name, rows)) for name in rows)
     print(f'growth: {len(rows)} rows: {count - len(NOT_YET)} figures within their limits, {len(NOT_YET)} not yet')
 

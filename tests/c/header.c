@@ -96,6 +96,10 @@ static void parsed(void) {
     deleted(UINT64_MAX);
     expect("all its ids", w.state->records[0].present_objects, deletes + 4);
     expect("file_size", w.state->records[0].file_size, MARBLE_FILE_SIZE(4, 127 + 128 + 300, deletes));
+    /* once more: every id is held, and the files are put in order first */
+    expect("written again", write_batch(batch, len), MARBLE_OK);
+    expect("none live in the first file", w.state->records[0].live, 0);
+    expect("all in the second", w.state->records[1].live, deletes + 4);
 }
 
 /* two puts and a delete in a slot that is just long enough, and in one a byte too short */

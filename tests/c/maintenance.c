@@ -248,6 +248,26 @@ static void three_groups(void) {
     }
 }
 
+/* 99 of 100 ids of a file moved into one: from 64 on the files are put in order first */
+static void many(void) {
+    static uint8_t batch[4 * 100];
+    for (uint64_t i = 0; i < 100; i++) {
+        batch[4 * i] = (uint8_t)(i + 1);
+        batch[4 * i + 1] = batch[4 * i + 2] = 1;
+        batch[4 * i + 3] = 'a';
+    }
+    marble_settings s = alone_at(100);
+    s.target_file_size = 4096;
+    opened(s, 8, 128);
+    expect("write", write_batch(batch, sizeof batch), MARBLE_OK);
+    expect("one replaced", put(100, 1, 'b'), MARBLE_OK);
+    expect("maintain", maintain(), MARBLE_OK);
+    expect("moved", out[1], 99);
+    holds(1, 1, 'a');
+    holds(99, 1, 'a');
+    holds(100, 1, 'b');
+}
+
 static void costs(void) {
     const size_t lengths[] = {256, 255, 60, 1, 0};
     opened(alone(), 8, 16);
@@ -271,6 +291,7 @@ void maintenance(void) {
     p8();
     p9();
     gathered();
+    many();
     stops();
     stops_at_a_position();
     costs();
