@@ -18,7 +18,7 @@ use Rattle.slot_file.specs.Slots.{shownBy}
 use Rattle.reopen_tests.specs.Labels.{noFile, labelAt, labelOf, labelsOf, clash}
 use Rattle.reopen_tests.specs.Shown.{label-some}
 use Rattle.faults.specs.Faults.{judged, line, lineIf, fileFaults, meetsEarlier, slotFaults, faultsFrom, closing}
-use Rattle.faults.specs.Judging.{Judged, SoundFile, Judges, judges, judged-at}
+use Rattle.faults.specs.Judging.{Judged, Judges, judges, judged-at}
 use Rattle.checker.specs.Types.{Label, TableRoom, Overlap, Nowhere, Fault, SlotAnswer, Empty, Damaged, Holds}
 
 -- ---- definitions

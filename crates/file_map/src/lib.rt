@@ -205,7 +205,7 @@ pub fn with_lives(m: FileMap, lives: &[u64]) -> FileMap
     n
 }
 
-// ---- one lookup, one count: by the flat lists
+// A lookup by the flat list of lsns.
 pub fn file_for(m: FileMap, location: u64) -> Slot
     ensures { λ r. ⌜ r ≡ fileFor (m .records) location ⌝ }
 {

@@ -1,13 +1,11 @@
 -- One turn of each loop over marks, objects and entries.
 use mathlib.Core.Path.{_≡_, sym, ap, _∙_, subst}
 use Prim.Native.Nat.{_≤_, _<_}
-use native.Mathlib.Nat.{zero-add}
 use native.Mathlib.Omega.{arith}
 use lib.ListN.{length-drop}
-use borrow.Author.Tests.{eq-eqb, ne-eqb}
-use Rattle.rules.specs.Base.{Bool, false, List, ℕ, _+_, length, getD, drop, eqb, pick, each}
+use Rattle.rules.specs.Base.{false, List, ℕ, _+_, length, getD, drop, each}
 use Rattle.rules.specs.BaseLaws.{All}
-use Rattle.rules.specs.TurnLaws.{sum-next, sum-end, each-next, each-end}
+use Rattle.rules.specs.TurnLaws.{each-next, each-end}
 use Rattle.rules.specs.declared.Entry.{Entry}
 use Rattle.disk_location.specs.Locations.{rawOf}
 use Rattle.rules.specs.Object.{Stored, storedAt}

@@ -2,11 +2,11 @@
 use mathlib.Core.Path.{_≡_, refl, sym, ap, ap₂, _∙_, subst}
 use mathlib.Core.Logic.{_⊎_, inl, inr}
 use Prim.Native.Nat.{_≤_, _<_}
-use native.Mathlib.Nat.{le-of-suc-le-suc, not-suc-le-zero, zero-add}
+use native.Mathlib.Nat.{le-of-suc-le-suc, not-suc-le-zero}
 use native.Mathlib.Omega.{arith}
 use lib.ListN.{length-replicate}
 use borrow.Author.Tests.{eq-eqb, ne-eqb}
-use Rattle.rules.specs.Base.{Bool, true, false, _||_, List, [], _∷_, _++_, map, ℕ, zero, suc, _+_, _-_, _^_, length, getD, drop, set, replicate, eqb, pick, any, keep, each, sum}
+use Rattle.rules.specs.Base.{Bool, true, false, _||_, List, [], _∷_, _++_, map, ℕ, zero, suc, _+_, _-_, _^_, length, getD, drop, set, replicate, eqb, pick, any, keep, each}
 use Rattle.rules.specs.BaseLaws.{All, all-map, same?, all-append, any-append}
 use Rattle.rules.specs.declared.Entry.{Entry}
 use Rattle.rules.specs.declared.Label.{Label}

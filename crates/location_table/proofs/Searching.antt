@@ -1,5 +1,5 @@
 -- What a search in the table keeps, and what it has shown when it stops: any search, one entry after another or by halving.
-use mathlib.Core.Path.{_≡_, sym, ap, subst}
+use mathlib.Core.Path.{_≡_, sym, ap}
 use mathlib.Core.Logic.{_⊎_, inl, inr}
 use Prim.Native.Nat.{ℕ, zero, suc, _+_, _*_, _^_, _<_, _≤_, zero-le}
 use native.Mathlib.Nat.{not-suc-le-zero, eq-or-lt-of-le, lt-irrefl, pow-suc}

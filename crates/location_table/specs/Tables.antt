@@ -1,6 +1,6 @@
 -- The table, and what the functions below the four calls do to it.
 use mathlib.Core.Path.{_≡_}
-use Rattle.rules.specs.Base.{Bool, true, not, List, [], _∷_, _++_, ℕ, zero, suc, _+_, _-_, _*_, _%_, length, getD, set, take, drop, pick}
+use Rattle.rules.specs.Base.{Bool, true, not, List, _∷_, _++_, ℕ, zero, suc, _+_, _-_, _*_, _%_, length, getD, set, take, drop, pick}
 use Rattle.rules.specs.Layout.{Table, tableIds, tableLocations, inForm, capacityOf, usedEntries}
 use Rattle.rules.specs.Table.{full}
 use Rattle.rules.specs.World.{Given}

@@ -4,7 +4,7 @@ use contract.Lifetimes.{Lfts}
 use denote.Ref.{now}
 use Prim.Native.Nat.{_≤_}
 use lib.Seq.{take-all}
-use Rattle.rules.specs.Base.{true, List, [], _∷_, _++_, ℕ, _-_, length, each, take}
+use Rattle.rules.specs.Base.{true, List, [], _∷_, ℕ, _-_, length, each, take}
 use Rattle.rules.specs.declared.Label.{Label}
 use Rattle.rules.specs.declared.Claims.{Claims}
 use Rattle.rules.specs.declared.FileMap.{FileMap}

@@ -1,7 +1,7 @@
 -- "Each is given exactly when its condition holds and no earlier one in the call's order does.": one table, one statement.
 -- A row goes down a call's order: in its first case every condition holds, and each later case clears the first that held.
 use mathlib.Core.Path.{_≡_, refl}
-use Rattle.rules.specs.Base.{Bool, true, false, not, List, [], _∷_, _++_, ℕ, _+_, _-_, _^_, length, replicate, any, zeros, keep, each, sum, greatest, padded}
+use Rattle.rules.specs.Base.{false, not, List, [], _∷_, _++_, _+_, _-_, _^_, replicate, any, zeros, keep, each, sum, greatest, padded}
 use Rattle.numbers.specs.LittleEndian.{leBytes, leValue}
 use Rattle.numbers.specs.Groups.{groupsOf, readGroups, numberIn}
 use Rattle.checksum.specs.Checksum.{shiftBit, shifts, crcFrom, crc32, objectSum}

@@ -1,6 +1,6 @@
 -- Single points of document 01, worked out: where a range ends, which of two counts, what a call leaves. One table and one statement, like lines P1 to P10.
 use mathlib.Core.Path.{_≡_, refl}
-use Rattle.rules.specs.Base.{Bool, true, false, not, List, [], _∷_, _++_, map, ℕ, _+_, _-_, _*_, _^_, length, getD, replicate, any, zeros, keep, each, sum, greatest, padded}
+use Rattle.rules.specs.Base.{false, not, List, [], _∷_, _++_, map, ℕ, _+_, _-_, _*_, _^_, length, getD, replicate, any, zeros, keep, each, sum, greatest, padded}
 use Rattle.theory.specs.Types.{Settings, Label, Record, Slot, Is, NoSlot, Claims}
 use Rattle.numbers.specs.LittleEndian.{leBytes, leValue}
 use Rattle.numbers.specs.Groups.{groupsOf, readGroups, numberIn}

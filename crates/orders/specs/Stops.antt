@@ -24,7 +24,7 @@ use Rattle.rules.specs.Maintenance.{worthIt, cutOff, joining, splitFrom, filesO
 use Rattle.theory.specs.Types.{Label}
 use Rattle.rules.specs.World.{World, After}
 use Rattle.rules.specs.Lines.{told, mapping}
-use Rattle.orders.specs.Worlds.{two, labelOf, slot, trailing, holding, seenAt}
+use Rattle.orders.specs.Worlds.{two, labelOf, slot, holding, seenAt}
 
 -- five slots: object 1 in a file of generation 0; object 2 in one of generation 1, with a trailer; two empty ones, and between them a file with nothing live
 abbrev pub groups : List ℕ → World

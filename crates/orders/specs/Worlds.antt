@@ -1,9 +1,8 @@
 -- Small worlds in which several conditions of a call hold at once: slots of 128 bytes, a table of one entry or two.
-use Rattle.rules.specs.Base.{Bool, true, false, List, [], _∷_, _++_, ℕ, _+_, _-_, _*_, _^_, length, getD, replicate, padded}
-use Rattle.theory.specs.Types.{Settings, Entry, Label, Record, State}
+use Rattle.rules.specs.Base.{List, [], _∷_, _++_, ℕ, _+_, _-_, _*_, length, getD, replicate, padded}
+use Rattle.theory.specs.Types.{Settings, Label, Record, State}
 use Rattle.numbers.specs.LittleEndian.{leBytes}
 use Rattle.checksum.specs.Checksum.{crc32, objectSum}
-use Rattle.disk_location.specs.Locations.{rawOf}
 use Rattle.rules.specs.Object.{objectBytes}
 use Rattle.rules.specs.Trailer.{trailerBytes}
 use Rattle.rules.specs.Label.{labelBytes}

@@ -1,7 +1,7 @@
 -- An accepted answer: no condition held.
 use mathlib.Core.Path.{_≡_, refl, ap}
 use borrow.Author.Tests.{eqb-false}
-use Rattle.rules.specs.Base.{[], ℕ}
+use Rattle.rules.specs.Base.{[]}
 use Rattle.theory.specs.Types.{Refusal, Answer, Done, Refused}
 use Rattle.rules.specs.Refusal.{numberOf, after}
 use Rattle.rules.specs.Answers.{known}

@@ -1,14 +1,13 @@
 -- "Claim, release. 21 for a slot out of range, an empty slot, a claimed one (claim) or an unclaimed one (release)."; "a claim is set and cleared in place, slot
 -- by slot; a reopening not refused with 1 starts one without claims".
-use mathlib.Core.Path.{_≡_, refl, sym, ap, _∙_}
-use mathlib.Core.Bool.{true≢false}
-use Prim.Native.Nat.{_≤_, _<_}
+use mathlib.Core.Path.{_≡_, refl, ap, _∙_}
+use Prim.Native.Nat.{_<_}
 use native.Mathlib.Omega.{arith}
 use borrow.Author.Tests.{leb-false, lt-leb, not-false}
 use Rattle.rules.specs.Base.{Bool, true, false, not, _||_, List, [], _∷_, ℕ, _+_, _^_, length, leb, ltb, pick}
 use Rattle.rules.specs.BaseLaws.{or-false, or-clear}
 use Rattle.theory.specs.Types.{Refusal, Answer, Done, Refused, Limits, Claim, Stopped}
-use Rattle.rules.specs.Refusal.{Test, _gives_, decide, after, NoneHolds, decide-none, decide-first, decide-next, clear-when}
+use Rattle.rules.specs.Refusal.{_gives_, decide, after, NoneHolds, decide-none, decide-first, decide-next, clear-when}
 use Rattle.rules.specs.FileMap.{isEmpty, recordAt}
 use Rattle.rules.specs.Condition1.{refused1, outOfRange}
 use Rattle.rules.specs.Condition1Laws.{passed}

@@ -1,14 +1,14 @@
 -- "Counts. Files, bytes, present, live, summed over files."
-use mathlib.Core.Path.{_≡_, refl, ap, ap₂, _∙_}
+use mathlib.Core.Path.{_≡_, refl, ap, _∙_}
 use native.Mathlib.Omega.{arith}
 use Rattle.rules.specs.Base.{Bool, true, false, not, List, [], _∷_, ℕ, _+_, length, pick, keep, sum}
-use Rattle.theory.specs.Types.{Record, Limits, Counts}
+use Rattle.theory.specs.Types.{Record, Limits}
 use Rattle.rules.specs.Refusal.{decide-none, decide-first, decide-next}
 use Rattle.rules.specs.FileMap.{emptyRecord, isEmpty, fileCount}
 use Rattle.rules.specs.FileMapLaws.{empty-is}
 use Rattle.rules.specs.Condition1.{refused1}
 use Rattle.rules.specs.Counts.{countsOf, countsCall}
-use Rattle.rules.specs.World.{World, recordsOf, accepted, refused, After}
+use Rattle.rules.specs.World.{World, recordsOf, accepted, refused}
 
 -- the records that are files
 abbrev pub filesOf : List Record → List Record

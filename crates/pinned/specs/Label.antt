@@ -1,13 +1,13 @@
 -- "A slot is a 64-byte label, then the file. The label holds lsn, trailer_offset, file_size, present_objects, generation as numbers in groups of seven
 -- bits ..; Zeros fill the 64 bytes. First byte 0 means the slot is empty, whatever follows.": read exactly if the bytes are its own.
-use mathlib.Core.Path.{_≡_, refl, sym, ap, ap₂, _∙_}
+use mathlib.Core.Path.{_≡_, refl, ap, _∙_}
 use mathlib.Core.List.{append-assoc}
 use mathlib.Core.Logic.{_⊎_, inl, inr}
-use Prim.Native.Nat.{_≤_, _<_}
+use Prim.Native.Nat.{_<_}
 use native.Mathlib.Omega.{arith}
-use lib.ListN.{length-append, length-replicate}
-use borrow.Author.Tests.{eqb-true, eqb-false, eq-eqb}
-use Rattle.rules.specs.Base.{Bool, true, false, List, [], _∷_, _++_, ℕ, _+_, _-_, _^_, length, drop, getD, replicate, eqb, pick, zeros, padded}
+use lib.ListN.{length-append}
+use borrow.Author.Tests.{eqb-false, eq-eqb}
+use Rattle.rules.specs.Base.{Bool, true, false, List, _++_, ℕ, _+_, _-_, length, drop, getD, replicate, eqb, pick, zeros, padded}
 use Rattle.rules.specs.BaseLaws.{zero-or-more, zeros-is}
 use Rattle.theory.specs.Types.{Label, LabelAnswer, Vacant, Five, Wrong}
 use Rattle.numbers.specs.LittleEndian.{Bytes}
@@ -16,7 +16,7 @@ use Rattle.numbers.specs.GroupLaws.{groups-last, Stands, number-stands}
 use Rattle.numbers.specs.declared.Number.{Number}
 use Rattle.numbers.specs.declared.Number.the-variants.{Said, Malformed}
 use Rattle.rules.specs.Label.{labelBytes, fiveIn, labelIn}
-use Rattle.rules.specs.LabelLaws.{LabelFits, label-first, label-back}
+use Rattle.rules.specs.LabelLaws.{LabelFits, label-back}
 use Rattle.pinned.specs.Parts.{front}
 
 -- the bytes are those of a label whose lsn is not 0, each number of at most 64 bits

@@ -1,5 +1,5 @@
 -- "Maintenance": what a rewritten file's record says, and what a refusal leaves.
-use mathlib.Core.Path.{_≡_, refl, sym, ap, _∙_}
+use mathlib.Core.Path.{_≡_, refl, ap, _∙_}
 use Prim.Native.Nat.{_<_}
 use native.Mathlib.Omega.{arith}
 use native.Mathlib.Nat.{add-zero}

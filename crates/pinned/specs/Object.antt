@@ -1,13 +1,13 @@
 -- "Object: checksum 4, id 8, length 8, body; little-endian, so the header is 20. The checksum is the CRC-32 of IEEE 802.3 over length, id, body in that
 -- order": an object is read exactly if the bytes are its own.
-use mathlib.Core.Path.{_≡_, refl, sym, ap, ap₂, _∙_}
+use mathlib.Core.Path.{_≡_, sym, ap, ap₂, _∙_}
 use mathlib.Core.List.{append-assoc}
 use Prim.Native.Nat.{_≤_, _<_}
 use native.Mathlib.Omega.{arith}
 use lib.ListN.{length-append, length-drop}
 use lib.Seq.{length-take-le}
 use borrow.Author.Tests.{eqb-true, not-false}
-use Rattle.rules.specs.Base.{false, List, [], _∷_, _++_, ℕ, _+_, _-_, _^_, length, take, drop, eqb}
+use Rattle.rules.specs.Base.{false, List, _++_, ℕ, _+_, _-_, _^_, length, take, drop, eqb}
 use Rattle.numbers.specs.LittleEndian.{Bytes, leBytes, leValue}
 use Rattle.checksum.specs.Checksum.{objectSum}
 use Rattle.rules.specs.Object.{objectBytes, Stored, storedAt, badChecksum}

@@ -1,24 +1,22 @@
 -- "Reading now gives "never written" or "deleted"" (request P1). "Else the found bytes are a part of the lent heap itself. Checks in order: 18, 16 (header or body past file_size), 10, 17."
 use mathlib.Core.Path.{_≡_, refl, sym, ap, ap₂, _∙_}
-use mathlib.Core.Bool.{true≢false}
 use Prim.Native.Nat.{_≤_, _<_}
 use native.Mathlib.Omega.{arith}
-use lib.ListN.{length-take, length-drop, take-append-drop}
-use lib.Seq.{take-take, drop-drop, length-take-le, take-at, drop-at}
+use lib.ListN.{length-drop, take-append-drop}
+use lib.Seq.{take-take, drop-drop, length-take-le, take-at}
 use borrow.Author.Tests.{ltb-false, le-ltb, eqb-true, eq-eqb, not-false}
 use Rattle.numbers.specs.LittleEndian.{Bytes}
 use Rattle.disk_location.specs.Locations.{positionOf, deleteOf}
-use Rattle.rules.specs.Base.{Bool, true, false, not, List, [], _∷_, _++_, ℕ, _+_, _-_, _*_, _^_, length, take, drop, ltb, eqb, pick}
-use Rattle.theory.specs.Types.{Record, Refusal, Answer, Done, Refused, ReadAnswer, Found, Deleted, NeverWritten, ReadRefused, Held, Mapped, Unmapped, Slot, Is, NoSlot, Limits, NotThere, CutShort, Checksum, OtherId}
-use Rattle.rules.specs.Refusal.{_gives_, decide, after, NoneHolds, decide-none, decide-first, decide-next, decide-clear, clear-when, only-when}
+use Rattle.rules.specs.Base.{Bool, true, false, not, List, [], _∷_, _++_, ℕ, _+_, _-_, _*_, _^_, length, take, drop, ltb, eqb}
+use Rattle.theory.specs.Types.{Refusal, Answer, Done, Refused, ReadAnswer, Found, Deleted, NeverWritten, ReadRefused, Held, Mapped, Unmapped, Slot, Is, NoSlot, Limits, NotThere, CutShort, Checksum, OtherId}
+use Rattle.rules.specs.Refusal.{_gives_, decide, after, NoneHolds, decide-none, decide-first, decide-next, decide-clear, clear-when}
 use Rattle.rules.specs.PartLaws.{drop-take}
 use Rattle.rules.specs.Object.{objectBytes, Stored, storedAt, badChecksum}
 use Rattle.rules.specs.ObjectLaws.{stored-position, stored-room, object-length}
 use Rattle.rules.specs.SlotFile.{slotBytes, fileIn}
 use Rattle.rules.specs.SlotLaws.{slot-length}
 use Rattle.rules.specs.Table.{lookup, loadedOf}
-use Rattle.rules.specs.TableLaws.{mapped-one, mapped-not}
-use Rattle.rules.specs.FileMap.{recordAt, isEmpty, fileFor}
+use Rattle.rules.specs.FileMap.{recordAt, fileFor}
 use Rattle.rules.specs.FileMapLaws.{IsFile, file-at, file-is, file-none, not-empty}
 use Rattle.rules.specs.SettingsLaws.{slot-within}
 use Rattle.rules.specs.Condition1.{refused1}

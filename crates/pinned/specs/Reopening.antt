@@ -1,21 +1,20 @@
 -- "Reopen": the next position, what is left where it is refused, and that 1 changes nothing.
-use mathlib.Core.Path.{_≡_, refl, sym, ap, _∙_}
+use mathlib.Core.Path.{_≡_, refl, ap}
 use mathlib.Core.Logic.{_⊎_, inl, inr}
-use Prim.Native.Nat.{_≤_, _<_}
+use Prim.Native.Nat.{_≤_}
 use native.Mathlib.Omega.{arith}
 use borrow.Author.Tests.{leb-true, leb-false}
 use Rattle.disk_location.specs.Locations.{maskedOf}
-use Rattle.rules.specs.Base.{Bool, true, false, List, [], _∷_, _++_, ℕ, _+_, length, replicate, leb, pick, larger, greatest}
+use Rattle.rules.specs.Base.{Bool, true, false, List, [], _∷_, _++_, ℕ, _+_, length, replicate, leb, pick, greatest}
 use Rattle.rules.specs.BaseLaws.{All, all-map}
-use Rattle.theory.specs.Types.{Refusal, Answer, Done, Refused, Limits, Record}
+use Rattle.theory.specs.Types.{Refusal, Answer, Done, Refused, Limits}
 use Rattle.rules.specs.Refusal.{decide, after, decide-none, decide-first, decide-next}
 use Rattle.rules.specs.SlotFile.{File, View, viewsIn}
 use Rattle.rules.specs.FileMap.{emptyRecord, noFiles}
 use Rattle.rules.specs.Claims.{noClaims}
 use Rattle.rules.specs.Condition1.{outOfRange}
-use Rattle.rules.specs.Reopen.{filesIn, reopenTests, nextAfter, stateOf, givenUp, opened, reopenCall}
-use Rattle.rules.specs.World.{World, slotsOf, refused, accepted, After, unchanged}
-use Rattle.pinned.specs.Answered.{refused-not}
+use Rattle.rules.specs.Reopen.{filesIn, reopenTests, nextAfter, givenUp, opened, reopenCall}
+use Rattle.rules.specs.World.{World, slotsOf, refused, accepted, unchanged}
 -- "Each id maps to its entry of greatest masked position"
 pub use Rattle.theory.specs.Newest.{newest-latest}
 

@@ -4,17 +4,17 @@ use mathlib.Core.Logic.{_⊎_, inl, inr}
 use Prim.Native.Nat.{_≤_, _<_}
 use native.Mathlib.Omega.{arith}
 use borrow.Author.Tests.{leb-true, leb-false, eq-eqb, ne-eqb, lt-ltb, le-ltb, not-false}
-use Rattle.rules.specs.Base.{Bool, true, false, not, _&&_, _||_, List, [], _∷_, ℕ, _+_, length, leb, ltb, eqb, pick}
+use Rattle.rules.specs.Base.{Bool, true, false, _&&_, _||_, List, [], _∷_, ℕ, length, leb, eqb, pick}
 use Rattle.rules.specs.BaseLaws.{and-true, and-holds, or-clear, same?}
-use Rattle.theory.specs.Types.{Entry, Held, Mapped, Unmapped, At, DeletedAt, Refusal, Limits, TableRoom, NotThere, EqualLocation, Location}
-use Rattle.rules.specs.Refusal.{Test, _gives_, decide, after, decide-none, decide-first, decide-next}
+use Rattle.theory.specs.Types.{Entry, Held, Mapped, Unmapped, At, DeletedAt, Limits, TableRoom, NotThere, EqualLocation, Location}
+use Rattle.rules.specs.Refusal.{decide-none, decide-first, decide-next}
 use Rattle.disk_location.specs.Locations.{deleteOf}
-use Rattle.rules.specs.Table.{lookup, loadedOf, load, insert, unmapped, mappedTo, full}
-use Rattle.rules.specs.TableLaws.{Rising, Has, mapped-one, mapped-not, lookup-insert-same, lookup-insert-other, rising-insert, lookup-has, has-lookup, insert-new, insert-old, insert-length, full-when, full-mapped, full-room}
+use Rattle.rules.specs.Table.{lookup, loadedOf, load, insert, unmapped, full}
+use Rattle.rules.specs.TableLaws.{Rising, mapped-one, mapped-not, lookup-insert-same, lookup-insert-other, rising-insert, lookup-has, has-lookup, insert-new, insert-old, full-when, full-mapped, full-room}
 use Rattle.rules.specs.Layout.{Table, lengthsInRange, inForm, capacityOf, usedEntries, laidOut}
-use Rattle.rules.specs.LayoutLaws.{LengthsInRange, lengths-in-range, range-lengths-in, laid-out-capacity, laid-out-even, Used, used-laid-out, form-laid-out, used-located, used-length, form-rising}
-use Rattle.rules.specs.World.{Given, accepted, refused, loadedGiven}
-use Rattle.rules.specs.TableCalls.{TableAfter, notForm, same, withStored, loadCall, storeCall, compareCall, below, greaterCall}
+use Rattle.rules.specs.LayoutLaws.{lengths-in-range, range-lengths-in, laid-out-capacity, laid-out-even, Used, used-laid-out, form-laid-out, used-located, used-length, form-rising}
+use Rattle.rules.specs.World.{accepted, refused, loadedGiven}
+use Rattle.rules.specs.TableCalls.{TableAfter, notForm, same, withStored, loadCall, storeCall, compareCall, greaterCall}
 
 -- where an id is, if it is mapped
 abbrev pub heldIn : Table → ℕ → Held

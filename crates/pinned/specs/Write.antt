@@ -1,19 +1,17 @@
 -- "Write decides 1 to 7 in order on the whole batch."; "An empty batch succeeds and changes nothing."
-use mathlib.Core.Path.{_≡_, refl, sym, ap, _∙_}
-use mathlib.Core.Bool.{true≢false}
-use mathlib.Core.Logic.{_⊎_, inl, inr}
+use mathlib.Core.Path.{_≡_, refl, ap, _∙_}
 use Prim.Native.Nat.{_≤_, _<_, zero-le}
 use native.Mathlib.Omega.{arith}
 use borrow.Author.Tests.{leb-false, lt-leb, le-ltb}
-use Rattle.rules.specs.Base.{Bool, true, false, List, [], _∷_, _++_, ℕ, suc, _+_, _^_, length, leb, ltb, pick, any, keep, sum}
+use Rattle.rules.specs.Base.{true, false, List, [], _∷_, ℕ, suc, _+_, _^_, length, pick, any, keep, sum}
 use Rattle.rules.specs.BaseLaws.{All, all-map, any-false, any-clear, or-clear}
-use Rattle.theory.specs.Types.{Entry, Held, Mapped, Unmapped, Limits, BatchBytes, TableRoom}
-use Rattle.rules.specs.Refusal.{_gives_, decide, after, NoneHolds, none-append, decide-clear, decide-first, decide-next}
+use Rattle.theory.specs.Types.{Entry, Held, Mapped, Unmapped, Limits, BatchBytes}
+use Rattle.rules.specs.Refusal.{decide, NoneHolds, none-append, decide-clear, decide-first, decide-next}
 use Rattle.rules.specs.Ops.{Content, put, delete, Op, isDelete, sizeOf, objectsOf, entriesOf, fileBytes, settled}
 use Rattle.disk_location.specs.Locations.{rawOf}
 use Rattle.rules.specs.OpsLaws.{RisingOps, ops-rise}
 use Rattle.rules.specs.SettledLaws.{settled-rising}
-use Rattle.rules.specs.Batch.{Batch, notAsAbove, operations, isMalformed, opsOf, batchFrom, batchIn, tooLarge, anyTooLarge}
+use Rattle.rules.specs.Batch.{notAsAbove, operations, opsOf, batchFrom, batchIn, tooLarge, anyTooLarge}
 use Rattle.rules.specs.Table.{lookup, insert, insertAll, unmapped}
 use Rattle.rules.specs.TableLaws.{Rising, rising-insert, lookup-insert-other, insert-new, insert-old}
 use Rattle.rules.specs.Layout.{capacityOf}
@@ -23,7 +21,7 @@ use Rattle.rules.specs.Condition1Laws.{passed}
 use Rattle.rules.specs.Install.{installedAll, roomTests, emptyOf, positionTests}
 use Rattle.rules.specs.Write.{newFiles, tooManyIds, writeTests, written, writeCall}
 use Rattle.rules.specs.WriteLaws.{Accepted, write-accepted}
-use Rattle.rules.specs.World.{World, mappings, accepted, After, unchanged}
+use Rattle.rules.specs.World.{World, mappings, accepted, unchanged}
 use Rattle.pinned.specs.Answered.{answered}
 
 -- ---- 6: more distinct ids than table entries

@@ -3,7 +3,7 @@ use mathlib.Core.Path.{_≡_, refl, sym, ap, ap₂, _∙_}
 use mathlib.Core.List.{append-assoc, append-nil}
 use Rattle.rules.specs.Base.{Bool, true, false, List, [], _∷_, _++_, each, ℕ, _*_, _^_, length, ltb, pick}
 use Rattle.theory.specs.Types.{Label, Record, Claims, Limits, Answer, Done, Refused}
-use Rattle.rules.specs.Refusal.{_gives_, decide, after}
+use Rattle.rules.specs.Refusal.{_gives_, decide}
 use Rattle.rules.specs.Ops.{Op, fileBytes, settled}
 use Rattle.rules.specs.Batch.{batchIn, opsOf}
 use Rattle.rules.specs.Condition1.{refused1}

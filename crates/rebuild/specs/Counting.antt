@@ -96,7 +96,7 @@ never-meet (l ∷ ls) e zero (suc k) h f g p q =
 never-meet (l ∷ ls) e (suc j) zero h f g p q = not-suc-le-zero h
 never-meet (l ∷ ls) e (suc j) (suc k) h f g p q = never-meet ls (or-false (any (clash l) ls) (overlaps ls) e .1) j k (le-of-suc-le-suc h) f g p q
 
--- ---- LAW: in ranges apart a position lies in no range but that of the file that the lookup finds
+-- ---- in ranges apart a position lies in no range but that of the file that the lookup finds
 module _ (ls : List Label) (apart : Apart ls) (position : ℕ) where
   lsn-at : (k : ℕ) → getD (map maskedLsn ls) k 0 ≡ maskedLsn (labelAt ls k)
   lsn-at k = go ls k

@@ -6,7 +6,7 @@ use native.Mathlib.Omega.{arith}
 use borrow.Author.Tests.{le-leb, lt-leb}
 use mathlib.Core.Logic.{_⊎_, inl, inr}
 use Rattle.numbers.specs.GroupLaws.{either-way}
-use Rattle.rules.specs.Base.{Bool, true, false, List, [], _∷_, _++_, map, ℕ, zero, suc, _+_, _-_, _^_, length, replicate, pick, each, larger, greatest}
+use Rattle.rules.specs.Base.{List, [], _∷_, _++_, map, ℕ, zero, suc, _+_, _-_, _^_, length, replicate, pick, each, larger, greatest}
 use Rattle.rules.specs.BaseLaws.{All, all-map}
 use Rattle.rules.specs.FileMap.{emptyLabel, recorded, emptyRecord}
 use Rattle.disk_location.specs.Locations.{maskedOf}

@@ -3,7 +3,6 @@ use mathlib.Core.Path.{_≡_, refl, sym, ap₂}
 use mathlib.Core.Bool.{Bool, true, false, not, _&&_, _||_}
 use Rattle.rules.specs.Base.{List, [], _∷_, _++_, map, ℕ, zero, suc, _-_, length, replicate, any, each}
 use Rattle.rules.specs.BaseLaws.{All}
-use Rattle.rules.specs.LabelLaws.{InBounds}
 use Rattle.rules.specs.FileMap.{emptyLabel}
 use Rattle.rules.specs.SlotFile.{File, View, empty, damaged, holds}
 use Rattle.rules.specs.Reopen.{filesIn, meets, overlapping}

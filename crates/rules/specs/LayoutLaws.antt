@@ -6,7 +6,7 @@ use native.Mathlib.Omega.{arith}
 use native.Mathlib.Nat.{suc-sub-suc, sub-zero}
 use borrow.Author.Tests.{eqb-true, eq-eqb, ne-eqb, leb-true, le-leb}
 use lib.ListN.{length-append, length-map, length-replicate}
-use Rattle.rules.specs.Base.{true, List, [], _∷_, _++_, map, ℕ, zero, suc, _+_, _-_, _*_, _/_, _%_, length, replicate, leb, eqb, zeros, padded, _&&_}
+use Rattle.rules.specs.Base.{true, List, [], _∷_, _++_, map, ℕ, zero, suc, _+_, _-_, _*_, _%_, length, replicate, leb, eqb, zeros, padded, _&&_}
 use Rattle.rules.specs.Types.{Entry}
 use Rattle.rules.specs.BaseLaws.{and-true, and-holds, within-true, within-holds, zero-or-more, zeros-is, zeros-replicate, padded-length}
 use Rattle.rules.specs.TableLaws.{Rising, rise, rise-end, Has}

@@ -5,7 +5,7 @@ use native.Mathlib.Omega.{arith}
 use lib.ListN.{length-set, length-map, drop-of-length-le}
 use lib.Seq.{take-all}
 use Rattle.numbers.specs.Parts.{front}
-use Rattle.rules.specs.Base.{Bool, true, false, List, [], _∷_, map, ℕ, zero, suc, _*_, length, set, take, drop, each}
+use Rattle.rules.specs.Base.{Bool, true, false, List, [], _∷_, ℕ, zero, suc, _*_, length, set, take, drop, each}
 use Rattle.rules.specs.BaseLaws.{All}
 use Rattle.rules.specs.Refusal.{numberOf, decide}
 use Rattle.rules.specs.Settings.{slotsIn}

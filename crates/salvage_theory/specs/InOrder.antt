@@ -4,7 +4,7 @@ use mathlib.Core.Logic.{_⊎_, inl, inr}
 use Prim.Native.Nat.{_<_, _≤_}
 use native.Mathlib.Omega.{arith}
 use borrow.Author.Tests.{le-leb, leb-true, leb-false, eq-eqb, ne-eqb}
-use Rattle.rules.specs.Base.{Bool, true, false, List, [], _∷_, ℕ, suc, length, leb, eqb, pick}
+use Rattle.rules.specs.Base.{Bool, true, false, List, [], _∷_, ℕ, leb, eqb, pick}
 use Rattle.rules.specs.BaseLaws.{All, all-map, order, same?}
 use Rattle.losses.specs.Salvage.{Sound, startOf, placed, inOrder}
 use Rattle.losses.specs.Starts.{all-placed, all-in-order}

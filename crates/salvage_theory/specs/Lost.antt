@@ -2,12 +2,11 @@
 use mathlib.Core.Path.{_≡_, sym, ap, _∙_}
 use mathlib.Core.Logic.{_⊎_, inl, inr}
 use Prim.Native.Nat.{_<_}
-use native.Mathlib.Omega.{arith}
 use native.Mathlib.Nat.{zero-add}
-use Rattle.rules.specs.Base.{List, [], _∷_, ℕ, zero, suc, length}
+use Rattle.rules.specs.Base.{List, ℕ, length}
 use Rattle.rules.specs.BaseLaws.{All, all-map, all-append}
 use Rattle.rules.specs.SlotFile.{File, View, empty, damaged, holds}
-use Rattle.theory.specs.Types.{Refusal, Overlap}
+use Rattle.theory.specs.Types.{Overlap}
 use Rattle.theory.specs.Places.{viewAt, holds-lt, not-empty}
 use Rattle.check_theory.specs.Own.{empty-not}
 use Rattle.check_theory.specs.Listed.{damaged-lt}

@@ -4,10 +4,9 @@ use mathlib.Core.Logic.{inl, inr}
 use Prim.Native.Nat.{_<_, _≤_}
 use native.Mathlib.Omega.{arith}
 use native.Mathlib.Nat.{zero-add}
-use lib.ListN.{length-append}
 use lib.Seq.{getD-set-same}
 use Rattle.numbers.specs.Parts.{front-length}
-use Rattle.rules.specs.Base.{Bool, true, false, List, [], _∷_, _++_, map, ℕ, suc, _+_, _*_, length, set, ltb, pick, each}
+use Rattle.rules.specs.Base.{Bool, true, false, List, [], _∷_, map, ℕ, _*_, length, set, pick, each}
 use Rattle.rules.specs.BaseLaws.{All}
 use Rattle.rules.specs.Refusal.{numberOf}
 use Rattle.rules.specs.Settings.{slotsIn}
@@ -22,7 +21,7 @@ use Rattle.faults.specs.Faults.{judged, judgedIn}
 use Rattle.faults.specs.Judging.{judged-at}
 use Rattle.check_theory.specs.Lists.{In, all-in, in-first, Different}
 use Rattle.check_theory.specs.Own.{damaged-inj, empty-not, holds-not, views-early}
-use Rattle.losses.specs.Salvage.{loss, ownLoss, firstKind, Sound, startOf, endOf, soundOf, theRest, inOrder, givenUpBehind, secondKind, lossesIn, reportOf, lossWords, Salvaged, salvageCall}
+use Rattle.losses.specs.Salvage.{loss, firstKind, theRest, inOrder, secondKind, lossesIn, reportOf, lossWords, Salvaged, salvageCall}
 use Rattle.salvage_theory.specs.Types.{Loss}
 use Rattle.losses.specs.Lines.{words-length}
 use Rattle.losses.specs.Few.{losses-few}

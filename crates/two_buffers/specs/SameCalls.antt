@@ -3,19 +3,19 @@ use mathlib.Core.Path.{_≡_, refl, sym, ap, ap₂, subst, _∙_}
 use native.Mathlib.Omega.{arith}
 use borrow.Author.Tests.{eq-eqb, ne-eqb}
 use lib.ListN.{length-append, length-map, length-replicate}
-use Rattle.rules.specs.Base.{Bool, true, false, not, _&&_, _||_, List, [], _∷_, map, ℕ, _*_, _%_, length, eqb, pick, padded, within}
+use Rattle.rules.specs.Base.{Bool, true, false, not, _&&_, _||_, List, [], _∷_, map, ℕ, _%_, length, eqb, pick, padded, within}
 use Rattle.rules.specs.declared.Entry.{Entry}
 use Rattle.rules.specs.declared.Held.{Held}
 use Rattle.rules.specs.declared.Refusal.{Refusal}
 use Rattle.rules.specs.declared.Refusal.the-variants.{Limits, TableRoom, NotThere, EqualLocation, Location}
 use Rattle.rules.specs.declared.Answer.{Answer}
 use Rattle.rules.specs.declared.Answer.the-variants.{Done, Refused}
-use Rattle.rules.specs.Refusal.{Test, _gives_, decide, decide-first, after}
+use Rattle.rules.specs.Refusal.{_gives_, decide, decide-first, after}
 use Rattle.rules.specs.Table.{lookup, loadedOf, insert, unmapped, mappedTo, full}
 use Rattle.rules.specs.Layout.{Table, tableIds, tableLocations, alternating, capacityOf, lengthsInRange, inForm, usedEntries, laidOut}
 use Rattle.rules.specs.LayoutLaws.{ids-count, locations-count, ids-alternating, locations-alternating, alternating-length, laid-out-ids, laid-out-locations, same-table}
 use Rattle.rules.specs.TableCalls.{TableAfter, notForm, same, withStored, below, loadCall, storeCall, compareCall, greaterCall}
-use Rattle.rules.specs.World.{Given, accepted, refused, loadedGiven, heldGiven}
+use Rattle.rules.specs.World.{accepted, refused, loadedGiven, heldGiven}
 use Rattle.two_buffers.specs.TwoBuffers as two
 use Rattle.two_buffers.specs.TwoBuffers.{Buffers}
 

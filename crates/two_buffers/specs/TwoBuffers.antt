@@ -2,7 +2,6 @@
 -- the code before request P12, with what load tells since request P1.
 use Rattle.rules.specs.Base.{Bool, not, _&&_, _||_, List, [], _∷_, map, ℕ, length, eqb, pick, padded, within}
 use Rattle.rules.specs.declared.Entry.{Entry}
-use Rattle.rules.specs.declared.Held.{Held}
 use Rattle.rules.specs.declared.Refusal.{Refusal}
 use Rattle.rules.specs.declared.Refusal.the-variants.{Limits, TableRoom, NotThere, EqualLocation, Location}
 use Rattle.rules.specs.Refusal.{_gives_, decide, after}

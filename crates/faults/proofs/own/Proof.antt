@@ -1,8 +1,6 @@
-use mathlib.Core.Path.{_≡_, refl, sym, ap, _∙_}
+use mathlib.Core.Path.{sym, _∙_}
 use borrow.Author.Needs.{needs}
-use Rattle.rules.specs.SlotFile.{View, empty, damaged, holds, viewIn}
-use Rattle.slot_file.specs.Slots.{shownBy}
-use Rattle.faults.specs.Faults.{judged}
+use Rattle.rules.specs.SlotFile.{viewIn}
 use Rattle.faults.specs.Judging.{file-shown, judged-empty, judged-damaged}
 use Rattle.faults.proofs.own.Statement.{statement}
 use Rattle.faults.proofs.own.Tie as tie

@@ -1,12 +1,9 @@
 use mathlib.Core.Path.{_≡_, refl, sym, ap, _∙_}
-use mathlib.Core.Bool.{Bool, true, false}
 use mathlib.Core.List.{List}
 use Prim.Native.Nat.{ℕ}
-use borrow.Author.Needs.{needs}
 use Rattle.rules.specs.Trailer.{entriesIn}
-use Rattle.rules.specs.SlotFile.{trailerEntries, viewIn}
+use Rattle.rules.specs.SlotFile.{trailerEntries}
 use Rattle.rules.specs.Reopen.{notRising}
-use Rattle.faults.specs.Faults.{judged}
 use Rattle.faults.proofs.rising.Statement.{statement}
 use Rattle.faults.proofs.rising.Tie as tie
 

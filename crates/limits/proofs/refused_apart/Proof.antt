@@ -2,7 +2,6 @@ use mathlib.Core.Path.{_≡_, refl, sym, ap, _∙_}
 use mathlib.Core.Bool.{true, false, not, true≢false}
 use Prim.Native.Nat.{ℕ}
 use borrow.Author.Needs.{needs}
-use lib.ListN.{length}
 use borrow.Author.Tests.{not-true, not-false, eq-eqb, ne-eqb}
 use Rattle.rules.specs.declared.FileMap.{FileMap}
 use Rattle.rules.specs.Layout.{capacityOf, Table, inForm}

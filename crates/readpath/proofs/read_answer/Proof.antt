@@ -13,7 +13,7 @@ use Rattle.rules.specs.FileMapLaws.{IsFile, file-at, not-empty}
 use Rattle.rules.specs.Object.{storedAt}
 use Rattle.rules.specs.Read.{objectIn, readFile, readLoaded, readOf}
 use Rattle.rules.specs.SlotFile.{slotBytes, fileIn}
-use Rattle.rules.specs.World.{World, world, recordsOf}
+use Rattle.rules.specs.World.{World, world}
 use Rattle.file_lists.specs.Lists.{lsnAt}
 use Rattle.file_lists.specs.ListLaws.{file-for-lsns}
 use Rattle.limits.specs.Settled.{passed-formed}
