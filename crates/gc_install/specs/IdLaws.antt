@@ -4,7 +4,7 @@ use mathlib.Core.Logic.{_⊎_, inl, inr}
 use Prim.Native.Nat.{_≤_, _<_, zero-le}
 use native.Mathlib.Omega.{arith}
 use lib.ListN.{length-map}
-use Rattle.rules.specs.Base.{true, List, [], _∷_, map, ℕ, suc, _+_, length, padded}
+use Rattle.rules.specs.Base.{true, List, [], _∷_, ℕ, suc, _+_, length, padded}
 use Rattle.rules.specs.BaseLaws.{All, all-map, order}
 use Rattle.rules.specs.declared.Entry.{Entry}
 use Rattle.rules.specs.Ops.{Op, sizeOf, entriesOf}
@@ -16,10 +16,7 @@ use Rattle.rules.specs.FileMapLaws.{Among}
 use Rattle.location_table.specs.Tables.{Formed}
 use Rattle.location_table.specs.EntryLaws.{used-insert}
 use Rattle.install.specs.Adding.{taken}
-
--- the ids of entries
-abbrev pub idsIn : List Entry → List ℕ
-idsIn es = map (λ (e : Entry). e .id) es
+pub use Rattle.table_merge.specs.NewIds.{idsIn}
 
 -- every operation is on one of these ids
 abbrev pub There : List ℕ → List Op → Type 0

@@ -1,5 +1,4 @@
 // Adding a file that stands in the heap: table, live counts, record and next position. Write and maintenance share it.
-use disk_location::RelativeDiskLocation;
 use ordered_files::ORDER;
 use ordered_files::file_among;
 use ordered_files::put_if;
@@ -11,6 +10,7 @@ use rules::Loaded;
 use rules::State;
 use rules::TRAILER_ENTRY;
 use rules::TRAILER_HEAD;
+use table_merge::absolute;
 ghost use mathlib.Core.Path.{_≡_};
 ghost use mathlib.Core.Bool.{false};
 ghost use Prim.Native.Nat.{_+_, _*_, _^_, _≤_, _<_};
@@ -100,20 +100,6 @@ fn lose(lsns: &[u64], lives: &mut [u64], table: &[u64], trailer: &[u8])
     lose_all(lsns, &order, many, lives, table, trailer);
 }
 
-// "A relative location plus a file's lsn is an absolute one."
-pub fn absolute(e: Entry, lsn: u64) -> Entry
-    requires { ⌜ 0 < lsn ⌝ }
-    requires { ⌜ positionOf (e .location) + lsn < 2 ^ 63 ⌝ }
-    ensures { λ r. ⌜ r ≡ absolute lsn e ⌝ }
-{
-    let relative = RelativeDiskLocation(e.location);
-    let located = relative.to_absolute(lsn);
-    Entry {
-        id: e.id,
-        location: located.raw(),
-    }
-}
-
 // "Each id takes its new location", for one entry.
 fn store_one(table: &mut [u64], e: Entry, lsn: u64)
     requires { ⌜ Formed (now table)
@@ -127,8 +113,8 @@ fn store_one(table: &mut [u64], e: Entry, lsn: u64)
     location_table::store_in(table, e.id, placed.location);
 }
 
-// "Each id takes its new location"
-fn store_all(table: &mut [u64], trailer: &[u8], lsn: u64)
+// "Each id takes its new location", one by one.
+fn one_by_one(table: &mut [u64], trailer: &[u8], lsn: u64)
     requires { ⌜ Formed (now table)
         × (12 + 16 * countIn (now trailer) ≤ length (now trailer))
         × Placed lsn (entriesIn (now trailer))
@@ -143,6 +129,24 @@ fn store_all(table: &mut [u64], trailer: &[u8], lsn: u64)
         let e = trailer::entry(trailer, k);
         store_one(table, e, lsn);
         k += 1;
+    }
+}
+
+// "Each id takes its new location": many new ids that rise are merged.
+fn store_all(table: &mut [u64], trailer: &[u8], lsn: u64)
+    requires { ⌜ Formed (now table)
+        × (12 + 16 * countIn (now trailer) ≤ length (now trailer))
+        × Placed lsn (entriesIn (now trailer))
+        × (0 < lsn)
+        × (length (insertAll (usedEntries (now table)) (taken lsn (entriesIn (now trailer))))
+        ≤ capacityOf (now table)) ⌝ }
+    ensures { λ _. ⌜ now (table .exit) ≡ withTaken (now (table .entry)) lsn (entriesIn (now (trailer .entry))) ⌝ }
+{
+    let more = table_merge::to_merge(table, trailer);
+    if more == 0 {
+        one_by_one(table, trailer, lsn);
+    } else {
+        table_merge::merge(table, trailer, lsn, more, false);
     }
 }
 

@@ -91,6 +91,16 @@ module _ (b : Table) (formed : Formed b) where
           free Unmapped q = refl
           free (Mapped l) q = absurd (let z : _≡_ {A = ℕ} 0 1 = cc in omega arith)
 
+  -- ---- many at once, by their count
+  module _ (es : List Entry) (n : ℕ) (count : length (latestFrom (usedEntries b) es) ≡ n) where
+    -- there is room
+    pub filled-all : n ≤ capacityOf b → (after : Table) → after ≡ laidOut (capacityOf b) (latestFrom (usedEntries b) es) → Filled b es true after
+    filled-all fits after at = record { answer = sym (le-leb (length (latestFrom (usedEntries b) es)) (capacityOf b) (omega arith)); left = at }
+
+    -- there is none
+    pub filled-over : capacityOf b < n → (after : Table) → after ≡ cleared b → Filled b es false after
+    filled-over over after at = record { answer = sym (lt-leb (length (latestFrom (usedEntries b) es)) (capacityOf b) (omega arith)); left = at }
+
   -- ---- one after the other
   module _ (xs : List Entry) (m : Table) where
     -- there was no room: nor is there for more

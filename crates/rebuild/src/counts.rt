@@ -1,4 +1,3 @@
-use crate::table::masked_position;
 use disk_location::masked;
 use file_map::empty;
 use file_map::no_files;
@@ -16,6 +15,7 @@ use rules::Label;
 use rules::RECORDS;
 use rules::Record;
 use rules::Slot;
+use table_merge::masked_position;
 ghost use mathlib.Core.Path.{_≡_};
 ghost use mathlib.Core.List.{map};
 ghost use Prim.Native.Nat.{_^_, _<_};

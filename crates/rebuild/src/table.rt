@@ -1,20 +1,22 @@
-use disk_location::DiskLocation;
-use disk_location::masked;
-use install::absolute;
+use location_table::capacity;
 use location_table::clear;
 use location_table::load_in;
 use location_table::store_in;
+use location_table::used;
 use reopen_tests::Labels;
 use reopen_tests::slots::no_file;
 use rules::Held;
 use rules::Label;
 use slot_file::slot::slot_at;
 use slot_file::slot::trailer_part;
+use table_merge::absolute;
+use table_merge::masked_position;
+use table_merge::merge;
+use table_merge::to_merge;
 ghost use mathlib.Core.Path.{_≡_};
 ghost use mathlib.Core.List.{[], _∷_, map};
 ghost use Prim.Native.Nat.{_+_, _*_, _≤_, _<_};
 ghost use lib.ListN.{length};
-ghost use Rattle.disk_location.specs.Locations.{maskedOf, positionOf};
 ghost use Rattle.rules.specs.Base.{each};
 ghost use Rattle.rules.specs.Trailer.{absolute, countIn, entriesIn};
 ghost use Rattle.rules.specs.SlotFile.{viewIn, viewsIn};
@@ -22,13 +24,6 @@ ghost use Rattle.rules.specs.Reopen.{fileOf, filesIn};
 ghost use Rattle.location_table.specs.Tables.{Formed};
 ghost use Rattle.reopen_tests.specs.Shown.{Shown, Surveyed};
 ghost use Rattle.rebuild.specs.Filled.{replaces, Filled, Placed, rowsOf};
-
-// An absolute location's position, the batch bit cleared.
-pub fn masked_position(location: u64) -> u64
-    ensures { λ r. ⌜ r ≡ maskedOf (positionOf location) ⌝ }
-{
-    masked(DiskLocation(location).position())
-}
 
 // Whether an entry replaces what the table has for its id: "its entry of greatest masked position".
 fn replaces(held: Held, location: u64) -> bool
@@ -58,8 +53,8 @@ fn meet(table: &mut [u64], id: u64, location: u64) -> bool
     true
 }
 
-// The entries of one trailer, in one pass over it.
-fn fill_file(trailer: &[u8], lsn: u64, table: &mut [u64]) -> bool
+// The entries of one trailer, one by one.
+fn one_by_one(trailer: &[u8], lsn: u64, table: &mut [u64]) -> bool
     requires { ⌜ Formed (now table)
         × (12 + 16 * countIn (now trailer) ≤ length (now trailer))
         × Placed lsn (entriesIn (now trailer)) ⌝ }
@@ -76,6 +71,28 @@ fn fill_file(trailer: &[u8], lsn: u64, table: &mut [u64]) -> bool
         }
         k += 1;
     }
+    true
+}
+
+// The entries of one trailer: many new ids that rise are merged.
+fn fill_file(trailer: &[u8], lsn: u64, table: &mut [u64]) -> bool
+    requires { ⌜ Formed (now table)
+        × (12 + 16 * countIn (now trailer) ≤ length (now trailer))
+        × Placed lsn (entriesIn (now trailer)) ⌝ }
+    ensures { λ r. ⌜ Filled (now (table .entry))
+        (map (absolute lsn) (entriesIn (now (trailer .entry)))) r
+        (now (table .exit)) ⌝ }
+{
+    let more = to_merge(table, trailer);
+    if more == 0 {
+        return one_by_one(trailer, lsn, table);
+    }
+    let free = capacity(table) - used(table);
+    if (free as u64) < more {
+        clear(table);
+        return false;
+    }
+    merge(table, trailer, lsn, more, true);
     true
 }
 

@@ -10,7 +10,6 @@ use limits::rest_of;
 use new_file::spent;
 use rules::Answer;
 use rules::FileMap;
-use rules::Held;
 use rules::Refusal;
 use rules::Settings;
 use rules::State;
@@ -26,7 +25,8 @@ ghost use Rattle.location_table.specs.Tables.{Formed};
 ghost use Rattle.limits.specs.Settled.{stateOf};
 ghost use Rattle.batch.specs.Reading.{opsIn};
 ghost use Rattle.batch.specs.Walk.{Begins};
-ghost use Rattle.write_decision.specs.NewIds.{newIds, isNew, idsOf};
+ghost use Rattle.table_merge.specs.NewIds.{newIds};
+ghost use Rattle.write_decision.specs.NewIds.{idsOf};
 ghost use Rattle.write_decision.specs.Decisions.{decisionOf, Parsed};
 
 // A refusal; nothing, for an empty batch; or a file: its slot, its count of entries and T.
@@ -34,16 +34,6 @@ pub enum Decision {
     Refused(Refusal),
     Nothing,
     File(usize, u64, u64),
-}
-
-fn is_new(table: &[u64], id: u64) -> u64
-    requires { ⌜ Formed (now table) ⌝ }
-    ensures { λ r. ⌜ r ≡ isNew (usedEntries (now (table .entry))) id ⌝ }
-{
-    match location_table::load_in(table, id) {
-        Held::Mapped(_) => 0,
-        Held::Unmapped => 1,
-    }
 }
 
 // How many of the batch's ids the table does not have.
@@ -59,7 +49,7 @@ fn new_ids(table: &[u64], batch: &[u8], begin: Cursor) -> u64
         let Step::Next(o, after) = batch::next(&mut order, batch, cursor) else {
             return count;
         };
-        count += is_new(table, o.id);
+        count += table_merge::is_new(table, o.id);
         cursor = after;
     }
 }

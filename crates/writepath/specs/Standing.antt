@@ -1,33 +1,23 @@
 -- The file of a batch may be added: 4 to 7, decided for the batch, are what the file asks for.
-use mathlib.Core.Path.{_≡_, refl, ap}
+use mathlib.Core.Path.{sym, ap}
 use Prim.Native.Nat.{_≤_}
 use native.Mathlib.Omega.{arith}
-use Rattle.rules.specs.Base.{List, [], _∷_, map, ℕ, suc, _^_, length}
-use Rattle.rules.specs.declared.Entry.{Entry}
+use Rattle.rules.specs.Base.{List, ℕ, _^_, length}
 use Rattle.rules.specs.declared.Settings.{Settings}
 use Rattle.rules.specs.declared.State.{State}
 use Rattle.rules.specs.Ops.{entriesOf, settled}
 use Rattle.rules.specs.OpsLaws.{entries-of-rising}
 use Rattle.rules.specs.SettledLaws.{settled-rising}
 use Rattle.rules.specs.Table.{insertAll}
-use Rattle.rules.specs.TableLaws.{Rising, rise, rise-end}
 use Rattle.rules.specs.Layout.{Table, usedEntries, capacityOf}
 use Rattle.rules.specs.LayoutLaws.{form-rising}
 use Rattle.batch.specs.Reading.{opsIn}
 use Rattle.batch.specs.ReadingLaws.{settled-fit}
 use Rattle.install.specs.Adding.{taken}
 use Rattle.install.specs.Standing.{Addable}
-use Rattle.write_decision.specs.NewIds.{newIds, insert-all-new}
+use Rattle.table_merge.specs.NewIds.{newIds, insert-all-new}
+use Rattle.table_merge.specs.MergeLaws.{absolute-ids, rising-same}
 use Rattle.writepath.specs.Filing.{Filed}
-
--- absolute entries keep their ids and so their order
-taken-ids : (lsn : ℕ) (es : List Entry) → map (λ (e : Entry). e .id) (taken lsn es) ≡ map (λ (e : Entry). e .id) es
-taken-ids lsn [] = refl
-taken-ids lsn (e ∷ es) = ap (λ (xs : List ℕ). e .id ∷ xs) (taken-ids lsn es)
-
-taken-rising : (lsn f : ℕ) (es : List Entry) → Rising f es → Rising f (taken lsn es)
-taken-rising lsn f [] rise-end = rise-end
-taken-rising lsn f (e ∷ es) (rise a r) = rise a (taken-rising lsn (suc (e .id)) es r)
 
 module _ {s : Settings} {t : State} {heap : List ℕ} {b : Table} {bytes : List ℕ} {slot count total : ℕ} (f : Filed s t heap b bytes slot count total) where
   -- there is room for its entries
@@ -42,8 +32,8 @@ module _ {s : Settings} {t : State} {heap : List ℕ} {b : Table} {bytes : List 
         arith,
         f .ids,
         insert-all-new 0 used es up rising,
-        insert-all-new 0 used (taken lsn es) up (taken-rising lsn 0 es rising),
-        ap (newIds used) (taken-ids lsn es),
+        insert-all-new 0 used (taken lsn es) up (rising-same 0 es (taken lsn es) (sym (absolute-ids lsn es)) rising),
+        ap (newIds used) (absolute-ids lsn es),
       )
 
   -- all that adding it asks for

@@ -12,7 +12,8 @@ use Rattle.batch.specs.ReadingLaws.{ops-length}
 use Rattle.batch.specs.OrderLaws.{settled-length}
 use Rattle.batch.specs.Walk.{left}
 use Rattle.batch.specs.WalkLaws.{stepped, stepped-end}
-use Rattle.write_decision.specs.NewIds.{newIds, idsOf, new-next, new-end, new-one}
+use Rattle.table_merge.specs.NewIds.{newIds, new-next, new-end, new-one}
+use Rattle.write_decision.specs.NewIds.{idsOf}
 use Rattle.write_decision.proofs.new_ids.Statement.{statement}
 use Rattle.write_decision.proofs.new_ids.Tie as tie
 

@@ -1,129 +1,140 @@
-use mathlib.Core.Path.{refl, sym, ap, subst, _∙_, _≡_}
-use mathlib.Core.List.{[], _∷_, map}
-use Prim.Native.Nat.{zero-le, _^_, _+_, _≤_, _<_, _-_}
-use borrow.Author.Tests.{not-true, not-false}
-use Rattle.rules.specs.declared.Entry.{Entry}
-use Rattle.disk_location.specs.Locations.{positionOf}
-use Rattle.trailer.specs.Entries.{entries-count}
-use Rattle.rebuild.specs.Latest.{InUse}
-use Rattle.rebuild.specs.Filled.{filled-none, filled-formed, rows-in-use, Filled}
-use Rattle.rebuild.proofs.FillTurns.{filled-as, chunk-in, chunk-out, entry-in, entry-out, entry-end}
+use mathlib.Core.Path.{_≡_, sym, ap, _∙_}
 use mathlib.Core.Bool.{true}
-use lib.ListN.{take, length}
-use Rattle.rules.specs.Trailer.{absolute, countIn, entriesIn}
-use Rattle.rules.specs.Table.{noEntry}
-use Rattle.rules.specs.BaseLaws.{all-at, all-take}
+use mathlib.Core.List.{map}
+use Prim.Native.Nat.{_+_, _^_, _<_, _≤_}
 use native.Mathlib.Omega.{arith}
 use borrow.Author.Needs.{needs}
+use lib.ListN.{length}
+use Rattle.disk_location.specs.Locations.{positionOf}
+use Rattle.rules.specs.declared.Entry.{Entry}
+use Rattle.rules.specs.BaseLaws.{all-at}
+use Rattle.rules.specs.Trailer.{absolute, entriesIn}
+use Rattle.rules.specs.Table.{noEntry}
+use Rattle.rules.specs.TableLaws.{Rising}
+use Rattle.rules.specs.Layout.{laidOut, usedEntries, capacityOf}
+use Rattle.rules.specs.LayoutLaws.{used-length}
+use Rattle.rules.specs.Reopen.{latestFrom}
+use Rattle.location_table.specs.LayoutLaws.{used-rising}
+use Rattle.table_merge.specs.NewIds.{newIds, idsIn}
+use Rattle.table_merge.specs.Merge.{replacing, toMerge}
+use Rattle.table_merge.specs.MergeLaws.{latest-from-by, to-merge-tells, merged-length}
+use Rattle.rebuild.specs.Filled.{filled-all, filled-over}
 use Rattle.rebuild.proofs.table.fill_file.Statement.{statement}
 use Rattle.rebuild.proofs.table.fill_file.Tie as tie
 
-abbrev Inv-loop : tie.InvT-loop
-Inv-loop trailer lsn table₀ n k₀ table k =
-    (n ≡ countIn trailer) × (k ≤ n) × (length table ≡ length table₀)
-    × Filled table₀ (take k (map (absolute lsn) (entriesIn trailer))) true table
+-- ---- what the count of new ids tells
+abbrev counted : tie.After-used → tie.After-to-merge
+counted w = w .before .before .before .before .before
 
-abbrev μ-loop : tie.MeasureT-loop
-μ-loop trailer lsn table₀ n k₀ table k = n - k
+abbrev begun : tie.After-used → tie.Start
+begun w = counted w .before .before .before .before
 
-count-requires : tie.Need-count-requires Inv-loop μ-loop
-count-requires c κs = search needs
+tells : (w : tie.After-used) → let a = begun w .args in
+    let es = entriesIn (a .trailer .now) in
+    Rising 0 es × (counted w .to-merge .result ≡ newIds (usedEntries (a .table .now)) (idsIn es))
+tells w =
+    let a = begun w .args in
+    let t = usedEntries (a .table .now) in
+    let es = entriesIn (a .trailer .now) in
+    let more = counted w .to-merge .ensures in
+    let some : 0 < toMerge t es = omega (arith, more, w .before .before .before .before .if1 .left) in
+    let said = to-merge-tells t es some in
+    (said .0, more ∙ said .1)
 
-loop-holds : tie.Need-loop-holds Inv-loop μ-loop
-loop-holds c =
-    let start = c .before .before .before in
-    (c .count .ensures, zero-le, refl, filled-none (start .args .table .now) (start .pre .0))
+-- how many entries there are then
+many : (w : tie.After-used) → let a = begun w .args in
+    let t = usedEntries (a .table .now) in
+    length (latestFrom t (map (absolute (a .lsn)) (entriesIn (a .trailer .now)))) ≡ length t + counted w .to-merge .result
+many w =
+    let a = begun w .args in
+    let t = usedEntries (a .table .now) in
+    let es = entriesIn (a .trailer .now) in
+    sym (ap length (latest-from-by t (map (absolute (a .lsn)) es)))
+    ∙ merged-length (replacing true) t es (a .lsn) (used-rising (a .table .now) (begun w .pre .0)) (tells w .0)
+    ∙ omega (arith, tells w .1)
 
-entry-requires : tie.Need-entry-requires Inv-loop μ-loop
-entry-requires c κs = search needs
+to-merge-requires : tie.Need-to-merge-requires
+to-merge-requires c κs = search needs
 
-absolute-requires : tie.Need-absolute-requires Inv-loop μ-loop
-absolute-requires c κs =
-    let start = c .before .before .before .before .before .before in
-    let lsn = start .args .lsn in
-    let t = start .args .trailer .now in
-    let l = c .before .before .loop in
-    let low = all-at (λ (e : Entry). positionOf (e .location) + lsn < 2 ^ 63) (entriesIn t) (l .k) noEntry (start .pre .2 .low) (omega (arith, l .inv, entries-count t (start .pre .1), c .before .loop-test .taken)) in
-    (start .pre .2 .some, subst (λ (e : Entry). positionOf (e .location) + lsn < 2 ^ 63) (sym (c .entry .ensures)) low)
+one-by-one-requires : tie.Need-one-by-one-requires
+one-by-one-requires c κs = search needs
 
-meet-requires : tie.Need-meet-requires Inv-loop μ-loop
-meet-requires c κs =
-    let start = c .before .before .before .before .before .before .before .before in
-    let lsn = start .args .lsn in
-    let l = c .before .before .before .before .loop in
-    let rows = map (absolute lsn) (entriesIn (start .args .trailer .now)) in
-    let used = rows-in-use lsn (entriesIn (start .args .trailer .now)) (start .pre .2 .some) in (
-      filled-formed (start .args .table .now) (start .pre .0) (take (l .k) rows) (l .table) (all-take InUse (l .k) rows used) (l .inv .3),
-      subst InUse (sym (c .before .absolute .ensures)) (rows-in-use lsn (c .before .before .entry .result ∷ []) (start .pre .2 .some) .0),
-    )
-
-same-length : tie.Need-same-length Inv-loop μ-loop
+same-length : tie.Need-same-length
 same-length c = search needs
 
-same-length-2 : tie.Need-same-length-2 Inv-loop μ-loop
+returns : tie.Need-returns
+returns c = search needs
+
+capacity-requires : tie.Need-capacity-requires
+capacity-requires c κs = search needs
+
+used-requires : tie.Need-used-requires
+used-requires c κs = search needs
+
+sub-free : tie.Need-sub-free
+sub-free c = omega (arith, c .used .ensures, c .before .before .capacity .ensures, used-length (begun c .args .table .now))
+
+clear-requires : tie.Need-clear-requires
+clear-requires c κs = search needs
+
+same-length-2 : tie.Need-same-length-2
 same-length-2 c = search needs
 
-returns : tie.Need-returns Inv-loop μ-loop
-returns c =
-    let start = c .before .before .before .before .before .before .before .before .before .before .before .before in
-    let lsn = start .args .lsn in
-    let t = start .args .trailer .now in
-    let es = entriesIn t in
-    let l = c .before .before .before .before .before .before .before .before .loop in
-    let rows = map (absolute lsn) es in
-    let used = all-take InUse (l .k) rows (rows-in-use lsn es (start .pre .2 .some)) in
-    let is = c .before .before .before .before .before .absolute .ensures ∙ ap (absolute lsn) (c .before .before .before .before .before .before .entry .ensures) in
-    let low : l .k < length es = omega (arith, l .inv, entries-count t (start .pre .1), c .before .before .before .before .before .before .before .loop-test .taken) in
-    chunk-out (start .args .table .now) (start .pre .0) (take (l .k) rows) _ used _ (l .inv .3) _ _ (c .before .before .before .meet .ensures) (not-true _ (c .if1 .taken)) rows _
-    (entry-out lsn es (l .k) _ low is)
-
-add-k : tie.Need-add-k Inv-loop μ-loop
-add-k c = search needs
-
-loop-less : tie.Need-loop-less Inv-loop μ-loop
-loop-less c = search needs
-
-loop-again : tie.Need-loop-again Inv-loop μ-loop
-loop-again c =
-    let start = c .before .before .before .before .before .before .before .before .before .before .before .before in
-    let lsn = start .args .lsn in
-    let t = start .args .trailer .now in
-    let es = entriesIn t in
-    let l = c .before .before .before .before .before .before .before .before .loop in
-    let rows = map (absolute lsn) es in
-    let used = all-take InUse (l .k) rows (rows-in-use lsn es (start .pre .2 .some)) in
-    let is = c .before .before .before .before .before .absolute .ensures ∙ ap (absolute lsn) (c .before .before .before .before .before .before .entry .ensures) in
-    let low : l .k < length es = omega (arith, l .inv, entries-count t (start .pre .1), c .before .before .before .before .before .before .before .loop-test .taken) in (
-      l .inv .0,
-      omega arith,
-      c .before .before .before .meet .kept .0 ∙ l .inv .2,
-      chunk-in (start .args .table .now) (start .pre .0) (take (l .k) rows) _ used _ (l .inv .3) _ _ (c .before .before .before .meet .ensures) (not-false _ (c .if1 .left)) (take (l .k + 1) rows)
-          (entry-in lsn es (l .k) _ low is),
-    )
-
-returns-2 : tie.Need-returns-2 Inv-loop μ-loop
+returns-2 : tie.Need-returns-2
 returns-2 c =
-    let start = c .before .before .before .before .before in
-    let lsn = start .args .lsn in
-    let t = start .args .trailer .now in
-    let l = c .before .loop in
-    filled-as (entry-end lsn (entriesIn t) (l .k) (omega (arith, l .inv, entries-count t (start .pre .1), c .loop-test .left))) (l .inv .3)
+    let cleared = c .before .before in
+    let none = cleared .before .before in
+    let w = none .before in
+    let b = begun w .args .table .now in
+    let over : capacityOf b < length (usedEntries b) + counted w .to-merge .result
+    = omega (arith, w .used .ensures, w .before .before .capacity .ensures, none .if2 .taken) in
+    filled-over b (begun w .pre .0) _ _ (many w) over _ (cleared .clear .ensures)
+
+merge-requires : tie.Need-merge-requires
+merge-requires c κs =
+    let w = c .before .before in
+    let start = begun w in
+    let a = start .args in
+    let es = entriesIn (a .trailer .now) in
+    record {
+      formed = start .pre .0;
+      inside = start .pre .1;
+      placed = λ k h. all-at (λ (e : Entry). positionOf (e .location) + a .lsn < 2 ^ 63) es k noEntry (start .pre .2 .low) h;
+      some = start .pre .2 .some;
+      rising = tells w .0;
+      counted = tells w .1;
+      room = omega (arith, w .used .ensures, w .before .before .capacity .ensures, used-length (a .table .now), c .before .if2 .left);
+    }
+
+same-length-3 : tie.Need-same-length-3
+same-length-3 c = search needs
+
+returns-3 : tie.Need-returns-3
+returns-3 c =
+    let merged = c .before .before in
+    let room = merged .before .before in
+    let w = room .before in
+    let a = begun w .args in
+    let b = a .table .now in
+    let rows = map (absolute (a .lsn)) (entriesIn (a .trailer .now)) in
+    let fits : length (usedEntries b) + counted w .to-merge .result ≤ capacityOf b
+    = omega (arith, w .used .ensures, w .before .before .capacity .ensures, used-length b, room .if2 .left) in
+    filled-all b (begun w .pre .0) rows _ (many w) fits _ (merged .merge .ensures ∙ ap (laidOut (capacityOf b)) (latest-from-by (usedEntries b) rows))
 
 pub fill-file-spec : {M : Type 1} → statement M
 fill-file-spec =
     tie.close
     (tie.spec
-    Inv-loop
-    μ-loop
-    count-requires
-    loop-holds
-    entry-requires
-    absolute-requires
-    meet-requires
+    to-merge-requires
+    one-by-one-requires
     same-length
     returns
-    add-k
-    loop-less
-    loop-again
+    capacity-requires
+    used-requires
+    sub-free
+    clear-requires
     same-length-2
-    returns-2)
+    returns-2
+    merge-requires
+    same-length-3
+    returns-3)

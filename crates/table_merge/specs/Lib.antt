@@ -1,0 +1,3 @@
+pub mod NewIds
+pub mod Merge
+pub mod MergeLaws
