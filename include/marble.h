@@ -34,11 +34,14 @@
    where a call says so below. Every number, length and byte is answered; an empty buffer may be (NULL, 0).
 
    What the host must do:
-   - Lend buffers that do not overlap, u64 buffers and records aligned for uint64_t; out-parameters and state are real places, never NULL.
-     A length counts elements: bytes of the heap and the batch, uint64_t of the table and of a listing, records of a list of them.
+   - Lend buffers that do not overlap, u64 buffers and records aligned for uint64_t, notes for uint32_t; out-parameters and state are real
+     places, never NULL. A length counts elements: bytes of the heap and the batch, uint64_t of the table and of a listing, uint32_t of
+     notes, records of a list of them.
    - Lend the table as one buffer of words that alternate id and location: place k has its id at word 2k and its location at word 2k + 1.
      Its entries are words / 2, 1 to 65,536. An odd number of words is refused with 1 by every call, nothing changes, and the last word,
      which is in no place, is never looked at or changed. MARBLE_TABLE_WORDS, MARBLE_TABLE_ID and MARBLE_TABLE_LOCATION below.
+   - Lend marble_plan, marble_rewrite and marble_nightly two buffers of notes, places and pieces, each at least as many uint32_t as the table
+     has entries (MARBLE_NOTES). They hold nothing between calls, whatever stands in them; one pair serves all three calls.
    - Keep a batch out of the heap, also behind its files: the file is written while the batch is read. A body that a read found is put
      again through a batch buffer, into which marble_batch_put copies it.
    - Keep heap, table and state unchanged between calls (the four table calls are there for the table, marble_sync
@@ -51,11 +54,11 @@
      reopening is accepted, or refused with 6: then lend a larger table, and still do not write.
 
    When power fails. Promised, and proved of the rules (request P8 of document 02: docs/requests/P8.md): power gone after any number of the
-   single-byte stores of any call, a reopening with the same settings and table entries is accepted and gives every read as before the
-   call, or every read as after it. It is as after it only where all of a write's stores have landed; the last is the first byte of the
-   label. Prune and maintenance change no read. Presumed: these calls alone have written the heap, since every slot of it began with a byte
-   0; stores land in the order in which the calls make them, which a compiler, memcpy, a cache or a flash driver could change; a byte is
-   stored whole or not at all.
+   single-byte stores of any call, a reopening with the same settings and table entries is accepted and gives every read as before the call,
+   or every read as after it. It is as after it only where all of a write's stores have landed; the last is the first byte of the label.
+   Prune, rewrite and the nightly job change no read. Presumed: these calls alone have written the heap, since every slot of it began with a
+   byte 0; stores land in the order in which the calls make them, which a compiler, memcpy, a cache or a flash driver could change; a byte
+   is stored whole or not at all.
 
    Processor and libraries. The archive is code for x86-64 (System V calling convention, position independent, SSE2 and nothing newer), so
    size_t has 64 bits. It needs memcpy and memset from the host, and nothing else: no allocation, no input or output, no data of its own.
@@ -71,7 +74,7 @@ extern "C" {
 #endif
 
 /* ---- version: the header's. marble_version() is the archive's; a host stops where they differ. A new major number: a host must change. */
-#define MARBLE_VERSION_MAJOR 4
+#define MARBLE_VERSION_MAJOR 5
 #define MARBLE_VERSION_MINOR 0
 #define MARBLE_VERSION (MARBLE_VERSION_MAJOR * 1000 + MARBLE_VERSION_MINOR)
 
@@ -93,6 +96,7 @@ extern "C" {
 #define MARBLE_MAX_OBJECT_SIZE_MIN 1
 #define MARBLE_MAX_OBJECT_SIZE_MAX 1048576
 #define MARBLE_LABEL_BYTES 64
+#define MARBLE_GENERATIONS 3 /* a rewritten file is of generation 1, 2 or 3 */
 
 /* ---- the column "Port's default": marble_settings s = MARBLE_DEFAULTS; file_compaction_percent is 50 by request P10 of document 02, where
    document 01 had 75. */
@@ -112,6 +116,8 @@ extern "C" {
 #define MARBLE_TABLE_WORDS(entries) (2 * (size_t)(entries))
 #define MARBLE_TABLE_ID(table, k) ((table)[2 * (size_t)(k)])
 #define MARBLE_TABLE_LOCATION(table, k) ((table)[2 * (size_t)(k) + 1])
+/* How many notes, uint32_t each, so many entries take: so many places, and so many pieces. */
+#define MARBLE_NOTES(entries) ((size_t)(entries))
 
 /* ---- a raw location: twice the position, plus 1 for a delete. Bit 62 of a position is the batch bit: set in a file that a write made,
    clear in a rewritten one. */
@@ -127,7 +133,9 @@ extern "C" {
 #define MARBLE_STACK_CLAIM 15360
 #define MARBLE_STACK_RELEASE 15360
 #define MARBLE_STACK_PRUNE 29696
-#define MARBLE_STACK_MAINTAIN 601088
+#define MARBLE_STACK_PLAN 54272
+#define MARBLE_STACK_REWRITE 64512
+#define MARBLE_STACK_NIGHTLY 93184
 #define MARBLE_STACK_COUNTS 29696
 #define MARBLE_STACK_UNSYNCED 128
 #define MARBLE_STACK_SYNC 128
@@ -156,8 +164,9 @@ extern "C" {
 #define MARBLE_E_OTHER_ID 17             /* stored id is another */
 #define MARBLE_E_NOT_THERE 18            /* no file at or below, or id unmapped */
 #define MARBLE_E_EQUAL_LOCATION 19       /* equal location */
-#define MARBLE_E_LOCATION 20             /* a table call: raw location 0 given; maintenance: a delete's position + lsn is 2^63 or more */
+#define MARBLE_E_LOCATION 20             /* a table call: raw location 0 given; a rewrite: a delete's position + lsn is 2^63 or more */
 #define MARBLE_E_CLAIM 21                /* claim or release of a slot that cannot be */
+#define MARBLE_E_GENERATION 22           /* a rewrite of a generation outside 1 to 3 */
 
 /* ---- the kind: what a read or a load found of the id. A refused call leaves 0 there, so look at its number first. */
 #define MARBLE_NEVER_WRITTEN 0 /* no put and no delete of it */
@@ -241,6 +250,39 @@ typedef struct marble_loss {
     uint64_t number;
 } marble_loss;
 
+/* The slots of a group, ascending, zeros behind the last. */
+typedef struct marble_group {
+    uint64_t count;
+    uint64_t slots[MARBLE_SLOTS_MAX];
+} marble_group;
+
+/* A plan. mark and count go into each request. files and bytes, of file_size, are what would come out of generations 1, 2, 3 before the first
+   refusal; number and generation are that refusal, foretold, or 0 and 0. groups[g - 1] are the files that a rewrite of generation g takes:
+   none where there are fewer than min_compaction_files. */
+typedef struct marble_planned {
+    uint64_t mark;
+    uint64_t count;
+    uint64_t files;
+    uint64_t bytes;
+    uint64_t number;
+    uint64_t generation;
+    marble_group groups[MARBLE_GENERATIONS];
+} marble_planned;
+
+/* A rewrite: the generation, and a plan's mark and count, are asked and stay as they are; moved is told. */
+typedef struct marble_request {
+    uint64_t generation;
+    uint64_t mark;
+    uint64_t count;
+    uint64_t moved;
+} marble_request;
+
+/* The end of the nightly job: the generation whose rewrite was refused, or 0, and the ids moved. */
+typedef struct marble_stop {
+    uint64_t generation;
+    uint64_t moved;
+} marble_stop;
+
 /* ---- the archive's sizes, held against the host's compiler */
 #if defined(__cplusplus)
 #define MARBLE_HOLDS(name, what) static_assert(what, #name)
@@ -260,6 +302,11 @@ MARBLE_HOLDS(totals_of_four_words, sizeof(marble_totals) == 32);
 MARBLE_HOLDS(piece_of_four_words, sizeof(marble_piece) == 32);
 MARBLE_HOLDS(fault_of_four_words, sizeof(marble_fault) == 32);
 MARBLE_HOLDS(loss_of_two_words, sizeof(marble_loss) == 16);
+MARBLE_HOLDS(group_of_257_words, sizeof(marble_group) == 2056);
+MARBLE_HOLDS(planned_of_777_words, sizeof(marble_planned) == 6216);
+MARBLE_HOLDS(groups_from_word_6, offsetof(marble_planned, groups) == 48);
+MARBLE_HOLDS(request_of_four_words, sizeof(marble_request) == 32);
+MARBLE_HOLDS(stop_of_two_words, sizeof(marble_stop) == 16);
 #undef MARBLE_HOLDS
 
 /* MARBLE_VERSION of the archive. */
@@ -290,7 +337,7 @@ MARBLE_MUST_USE uint64_t marble_read_through(marble_settings settings, const mar
                                              const uint64_t *table, size_t words, const uint8_t *batch, size_t batch_len, uint64_t id,
                                              marble_piece *piece);
 
-/* "Claim": the slot's file is left alone by prune and maintenance. 21 for a slot out of range, an empty one or a claimed one. */
+/* "Claim": the slot's file is left alone by prune, rewrite and the nightly job. 21 for a slot out of range, an empty one or a claimed one. */
 MARBLE_MUST_USE uint64_t marble_claim(marble_settings settings, const marble_state *state, marble_claims *claims, const uint8_t *heap,
                                       size_t heap_len, const uint64_t *table, size_t words, uint64_t slot);
 
@@ -302,13 +349,35 @@ MARBLE_MUST_USE uint64_t marble_release(marble_settings settings, const marble_s
 MARBLE_MUST_USE uint64_t marble_prune(marble_settings settings, marble_state *state, const marble_claims *claims, uint8_t *heap,
                                       size_t heap_len, const uint64_t *table, size_t words);
 
-/* "Maintenance": live objects and deletes of mostly dead or small files are gathered into new ones, group by group, then a prune. moved is
-   the count of ids moved, generation 0. A refusal (3, 4, 5, 7, 9, 10, 11, 16, 18, 20) stops the call and keeps finished groups:
-   generation is where, moved is the count so far, and nothing is pruned. 1: both 0. The claim record stays. 20 is a delete's position in
-   a damaged trailer that is 2^63 or more with the file's lsn added; a reopening refuses such a file with 12. */
-MARBLE_MUST_USE uint64_t marble_maintain(marble_settings settings, marble_state *state, const marble_claims *claims, uint8_t *heap,
-                                         size_t heap_len, uint64_t *table, size_t words, uint64_t *generation, uint64_t *moved);
+/* ---- maintenance, in two calls or as one job. Live objects and deletes of mostly dead or small files are gathered into new ones, by the
+   generation of these: 1, 2 or 3. Between two runs of the arm: marble_plan, then marble_rewrite of one generation in each pause, then
+   marble_prune, which frees the slots; writes, reads and claims may come between them (examples/between-runs.c). At night, with the arm at
+   rest: marble_nightly does it all. Each of the three is lent the notes; fewer of either than the table has entries: 1. After the call
+   both are zeros, to their ends; on 1 they are as they were. The claim record stays. */
+/* "Plan": which files the rewrites would take, what would come out, and the first refusal, as the store stands now. Nothing changes but the
+   notes. A refusal foretold stops nothing: it is given by the rewrite, if it still holds then. 1; refused: planned is zeros. */
+MARBLE_MUST_USE uint64_t marble_plan(marble_settings settings, const marble_state *state, const marble_claims *claims, const uint8_t *heap,
+                                     size_t heap_len, const uint64_t *table, size_t words, uint32_t *places, size_t places_len,
+                                     uint32_t *pieces, size_t pieces_len, marble_planned *planned);
 
+/* "Rewrite": one generation, whole or not at all; moved is the count of ids moved, 0 where there is no group. Of a plan it takes the mark,
+   which keeps out every file written since, by a write or by a rewrite, and the count, which small_file_cleanup_threshold is held against;
+   all else it works out afresh, so that a plan may be old. Any mark and count are answered; plan again after a reopening. It prunes
+   nothing: files that it emptied of live ids keep their slots until marble_prune. 1, then 22 for a generation outside 1 to 3, then 3, 4, 5,
+   7, 9, 10, 11, 16, 18, 20; refused: nothing changes but the notes, moved 0. 20 is a delete's position in a damaged trailer that is 2^63
+   or more with the file's lsn added; a reopening refuses such a file with 12. */
+MARBLE_MUST_USE uint64_t marble_rewrite(marble_settings settings, marble_state *state, const marble_claims *claims, uint8_t *heap,
+                                        size_t heap_len, uint64_t *table, size_t words, uint32_t *places, size_t places_len, uint32_t *pieces,
+                                        size_t pieces_len, marble_request *request);
+
+/* The nightly job: plan, rewrite 1, 2, 3, prune. moved is the count of ids moved, generation 0. A refused rewrite (its numbers, but for 22)
+   ends it and keeps the generations rewritten before: generation is where, moved is the count so far, and nothing is pruned. 1: both 0,
+   nothing changes. */
+MARBLE_MUST_USE uint64_t marble_nightly(marble_settings settings, marble_state *state, const marble_claims *claims, uint8_t *heap,
+                                        size_t heap_len, uint64_t *table, size_t words, uint32_t *places, size_t places_len, uint32_t *pieces,
+                                        size_t pieces_len, marble_stop *stop);
+
+/* ---- sums over the files */
 /* "Counts": files, bytes, present, live, summed over files. Refused with 1: four zeros. */
 MARBLE_MUST_USE uint64_t marble_counts(marble_settings settings, const marble_state *state, const uint8_t *heap, size_t heap_len,
                                        const uint64_t *table, size_t words, marble_totals *counts);
@@ -316,7 +385,7 @@ MARBLE_MUST_USE uint64_t marble_counts(marble_settings settings, const marble_st
 /* ---- what has reached the flash. A host that keeps the heap on flash flushes it from time to time. These two calls look at records alone:
    lend state.records and MARBLE_SLOTS_MAX, or fewer of them; lent a copy, a sync marks the copy alone. An empty record is never counted or
    marked. A list of more than MARBLE_SLOTS_MAX records is refused with 1; nothing else is asked of them. A reopening leaves no file
-   unsynced, but where it is refused with 1, which changes nothing. Flush, then marble_sync; no write, maintenance included, between the
+   unsynced, but where it is refused with 1, which changes nothing. Flush, then marble_sync; no write, rewrite or nightly job between the
    flush and the mark: it would mark a file that is not on the flash. */
 /* How many of the records are of files that are not synced. 1; refused: unsynced 0. */
 MARBLE_MUST_USE uint64_t marble_unsynced(const marble_record *records, size_t count, uint64_t *unsynced);

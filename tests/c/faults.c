@@ -102,15 +102,15 @@ static void room(void) {
 static void many(void) {
     uint8_t bytes[21];
     const uint8_t a = 'a';
-    fresh(small(128), MARBLE_SLOTS_MAX, TABLE_MOST);
+    fresh(small(128), MARBLE_SLOTS_MAX, MARBLE_SLOTS_MAX);
     for (uint64_t slot = 0; slot < MARBLE_SLOTS_MAX; slot++) {
         const entry one = {slot + 1, 0};
         file_in(slot, sound(BATCH_BIT + 100 * (slot + 1), 0, bytes, object(bytes, slot + 1, &a, 1), &one, 1));
     }
     finds("256 ids in a table of as many", NULL, 0);
-    w.words = MARBLE_TABLE_WORDS(TABLE_MOST - 1);
+    w.words = MARBLE_TABLE_WORDS(MARBLE_SLOTS_MAX - 1);
     FINDS("in one of 255", {MARBLE_SLOTS_MAX, MARBLE_E_TABLE_ROOM, 0, 0});
-    w.words = MARBLE_TABLE_WORDS(TABLE_MOST);
+    w.words = MARBLE_TABLE_WORDS(MARBLE_SLOTS_MAX);
     w.heap[255 * 128 + MARBLE_LABEL_BYTES + 20] ^= 1;
     FINDS("a bit of the last body", {255, MARBLE_E_CHECKSUM, 1, 0});
 }

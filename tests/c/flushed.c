@@ -42,7 +42,7 @@ static void life_of_marks(void) {
 }
 
 /* a rewritten file is a written one */
-static void rewritten(void) {
+static void after_a_rewrite(void) {
     marble_settings s = defaults();
     s.small_file_cleanup_threshold = 0;
     fresh(s, 8, 16);
@@ -93,6 +93,8 @@ static void strange(void) {
     expect("claim", claim(0), MARBLE_E_LIMITS);
     expect("release", release(0), MARBLE_E_LIMITS);
     expect("prune", prune(), MARBLE_E_LIMITS);
+    expect("plan", plan(), MARBLE_E_LIMITS);
+    expect("rewrite", rewrite(1, 1, 1), MARBLE_E_LIMITS);
     expect("maintain", maintain(), MARBLE_E_LIMITS);
     expect("counts", counts(), MARBLE_E_LIMITS);
 }
@@ -115,7 +117,7 @@ static void strange_marks(void) {
 
 void flushed(void) {
     life_of_marks();
-    rewritten();
+    after_a_rewrite();
     lists();
     strange_marks();
 }

@@ -7,7 +7,6 @@ void *memset(void *, int, size_t);
 int memcmp(const void *, const void *, size_t);
 
 #define HEAP_MOST (256 * 1024)
-#define TABLE_MOST 256 /* entries */
 #define BATCH_MOST 4096
 #define BATCH_BIT (1ull << 62)
 #define LISTING_MOST (4 * 16)
@@ -27,6 +26,11 @@ typedef struct store {
     size_t heap_len;
     uint64_t *table;
     size_t words;
+    /* the notes, as many as the table has entries */
+    uint32_t *places;
+    size_t places_len;
+    uint32_t *pieces;
+    size_t pieces_len;
 } store;
 extern store w;
 
@@ -44,6 +48,10 @@ uint64_t read_through(const uint8_t *batch, size_t len, uint64_t id);
 uint64_t claim(uint64_t slot);
 uint64_t release(uint64_t slot);
 uint64_t prune(void);
+uint64_t plan(void);
+/* the ids moved are the first out-parameter */
+uint64_t rewrite(uint64_t generation, uint64_t mark, uint64_t count);
+/* the nightly job; the generation where it stopped is the first out-parameter, the ids moved are the second */
 uint64_t maintain(void);
 uint64_t counts(void);
 /* of so many records */
@@ -61,6 +69,8 @@ extern uint64_t out[2], kind;
 extern marble_totals totals;
 /* what the last read through a batch found */
 extern marble_piece piece;
+/* what the last plan gave */
+extern marble_planned planned;
 /* the lines of the last check */
 extern const marble_fault *listed;
 /* the lines of the last salvage */
@@ -109,6 +119,7 @@ void lines(void);
 void life(void);
 void odd(void);
 void maintenance(void);
+void rewritten(void);
 void refusals(void);
 void faults(void);
 void rescue(void);

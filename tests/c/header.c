@@ -81,7 +81,7 @@ static void parsed(void) {
     static const uint64_t ids[] = {127, 128, 300, UINT64_MAX - 1};
     static const size_t sizes[] = {127, 128, 300, 0};
     size_t len = 0, added = 1, deletes = 0;
-    fresh(defaults(), 2, TABLE_MOST);
+    fresh(defaults(), 2, 256);
     expect("reopen", reopen(), MARBLE_OK);
     for (unsigned k = 2; k < 64; k++)
         for (uint64_t d = 0; d < 2; d++, deletes++) added = added && marble_batch_delete(batch, BATCH_MOST, &len, (1ull << k) + 1 + d);

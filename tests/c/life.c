@@ -134,6 +134,9 @@ static void every_call(void) {
     expect("claim", claim(0), MARBLE_E_LIMITS);
     expect("release", release(0), MARBLE_E_LIMITS);
     expect("prune", prune(), MARBLE_E_LIMITS);
+    expect("plan", plan(), MARBLE_E_LIMITS);
+    expect("rewrite", rewrite(1, 1, 1), MARBLE_E_LIMITS);
+    expect("rewrite of no generation", rewrite(4, 1, 1), MARBLE_E_LIMITS);
     expect("maintain", maintain(), MARBLE_E_LIMITS);
     expect("counts", counts(), MARBLE_E_LIMITS);
 }

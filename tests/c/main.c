@@ -6,6 +6,7 @@ int main(void) {
     life();
     odd();
     maintenance();
+    rewritten();
     refusals();
     faults();
     rescue();

@@ -1,4 +1,4 @@
-/* Maintenance: lines P6 to P9, the default percentage, what it moves and leaves, and where it stops. */
+/* Maintenance, by the nightly job: lines P6 to P9, the default percentage, what it moves and leaves, and where it stops. */
 #include "harness.h"
 
 /* one group is enough, and no file is small */
@@ -212,15 +212,25 @@ static void stops_at_a_position(void) {
 }
 
 /* Copies of the file map go by groups and by files that come out, not by slots, entries or objects. */
-#define COPIES_A_CALL 7
-#define COPIES_A_GROUP 4
-#define COPIES_A_FILE 2
+#define PLAN_COPIES(groups) (1 + (groups))
+#define REWRITE_COPIES(groups, files) (3 * (groups) + 2 * (files))
+#define NIGHTLY_COPIES(groups, files) (1 + 3 * (groups) + 2 * (files))
 
-static void copied(uint64_t groups, uint64_t files) {
-    uint64_t most = COPIES_A_CALL + groups * COPIES_A_GROUP + files * COPIES_A_FILE;
-    expect("maintain", maintain(), MARBLE_OK);
-    printf("marble_maintain, %llu groups, %llu files: copies of the file map %llu of %llu\n", (unsigned long long)groups, (unsigned long long)files, (unsigned long long)copies_made(), (unsigned long long)most);
+static void copied(const char *call, uint64_t groups, uint64_t files, uint64_t most) {
+    printf("%s, %llu groups, %llu files: copies of the file map %llu of %llu\n", call, (unsigned long long)groups, (unsigned long long)files, (unsigned long long)copies_made(), (unsigned long long)most);
     expect("copies within the figure", copies_made() <= most, 1);
+}
+
+static void by_night(uint64_t groups, uint64_t files) {
+    expect("plan", plan(), MARBLE_OK);
+    copied("marble_plan", groups, files, PLAN_COPIES(groups));
+    expect("maintain", maintain(), MARBLE_OK);
+    copied("marble_nightly", groups, files, NIGHTLY_COPIES(groups, files));
+}
+
+static void by_day(uint64_t groups, uint64_t files) {
+    expect("rewrite", rewrite(1, UINT64_MAX, 0), MARBLE_OK);
+    copied("marble_rewrite", groups, files, REWRITE_COPIES(groups, files));
 }
 
 /* two objects in a file, of which the second is replaced by a later one, in generations 0, 1 and 2 */
@@ -240,7 +250,7 @@ static void three_groups(void) {
     }
     file_in(3, sound(BATCH_BIT + 9000, 0, one, 3 * 21, later, 3));
     expect("reopen", reopen(), MARBLE_OK);
-    copied(3, 3);
+    by_night(3, 3);
     expect("moved", out[1], 3);
     for (uint64_t g = 0; g < 3; g++) {
         holds(2 * g + 1, 1, 'a');
@@ -268,18 +278,17 @@ static void many(void) {
     holds(100, 1, 'b');
 }
 
-static void costs(void) {
+static void costs(void (*of)(uint64_t groups, uint64_t files)) {
     const size_t lengths[] = {256, 255, 60, 1, 0};
     opened(alone(), 8, 16);
     of_which_replaced(4, 1);
-    copied(0, 0);
+    of(0, 0);
     opened(alone(), 8, 16);
     of_which_replaced(3, 1);
-    copied(1, 1);
+    of(1, 1);
     opened(alone(), 8, 16);
     of_lengths(lengths, 5, 2);
-    copied(1, 5);
-    three_groups();
+    of(1, 5);
 }
 
 void maintenance(void) {
@@ -294,5 +303,7 @@ void maintenance(void) {
     many();
     stops();
     stops_at_a_position();
-    costs();
+    costs(by_night);
+    costs(by_day);
+    three_groups();
 }

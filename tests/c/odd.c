@@ -15,8 +15,9 @@ static void every_call(void) {
     expect("claim", claim(0), MARBLE_E_LIMITS);
     expect("release", release(0), MARBLE_E_LIMITS);
     expect("prune", prune(), MARBLE_E_LIMITS);
+    expect("plan", plan(), MARBLE_E_LIMITS);
+    expect("rewrite", rewrite(1, 1, 1), MARBLE_E_LIMITS);
     expect("maintain", maintain(), MARBLE_E_LIMITS);
-    expect("maintain: 0 and 0", out[0] | out[1], 0);
     expect("counts", counts(), MARBLE_E_LIMITS);
     expect("check", check(LISTING_MOST), MARBLE_E_LIMITS);
     expect("salvage", salvage(), MARBLE_E_LIMITS);

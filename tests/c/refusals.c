@@ -1,7 +1,7 @@
 /* Each refusal number at least once, from bytes that a host can meet. */
 #include "harness.h"
 
-static uint8_t seen[22];
+static uint8_t seen[23];
 
 static void refused(const char *what, uint64_t got, uint64_t want) {
     expect(what, got, want);
@@ -124,6 +124,12 @@ static void of_claims(void) {
     refused("an empty slot", release(99), MARBLE_E_CLAIM);
 }
 
+static void of_rewrites(void) {
+    opened(defaults(), 2, 8);
+    refused("generation 0", rewrite(0, 1, 0), MARBLE_E_GENERATION);
+    refused("generation 4", rewrite(4, 1, 0), MARBLE_E_GENERATION);
+}
+
 static void of_the_table(void) {
     fresh(defaults(), 1, 1);
     refused("raw 0", store_at(1, 0), MARBLE_E_LOCATION);
@@ -142,6 +148,7 @@ void refusals(void) {
     of_reopenings();
     of_reads();
     of_claims();
+    of_rewrites();
     of_the_table();
     for (unsigned n = 1; n < sizeof seen; n++) {
         if (!seen[n]) printf("tests/c: number %u was never given\n", n);

@@ -130,19 +130,19 @@ static void older(void) {
 /* every slot in use: room for 256 lines is enough */
 static void many(void) {
     static marble_loss want[MARBLE_SLOTS_MAX];
-    fresh(small(128), MARBLE_SLOTS_MAX, TABLE_MOST);
+    fresh(small(128), MARBLE_SLOTS_MAX, MARBLE_SLOTS_MAX);
     for (uint64_t slot = 0; slot < MARBLE_SLOTS_MAX; slot++) put_one(slot, 100 * (MARBLE_SLOTS_MAX - slot), slot + 1);
     gives_up("256 files apart, the last first", NULL, 0, MARBLE_OK);
-    w.words = MARBLE_TABLE_WORDS(TABLE_MOST - 1);
+    w.words = MARBLE_TABLE_WORDS(MARBLE_SLOTS_MAX - 1);
     gives_up("for a table of 255", NULL, 0, MARBLE_E_TABLE_ROOM);
-    fresh(small(128), MARBLE_SLOTS_MAX, TABLE_MOST);
+    fresh(small(128), MARBLE_SLOTS_MAX, MARBLE_SLOTS_MAX);
     for (uint64_t slot = 0; slot < MARBLE_SLOTS_MAX; slot++) put_one(slot, MARBLE_SLOTS_MAX - slot, slot + 1);
     /* of positions 1 to 256 those 22 apart are kept: slots 255, 233, .. */
     uint64_t count = 0;
     for (uint64_t k = 0; k < MARBLE_SLOTS_MAX - 1; k++)
         if ((k + 1) % 22) want[count++] = (marble_loss){MARBLE_SLOTS_MAX - 2 - k, MARBLE_E_OVERLAP};
     gives_up("256 files over each other", want, count, MARBLE_OK);
-    fresh(small(128), MARBLE_SLOTS_MAX, TABLE_MOST);
+    fresh(small(128), MARBLE_SLOTS_MAX, MARBLE_SLOTS_MAX);
     for (uint64_t slot = 0; slot < MARBLE_SLOTS_MAX; slot++) w.heap[128 * slot] = 0xFF, want[slot] = (marble_loss){slot, MARBLE_E_LABEL};
     gives_up("256 scratched labels", want, MARBLE_SLOTS_MAX, MARBLE_OK);
 }

@@ -18,7 +18,7 @@ uint64_t checks(void) { return done; }
 #define PAINT 0xA5
 #define GUARDED(name, most) static _Alignas(16) uint8_t name[GUARD + (most) + GUARD]
 GUARDED(heap_area, HEAP_MOST);
-GUARDED(table_area, 8 * MARBLE_TABLE_WORDS(TABLE_MOST));
+GUARDED(table_area, 8 * MARBLE_TABLE_WORDS(MARBLE_TABLE_MAX));
 GUARDED(batch_area, BATCH_MOST);
 GUARDED(state_area, sizeof(marble_state));
 GUARDED(claims_area, sizeof(marble_claims));
@@ -28,15 +28,21 @@ GUARDED(piece_area, sizeof(marble_piece));
 GUARDED(records_area, RECORDS_MOST * sizeof(marble_record));
 GUARDED(listing_area, 8 * LISTING_MOST);
 GUARDED(report_area, MARBLE_SLOTS_MAX * sizeof(marble_loss));
+GUARDED(places_area, 4 * MARBLE_TABLE_MAX);
+GUARDED(pieces_area, 4 * MARBLE_TABLE_MAX);
+GUARDED(planned_area, sizeof(marble_planned));
+GUARDED(request_area, sizeof(marble_request));
+GUARDED(stop_area, sizeof(marble_stop));
 /* what stood there before a call */
-static uint8_t heap_was[HEAP_MOST], table_was[8 * MARBLE_TABLE_WORDS(TABLE_MOST)], state_was[sizeof(marble_state)], claims_was[sizeof(marble_claims)];
+static uint8_t heap_was[HEAP_MOST], table_was[8 * MARBLE_TABLE_WORDS(MARBLE_TABLE_MAX)], state_was[sizeof(marble_state)], claims_was[sizeof(marble_claims)];
 
 store w;
 /* how much of the areas is the store's, whatever lengths a test then gives */
-static size_t heap_room, table_room;
+static size_t heap_room, table_room, notes_room;
 uint64_t out[2], kind;
 marble_totals totals;
 marble_piece piece;
+marble_planned planned;
 const marble_fault *listed = (const marble_fault *)(listing_area + GUARD);
 const marble_loss *given_up = (const marble_loss *)(report_area + GUARD);
 #define BATCH (batch_area + GUARD)
@@ -48,6 +54,12 @@ const marble_loss *given_up = (const marble_loss *)(report_area + GUARD);
 #define RECORDS ((marble_record *)(records_area + GUARD))
 #define LISTING ((uint64_t *)(listing_area + GUARD))
 #define REPORT ((marble_loss *)(report_area + GUARD))
+#define PLANNED ((marble_planned *)(planned_area + GUARD))
+#define REQUEST ((marble_request *)(request_area + GUARD))
+#define STOP ((marble_stop *)(stop_area + GUARD))
+/* a table and its notes may be long: a guard behind them, not the rest of the area */
+#define TABLE_AREA (GUARD + table_room + GUARD)
+#define NOTES_AREA (GUARD + notes_room + GUARD)
 
 static void paint(uint8_t *area, size_t len, size_t whole) {
     memset(area, PAINT, GUARD);
@@ -71,16 +83,25 @@ void fresh(marble_settings s, size_t slots, size_t entries) {
     w.table = (uint64_t *)(table_area + GUARD);
     w.words = MARBLE_TABLE_WORDS(entries);
     table_room = 8 * w.words;
+    w.places = (uint32_t *)(places_area + GUARD);
+    w.pieces = (uint32_t *)(pieces_area + GUARD);
+    w.places_len = w.pieces_len = MARBLE_NOTES(entries);
+    notes_room = 4 * w.places_len;
     memset(w.state, 0, sizeof *w.state);
     memset(w.claims, 0, sizeof *w.claims);
     memset(w.heap, 0, w.heap_len);
     memset(w.table, 0, table_room);
     paint(heap_area, w.heap_len, sizeof heap_area);
-    paint(table_area, table_room, sizeof table_area);
+    paint(table_area, table_room, TABLE_AREA);
+    paint(places_area, notes_room, NOTES_AREA);
+    paint(pieces_area, notes_room, NOTES_AREA);
     paint(state_area, sizeof *w.state, sizeof state_area);
     paint(claims_area, sizeof *w.claims, sizeof claims_area);
     paint(totals_area, sizeof totals, sizeof totals_area);
     paint(piece_area, sizeof piece, sizeof piece_area);
+    paint(planned_area, sizeof planned, sizeof planned_area);
+    paint(request_area, sizeof *REQUEST, sizeof request_area);
+    paint(stop_area, sizeof *STOP, sizeof stop_area);
     memset(out_area, PAINT, sizeof out_area);
 }
 
@@ -96,21 +117,21 @@ marble_settings small(uint64_t slot_bytes) {
 }
 
 /* ---- stack: painted before each call, looked at behind it */
-#define DEPTH (4096 * 1024)
-enum { REOPEN, WRITE, READ, READ_THROUGH, CLAIM, RELEASE, PRUNE, MAINTAIN, COUNTS, UNSYNCED, SYNC, CHECK, SALVAGE, LOAD, STORE, COMPARE, GREATER, CALLS };
-static const char *const names[CALLS] = {"reopen", "write", "read", "read_through", "claim", "release", "prune", "maintain", "counts", "unsynced", "sync", "check", "salvage", "load", "store", "compare_and_store", "store_if_greater"};
+#define DEPTH (256 * 1024)
+enum { REOPEN, WRITE, READ, READ_THROUGH, CLAIM, RELEASE, PRUNE, PLAN, REWRITE, NIGHTLY, COUNTS, UNSYNCED, SYNC, CHECK, SALVAGE, LOAD, STORE, COMPARE, GREATER, CALLS };
+static const char *const names[CALLS] = {"reopen", "write", "read", "read_through", "claim", "release", "prune", "plan", "rewrite", "nightly", "counts", "unsynced", "sync", "check", "salvage", "load", "store", "compare_and_store", "store_if_greater"};
 /* a call that needs more than the header says fails here */
 static const size_t allowed[CALLS] = {
-    MARBLE_STACK_REOPEN, MARBLE_STACK_WRITE,  MARBLE_STACK_READ,  MARBLE_STACK_READ_THROUGH, MARBLE_STACK_CLAIM, MARBLE_STACK_RELEASE, MARBLE_STACK_PRUNE, MARBLE_STACK_MAINTAIN,
-    MARBLE_STACK_COUNTS, MARBLE_STACK_UNSYNCED, MARBLE_STACK_SYNC, MARBLE_STACK_CHECK,  MARBLE_STACK_SALVAGE, MARBLE_STACK_TABLE, MARBLE_STACK_TABLE, MARBLE_STACK_TABLE, MARBLE_STACK_TABLE,
+    MARBLE_STACK_REOPEN, MARBLE_STACK_WRITE,  MARBLE_STACK_READ,  MARBLE_STACK_READ_THROUGH, MARBLE_STACK_CLAIM, MARBLE_STACK_RELEASE, MARBLE_STACK_PRUNE, MARBLE_STACK_PLAN,
+    MARBLE_STACK_REWRITE, MARBLE_STACK_NIGHTLY, MARBLE_STACK_COUNTS, MARBLE_STACK_UNSYNCED, MARBLE_STACK_SYNC, MARBLE_STACK_CHECK,  MARBLE_STACK_SALVAGE, MARBLE_STACK_TABLE, MARBLE_STACK_TABLE, MARBLE_STACK_TABLE, MARBLE_STACK_TABLE,
 };
 static size_t used[CALLS];
 
 /* ---- copies of the file map, and of a reopening's labels: the archive's memcpy is this one, so each is counted in a run. Handing it in
-   and out is a loop over words that is no copy of this kind. docs/ARCHITECTURE.md, "Stack and copies", says what each is for; maintenance.c has maintenance's by groups and files. */
+   and out is a loop over words that is no copy of this kind. docs/ARCHITECTURE.md, "Stack and copies", says what each is for; maintenance.c has those of plan, rewrite and the nightly job by groups and files. */
 /* 256 labels, five numbers each: a file map is longer */
 #define LABELS_BYTES (256 * 5 * sizeof(uint64_t))
-static const size_t copies_allowed[CALLS] = {8, 5, 0, 0, 0, 0, 1, 25, 1, 0, 0, 259, 0, 0, 0, 0, 0};
+static const size_t copies_allowed[CALLS] = {8, 5, 0, 0, 0, 0, 1, 4, 53, 54, 1, 0, 0, 259, 0, 0, 0, 0, 0};
 static size_t copies, copied[CALLS], last_copied;
 
 void *memcpy(void *to, const void *from, size_t len) {
@@ -120,11 +141,10 @@ void *memcpy(void *to, const void *from, size_t len) {
     return to;
 }
 
-/* Both from the same frame, so that the bytes are the same ones: painted, and how deep the paint is gone. Maintenance goes deepest. */
+/* Both from the same frame, so that the bytes are the same ones: painted, and how deep the paint is gone. */
 __attribute__((noinline)) static void stack_below(int call, int painting) {
     volatile uint8_t below[DEPTH];
-    const size_t low = call == MAINTAIN ? 0 : DEPTH - DEPTH / 16;
-    size_t i = low;
+    size_t i = 0;
     if (painting) {
         for (; i < DEPTH; i++) below[i] = PAINT;
         copies = 0;
@@ -135,7 +155,7 @@ __attribute__((noinline)) static void stack_below(int call, int painting) {
     if (used[call] < deep) used[call] = deep;
     last_copied = copies;
     if (copied[call] < copies) copied[call] = copies;
-    expect("deep enough", i > low, 1);
+    expect("deep enough", i > 0, 1);
 }
 
 uint64_t copies_made(void) { return last_copied; }
@@ -170,7 +190,7 @@ enum { HEAP = 1, TABLE = 2, STATE = 4, CLAIMS = 8, ALL = 15 };
 static void behind(int call, unsigned kept) {
     const char *name = names[call];
     guard(name, "heap", heap_area, heap_room, sizeof heap_area);
-    guard(name, "table", table_area, table_room, sizeof table_area);
+    guard(name, "table", table_area, table_room, TABLE_AREA);
     guard(name, "state", state_area, sizeof *w.state, sizeof state_area);
     guard(name, "claims", claims_area, sizeof *w.claims, sizeof claims_area);
     guard(name, "totals", totals_area, sizeof totals, sizeof totals_area);
@@ -279,12 +299,78 @@ uint64_t prune(void) {
     return n;
 }
 
-uint64_t maintain(void) {
+/* the notes before one of the three calls: anything; behind it: zeros, on 1 as they were */
+#define NOTED 0xC3
+
+static void notes_before(void) {
+    memset(places_area + GUARD, NOTED, notes_room);
+    memset(pieces_area + GUARD, NOTED, notes_room);
+}
+
+static void notes_behind(int call, const char *which, const uint8_t *area, size_t lent, uint64_t n) {
+    size_t other = 0;
+    guard(names[call], which, area, notes_room, NOTES_AREA);
+    for (size_t i = 0; i < notes_room; i++) other += area[GUARD + i] != (n == MARBLE_E_LIMITS || i >= 4 * lent ? NOTED : 0);
+    if (other) printf("tests/c: %s leaves other notes in %s\n", names[call], which);
+    expect("notes left", other, 0);
+}
+
+static void noted(int call, uint64_t n) {
+    notes_behind(call, "places", places_area, w.places_len, n);
+    notes_behind(call, "pieces", pieces_area, w.pieces_len, n);
+    guard(names[call], "the plan", planned_area, sizeof planned, sizeof planned_area);
+    guard(names[call], "the request", request_area, sizeof *REQUEST, sizeof request_area);
+    guard(names[call], "the stop", stop_area, sizeof *STOP, sizeof stop_area);
+}
+
+#define NOTES w.places_len ? w.places : NULL, w.places_len, w.pieces_len ? w.pieces : NULL, w.pieces_len
+
+uint64_t plan(void) {
+    memset(PLANNED, PAINT, sizeof *PLANNED);
+    notes_before();
     before();
-    stack_below(MAINTAIN, 1);
-    uint64_t n = marble_maintain(w.s, w.state, w.claims, w.heap, w.heap_len, w.table, w.words, OUT(0), OUT(1));
-    stack_below(MAINTAIN, 0);
-    behind(MAINTAIN, n == MARBLE_E_LIMITS ? ALL : CLAIMS);
+    stack_below(PLAN, 1);
+    uint64_t n = marble_plan(w.s, w.state, w.claims, w.heap, w.heap_len, w.table, w.words, NOTES, PLANNED);
+    stack_below(PLAN, 0);
+    behind(PLAN, ALL);
+    noted(PLAN, n);
+    planned = *PLANNED;
+    expect("refused with 1 only", n == MARBLE_OK || n == MARBLE_E_LIMITS, 1);
+    if (n != MARBLE_OK) {
+        static const marble_planned none;
+        same("plan", "zeros", &planned, &none, sizeof none);
+    }
+    return n;
+}
+
+uint64_t rewrite(uint64_t generation, uint64_t mark, uint64_t count) {
+    const marble_request asked = {generation, mark, count, 77};
+    *REQUEST = asked;
+    notes_before();
+    before();
+    stack_below(REWRITE, 1);
+    uint64_t n = marble_rewrite(w.s, w.state, w.claims, w.heap, w.heap_len, w.table, w.words, NOTES, REQUEST);
+    stack_below(REWRITE, 0);
+    behind(REWRITE, n == MARBLE_OK && REQUEST->moved ? CLAIMS : ALL);
+    noted(REWRITE, n);
+    same("rewrite", "what is asked", REQUEST, &asked, sizeof asked - sizeof asked.moved);
+    out[0] = REQUEST->moved;
+    if (n != MARBLE_OK) expect("refused rewrite: none moved", out[0], 0);
+    return n;
+}
+
+uint64_t maintain(void) {
+    memset(STOP, PAINT, sizeof *STOP);
+    notes_before();
+    before();
+    stack_below(NIGHTLY, 1);
+    uint64_t n = marble_nightly(w.s, w.state, w.claims, w.heap, w.heap_len, w.table, w.words, NOTES, STOP);
+    stack_below(NIGHTLY, 0);
+    behind(NIGHTLY, n == MARBLE_E_LIMITS ? ALL : CLAIMS);
+    noted(NIGHTLY, n);
+    out[0] = STOP->generation;
+    out[1] = STOP->moved;
+    if (n == MARBLE_E_LIMITS) expect("refused with 1: 0 and 0", out[0] | out[1], 0);
     return n;
 }
 

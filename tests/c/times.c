@@ -28,6 +28,7 @@ static uint8_t heap[MARBLE_SLOTS_MAX * SLOT_MOST], heap_was[sizeof heap], batch[
 static uint64_t table[MARBLE_TABLE_WORDS(MARBLE_TABLE_MAX)], table_was[MARBLE_TABLE_WORDS(MARBLE_TABLE_MAX)];
 static marble_state state, state_was;
 static marble_claims claims;
+static uint32_t places[MARBLE_NOTES(MARBLE_TABLE_MAX)], pieces[MARBLE_NOTES(MARBLE_TABLE_MAX)];
 static marble_settings settings;
 static size_t heap_len, words, batch_len;
 
@@ -196,9 +197,11 @@ static void deleted_from(uint64_t ids) {
 }
 
 static void maintenance(uint64_t ids) {
-    uint64_t generation, moved, n = marble_maintain(settings, &state, &claims, heap, heap_len, table, words, &generation, &moved);
-    accepted("maintenance", n);
-    same("ids moved", moved, ids - ids / 250);
+    const size_t notes = words / 2;
+    marble_stop stop;
+    uint64_t n = marble_nightly(settings, &state, &claims, heap, heap_len, table, words, places, notes, pieces, notes, &stop);
+    accepted("nightly job", n);
+    same("ids moved", stop.moved, ids - ids / 250);
 }
 
 /* a full table, the ids deleted; then the greatest put again, of so many bytes */

@@ -87,8 +87,8 @@ IN_MODEL = {
     'ids-descending': [
         ('entries = sorted(dict(operations).items())',
          'entries = sorted(dict(operations).items(), key=itemgetter(0), reverse=True)'),
-        ('files = self.split(sorted(kept.items()))',
-         'files = self.split(sorted(kept.items(), key=itemgetter(0), reverse=True))'),
+        ('return self.split(sorted(kept.items()))',
+         'return self.split(sorted(kept.items(), key=itemgetter(0), reverse=True))'),
     ],
     'overridden-not-refused': [
         ('for _, b in operations), 3)',
@@ -141,8 +141,8 @@ IN_MODEL = {
     ],
     'seven-before-six': [
         ('        refuse_if(len(table.keys() | {i for i, _ in entries}) > self.entries(), 6)\n'
-         '        self.check_next([entries])\n',
-         '        self.check_next([entries])\n'
+         '        self.check_next([entries], self.next)\n',
+         '        self.check_next([entries], self.next)\n'
          '        refuse_if(len(table.keys() | {i for i, _ in entries}) > self.entries(), 6)\n'),
     ],
     'four-before-three': [
@@ -159,12 +159,12 @@ IN_MODEL = {
          '            return\n'),
     ],
     'position-2^62-refused': [
-        ('self.next + sum(file_bytes(f)[1] + 1 for f in files) > BATCH_BIT, 7)',
-         'self.next + sum(file_bytes(f)[1] + 1 for f in files) >= BATCH_BIT, 7)'),
+        ('base + spans(files) > BATCH_BIT, 7)',
+         'base + spans(files) >= BATCH_BIT, 7)'),
     ],
     'positions-by-T': [
-        ('self.next + sum(file_bytes(f)[1] + 1 for f in files) > BATCH_BIT, 7)',
-         'self.next + sum(file_bytes(f)[1] for f in files) > BATCH_BIT, 7)'),
+        ('return sum(file_bytes(f)[1] + 1 for f in files)',
+         'return sum(file_bytes(f)[1] for f in files)'),
     ],
     'full-slot-not-written': [
         ('LABEL + len(file_bytes(f)[0]) > self.given.slot_bytes',
@@ -176,8 +176,8 @@ IN_MODEL = {
     ],
     'slots-before-size': [
         ('        refuse_if(any(LABEL + len(file_bytes(f)[0]) > self.given.slot_bytes for f in files), 4)\n'
-         '        refuse_if(len(self.empty_slots()) < len(files), 5)\n',
-         '        refuse_if(len(self.empty_slots()) < len(files), 5)\n'
+         '        refuse_if(len(self.empty_slots()) - taken < len(files), 5)\n',
+         '        refuse_if(len(self.empty_slots()) - taken < len(files), 5)\n'
          '        refuse_if(any(LABEL + len(file_bytes(f)[0]) > self.given.slot_bytes for f in files), 4)\n'),
     ],
     'next-without-1': [
@@ -240,16 +240,16 @@ IN_MODEL = {
          '        if not operations:\n'
          '            refuse_if(self.next > BATCH_BIT, 7)\n'
          '            return\n'),
-        ('refuse_if(files and self.next',
-         'refuse_if(self.next'),
+        ('refuse_if(files and base',
+         'refuse_if(base'),
     ],
     'one-empty-slot-enough': [
-        ('len(self.empty_slots()) < len(files), 5)',
-         'len(self.empty_slots()) < 1, 5)'),
+        ('len(self.empty_slots()) - taken < len(files), 5)',
+         'len(self.empty_slots()) - taken < 1, 5)'),
     ],
     'positions-by-greatest': [
-        ('self.next + sum(file_bytes(f)[1] + 1 for f in files) >',
-         'self.next + max(file_bytes(f)[1] + 1 for f in files) >'),
+        ('base + spans(files) >',
+         'base + max(spans([f]) for f in files) >'),
     ],
     'file-at-slot-start': [
         ('self.heap[at:at + LABEL + len(data)] = label_bytes(numbers) + data',
@@ -384,8 +384,8 @@ IN_MODEL = {
          '        groups.pop(1, None)'),
     ],
     'group-of-minimum-skipped': [
-        ('if len(group) < self.given.min_files:',
-         'if len(group) <= self.given.min_files:'),
+        ('return slots if len(slots) >= self.given.min_files',
+         'return slots if len(slots) > self.given.min_files'),
     ],
     'percent-itself-taken': [
         ('live * 100 // max(present, 1) < s.percent',
@@ -420,27 +420,28 @@ IN_MODEL = {
          'file_size < s.target'),
     ],
     'claimed-file-a-candidate': [
-        ('if live != 0 and not self.claimed(slot) and (sparse',
-         'if live != 0 and (sparse'),
+        ('live != 0 and not self.claimed(slot) and (sparse',
+         'live != 0 and (sparse'),
     ],
     'dead-file-a-candidate': [
-        ('if live != 0 and not self.claimed(slot) and (sparse',
-         'if not self.claimed(slot) and (sparse'),
+        ('mark and live != 0 and not self.claimed(slot) and (sparse',
+         'mark and not self.claimed(slot) and (sparse'),
     ],
     'grouped-by-own-generation': [
         ('groups.setdefault(min(generation + 1, 3), []).append(slot)',
          'groups.setdefault(generation, []).append(slot) if 1 <= generation <= 3 else None'),
     ],
     'candidates-chosen-anew': [
-        ('        for generation, group in sorted(self.candidates().items()):\n',
-         '        for generation in (1, 2, 3):\n'
-         '            group = self.candidates().get(generation, [])\n'
-         '            if not group:\n'
-         '                continue\n'),
+        ('self.rewrite(generation, planned.mark, planned.count)',
+         'self.rewrite(generation, U64, len(self.files()))'),
     ],
     'generations-descending': [
-        ('in sorted(self.candidates().items()):',
-         'in sorted(self.candidates().items(), reverse=True):'),
+        ('        for generation in GENERATIONS:\n'
+         '            try:\n'
+         '                moved += self.rewrite(generation, planned.mark, planned.count)\n',
+         '        for generation in reversed(GENERATIONS):\n'
+         '            try:\n'
+         '                moved += self.rewrite(generation, planned.mark, planned.count)\n'),
     ],
     'length-before-header': [
         ('            refuse_if(at + HEADER > trailer_offset, 16)\n'
@@ -485,47 +486,56 @@ IN_MODEL = {
          '                refuse_if(lsn + relative // 2 > 1 << 63, 20)\n'),
     ],
     'positions-before-room': [
-        ('                self.check_room(files)  # D15: 4 before 5\n'
-         '                self.check_next(files)\n',
-         '                self.check_next(files)\n'
-         '                self.check_room(files)\n'),
+        ('        self.check_room(files)  # D15: 4 before 5\n'
+         '        self.check_next(files, self.next)\n',
+         '        self.check_next(files, self.next)\n'
+         '        self.check_room(files)\n'),
     ],
     'pruned-after-refusal': [
-        ('                raise Refused(refusal.number, generation, moved)',
+        ('                moved += self.rewrite(generation, planned.mark, planned.count)\n'
+         '            except Refused as refusal:\n'
+         '                raise Refused(refusal.number, generation, moved)\n',
+         '                moved += self.rewrite(generation, planned.mark, planned.count)\n'
+         '            except Refused as refusal:\n'
          '                self.drop_dead()\n'
-         '                raise Refused(refusal.number, generation, moved)'),
+         '                raise Refused(refusal.number, generation, moved)\n'),
     ],
     'not-pruned': [
-        ('        self.drop_dead()\n'
+        ('        self.prune()\n'
          '        return moved',
          '        return moved'),
     ],
     'moved-lost': [
-        ('raise Refused(refusal.number, generation, moved)',
-         'raise Refused(refusal.number, generation, 0)'),
+        ('                moved += self.rewrite(generation, planned.mark, planned.count)\n'
+         '            except Refused as refusal:\n'
+         '                raise Refused(refusal.number, generation, moved)\n',
+         '                moved += self.rewrite(generation, planned.mark, planned.count)\n'
+         '            except Refused as refusal:\n'
+         '                raise Refused(refusal.number, generation, 0)\n'),
     ],
     'goes-on-after-a-refusal': [
-        ('raise Refused(refusal.number, generation, moved)',
-         'last = Refused(refusal.number, generation, moved)\n'
-         '                continue'),
-        ('        moved = 0\n'
-         '        for generation',
-         '        moved, last = 0, None\n'
-         '        for generation'),
-        ('            moved += len(kept)\n'
-         '        self.drop_dead()',
-         '            moved, last = moved + len(kept), None\n'
+        ('planned, moved = self.plan(), 0\n',
+         'planned, moved, last = self.plan(), 0, None\n'),
+        ('                moved += self.rewrite(generation, planned.mark, planned.count)\n'
+         '            except Refused as refusal:\n'
+         '                raise Refused(refusal.number, generation, moved)\n'
+         '        self.prune()\n',
+         '                group = self.group(generation, planned.mark, planned.count)\n'
+         '                moved += self.rewrite(generation, planned.mark, planned.count)\n'
+         '                last = None if group else last\n'
+         '            except Refused as refusal:\n'
+         '                last = Refused(refusal.number, generation, moved)\n'
          '        if last:\n'
          '            raise last\n'
-         '        self.drop_dead()'),
+         '        self.prune()\n'),
     ],
     'moved-counts-files': [
-        ('moved += len(kept)',
-         'moved += len(files)'),
+        ('return sum(map(len, files))',
+         'return len(files)'),
     ],
     'moved-of-last-group': [
-        ('moved += len(kept)',
-         'moved = len(kept)'),
+        ('moved += self.rewrite(generation, planned.mark, planned.count)',
+         'moved = self.rewrite(generation, planned.mark, planned.count) or moved'),
     ],
     'moved-from-any-location': [
         ('            if table[ident] == raw_location(lsn + at, False):\n'
@@ -568,18 +578,25 @@ IN_MODEL = {
          '                refuse_if(masked(lsn) + relative // 2 >= 1 << 63, 20)\n'),
     ],
     'generation-given-with-1': [
-        ('    def maintain(self):\n'
-         '        self.check_state()\n',
-         '    def maintain(self):\n'
+        ('        planned, moved = self.plan(), 0\n',
          '        try:\n'
-         '            self.check_state()\n'
+         '            planned, moved = self.plan(), 0\n'
          '        except Refused:\n'
          '            raise Refused(1, 1, 0)\n'),
     ],
     'maintain-1-not-asked': [
-        ('    def maintain(self):\n'
-         '        self.check_state()\n',
-         '    def maintain(self):\n'),
+        ('        self.check_state()\n'
+         '        mark, count, made',
+         '        mark, count, made'),
+        ('        self.check_state()\n'
+         '        refuse_if(generation not',
+         '        refuse_if(generation not'),
+        ('            except Refused as refusal:\n'
+         '                raise Refused(refusal.number, generation, moved)\n'
+         '        self.prune()\n',
+         '            except Refused as refusal:\n'
+         '                raise Refused(refusal.number, generation, moved)\n'
+         '        self.drop_dead()\n'),
     ],
     'cut-at-target': [
         ('if sizes.get(n, 0) > self.given.target:',
@@ -939,8 +956,8 @@ IN_MODEL = {
          'self.empty_slots()[-1], self.next'),
     ],
     'slots-above-N-empty': [
-        ('len(self.empty_slots()) < len(files), 5)',
-         'sum(r == EMPTY for r in self.records) < len(files), 5)'),
+        ('len(self.empty_slots()) - taken < len(files), 5)',
+         'sum(r == EMPTY for r in self.records) - taken < len(files), 5)'),
     ],
     'empty-by-lsn': [
         ('if r is not EMPTY and r != EMPTY]',
@@ -953,8 +970,8 @@ IN_MODEL = {
     'dead-files-not-counted': [
         ('return len(files), sum(r[2]',
          'return sum(r[5] > 0 for r in files), sum(r[2]'),
-        ('count, groups = self.given, len(self.files()), {}',
-         'count, groups = self.given, sum(r[5] > 0 for _, r in self.files()), {}'),
+        ('mark, count, made = self.next, len(self.files()), []',
+         'mark, count, made = self.next, sum(r[5] > 0 for _, r in self.files()), []'),
     ],
     'equal-not-refused': [
         ('        refuse_if(current == raw, 19)\n',

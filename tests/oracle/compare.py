@@ -4,8 +4,9 @@
     compare.py [--model | --console PATH --host PATH] [--rust PATH | --stored FILE] [--seed S].. [--calls N] [--number FILE]
     compare.py .. [--seed S] [--limit KIND].. [--from K] [--count N] [--small] [--store FILE]
 
-After every call: each id's read, the answer, the growth of the next position, counts, each file's numbers, live count, synced mark and
-claim, and how many are not synced;
+The nightly job stands against the original's maintenance, and every second time plan, rewrite 1, 2, 3 and prune do, call by call; then also the
+plan's files and bytes against those that came out. After every call: each id's read, the answer, the growth of the next position, counts, each
+file's numbers, live count, synced mark and claim, and how many are not synced;
 after reopenings and rewrites also each file as a set of entries. At a scenario's end the heap that the port wrote is renamed to the
 original's files, opened and read by it, and every number must be the same; the files that the original wrote until then are labelled,
 put into slots, reopened and read by the port. A difference that is not in known.py fails. The port's bytes are the model's bytes: the console shows the heap's
@@ -21,7 +22,7 @@ import zlib
 from foreseen import replacing, rewriting
 from known import FAILS, GROUP_FAILURES, KNOWN, NOT_MADE, READ_FAILURES, TABLE_FAILURES, WRITE_DIFFERS, directed
 from limits import OFTEN, RARELY, SELDOM, limit
-from model import BATCH_BIT, HEADER, LABEL, Console, batch_operations, label_numbers, le, masked, trailer_entries, Refused
+from model import BATCH_BIT, GENERATIONS, HEADER, LABEL, Console, batch_operations, label_numbers, le, masked, trailer_entries, Refused
 from port import Difference, Ended, Model, Port, Rust, Stored, in_the_originals_words, store_answers
 from scenarios import from_files, scenario
 
@@ -51,10 +52,11 @@ def contents(trailer_offset, data):
 
 class Step:
     """one line of a scenario, with the model's bytes behind it. rewrite: of a maintenance; differs: a known difference of a write; mixed: in a
-    scenario with table calls among writes"""
+    scenario with table calls among writes; asked: the port's lines for it, a maintenance's call by call"""
 
-    def __init__(self, line, store, imported=False, rewrite=None, differs=None, mixed=False):
+    def __init__(self, line, store, imported=False, rewrite=None, differs=None, mixed=False, asked=()):
         self.line, self.imported, self.rewrite, self.differs, self.mixed = line, imported, rewrite, differs, mixed
+        self.asked = asked or [line]
         self.given, self.heap_len, self.table_len = store.given, len(store.heap), store.entries()
         word = line.split()[0]
         self.heap_sum = zlib.crc32(store.heap) if word in CALLS else None
@@ -79,23 +81,24 @@ LOOKED_AT = ('reopen', 'claim', 'release', 'prune', 'maintain')  # after these t
 
 
 def plan(lines, wide):
-    """the scenario's steps. Where the two sides cannot stay alike, and at the end, a reopening is put in for which the original takes over
-    the port's heap"""
-    console, steps, by_hand = Console(wide), [], False
+    """the scenario's steps; every second maintenance is made call by call. Where the two sides cannot stay alike, and at the end, a reopening
+    is put in for which the original takes over the port's heap"""
+    console, steps, by_hand, nights = Console(wide), [], False, len(lines) % 2
     words = {line.split()[0] for line in lines}
     mixed = 'write' in words and not words.isdisjoint(TABLE_CALLS)
     for line in lines:
         word, store, rewrite, differs = line.split()[0], console.store, None, None
         if word == 'maintain':
-            rewrite = rewriting(store)
+            rewrite, nights = rewriting(store), nights + 1
         elif word == 'write' and mixed:
             differs = replacing(store, bytes.fromhex(line.split()[1].replace('-', '')))
-        answer = console.line(line)[0]
+        asked, answers = call_by_call(console) if rewrite and nights % 2 == 0 else ([line], [console.line(line)])
+        answer = answer_of(asked, answers)[0]
         if answer == 'bad line':
             raise Difference(f'not a line of the console: {line[:200]}')
         by_hand = by_hand or word in ('heap', 'poke')
         differs = differs if answer == 'ok' else None
-        steps.append(Step(line, store, word == 'reopen' and by_hand, rewrite, differs, mixed))
+        steps.append(Step(line, store, word == 'reopen' and by_hand, rewrite, differs, mixed, asked))
         if word == 'reopen':
             by_hand = False
             if answer != 'ok':
@@ -103,6 +106,28 @@ def plan(lines, wide):
         if differs or rewrite and (rewrite.cut or mixed or answer.startswith('refused')):
             steps.append(taken_over(console))
     return steps + [taken_over(console)]
+
+
+def call_by_call(console):
+    """a maintenance as a host makes it: plan, rewrite 1, 2, 3 with its mark and count, prune, up to the one that is refused. Calls and answers"""
+    calls, answers = ['plan'], [console.line('plan')]
+    mark, count = (answers[0][-1].split() + [''])[1:3]
+    for call in [f'rewrite {generation} {mark} {count}' for generation in GENERATIONS] + ['prune']:
+        if answers[-1][0].startswith('refused'):
+            break
+        calls.append(call)
+        answers.append(console.line(call))
+    return calls, answers
+
+
+def answer_of(calls, answers):
+    """the answer to a step: a maintenance call by call answers as the job does"""
+    if calls[0] != 'plan':
+        return answers[0]
+    moved = sum(int(answer[0].split()[1]) for call, answer in zip(calls, answers) if call.startswith('rewrite') and answer[0].startswith('ok'))
+    if not answers[-1][0].startswith('refused'):
+        return [f'ok {moved}']
+    return [f'{answers[-1][0]} {len(calls) - 1} {moved}']
 
 
 def taken_over(console):
@@ -116,7 +141,7 @@ def script(steps, ids):
     """the console's lines: after each call a dump, the counts, how many files are not synced and every id's read"""
     lines = []
     for step in steps:
-        lines.append(step.line)
+        lines += step.asked
         if step.line.split()[0] in CALLS:
             lines += ['dump', 'counts', 'unsynced'] + [f'read {i}' for i in ids]
     return lines
@@ -128,6 +153,7 @@ class PortView:
     def __init__(self, answer, dump, counts, unsynced, reads):
         self.answer, self.counts, self.unsynced, self.reads = answer[0], counts[0], unsynced[0], [r[0] for r in reads]
         self.files, self.entries, claimed = {}, {}, set()
+        self.planned = None  # files and bytes that a plan said, of a maintenance call by call
         for line in dump:
             word, *numbers = line.split()
             numbers = [int(n) for n in numbers]
@@ -149,9 +175,12 @@ def views(steps, answers, ids):
     """for each step that is a call a PortView, for a table call its answer, None for the others"""
     said, out = iter(answers), []
     for step in steps:
-        answer, word = next(said), step.line.split()[0]
+        answers, word = [next(said) for _ in step.asked], step.line.split()[0]
+        answer = answer_of(step.asked, answers)
         if word in CALLS:
             out.append(PortView(answer, next(said), next(said), next(said), [next(said) for _ in ids]))
+            if step.asked[0] == 'plan' and len(answers) > 1:
+                out[-1].planned = tuple(map(int, answers[0][-1].split()[3:]))
         else:
             out.append(answer[0] if word in TABLE_CALLS else None)
     return out
@@ -195,7 +224,8 @@ class Comparison:
         return self.ask(command)[0]
 
     def rust_files(self):
-        return [File(*map(int, line.split()[1:])) for line in self.ask('records')[:-1]]
+        self.last_files = [File(*map(int, line.split()[1:])) for line in self.ask('records')[:-1]]
+        return self.last_files
 
     def rust_contents(self):
         """file -> set of entries, in the order of positions"""
@@ -210,6 +240,7 @@ class Comparison:
         """leaves in self.left the files (name, bytes) that the original had before it took over the port's heap at the end"""
         self.ids, self.all_ids = ids, all_ids
         self.port_next = self.rust_next = 0
+        self.last_files = []  # as the original last said them
         self.one('wipe')
         for k, (step, view) in enumerate(zip(steps, port_views)):
             if k == len(steps) - 1:
@@ -226,7 +257,7 @@ class Comparison:
             self.table_call(step, view)
         elif view is not None:
             must(view.heap_sum == step.heap_sum, "the heap's bytes are not the model's", view.heap_sum, step.heap_sum)
-            self.calls[word] += 1
+            self.calls[word if step.asked[0] != 'plan' else 'maintain call by call'] += 1
             getattr(self, word)(step, view, *words)
             self.measure(step, view)
 
@@ -333,8 +364,11 @@ class Comparison:
             self.met('cut')
             self.reads(view)
         else:
+            before = {f.lsn for f in self.last_files}
             self.grown(view, int(got.split()[2]))
             self.alike(step, view, entries=True)
+            made = [f.file_size for f in self.last_files if f.lsn not in before]
+            must(view.planned in (None, (len(made), sum(made))), 'files and bytes that the plan said', view.planned, made)
 
     def prune(self, step, view):
         got = self.one('prune')

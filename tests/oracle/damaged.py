@@ -501,8 +501,8 @@ class Maker:
             self.lines.append(r.choice(['check 4097', 'check', 'check x', 'check -1', 'check 1 2', 'check 18446744073709551616', 'check 4096 #']))
         if self.clean and (self.foreign or self.chance(60)):
             for _ in range(r.choice([1, 2, 4])):
-                self.lines += [r.choice(['maintain', 'maintain', 'maintain', 'prune', 'reopen', f'claim {r.randrange(self.slots)}',
-                                         f'write {self.batch(90).hex()}', f'write {self.batch(9).hex()}']), 'check 8']
+                self.lines += [r.choice(['maintain', 'maintain', 'maintain', 'plan', f'rewrite {r.randint(1, 3)} {2 ** 64 - 1} 256', 'prune', 'reopen',
+                                         f'claim {r.randrange(self.slots)}', f'write {self.batch(90).hex()}', f'write {self.batch(9).hex()}']), 'check 8']
 
 
 # ---- what must hold ------------------------------------------------------------------------------

@@ -11,7 +11,7 @@ def rewriting(store):
     that are large enough: the files of each, the shards, the longest body; small: is a file there for its size alone?"""
     table, given = store.table(), store.given
     cut, sunk, groups, shards, longest, small = False, False, [], set(), 0, False
-    for group in store.candidates().values():
+    for group in store.candidates(store.next, len(store.files())).values():
         met = len(group) >= given.min_files
         sizes = collections.defaultdict(list)
         try:

@@ -19,9 +19,11 @@ static marble_claims claims;
 static uint8_t *heap, *bytes;
 static uint64_t *table;
 static size_t heap_len, words, bytes_len;
+static uint32_t places[MARBLE_TABLE_MAX], pieces[MARBLE_TABLE_MAX];
 
 #define TABLE table, words
 #define LENT heap, heap_len, TABLE
+#define NOTES places, MARBLE_NOTES(words / 2), pieces, MARBLE_NOTES(words / 2)
 
 static uint64_t number(void) { return strtoull(strtok(0, " "), 0, 10); }
 
@@ -108,6 +110,37 @@ static void through(uint64_t id) {
     piece(refusal, p.kind, p.of_batch ? "batch" : "heap", (p.of_batch ? bytes : heap) + p.offset, p.size);
 }
 
+static void plan(void) {
+    static marble_planned p;
+    uint64_t refusal = marble_plan(s, &state, &claims, LENT, NOTES, &p);
+    if (refusal != 0) {
+        said(refusal);
+        return;
+    }
+    for (unsigned g = 0; g < MARBLE_GENERATIONS; g++) {
+        if (p.groups[g].count != 0) printf("group %u", g + 1);
+        for (uint64_t k = 0; k < p.groups[g].count; k++) printf(" %llu", (unsigned long long)p.groups[g].slots[k]);
+        if (p.groups[g].count != 0) printf("\n");
+    }
+    if (p.number != 0) printf("foretold %llu %llu\n", (unsigned long long)p.number, (unsigned long long)p.generation);
+    printf("ok %llu %llu %llu %llu\n", (unsigned long long)p.mark, (unsigned long long)p.count, (unsigned long long)p.files,
+           (unsigned long long)p.bytes);
+}
+
+static void rewrite(void) {
+    marble_request r = {0, 0, 0, 0};
+    r.generation = number(), r.mark = number(), r.count = number();
+    uint64_t refusal = marble_rewrite(s, &state, &claims, LENT, NOTES, &r);
+    found(refusal, "ok", "ok 0", r.moved);
+}
+
+static void maintain(void) {
+    marble_stop stop;
+    uint64_t refusal = marble_nightly(s, &state, &claims, LENT, NOTES, &stop);
+    if (refusal == 0) printf("ok %llu\n", (unsigned long long)stop.moved);
+    else printf("refused %llu %llu %llu\n", (unsigned long long)refusal, (unsigned long long)stop.generation, (unsigned long long)stop.moved);
+}
+
 static int is(const char *word, const char *other) { return strcmp(word, other) == 0; }
 
 static void line(const char *word) {
@@ -150,10 +183,12 @@ static void line(const char *word) {
         said(marble_release(s, &state, &claims, LENT, number()));
     } else if (is(word, "prune")) {
         said(marble_prune(s, &state, &claims, LENT));
+    } else if (is(word, "plan")) {
+        plan();
+    } else if (is(word, "rewrite")) {
+        rewrite();
     } else if (is(word, "maintain")) {
-        refusal = marble_maintain(s, &state, &claims, LENT, &a, &b);
-        if (refusal == 0) printf("ok %llu\n", (unsigned long long)b);
-        else printf("refused %llu %llu %llu\n", (unsigned long long)refusal, (unsigned long long)a, (unsigned long long)b);
+        maintain();
     } else if (is(word, "counts")) {
         refusal = marble_counts(s, &state, LENT, &t);
         if (refusal != 0) said(refusal);

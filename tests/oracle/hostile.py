@@ -21,13 +21,14 @@ from scenarios import operation
 EDGES = [0, 1, 2, 20, 63, 64, 127, 128, 255, 256, 65536, 2 ** 20, BATCH_BIT - 1, BATCH_BIT, BATCH_BIT + 1,
          2 ** 63 - 1, 2 ** 63, 2 ** 64 - 1]
 NUMBER = r'(0|[1-9][0-9]{0,19})'
-REFUSED = r'refused ([1-9]|1[0-9]|2[01])'
+REFUSED = r'refused ([1-9]|1[0-9]|2[0-2])'
 FORMS = {word: re.compile(f'({form})$') for words, form in {
     'settings heap table poke entry state record claims': 'ok',
     'reopen write claim release prune store': f'ok|{REFUSED}',
     'read': f'ok (-|([0-9a-f][0-9a-f])+)|deleted|never|{REFUSED}',
     'through': f'(batch|heap) (-|([0-9a-f][0-9a-f])+)|deleted|never|{REFUSED}',
     'maintain': f'ok {NUMBER}|{REFUSED} [0-3] {NUMBER}',
+    'rewrite': f'ok {NUMBER}|{REFUSED}',
     'counts': f'ok {NUMBER} {NUMBER} {NUMBER} {NUMBER}|{REFUSED}',
     'unsynced': f'ok {NUMBER}',
     'sync': 'ok [01]',
@@ -36,11 +37,12 @@ FORMS = {word: re.compile(f'({form})$') for words, form in {
     'max': f'ok {NUMBER}|ok nothing|{REFUSED}',
 }.items() for word in words.split()}
 DUMP = re.compile(f'(next {NUMBER}|record{f" {NUMBER}" * 7} [01]|claimed {NUMBER}|entry{f" {NUMBER}" * 3}|heap {NUMBER}|end)$')
+PLAN = re.compile(f'(group [123]( {NUMBER})+|foretold {NUMBER} [123]|ok( {NUMBER}){{4}})$')
 LIST = re.compile(f'({NUMBER}{f" {NUMBER}" * 5}|ids {NUMBER})$')
 # scripts follow each other in one process: an accepted reopening empties map and claims, then the state is as before the first one
 RESET = ['settings 128 0 1 1 0 1', 'heap 128', 'table 2', 'reopen', f'state{" 0" * 9}']
-STATE_CALLS = ('reopen', 'write', 'claim', 'release', 'prune', 'maintain', 'read', 'through', 'counts', 'unsynced', 'sync', 'list', 'load', 'store',
-               'cas', 'max')
+STATE_CALLS = ('reopen', 'write', 'claim', 'release', 'prune', 'plan', 'rewrite', 'maintain', 'read', 'through', 'counts', 'unsynced', 'sync', 'list',
+               'load', 'store', 'cas', 'max')
 
 
 def first_word(line):
@@ -53,6 +55,7 @@ class Maker:
     def __init__(self, seed, number):
         self.r = random.Random(f'{seed} hostile {number}')
         self.lines, self.chunks = [], []  # chunks: (offset, bytes) poked
+        self.after, self.lsns = 1, [1]  # next position, and the lsns of the files by hand
 
     def rarely(self, usual, strange, chance=0.02):
         return strange if self.r.random() < chance else usual
@@ -99,8 +102,9 @@ class Maker:
             self.lines.append('reopen')
             return
         sizes = self.rarely(f'{self.slots * self.slot_bytes} {self.room}', f'{self.edge()} {self.edge()}')
-        after = max([1, base] + [l & ~BATCH_BIT for l in records]) + r.randrange(3)
-        self.lines.append(f'state {" ".join(map(str, self.settings))} {sizes} {self.rarely(after, self.edge(), 0.1)}')
+        self.lsns = [l & ~BATCH_BIT for l in records] or [1]
+        self.after = self.rarely(max(1, base, *self.lsns) + r.randrange(3), r.choice([self.edge(), r.choice(self.lsns)]), 0.15)
+        self.lines.append(f'state {" ".join(map(str, self.settings))} {sizes} {self.after}')
         for k, ident in enumerate(self.ids[:self.room]):
             raw = r.choice(places[ident]) if places[ident] and r.random() < 0.95 else max(1, self.edge())
             self.lines.append(f'entry {k} {self.rarely(ident, self.edge(), 0.01)} {self.rarely(raw, self.edge())}')
@@ -145,7 +149,7 @@ class Maker:
         fields.append(self.rarely(r.randrange(2), 2, 0.005))
         self.lines.append(f'record {self.rarely(slot, r.randrange(260), 0.01)} {" ".join(map(str, fields))}')
         records.append(lsn)
-        return min((lsn & ~BATCH_BIT) + t + r.choice([1, 1, 1, 1, 1, 1, 1, 1, 5, 0]), BATCH_BIT - 1) or 1
+        return max(1, min((lsn & ~BATCH_BIT) + t + r.choice([1] * 14 + [5, 5, 0, 0, -20, -20]), BATCH_BIT - 1))  # some ranges meet
 
     # calls
 
@@ -166,12 +170,19 @@ class Maker:
         more = b''.join(operation(ident, None if r.random() < 0.3 else r.randbytes(r.choice([0, 1, 5]))) for _ in range(r.choice([0, 0, 1, 2, 3])))
         return f'through {ident} {(more.hex() + batch.replace("-", "")) or "-"}'
 
+    def rewrite(self):
+        """generation, mark and count: as a plan would have them, and at their limits"""
+        r, threshold = self.r, self.settings[4]
+        mark = r.choice([self.after] * 6 + [0, 1, self.after + 1, BATCH_BIT, 2 ** 64 - 1, r.choice(self.lsns), r.choice(self.lsns) + 1, self.edge()])
+        count = r.choice([len(self.lsns)] * 4 + [0, max(0, threshold - 1), threshold, threshold + 1, self.edge()])
+        return f'rewrite {r.choice([1, 2, 3] * 4 + [0, 4, 2 ** 64 - 1, self.edge()])} {min(mark, 2 ** 64 - 1)} {count}'
+
     def call(self):
         r = self.r
         ident = r.choice(self.ids + [r.randrange(60)])
         slot, raw = self.rarely(r.randrange(self.slots + 1), self.edge(), 0.1), r.choice([1, 2, 3, self.edge()])
         calls = ['maintain'] * 5 + [f'write {self.batch()}'] * 5 + [f'read {i}' for i in self.ids]
-        calls += [self.through(ident)] * 3
+        calls += [self.through(ident)] * 3 + ['plan'] * 3 + [self.rewrite()] * 5
         calls += ['prune', 'counts', 'unsynced', 'sync', 'sync', 'list', 'reopen', f'claim {slot}', f'claim {slot}', f'release {slot}', f'load {ident}', f'store {ident} {raw}',
                   f'cas {ident} {raw} {self.edge()}', f'max {ident} {raw}', self.bad_line()]
         return r.choice(calls)
@@ -179,7 +190,7 @@ class Maker:
     def bad_line(self):
         big = 2 ** 64 + self.r.randrange(5)
         return self.r.choice(['nonsense', '', ' \t', 'read', 'read x', f'read {big}', 'through 1', 'through x -', 'through 1 0', 'write 0', 'write xy', 'heap 1048577', 'table 131073', 'table 2 2',
-                              'table', f'poke {self.heap_bytes} 00', f'entry {self.words // 2} 1 1', f'entry {2 ** 63} 1 1', 'record 256 1 1 1 1 1 1 0', 'record 0 1 1 1 1 1 1', 'record 0 1 1 1 1 1 1 2', 'sync 1', 'unsynced 0', 'claims 1 2 3', 'reopen now', 'settings 1 2 3 4 5', 'read -1'])
+                              'table', f'poke {self.heap_bytes} 00', f'entry {self.words // 2} 1 1', f'entry {2 ** 63} 1 1', 'record 256 1 1 1 1 1 1 0', 'record 0 1 1 1 1 1 1', 'record 0 1 1 1 1 1 1 2', 'sync 1', 'unsynced 0', 'plan 1', 'rewrite 1 2', 'rewrite 1 2 x', 'rewrite 1 2 3 4', f'rewrite 1 {big} 0', 'claims 1 2 3', 'reopen now', 'settings 1 2 3 4 5', 'read -1'])
 
 
 # ---- what must hold ------------------------------------------------------------------------------
@@ -211,16 +222,29 @@ def check(maker, answers):
         elif word == 'list':
             if answer[0] != 'slot lsn gen present live size' or not all(LIST.match(a) for a in answer[1:]):
                 raise wrong(maker, line, answer, 'not the form of a listing')
+        elif word == 'plan':
+            check_plan(maker, line, answer)
         elif answer != ['bad line'] and not (word in FORMS and len(answer) == 1 and FORMS[word].match(answer[0])):
             raise wrong(maker, line, answer, 'not in its form')
     return wrote
+
+
+def check_plan(maker, line, answer):
+    """groups ascending, slots ascending, each slot once; at most one refusal; then the numbers"""
+    kinds = [first_word(a) for a in answer]
+    groups = [[int(n) for n in a.split()[1:]] for a in answer if a.startswith('group')]
+    named = [g[0] for g in groups], [slot for g in groups for slot in g[1:]]
+    in_order = groups == sorted(groups) and all(g[1:] == sorted(g[1:]) for g in groups) and all(len(set(n)) == len(n) for n in named)
+    in_turn = kinds[len(groups):] in (['ok'], ['foretold', 'ok'])
+    if answer not in (['bad line'], ['refused 1']) and not (all(PLAN.match(a) for a in answer) and in_turn and in_order):
+        raise wrong(maker, line, answer, 'not the form of a plan')
 
 
 def check_call(maker, line, answer, before, after):
     """one call between two dumps; gives the slots whose heap bytes it may have changed"""
     word = first_word(line)
     refused, number = answer.startswith('refused'), answer.split()[1] if answer.startswith('refused') else ''
-    if answer == 'bad line' or word in ('read', 'through', 'counts', 'unsynced', 'load', 'list') or refused and (number == '1' or word not in ('reopen', 'maintain')):
+    if answer == 'bad line' or word in ('read', 'through', 'counts', 'unsynced', 'load', 'list', 'plan') or refused and (number == '1' or word not in ('reopen', 'maintain')):
         if before != after:
             raise wrong(maker, line, answer, 'a call that changes nothing changed the dump')
         return []
@@ -228,7 +252,7 @@ def check_call(maker, line, answer, before, after):
         raise wrong(maker, line, answer, 'a refused reopening leaves an empty store')
     if word in ('reopen', 'sync', 'claim', 'release', 'store', 'cas', 'max') and heap_sum(before) != heap_sum(after):
         raise wrong(maker, line, answer, 'the heap changed')
-    if word in ('prune', 'maintain', 'write') and of(before, 'claimed') != of(after, 'claimed'):
+    if word in ('prune', 'rewrite', 'maintain', 'write') and of(before, 'claimed') != of(after, 'claimed'):
         raise wrong(maker, line, answer, 'claims changed')
     if word in ('claim', 'release'):
         if len(of(before, 'claimed').items() ^ of(after, 'claimed').items()) != 1:
@@ -247,7 +271,9 @@ def check_call(maker, line, answer, before, after):
         gone = of(before, 'record').items() - of(after, 'record').items()
         if of(after, 'record').items() - of(before, 'record').items() or any(g[1].split()[-2] != '0' or g[0] in of(before, 'claimed') for g in gone):
             raise wrong(maker, line, answer, 'prune takes unclaimed files with live 0')
-    if word in ('write', 'prune', 'maintain'):
+    if word == 'rewrite' and of(before, 'record').keys() - of(after, 'record').keys():
+        raise wrong(maker, line, answer, 'a rewrite prunes nothing')
+    if word in ('write', 'prune', 'rewrite', 'maintain'):
         # by everything but the live count and the mark
         mine, theirs = ({k: l.rsplit(' ', 2)[0] for k, l in of(d, 'record').items()} for d in (before, after))
         slots = {int(k) for k in mine.keys() | theirs.keys() if mine.get(k) != theirs.get(k)}

@@ -1,6 +1,6 @@
 #!/usr/bin/env python3
 """Document 01 as plain Python, read from the paper alone: a second opinion beside the port. Of document 02: request P1's
-kinds, request P3's read through a batch, request P5's checker, request P6's mark, request P9's salvage.
+kinds, request P3's read through a batch, request P5's checker, request P6's mark, request P7's plan and rewrite, request P9's salvage.
 
 Reads the console's script on standard input and prints its answers. Nothing here is taken from crates/;
 where the paper leaves a choice, the reading D1..D15 of docs/DECISIONS.md is named at the line. 12 is as document 02's request P2 mends it."""
@@ -21,6 +21,9 @@ EMPTY = (0, 0, 0, 0, 0, 0, 0)  # lsn, trailer_offset, file_size, present_objects
 # a line of the checker's list; position is None where it has none; of: what the fault is of, which the call does not give
 Fault = namedtuple('Fault', 'slot number position of')
 Loss = namedtuple('Loss', 'slot number')  # a line of the salvage's report
+# what a plan gives; groups: the slots of each generation; files, bytes: what comes out before the refusal foretold; 0 and 0 where none is
+Plan = namedtuple('Plan', 'mark count groups files bytes number generation')
+GENERATIONS = (1, 2, 3)  # those that a rewrite makes
 
 
 class Refused(Exception):
@@ -120,6 +123,11 @@ def file_bytes(entries):
     listed = len(places).to_bytes(8, 'little')
     listed += b''.join(i.to_bytes(8, 'little') + r.to_bytes(8, 'little') for i, r in places)
     return bytes(objects) + zlib.crc32(listed).to_bytes(4, 'little') + listed, len(objects), places
+
+
+def spans(files):
+    """how far the next position grows by these files"""
+    return sum(file_bytes(f)[1] + 1 for f in files)
 
 
 def trailer_entries(trailer):
@@ -260,15 +268,17 @@ class Store:
         self.check_room([entries])
         table = self.table()
         refuse_if(len(table.keys() | {i for i, _ in entries}) > self.entries(), 6)
-        self.check_next([entries])
+        self.check_next([entries], self.next)
         self.install(entries, 0, BATCH_BIT)
 
-    def check_room(self, files):
+    def check_room(self, files, taken=0):
+        """taken: so many of the empty slots are spoken for"""
         refuse_if(any(LABEL + len(file_bytes(f)[0]) > self.given.slot_bytes for f in files), 4)
-        refuse_if(len(self.empty_slots()) < len(files), 5)
+        refuse_if(len(self.empty_slots()) - taken < len(files), 5)
 
-    def check_next(self, files):
-        refuse_if(files and self.next + sum(file_bytes(f)[1] + 1 for f in files) > BATCH_BIT, 7)
+    @staticmethod
+    def check_next(files, base):
+        refuse_if(files and base + spans(files) > BATCH_BIT, 7)
 
     def install(self, entries, generation, batch_bit):
         """one new file in the lowest empty slot: heap, table, live counts, record, next"""
@@ -360,15 +370,20 @@ class Store:
 
     # -- maintenance
 
-    def candidates(self):
-        """slots by new generation"""
-        s, count, groups = self.given, len(self.files()), {}  # D7: all files count for the threshold
-        for slot, (_, _, file_size, present, generation, live, _) in self.files():
+    def candidates(self, mark, count):
+        """slots by new generation, of the files below the mark, the threshold against the count given (document 02, request P7)"""
+        s, groups = self.given, {}
+        for slot, (lsn, _, file_size, present, generation, live, _) in self.files():
             sparse = live * 100 // max(present, 1) < s.percent
             small = count >= s.threshold and file_size * s.min_files < s.target
-            if live != 0 and not self.claimed(slot) and (sparse or small):
+            if masked(lsn) < mark and live != 0 and not self.claimed(slot) and (sparse or small):
                 groups.setdefault(min(generation + 1, 3), []).append(slot)
         return groups
+
+    def group(self, generation, mark, count):
+        """the slots that a rewrite of the generation takes: none where they are too few"""
+        slots = self.candidates(mark, count).get(generation, [])
+        return slots if len(slots) >= self.given.min_files else []
 
     def survivors(self, slot, table):
         """what the file has at its id's current location, as found; D8: the file's checks in order"""
@@ -407,24 +422,68 @@ class Store:
             sizes[n] = sizes.get(n, 0) + (0 if body is None else HEADER + len(body))
         return [shards[n] for n in sorted(shards)] + fragments
 
-    def maintain(self):
+    def files_of(self, slots):
+        """the files that come out of a group; all of it is checked first"""
+        kept, table = {}, self.table()
+        for slot in slots:
+            kept.update(self.survivors(slot, table))  # D9: as last found
+        return self.split(sorted(kept.items()))
+
+    def rewritten(self, slots, generation):
+        """one group; gives the count of ids moved"""
+        files = self.files_of(slots)
+        self.check_room(files)  # D15: 4 before 5
+        self.check_next(files, self.next)
+        for entries in files:
+            self.install(entries, generation, 0)
+        return sum(map(len, files))
+
+    def plan(self):
+        """what rewrites of 1, 2, 3 will do with nothing between: each group as the store stands, slots and base as those before it leave them"""
         self.check_state()
-        moved = 0
-        for generation, group in sorted(self.candidates().items()):
-            if len(group) < self.given.min_files:
-                continue
+        mark, count, made = self.next, len(self.files()), []  # D7: all files count for the threshold
+        groups = {generation: self.group(generation, mark, count) for generation in GENERATIONS}
+        number = stopped = 0
+        for generation in filter(groups.get, GENERATIONS):
             try:
-                kept, table = {}, self.table()
-                for slot in group:
-                    kept.update(self.survivors(slot, table))  # D9: as last found
-                files = self.split(sorted(kept.items()))
-                self.check_room(files)  # D15: 4 before 5
-                self.check_next(files)
+                files = self.files_of(groups[generation])
+                self.check_room(files, len(made))
+                self.check_next(files, self.next + spans(made))
+            except Refused as refusal:
+                number, stopped = refusal.number, generation
+                break
+            made += files
+        return Plan(mark, count, groups, len(made), sum(len(file_bytes(f)[0]) for f in made), number, stopped)
+
+    def rewrite(self, generation, mark, count):
+        """one named generation; gives the count of ids moved, and prunes nothing"""
+        self.check_state()
+        refuse_if(generation not in GENERATIONS, 22)
+        slots = self.group(generation, mark, count)
+        return self.rewritten(slots, generation) if slots else 0
+
+    def maintain(self):
+        """the nightly job: plan, rewrite 1, 2, 3, prune, until one is refused; its answer is document 01's"""
+        planned, moved = self.plan(), 0
+        for generation in GENERATIONS:
+            try:
+                moved += self.rewrite(generation, planned.mark, planned.count)
             except Refused as refusal:
                 raise Refused(refusal.number, generation, moved)
-            for entries in files:
-                self.install(entries, generation, 0)
-            moved += len(kept)
+        self.prune()
+        return moved
+
+    def maintain_01(self):
+        """document 01's one call, whose candidates are fixed as it starts"""
+        self.check_state()
+        moved = 0
+        for generation, slots in sorted(self.candidates(U64, len(self.files())).items()):
+            if len(slots) < self.given.min_files:
+                continue
+            try:
+                moved += self.rewritten(slots, generation)
+            except Refused as refusal:
+                raise Refused(refusal.number, generation, moved)
         self.drop_dead()
         return moved
 
@@ -712,6 +771,15 @@ class Console:
     @staticmethod
     def piece(word, body):
         return word if body is None else f'{word} {body.hex() or "-"}'
+
+    def do_plan(self):
+        p = self.store.plan()
+        lines = [' '.join(map(str, ['group', generation, *slots])) for generation, slots in p.groups.items() if slots]
+        lines += [f'foretold {p.number} {p.generation}'] if p.number else []
+        return lines + [f'ok {p.mark} {p.count} {p.files} {p.bytes}']
+
+    def do_rewrite(self, generation, mark, count):
+        return f'ok {self.store.rewrite(number(generation), number(mark), number(count))}'
 
     def do_maintain(self):
         return f'ok {self.store.maintain()}'

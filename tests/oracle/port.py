@@ -7,7 +7,7 @@ import zlib
 
 from model import DELETED, NEVER, OBJECT, Console
 
-BLOCK_END = {'dump': 'end', 'list': 'ids ', 'check': 'ok ', 'salvage': 'ok '}
+BLOCK_END = {'dump': 'end', 'list': 'ids ', 'check': 'ok ', 'salvage': 'ok ', 'plan': 'ok '}
 
 
 class Model:

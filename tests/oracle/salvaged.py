@@ -267,7 +267,8 @@ class Maker(damaged.Maker):
             reads = [f'read {i}' for i in self.ids[:12]]
             self.lines += reads
             for _ in range(r.choice([1, 2, 3])):
-                call = r.choice(['maintain', 'maintain', 'maintain', 'prune', 'reopen', 'salvage', f'claim {r.randrange(self.slots)}'])
+                call = r.choice(['maintain', 'maintain', 'maintain', 'plan', f'rewrite {r.randint(1, 3)} {2 ** 64 - 1} 256', 'prune', 'reopen', 'salvage',
+                                 f'claim {r.randrange(self.slots)}'])
                 self.lines += [call, *reads, 'check 8']
             self.wrote = r.choice(self.ids)
             self.lines += [f'write {operation(self.wrote, NEW).hex()}', f'read {self.wrote}', 'check 8']
@@ -319,7 +320,7 @@ class Rescue:
             self.stores = int(line.split()[-2])
         elif word in TAKEN:
             getattr(self, word)(line, answer)
-        elif self.report is not None and word in ('maintain', 'prune', 'claim'):
+        elif self.report is not None and word in ('plan', 'rewrite', 'maintain', 'prune', 'claim'):
             self.met.add('calls behind a rescue')
             if word == 'maintain' and self.maker.foreign and answer[0].startswith('ok') and answer != ['ok 0']:
                 self.met.add('a foreign heap that maintenance moved')

@@ -19,11 +19,14 @@ SLIPS = {  # name: (text of the model, the wrong text)
     'files looked up by masked location': ('below = [(2 * r[0], -k) for k, r in self.files() if 2 * r[0] <= raw]',
                                            'below = [(2 * masked(r[0]), -k) for k, r in self.files() if 2 * masked(r[0]) <= raw & ~(1 << 63)]'),
     'deletes left out of live counts': ('Counter(b[2] for b in best.values())', 'Counter(b[2] for b in best.values() if b[1] % 2 == 0)'),
-    'only the first group moved': ('            moved += len(kept)\n', '            moved += len(kept)\n            break\n'),
-    'an invented moved count': ('moved += len(kept)', 'moved += len(kept) + 1'),
+    'only the first group moved': ('                moved += self.rewrite(generation, planned.mark, planned.count)\n', '''                moved += self.rewrite(generation, planned.mark, planned.count)
+                if moved:
+                    break
+'''),
+    'an invented moved count': ('return sum(map(len, files))', 'return sum(map(len, files)) + 1'),
     'the first operation counts': ('sorted(dict(operations).items())', 'sorted(dict(reversed(operations)).items())'),
     'percentage not strict': ('live * 100 // max(present, 1) < s.percent', 'live * 100 // max(present, 1) <= s.percent'),
-    'claimed files rewritten': ('if live != 0 and not self.claimed(slot) and (sparse or small)', 'if live != 0 and (sparse or small)'),
+    'claimed files rewritten': ('live != 0 and not self.claimed(slot) and (sparse or small)', 'live != 0 and (sparse or small)'),
     'claimed files pruned': ('if record[5] == 0 and not self.claimed(slot)', 'if record[5] == 0'),
     'generation not held at 3': ('min(generation + 1, 3)', 'generation + 1'),
     'rewritten file with the batch bit': ('self.install(entries, generation, 0)', 'self.install(entries, generation, BATCH_BIT)'),
@@ -62,11 +65,12 @@ SLIPS = {  # name: (text of the model, the wrong text)
 # these need a store at a limit: name: (text, wrong text, kind of limits.py)
 AT_A_LIMIT = {
     'a threshold that is just met is not': ('count >= s.threshold', 'count > s.threshold', 'least_254'),
-    'a group of min_compaction_files is too small': ('len(group) < self.given.min_files', 'len(group) <= self.given.min_files', 'least_254'),
+    'a group of min_compaction_files is too small': ('len(slots) >= self.given.min_files', 'len(slots) > self.given.min_files', 'least_254'),
     'a file just small enough is not': ('file_size * s.min_files < s.target', 'file_size * s.min_files + 1 < s.target', 'least_254'),
     'shards 18 and 19 are one': ('else len(body).bit_length()', 'else {19: 18}.get(len(body).bit_length(), len(body).bit_length())', 'all_shards'),
     'the longest body refused in maintenance': ('length >= self.given.max_object, 3', 'length + 1 >= self.given.max_object, 3', 'two_slots'),
-    'a third group left out': ('sorted(self.candidates().items())', 'sorted(self.candidates().items())[:2]', 'three_groups'),
+    'a third group left out': ('moved += self.rewrite(generation, planned.mark, planned.count)',
+                               'moved += self.rewrite(generation, planned.mark, planned.count) if generation < 3 else 0', 'three_groups'),
     'a lower location not taken': ('{**table, **{i: r + 2 * lsn for i, r in places}}',
                                    '{**table, **{i: max(r + 2 * lsn, table.get(i, 0)) for i, r in places}}', 'table_calls_among_writes'),
 }
@@ -135,6 +139,45 @@ IN_THE_SALVAGE = {
         for slot in range(self.slots()):""", """        report, rest = [], []
         for slot in range(min(self.slots(), 255)):"""),
 }
+# these are of the plan and the rewrite, which the original does not have: noticed beside the right model on stores with both
+IN_TWO_CALLS = {
+    'no mark': ('if masked(lsn) < mark and live != 0', 'if live != 0'),
+    'a file at the mark taken': ('if masked(lsn) < mark and', 'if masked(lsn) <= mark and'),
+    'the mark against the lsn with its batch bit': ('if masked(lsn) < mark and', 'if lsn < mark and'),
+    'the threshold against the present count': ('small = count >= s.threshold', 'small = len(self.files()) >= s.threshold'),
+    'a rewrite that prunes': ('return sum(map(len, files))', 'self.drop_dead()\n        return sum(map(len, files))'),
+    'a rewrite of a group that is too small': ('return slots if len(slots) >= self.given.min_files else []', 'return slots'),
+    "a plan's later groups in the first one's slots": ('self.check_room(files, len(made))', 'self.check_room(files)'),
+    "a plan's later groups at the first one's base": ('self.check_next(files, self.next + spans(made))', 'self.check_next(files, self.next)'),
+    'a plan that goes on behind a refusal': ('''                number, stopped = refusal.number, generation
+                break
+''', '''                number, stopped = refusal.number, generation
+                continue
+'''),
+    'the groups from the refused one on not shown': ('return Plan(mark, count, groups,',
+                                                    'return Plan(mark, count, {g: s for g, s in groups.items() if not number or g < stopped},'),
+    'bytes of T in a plan': ('sum(len(file_bytes(f)[0]) for f in made), number', 'sum(file_bytes(f)[1] for f in made), number'),
+    'dead files not in the count': ('mark, count, made = self.next, len(self.files()), []', 'mark, count, made = self.next, sum(r[5] > 0 for _, r in self.files()), []'),
+    'a job that heeds a refusal foretold': ('        planned, moved = self.plan(), 0\n', '''        planned, moved = self.plan(), 0
+        if planned.number:
+            raise Refused(planned.number, planned.generation, 0)
+'''),
+    'a refused job that prunes': ('''                raise Refused(refusal.number, generation, moved)
+        self.prune()
+''', '''                self.prune()
+                raise Refused(refusal.number, generation, moved)
+        self.prune()
+'''),
+    'generation 0 rewritten': ('refuse_if(generation not in GENERATIONS, 22)', 'refuse_if(generation > 3, 22)'),
+    'generation 4 rewritten': ('refuse_if(generation not in GENERATIONS, 22)', 'refuse_if(not 1 <= generation <= 4, 22)'),
+    'generation 3 refused': ('refuse_if(generation not in GENERATIONS, 22)', 'refuse_if(generation not in (1, 2), 22)'),
+    'a generation by its low 32 bits': ('refuse_if(generation not in GENERATIONS, 22)', 'generation %= 1 << 32\n        refuse_if(generation not in GENERATIONS, 22)'),
+    '22 before 1': ('''        self.check_state()
+        refuse_if(generation not in GENERATIONS, 22)
+''', '''        refuse_if(generation not in GENERATIONS, 22)
+        self.check_state()
+'''),
+}
 # masked ranges are disjoint in the oracle's domain and every location is in a file, so both lookups find the same file there: this one is
 # noticed beside the right model on arbitrary states; so are the kinds of a read and a load, of which the original has fewer, and a read through a batch, of which it has none
 ON_ARBITRARY_STATES = {name: ['--count', '300'] for name in (
@@ -160,7 +203,7 @@ def main():
     slips = [(*slip, ['--seed', '56', '--small', '--count', '300']) for slip in SLIPS.items()]
     if not options.stored:  # no scenario at the limits is stored
         slips += [(name, slip[:2], ['--seed', '56', '--limit', slip[2], '--count', '0']) for name, slip in AT_A_LIMIT.items()]
-    slips += [(*slip, None) for slip in [*IN_THE_CHECKER.items(), *IN_THE_SALVAGE.items()]]
+    slips += [(*slip, None) for slip in [*IN_THE_CHECKER.items(), *IN_THE_SALVAGE.items(), *IN_TWO_CALLS.items()]]
     began, missed = time.time(), []
     with open(os.path.join(HERE, 'model.py')) as file:
         model = file.read()
@@ -176,6 +219,8 @@ def main():
                 found = noticed(HERE, 'damaged.py', ['--console', os.path.join(copy, 'model.py')])
             elif name in IN_THE_SALVAGE:
                 found = noticed(HERE, 'salvaged.py', ['--console', os.path.join(copy, 'model.py')])
+            elif name in IN_TWO_CALLS:
+                found = noticed(HERE, 'planned.py', ['--console', os.path.join(copy, 'model.py')])
             elif name in ON_ARBITRARY_STATES:
                 found = noticed(HERE, 'hostile.py', ['--console', os.path.join(copy, 'model.py')] + ON_ARBITRARY_STATES[name])
             else:

@@ -143,11 +143,11 @@ put-seven ws at a b c d e f g h =
     ∙ put-put ws at six (g ∷ []) (omega arith)
 
 -- a run behind a run that stands at the front
-put-next : (s xs ys : List ℕ) (j : ℕ) → length xs ≡ j → putAt (putAt s 0 xs) j ys ≡ putAt s 0 (xs ++ ys)
+pub put-next : (s xs ys : List ℕ) (j : ℕ) → length xs ≡ j → putAt (putAt s 0 xs) j ys ≡ putAt s 0 (xs ++ ys)
 put-next s xs ys j e = ap (λ (k : ℕ). putAt (putAt s 0 xs) k ys) (sym (zero-add (length xs) ∙ e)) ∙ put-put s 0 xs ys zero-le
 
 -- a run as long as the whole leaves nothing of it
-put-whole : (s xs : List ℕ) → length xs ≡ length s → putAt s 0 xs ≡ xs
+pub put-whole : (s xs : List ℕ) → length xs ≡ length s → putAt s 0 xs ≡ xs
 unfolding front
 put-whole s xs e = put-front s xs ∙ ap (λ (ys : List ℕ). xs ++ ys) (drop-of-length-le s {i = length xs} (omega (arith, e))) ∙ append-nil xs
 

@@ -11,11 +11,12 @@ use rules::Loaded;
 use rules::MaintainAnswer;
 use rules::ReadAnswer;
 use rules::Refusal;
+use rules::RewriteAnswer;
 ghost use mathlib.Core.Path.{_≡_};
 ghost use mathlib.Core.List.{[], _∷_};
 ghost use lib.ListN.{length};
 ghost use Rattle.rules.specs.Refusal.{numberOf};
-ghost use Rattle.rules.specs.World.{answerGiven, readGiven, maintainGiven, countsGiven, compareGiven};
+ghost use Rattle.rules.specs.World.{answerGiven, readGiven, maintainGiven, rewriteGiven, countsGiven, compareGiven};
 ghost use Rattle.rules.specs.World.{loadedGiven, loadGiven, heldGiven, greaterGiven};
 ghost use Rattle.as_numbers.specs.Numbered.{numbered};
 ghost use Rattle.as_numbers.specs.Shown.{given, shown, stopShown};
@@ -46,6 +47,7 @@ pub fn refusal_number(r: Refusal) -> u64
         Refusal::EqualLocation => 19,
         Refusal::Location => 20,
         Refusal::Claim => 21,
+        Refusal::Generation => 22,
     }
 }
 
@@ -225,6 +227,22 @@ pub fn maintain_shown(a: MaintainAnswer) -> Two
             number: refusal_number(r),
             first: generation,
             second: n,
+        },
+    }
+}
+
+// Request P7: the ids moved, or 0.
+pub fn rewrite_shown(a: RewriteAnswer) -> One
+    ensures { λ r. ⌜ given (r .number) (r .value ∷ []) ≡ shown 1 (rewriteGiven a) ⌝ }
+{
+    match a {
+        RewriteAnswer::Rewrote(n) => One {
+            number: 0,
+            value: n,
+        },
+        RewriteAnswer::RewriteRefused(r) => One {
+            number: refusal_number(r),
+            value: 0,
         },
     }
 }

@@ -12,7 +12,7 @@ ghost use mathlib.Core.Path.{_≡_};
 ghost use Prim.Native.Nat.{_+_, _≤_};
 ghost use lib.ListN.{length};
 ghost use Rattle.numbers.specs.Parts.{putAt};
-ghost use Rattle.as_numbers.specs.StateWords.{recordAt, recordsFrom, settingsIn, stateIn, recordWords, recordsWords, settingsWords};
+ghost use Rattle.as_numbers.specs.StateWords.{recordAt, settingsIn, stateIn, recordWords, recordsWords, settingsWords};
 
 // ---- from words
 // "A record holds the label's five numbers and the live count", and the synced mark.
@@ -31,9 +31,9 @@ fn record_at(words: &[u64], at: usize) -> Record
 }
 
 // "a file map of 256 records"
-fn files_in(words: &[u64]) -> FileMap
+pub fn files_in(words: &[u64]) -> FileMap
     requires { ⌜ length (now words) ≡ 1801 ⌝ }
-    ensures { λ m. ⌜ m .records ≡ recordsFrom 256 (now (words .entry)) 8 ⌝ }
+    ensures { λ m. ⌜ m ≡ stateIn (now (words .entry)) .files ⌝ }
 {
     let mut files = no_files();
     let mut k: usize = 0;

@@ -164,8 +164,16 @@ fn shown(look: Look, b: Bench, line: &[u8], heap: &[u8], table: &[u64]) {
     }
 }
 
-// `id`: the first number of the order, the id that was read. `report`: a salvage's lines.
-fn written(turn: Turn, id: u64, line: &[u8], heap: &[u8], table: &[u64], report: &[u64; 512]) {
+// `id`: the first number of the order, the id that was read. `report`: a salvage's lines. `plan`: what a plan gives.
+fn written(
+    turn: Turn,
+    id: u64,
+    line: &[u8],
+    heap: &[u8],
+    table: &[u64],
+    report: &[u64; 512],
+    plan: &[u64; 777],
+) {
     let b = turn.bench;
     let reply = turn.reply;
     match reply {
@@ -173,6 +181,8 @@ fn written(turn: Turn, id: u64, line: &[u8], heap: &[u8], table: &[u64], report:
         Reply::Answered(answer) => say::answer(answer),
         Reply::Read(answer) => read(answer, b, heap, table, id),
         Reply::Through(answer) => through(answer, b, line, heap),
+        Reply::Planned(answer) => show::planned(answer, plan),
+        Reply::Rewrote(answer) => say::rewrote(answer),
         Reply::Maintained(answer) => say::maintained(answer),
         Reply::Counted(answer) => counted(answer),
         Reply::Marks(n) => say::named(b"ok", n),
@@ -189,6 +199,13 @@ fn report_words() -> [u64; 512]
     ensures { λ r. ⌜ 512 ≡ length r ⌝ }
 {
     [0u64; 512]
+}
+
+// The words of a plan.
+fn plan_words() -> [u64; 777]
+    ensures { λ r. ⌜ 777 ≡ length r ⌝ }
+{
+    [0u64; 777]
 }
 
 // A line's command is done, and its reply written.
@@ -210,6 +227,7 @@ pub fn after_line(
     let keyword = order.keyword;
     let numbers = order.numbers;
     let mut report = report_words();
+    let mut plan = plan_words();
     let turn = desk::after_order(
         b,
         keyword,
@@ -218,7 +236,8 @@ pub fn after_line(
         heap,
         table,
         &mut report,
+        &mut plan,
     );
-    written(turn, numbers[0], line, heap, table, &report);
+    written(turn, numbers[0], line, heap, table, &report, &plan);
     turn.bench
 }

@@ -4,6 +4,7 @@ use libc::STDOUT_FILENO;
 use rules::Answer;
 use rules::MaintainAnswer;
 use rules::Refusal;
+use rules::RewriteAnswer;
 ghost use Prim.Native.Nat.{_≤_};
 ghost use lib.ListN.{length};
 
@@ -44,6 +45,14 @@ pub fn answer(a: Answer) {
     match a {
         Answer::Done => ok(),
         Answer::Refused(r) => refused(r),
+    }
+}
+
+// Request P7: the count moved.
+pub fn rewrote(a: RewriteAnswer) {
+    match a {
+        RewriteAnswer::Rewrote(n) => named(b"ok", n),
+        RewriteAnswer::RewriteRefused(r) => refused(r),
     }
 }
 
@@ -112,8 +121,9 @@ pub fn help() {
     text(
         b"# claims A B C D                                           changes the claims by hand\n",
     );
+    text(b"# reopen   write HEX   read ID   claim SLOT   release SLOT   prune   counts\n");
     text(
-        b"# reopen   write HEX   read ID   claim SLOT   release SLOT   prune   maintain   counts\n",
+        b"# plan   rewrite G MARK COUNT   maintain                   plans; rewrites one generation; plans, rewrites 1, 2, 3, prunes\n",
     );
     text(
         b"# through ID HEX                                           reads as if the batch HEX had been written\n",
@@ -137,6 +147,16 @@ pub fn help() {
         b"# A read through a batch answers batch HEX or heap HEX, by whose bytes they are; deleted or never ",
     );
     text(b"as a read does; refused 2 where HEX is no batch. Nothing is written.\n");
+    text(
+        b"# A plan answers group G SLOT .. for the files that a rewrite of G would take, foretold NUMBER G for the first one ",
+    );
+    text(
+        b"that would be refused, then ok MARK COUNT FILES BYTES: the files that come out before it.\n",
+    );
+    text(
+        b"# A rewrite is given MARK and COUNT of the last plan, so that files written since then are left alone; it answers ok IDS and ",
+    );
+    text(b"prunes nothing.\n");
     text(
         b"# Unsynced answers ok FILES, sync ok 1 if a mark changed, else ok 0. Flush, then sync: ",
     );

@@ -1,8 +1,9 @@
-// Looking: the listing, everything, what is wrong with the heap, what a salvage gave up, bytes.
+// Looking: the listing, everything, what is wrong with the heap, what a salvage gave up, what a plan gives, bytes.
 use crate::say;
 use desk::Bench;
 use marble::CheckAnswer;
 use marble::SalvageAnswer;
+use rules::Answer;
 use rules::Claims;
 use rules::FileMap;
 use rules::RECORDS;
@@ -217,6 +218,64 @@ pub fn salvaged(answer: SalvageAnswer, report: &[u64; 512]) {
     match answer {
         SalvageAnswer::GivenUp(count) => losses(count, report),
         SalvageAnswer::SalvageRefused(r) => say::refused(r),
+    }
+}
+
+fn slot_numbers(slots: &[u64]) {
+    let mut i: usize = 0;
+    while i < slots.len() {
+        say::number(slots[i]);
+        i += 1;
+    }
+}
+
+// "group G SLOT ..", unless the group is empty: how many slots, then the slots.
+fn group_line(generation: u64, group: &[u64]) {
+    if group.len() == 0 {
+        return;
+    }
+    if group[0] == 0 {
+        return;
+    }
+    let n = desk::least(group[0] as usize, group.len() - 1);
+    let end = n + 1;
+    say::text(b"group");
+    say::number(generation);
+    slot_numbers(&group[1..end]);
+    say::end();
+}
+
+// "foretold N G", unless both are 0.
+fn foretold_line(refusal: u64, generation: u64) {
+    if refusal == 0 && generation == 0 {
+        return;
+    }
+    say::text(b"foretold");
+    say::number(refusal);
+    say::number(generation);
+    say::end();
+}
+
+// "ok MARK COUNT FILES BYTES" behind what there is of groups and of a refusal.
+fn plan_lines(plan: &[u64])
+    requires { ⌜ length (now plan) ≡ 777 ⌝ }
+{
+    group_line(1, &plan[6..263]);
+    group_line(2, &plan[263..520]);
+    group_line(3, &plan[520..777]);
+    foretold_line(plan[4], plan[5]);
+    say::text(b"ok");
+    say::number(plan[0]);
+    say::number(plan[1]);
+    say::number(plan[2]);
+    say::number(plan[3]);
+    say::end();
+}
+
+pub fn planned(answer: Answer, plan: &[u64; 777]) {
+    match answer {
+        Answer::Done => plan_lines(plan),
+        Answer::Refused(r) => say::refused(r),
     }
 }
 

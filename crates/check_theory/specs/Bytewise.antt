@@ -10,7 +10,7 @@ use Rattle.disk_location.specs.Locations.{rawOf}
 use Rattle.numbers.specs.declared.Number.{Number}
 use Rattle.numbers.specs.declared.Number.the-variants.{Said, Malformed}
 use Rattle.numbers.specs.GroupLaws.{groups-bytes, either-way}
-use Rattle.rules.specs.Base.{Bool, true, false, List, [], _∷_, _++_, map, ℕ, zero, suc, _+_, _-_, _*_, _^_, length, getD, take, drop, set, replicate, leb, ltb, eqb, pick, each, padded}
+use Rattle.rules.specs.Base.{Bool, true, false, List, [], _∷_, _++_, map, ℕ, zero, suc, _+_, _-_, _*_, _^_, length, getD, take, drop, set, replicate, leb, eqb, pick, each, padded}
 use Rattle.rules.specs.BaseLaws.{All, all-map, all-append, all-take}
 use Rattle.rules.specs.Refusal.{_gives_, decide, after}
 use Rattle.rules.specs.Object.{Stored, objectBytes, storedAt, objectsFrom, objectsIn}
@@ -28,13 +28,15 @@ use Rattle.rules.specs.Prune.{isDead, pruneStores, pruned, pruneCall}
 use Rattle.rules.specs.Condition1.{refused1}
 use Rattle.rules.specs.FileMap.{recordAt, slotsWhere}
 use Rattle.rules.specs.Table.{load, currentAt}
-use Rattle.rules.specs.Maintenance.{objectsFound, deletesFound, deletesOf, slotOf, foundIn, found, filesOf, Stop, going, stopped, Course, group, groupTests, rewriteGroup, onward, groupsFrom, courseOf, ended, finished, maintainCall}
-use Rattle.rules.specs.World.{World, recordsOf, mappings, accepted, maintainGiven, After, unchanged}
-use Rattle.theory.specs.Types.{Entry, Label, Refusal, Limits, Answer, Done, Refused, Stopped}
+use Rattle.rules.specs.Maintenance.{objectsFound, deletesFound, deletesOf, slotOf, foundIn, found, filesOf, going, stopped, Course, group, groupTests, rewriteGroup}
+use Rattle.rules.specs.TwoCalls.{tooFew, generationRewritten, rewriteCall}
+use Rattle.rules.specs.World.{World, recordsOf, mappings, accepted, unchanged}
+use Rattle.theory.specs.Types.{Entry, Label, Refusal, Limits, Answer, Done, Refused}
 use Rattle.theory.specs.Lists.{all-each, all-kept, all-set, all-replicate, every}
 use Rattle.history_theory.specs.Shards.{PartOf, sub-all, files-parts}
 use Rattle.history_theory.specs.Quiet.{undisturbed}
-use Rattle.history_theory.specs.History.{Call, write, maintain, prune, reopen, quiet, called, hears, Life, lived}
+use Rattle.history_theory.specs.OneGeneration.{rewrite-leaves}
+use Rattle.history_theory.specs.History.{Call, write, rewrite, prune, reopen, quiet, called, hears, Life, lived}
 use Rattle.power_cuts.specs.Runs.{run-made}
 use Rattle.check_theory.specs.Lists.{of-every}
 
@@ -253,30 +255,13 @@ module _ (w : World) (h : All Byte (w .heap)) where
       go (Refused r) = h
       go Done = files-bytes 0 g (filesOf (w .settings .«target_file_size») (found w ks)) w (found-files-bytes ks (w .settings .«target_file_size»)) h
 
-onward-bytes : (stop : Stop) (g : ℕ) (ks : List ℕ) (c : Course) → All Byte (c .world .heap) → All Byte (onward stop g ks c .world .heap)
-onward-bytes (stopped r n) g ks c h = h
-onward-bytes going g ks c h = go (ltb (length ks) (c .world .settings .«min_compaction_files»))
+rewrite-bytes : (w : World) (room g mark count : ℕ) → All Byte (w .heap) → All Byte (rewriteCall w room g mark count .world .heap)
+unfolding generationRewritten
+rewrite-bytes w room g mark count h = rewrite-leaves (λ (v : World). All Byte (v .heap)) w room g mark count h (λ low high. go (tooFew w (group w g mark count)))
   where
-    go : (b : Bool) → All Byte (pick b c (rewriteGroup g ks (c .moved) (c .world)) .world .heap)
+    go : (b : Bool) → All Byte (pick b (record { stop = going; moved = 0; world = w }) (rewriteGroup g (group w g mark count) 0 w) .world .heap)
     go true = h
-    go false = group-bytes (c .world) h g ks (c .moved)
-
-groups-from-bytes : (gs : List ℕ) (start : World) (c : Course) → All Byte (c .world .heap) → All Byte (groupsFrom gs start c .world .heap)
-unfolding groupsFrom
-groups-from-bytes [] start c h = h
-groups-from-bytes (g ∷ gs) start c h = groups-from-bytes gs start (onward (c .stop) g (group start g) c) (onward-bytes (c .stop) g (group start g) c h)
-
-maintain-bytes : (w : World) → All Byte (w .heap) → All Byte (maintainCall w .world .heap)
-unfolding maintainCall courseOf
-maintain-bytes w h = go (decide (refused1 w gives Limits ∷ []))
-  where
-    end : (stop : Stop) (c : Course) → All Byte (c .world .heap) → All Byte (ended stop c .world .heap)
-    end (stopped r g) c b = b
-    end going c b = pruned-bytes (c .world) b
-
-    go : (a : Answer) → All Byte (after {A = After} a (λ (r : Refusal). record { answer = maintainGiven (Stopped r 0 0); world = w }) (finished (courseOf w)) .world .heap)
-    go (Refused r) = h
-    go Done = end (courseOf w .stop) (courseOf w) (groups-from-bytes (1 ∷ 2 ∷ 3 ∷ []) w (record { stop = going; moved = 0; world = w }) h)
+    go false = group-bytes w h g (group w g mark count) 0
 
 prune-bytes : (w : World) → All Byte (w .heap) → All Byte (pruneCall w .world .heap)
 unfolding pruneCall
@@ -290,7 +275,7 @@ prune-bytes w h = go (decide (refused1 w gives Limits ∷ []))
 -- what a host hands in is bytes
 abbrev pub CallBytes : Call → Type 0
 CallBytes (write batch) = Bytes batch
-CallBytes maintain = Unit {0}
+CallBytes (rewrite room g mark count) = Unit {0}
 CallBytes prune = Unit {0}
 CallBytes reopen = Unit {0}
 CallBytes (quiet q) = Unit {0}
@@ -299,7 +284,8 @@ CallBytes (quiet q) = Unit {0}
 pub bytes-called : (w : World) (c : Call) → CallBytes c → Bytes (w .heap) → Bytes (called w c .world .heap)
 unfolding made
 bytes-called w (write batch) b h = from-all (writeCall w batch .world .heap) (write-bytes w batch (to-all batch b) (to-all (w .heap) h))
-bytes-called w maintain b h = from-all (maintainCall w .world .heap) (maintain-bytes w (to-all (w .heap) h))
+bytes-called w (rewrite room g mark count) b h =
+    from-all (rewriteCall w room g mark count .world .heap) (rewrite-bytes w room g mark count (to-all (w .heap) h))
 bytes-called w prune b h = from-all (pruneCall w .world .heap) (prune-bytes w (to-all (w .heap) h))
 bytes-called w reopen b h = subst Bytes (sym (run-made w reopen)) h
 bytes-called w (quiet q) b h = subst Bytes (sym (undisturbed w q .heap)) h

@@ -58,3 +58,14 @@ lending-heap f b heap table h w t hs eh ew e =
     let whole : left t (hs ++ drop (h - 0) heap) (take (w - 0) table ++ drop (w - 0) table) ≡ left t (hs ++ drop (h - 0) heap) table =
     rw (take-append-drop (w - 0) table) refl in
     sym whole ∙ both
+
+-- the same, where both parts are lent to be read
+pub lending-none : (f : Desk → Outcome) (b : Bench) (heap table : List ℕ) (h w : ℕ) (t : Turn)
+    → h ≡ pick (ltb (b .«heap_len») (length heap)) (b .«heap_len») (length heap)
+    → w ≡ pick (ltb (b .«table_words») (length table)) (b .«table_words») (length table)
+    → left t (take (h - 0) heap) (take (w - 0) table) ≡ f (desk b (take (h - 0) heap) (take (w - 0) table))
+    → left t heap table ≡ onLent f (desk b heap table)
+lending-none f b heap table h w t eh ew e =
+    let one = lending-heap f b heap table h w t (take (h - 0) heap) eh ew e in
+    let whole : left t (take (h - 0) heap ++ drop (h - 0) heap) table ≡ left t heap table = rw (take-append-drop (h - 0) heap) refl in
+    sym whole ∙ one

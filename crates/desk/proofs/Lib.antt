@@ -1,4 +1,5 @@
 pub mod Orders
 pub mod Lending
+pub mod Notes
 pub mod Tables
 pub mod Marking

@@ -10,13 +10,13 @@ use Rattle.script.specs.declared.Keyword.the-variants as key
 use Rattle.desk.specs.Types.{Keyword}
 use Rattle.desk.specs.Kinds.{atBench, number, Among}
 use Rattle.desk.specs.Desk.{Desk, badLine, onLent}
-use Rattle.desk.specs.Commands.{reportBy, lentBy, doneBy}
+use Rattle.desk.specs.Commands.{reportBy, wordsBy, lentBy, doneBy}
 
 -- ---- keywords by number
 abbrev keywords : List Keyword
 keywords =
     key.Blank ∷ key.Bad ∷ key.Settings ∷ key.Heap ∷ key.Table ∷ key.Poke ∷ key.Entry ∷ key.State ∷ key.Record ∷ key.Claims ∷ key.Reopen ∷ key.Write ∷ key.Claim
-    ∷ key.Release ∷ key.Prune ∷ key.Read ∷ key.Through ∷ key.Maintain ∷ key.Counts ∷ key.Unsynced ∷ key.Sync ∷ key.Check ∷ key.Salvage ∷ key.Load ∷ key.Store ∷ key.Cas
+    ∷ key.Release ∷ key.Prune ∷ key.Read ∷ key.Through ∷ key.Plan ∷ key.Rewrite ∷ key.Maintain ∷ key.Counts ∷ key.Unsynced ∷ key.Sync ∷ key.Check ∷ key.Salvage ∷ key.Load ∷ key.Store ∷ key.Cas
     ∷ key.Max ∷ key.List ∷ key.Dump ∷ key.Bytes ∷ key.Help ∷ []
 
 numbered : (k : Keyword) → getD keywords (number k) key.Bad ≡ k
@@ -37,6 +37,8 @@ numbered key.Release = refl
 numbered key.Prune = refl
 numbered key.Read = refl
 numbered key.Through = refl
+numbered key.Plan = refl
+numbered key.Rewrite = refl
 numbered key.Maintain = refl
 numbered key.Counts = refl
 numbered key.Unsynced = refl
@@ -105,21 +107,21 @@ last told z k p h = last-one told z k p (not-told (map number told) keywords (nu
 -- ---- the commands on the lent parts
 -- those that are not
 abbrev pub whole : List Keyword
-whole = key.Blank ∷ key.Bad ∷ key.Settings ∷ key.Heap ∷ key.Table ∷ key.State ∷ key.Record ∷ key.Claims ∷ key.Unsynced ∷ key.Sync ∷ key.Check ∷ key.Salvage ∷ key.List ∷ key.Dump ∷ key.Help ∷ []
+whole = key.Blank ∷ key.Bad ∷ key.Settings ∷ key.Heap ∷ key.Table ∷ key.State ∷ key.Record ∷ key.Claims ∷ key.Plan ∷ key.Unsynced ∷ key.Sync ∷ key.Check ∷ key.Salvage ∷ key.List ∷ key.Dump ∷ key.Help ∷ []
 
 -- those that are
 abbrev pub parts : List Keyword
 parts =
-    key.Poke ∷ key.Entry ∷ key.Reopen ∷ key.Write ∷ key.Claim ∷ key.Release ∷ key.Prune ∷ key.Read ∷ key.Through ∷ key.Maintain ∷ key.Counts ∷ key.Load ∷ key.Store ∷ key.Cas
+    key.Poke ∷ key.Entry ∷ key.Reopen ∷ key.Write ∷ key.Claim ∷ key.Release ∷ key.Prune ∷ key.Read ∷ key.Through ∷ key.Rewrite ∷ key.Maintain ∷ key.Counts ∷ key.Load ∷ key.Store ∷ key.Cas
     ∷ key.Max ∷ key.Bytes ∷ []
 
 pub lent-rest : (n bytes : List ℕ) (d : Desk) (k : Keyword) → Among whole k → badLine d ≡ lentBy k n bytes d
 unfolding lentBy
-lent-rest n bytes d = each (λ (k : Keyword). badLine d ≡ lentBy k n bytes d) whole (refl, (refl, (refl, (refl, (refl, (refl, (refl, (refl, (refl, (refl, (refl, (refl, (refl, (refl, (refl, tt)))))))))))))))
+lent-rest n bytes d = each (λ (k : Keyword). badLine d ≡ lentBy k n bytes d) whole (refl, (refl, (refl, (refl, (refl, (refl, (refl, (refl, (refl, (refl, (refl, (refl, (refl, (refl, (refl, (refl, tt))))))))))))))))
 
 pub done-rest : (n bytes : List ℕ) (d : Desk) (k : Keyword) → Among parts k → onLent (lentBy k n bytes) d ≡ doneBy k n bytes d
 unfolding doneBy
-done-rest n bytes d = each (λ (k : Keyword). onLent (lentBy k n bytes) d ≡ doneBy k n bytes d) parts (refl, (refl, (refl, (refl, (refl, (refl, (refl, (refl, (refl, (refl, (refl, (refl, (refl, (refl, (refl, (refl, tt))))))))))))))))
+done-rest n bytes d = each (λ (k : Keyword). onLent (lentBy k n bytes) d ≡ doneBy k n bytes d) parts (refl, (refl, (refl, (refl, (refl, (refl, (refl, (refl, (refl, (refl, (refl, (refl, (refl, (refl, (refl, (refl, (refl, tt)))))))))))))))))
 
 -- ---- the report
 -- those that leave it
@@ -127,4 +129,12 @@ pub bench-report : (d : Desk) (report : List ℕ) (k : Keyword) → Among atBenc
 bench-report d report = each (λ (k : Keyword). report ≡ reportBy k d report) atBench (refl, (refl, (refl, (refl, (refl, (refl, (refl, (refl, (refl, (refl, (refl, (refl, tt))))))))))))
 
 pub parts-report : (d : Desk) (report : List ℕ) (k : Keyword) → Among parts k → report ≡ reportBy k d report
-parts-report d report = each (λ (k : Keyword). report ≡ reportBy k d report) parts (refl, (refl, (refl, (refl, (refl, (refl, (refl, (refl, (refl, (refl, (refl, (refl, (refl, (refl, (refl, (refl, tt))))))))))))))))
+parts-report d report = each (λ (k : Keyword). report ≡ reportBy k d report) parts (refl, (refl, (refl, (refl, (refl, (refl, (refl, (refl, (refl, (refl, (refl, (refl, (refl, (refl, (refl, (refl, (refl, tt)))))))))))))))))
+
+-- ---- a plan's words
+-- those that leave them
+pub bench-words : (d : Desk) (words : List ℕ) (k : Keyword) → Among atBench k → words ≡ wordsBy k d words
+bench-words d words = each (λ (k : Keyword). words ≡ wordsBy k d words) atBench (refl, (refl, (refl, (refl, (refl, (refl, (refl, (refl, (refl, (refl, (refl, (refl, tt))))))))))))
+
+pub parts-words : (d : Desk) (words : List ℕ) (k : Keyword) → Among parts k → words ≡ wordsBy k d words
+parts-words d words = each (λ (k : Keyword). words ≡ wordsBy k d words) parts (refl, (refl, (refl, (refl, (refl, (refl, (refl, (refl, (refl, (refl, (refl, (refl, (refl, (refl, (refl, (refl, (refl, tt)))))))))))))))))

@@ -5,23 +5,24 @@ use Rattle.rules.specs.Layout.{Table, capacityOf, cleared}
 use Rattle.rules.specs.Settings.{defaults}
 use Rattle.rules.specs.Claims.{noClaims, claimCall, releaseCall}
 use Rattle.rules.specs.Counts.{countsCall}
-use Rattle.rules.specs.Maintenance.{maintainCall}
 use Rattle.rules.specs.Prune.{pruneCall}
 use Rattle.rules.specs.Read.{readCall}
 use Rattle.rules.specs.Reopen.{reopenCall}
 use Rattle.rules.specs.Sync.{unsyncedCall, syncState}
 use Rattle.rules.specs.TableCalls.{loadCall, storeCall, compareCall, greaterCall}
+use Rattle.rules.specs.TwoCalls.{planCall, rewriteCall, nightlyCall}
 use Rattle.rules.specs.World.{World, Given, noState}
 use Rattle.rules.specs.Write.{writeCall}
 use Rattle.file_map.specs.Records.{labelled}
 use Rattle.location_table.specs.Tables.{withPair}
 use Rattle.numbers.specs.Parts.{putAt}
+use Rattle.plan_words.specs.PlanWords.{planLaid}
 use Rattle.losses.specs.Salvage.{Salvaged, salvageCall}
 use Rattle.through.specs.Through.{throughCall}
 use Rattle.script.specs.declared.Keyword.the-variants as key
-use Rattle.desk.specs.Types.{Settings, Record, State, Claims, Keyword, Bench, Comment, Help, Listing, Dump, Check, Bytes, BadLine, Shown, Turn}
+use Rattle.desk.specs.Types.{Settings, Record, State, Claims, Request, Keyword, Bench, Comment, Help, Listing, Dump, Check, Bytes, BadLine, Shown, Turn}
 use Rattle.desk.specs.Kinds.{number}
-use Rattle.desk.specs.Desk.{Desk, desk, plain, found, pieced, moved, counted, marks, located, compared, raised, emptied, gave, Outcome, left, replied, done, badLine, looked, changed, called, onTable, lentOf, onLent}
+use Rattle.desk.specs.Desk.{Desk, desk, plain, found, pieced, planned, moved, counted, marks, located, compared, raised, emptied, gave, Outcome, left, replied, done, badLine, looked, changed, worldOf, called, onTable, lentOf, onLent}
 
 -- number k of a line
 abbrev pub nth : List ℕ → ℕ → ℕ
@@ -129,8 +130,29 @@ salvageBy d = rescued d (salvageOn d [] .answer) (salvageOn d [] .heap)
 abbrev pub reportBy : Keyword → Desk → List ℕ → List ℕ
 reportBy k d report = pick (eqb (number k) (number key.Salvage)) (salvageOn (lentOf d) report .report) report
 
+-- ---- maintenance in two calls
+-- the notes that the console lends: as many as the longest table has entries
+abbrev pub notes : ℕ
+notes = 65536
+
+-- `plan`: nothing changes
+abbrev pub planBy : Desk → Outcome
+planBy d = record { reply = gave planned (record { number = planCall (worldOf d) notes .number; values = [] }); desk = d }
+
+-- its values, in words of their own
+abbrev pub planOn : Desk → List ℕ
+planOn d = planLaid (worldOf d) notes
+
+-- these words after a command: a plan of the lent parts writes them, any other command leaves them
+abbrev pub wordsBy : Keyword → Desk → List ℕ → List ℕ
+wordsBy k d words = pick (eqb (number k) (number key.Plan)) (planOn (lentOf d)) words
+
+-- `rewrite G MARK COUNT`
+abbrev pub requestFrom : List ℕ → Request
+requestFrom n = record { generation = nth n 0; mark = nth n 1; count = nth n 2 }
+
 -- ---- the commands: a keyword, its numbers and bytes
--- those on the lent parts that write no report
+-- those on the lent parts that write no report and no plan
 unfoldable pub lentBy : Keyword → List ℕ → List ℕ → Desk → Outcome
 lentBy key.Poke n bytes d = pokeBy (nth n 0) bytes d
 lentBy key.Entry n bytes d = entryBy (nth n 0) (nth n 1) (nth n 2) d
@@ -139,7 +161,8 @@ lentBy key.Write n bytes d = called plain (λ (w : World). writeCall w bytes) d
 lentBy key.Read n bytes d = called found (λ (w : World). readCall w (nth n 0)) d
 lentBy key.Through n bytes d = called pieced (λ (w : World). throughCall w bytes (nth n 0)) d
 lentBy key.Prune n bytes d = called plain pruneCall d
-lentBy key.Maintain n bytes d = called moved maintainCall d
+lentBy key.Rewrite n bytes d = called moved (λ (w : World). rewriteCall w notes (nth n 0) (nth n 1) (nth n 2)) d
+lentBy key.Maintain n bytes d = called moved (λ (w : World). nightlyCall w notes) d
 lentBy key.Claim n bytes d = called plain (λ (w : World). claimCall w (nth n 0)) d
 lentBy key.Release n bytes d = called plain (λ (w : World). releaseCall w (nth n 0)) d
 lentBy key.Counts n bytes d = called counted countsCall d
@@ -159,6 +182,7 @@ lentBy key.Claims n bytes d = badLine d
 lentBy key.Unsynced n bytes d = badLine d
 lentBy key.Sync n bytes d = badLine d
 lentBy key.Check n bytes d = badLine d
+lentBy key.Plan n bytes d = badLine d
 lentBy key.Salvage n bytes d = badLine d
 lentBy key.List n bytes d = badLine d
 lentBy key.Dump n bytes d = badLine d
@@ -178,6 +202,7 @@ doneBy key.Heap n bytes d = heapBy (nth n 0) d
 doneBy key.Table n bytes d = tableBy (nth n 0) d
 doneBy key.Check n bytes d = left (checkBy (nth n 0) (d .bench)) (d .heap) (d .table)
 doneBy key.Salvage n bytes d = onLent salvageBy d
+doneBy key.Plan n bytes d = onLent planBy d
 doneBy key.List n bytes d = looked Listing d
 doneBy key.Dump n bytes d = looked Dump d
 doneBy key.Help n bytes d = looked Help d
@@ -188,6 +213,7 @@ doneBy key.Write n bytes d = onLent (lentBy key.Write n bytes) d
 doneBy key.Read n bytes d = onLent (lentBy key.Read n bytes) d
 doneBy key.Through n bytes d = onLent (lentBy key.Through n bytes) d
 doneBy key.Prune n bytes d = onLent (lentBy key.Prune n bytes) d
+doneBy key.Rewrite n bytes d = onLent (lentBy key.Rewrite n bytes) d
 doneBy key.Maintain n bytes d = onLent (lentBy key.Maintain n bytes) d
 doneBy key.Claim n bytes d = onLent (lentBy key.Claim n bytes) d
 doneBy key.Release n bytes d = onLent (lentBy key.Release n bytes) d

@@ -2,10 +2,10 @@
 use Rattle.rules.specs.Base.{List, [], _∷_, _++_, ℕ, take, drop}
 use Rattle.rules.specs.Layout.{Table}
 use Rattle.rules.specs.TableCalls.{TableAfter}
-use Rattle.rules.specs.World.{World, world, Given, accepted, answerGiven, readGiven, maintainGiven, countsGiven, loadGiven, compareGiven, greaterGiven, After}
+use Rattle.rules.specs.World.{World, world, Given, accepted, answerGiven, readGiven, rewriteGiven, maintainGiven, countsGiven, loadGiven, compareGiven, greaterGiven, After}
 use Rattle.salvage.specs.Answers.{salvageGiven}
 use Rattle.through.specs.Through.{throughGiven}
-use Rattle.desk.specs.Types.{Done, Bench, Look, Reply, BadLine, Answered, Read, Through, Maintained, Counted, Marks, Loaded, Compared, Raised, Salvaged, Shown, Turn}
+use Rattle.desk.specs.Types.{Done, Bench, Look, Reply, BadLine, Answered, Read, Through, Planned, Rewrote, Maintained, Counted, Marks, Loaded, Compared, Raised, Salvaged, Shown, Turn}
 
 -- settings, state, claims and how much of each buffer is lent; the two buffers, whole
 pub record Desk : Type 0 where
@@ -18,12 +18,14 @@ abbrev pub desk : Bench → List ℕ → Table → Desk
 desk bench heap table = record { bench = bench; heap = heap; table = table }
 
 -- ---- replies
--- in which words an answer is written: `ok`; a body; a body, of the batch or of the heap; a count of ids; four counts; how many files are not synced,
--- or whether a mark changed; a location; the one that differs; the one held before; a count of slots given up
+-- in which words an answer is written: `ok`; a body; a body, of the batch or of the heap; a plan, whose values stand in words of their own; a count of
+-- ids; four counts; how many files are not synced, or whether a mark changed; a location; the one that differs; the one held before; a count of slots
+-- given up
 pub data Words : Type 0 where
   plain : Words
   found : Words
   pieced : Words
+  planned : Words
   moved : Words
   counted : Words
   marks : Words
@@ -44,6 +46,8 @@ said BadLine = bad-line
 said (Answered a) = gave plain (answerGiven a)
 said (Read a) = gave found (readGiven a)
 said (Through a) = gave pieced (throughGiven a)
+said (Planned a) = gave planned (answerGiven a)
+said (Rewrote a) = gave moved (rewriteGiven a)
 said (Maintained a) = gave moved (maintainGiven a)
 said (Counted a) = gave counted (countsGiven a)
 said (Marks n) = gave marks (accepted (n ∷ []))

@@ -8,20 +8,20 @@ use Rattle.rules.specs.declared.Held.{Held}
 use Rattle.rules.specs.declared.Held.the-variants.{Mapped, Unmapped}
 use Rattle.rules.specs.declared.Refusal.the-variants.{TableRoom, NotThere, EqualLocation, Location}
 use Rattle.rules.specs.Refusal.{_gives_, decide, after}
-use Rattle.rules.specs.Condition1.{outOfRange, refused1}
+use Rattle.rules.specs.Condition1.{outOfRange}
 use Rattle.rules.specs.Counts.{countsCall}
 use Rattle.rules.specs.Layout.{Table, capacityOf, usedEntries, cleared}
-use Rattle.rules.specs.Maintenance.{maintainCall, courseOf, finished}
 use Rattle.rules.specs.Read.{readCall}
 use Rattle.rules.specs.Reopen.{reopenCall, reopenTests, givenUp}
 use Rattle.rules.specs.SlotFile.{viewsIn}
 use Rattle.rules.specs.Sync.{Synced, tooLong, syncCall, syncState}
 use Rattle.rules.specs.Table.{lookup, unmapped, mappedTo, full}
 use Rattle.rules.specs.TableCalls.{TableAfter, notForm, same, below, withStored, loadCall, storeCall, compareCall, greaterCall}
+use Rattle.rules.specs.TwoCalls.{refusedNoting, jobOf, jobEnded, nightlyCall}
 use Rattle.rules.specs.World.{World, Given, accepted, refused, heldGiven, recordsOf, slotsOf, stateWith, After}
 use Rattle.location_table.specs.Tables.{withPair}
 use Rattle.numbers.specs.Parts.{putAt}
-use Rattle.history_theory.specs.History.{Call, write, prune, quiet}
+use Rattle.history_theory.specs.History.{Call, write, rewrite, prune, quiet}
 use Rattle.history_theory.specs.Quiet.{claim, release}
 use Rattle.history_theory.specs.History.{called as calling}
 use Rattle.history_theory.specs.Writes.{refused-unchanged}
@@ -31,7 +31,7 @@ use Rattle.through.specs.Through.{throughCall}
 use Rattle.script.specs.declared.Keyword.the-variants as key
 use Rattle.desk.specs.Types.{Refusal, Limits, Answer, Done, Refused, Keyword, Bench, Check, Bytes, BadLine, Shown}
 use Rattle.desk.specs.Desk.{Desk, desk, Words, plain, found, pieced, moved, counted, marks, located, compared, raised, Said, bad-line, gave, shows, Outcome, left, replied, done, badLine, looked, changed, worldOf, deskOf, answered, called, onTable, lentOf, putBack, onLent}
-use Rattle.desk.specs.Commands.{nth, recordFrom, withState, withRecord, lendingHeap, lendingTable, heapBy, tableBy, pokeBy, entryBy, checkBy, bytesBy, salvageBy, lentBy, doneBy}
+use Rattle.desk.specs.Commands.{nth, recordFrom, withState, withRecord, lendingHeap, lendingTable, heapBy, tableBy, pokeBy, entryBy, checkBy, bytesBy, salvageBy, notes, planBy, lentBy, doneBy}
 
 -- `bad line`, or a refusal's number
 abbrev pub failing : Said → Bool
@@ -58,6 +58,8 @@ Kept key.Release = Unit {0}
 Kept key.Prune = Unit {0}
 Kept key.Read = Unit {0}
 Kept key.Through = Unit {0}
+Kept key.Plan = Unit {0}
+Kept key.Rewrite = Unit {0}
 Kept key.Maintain = ⊥
 Kept key.Counts = Unit {0}
 Kept key.Unsynced = Unit {0}
@@ -151,14 +153,20 @@ back-same d o e =
     ap (λ (l : Desk). putBack d (record { reply = o .reply; desk = l }) .desk) e
     ∙ rw (take-append-drop (d .bench .«heap_len») (d .heap), take-append-drop (d .bench .«table_words») (d .table)) refl
 
+-- ---- plan
+-- LAW: a plan changes nothing, whatever is said
+pub plan-unchanged : (n bytes : List ℕ) (d : Desk) → doneBy key.Plan n bytes d .desk ≡ d
+unfolding doneBy
+plan-unchanged n bytes d = back-same d (planBy (lentOf d)) refl
+
 -- ---- calls
 -- a call that leaves the world leaves the desk
 world-kept : (words : Words) (call : World → After) (d : Desk) → call (worldOf d) .world ≡ worldOf d → called words call d .desk ≡ d
 world-kept words call d e = ap (deskOf (d .bench)) e
 
--- the four that are refused as one
-call-kept : (c : Call) → PlainCall c → (d : Desk) → not (eqb (calling (worldOf d) c .answer .number) 0) ≡ true → called plain (λ (w : World). calling w c) d .desk ≡ d
-call-kept c p d h = world-kept plain (λ (w : World). calling w c) d (refused-unchanged (worldOf d) c p (not-accepted (calling (worldOf d) c .answer) h))
+-- the five that are refused as one
+call-kept : (words : Words) (c : Call) → PlainCall c → (d : Desk) → not (eqb (calling (worldOf d) c .answer .number) 0) ≡ true → called words (λ (w : World). calling w c) d .desk ≡ d
+call-kept words c p d h = world-kept words (λ (w : World). calling w c) d (refused-unchanged (worldOf d) c p (not-accepted (calling (worldOf d) c .answer) h))
 
 -- a refused table call, of those whose success has number 0
 table-kept : (b : Table) (a : Answer) (x : TableAfter) → x .answer .number ≡ 0
@@ -229,15 +237,17 @@ failed-unchanged key.State p n bytes d h = absurd (false≢true h)
 failed-unchanged key.Record p n bytes d h = record-kept (leb 256 (nth n 0) || ltb 1 (nth n 7)) d (withState (d .bench) (withRecord (d .bench .state) (nth n 0) (recordFrom n))) h
 failed-unchanged key.Claims p n bytes d h = absurd (false≢true h)
 failed-unchanged key.Reopen p n bytes d h = absurd p
-failed-unchanged key.Write p n bytes d h = back-same d (lentBy key.Write n bytes (lentOf d)) (call-kept (write bytes) tt (lentOf d) h)
-failed-unchanged key.Claim p n bytes d h = back-same d (lentBy key.Claim n bytes (lentOf d)) (call-kept (quiet (claim (nth n 0))) tt (lentOf d) h)
-failed-unchanged key.Release p n bytes d h = back-same d (lentBy key.Release n bytes (lentOf d)) (call-kept (quiet (release (nth n 0))) tt (lentOf d) h)
-failed-unchanged key.Prune p n bytes d h = back-same d (lentBy key.Prune n bytes (lentOf d)) (call-kept prune tt (lentOf d) h)
+failed-unchanged key.Write p n bytes d h = back-same d (lentBy key.Write n bytes (lentOf d)) (call-kept plain (write bytes) tt (lentOf d) h)
+failed-unchanged key.Claim p n bytes d h = back-same d (lentBy key.Claim n bytes (lentOf d)) (call-kept plain (quiet (claim (nth n 0))) tt (lentOf d) h)
+failed-unchanged key.Release p n bytes d h = back-same d (lentBy key.Release n bytes (lentOf d)) (call-kept plain (quiet (release (nth n 0))) tt (lentOf d) h)
+failed-unchanged key.Prune p n bytes d h = back-same d (lentBy key.Prune n bytes (lentOf d)) (call-kept plain prune tt (lentOf d) h)
 failed-unchanged key.Read p n bytes d h =
     back-same d (lentBy key.Read n bytes (lentOf d)) (world-kept found (λ (w : World). readCall w (nth n 0)) (lentOf d) (read-kept (worldOf (lentOf d)) (nth n 0)))
 failed-unchanged key.Through p n bytes d h =
     back-same d (lentBy key.Through n bytes (lentOf d))
     (world-kept pieced (λ (w : World). throughCall w bytes (nth n 0)) (lentOf d) (through-kept (worldOf (lentOf d)) bytes (nth n 0)))
+failed-unchanged key.Plan p n bytes d h = plan-unchanged n bytes d
+failed-unchanged key.Rewrite p n bytes d h = back-same d (lentBy key.Rewrite n bytes (lentOf d)) (call-kept moved (rewrite notes (nth n 0) (nth n 1) (nth n 2)) tt (lentOf d) h)
 failed-unchanged key.Maintain p n bytes d h = absurd p
 failed-unchanged key.Counts p n bytes d h = back-same d (lentBy key.Counts n bytes (lentOf d)) (world-kept counted countsCall (lentOf d) (counts-kept (worldOf (lentOf d))))
 failed-unchanged key.Unsynced p n bytes d h = refl
@@ -279,15 +289,16 @@ reopen-given-up n bytes d r e f =
     let up : reopenCall w ≡ givenUp w r = rw (first-clear w e, f) refl in
     ap (λ (a : After). putBack d (answered plain (d .bench) a)) up
 
--- LAW: maintenance refused with 1 changes nothing
-pub maintain-limits : (n bytes : List ℕ) (d : Desk) → refused1 (worldOf (lentOf d)) ≡ true → doneBy key.Maintain n bytes d .desk ≡ d
-unfolding maintainCall decide doneBy lentBy
-maintain-limits n bytes d e = back-same d (lentBy key.Maintain n bytes (lentOf d)) (world-kept moved maintainCall (lentOf d) (rw e refl))
+-- LAW: the nightly job refused with 1 changes nothing
+pub maintain-limits : (n bytes : List ℕ) (d : Desk) → refusedNoting (worldOf (lentOf d)) notes ≡ true → doneBy key.Maintain n bytes d .desk ≡ d
+unfolding nightlyCall decide doneBy lentBy
+maintain-limits n bytes d e = back-same d (lentBy key.Maintain n bytes (lentOf d)) (world-kept moved (λ (w : World). nightlyCall w notes) (lentOf d) (rw e refl))
 
--- LAW: else it leaves what its course of groups left, also where that stopped
-pub maintain-course : (n bytes : List ℕ) (d : Desk) → refused1 (worldOf (lentOf d)) ≡ false → doneBy key.Maintain n bytes d ≡ onLent (called moved (λ (w : World). finished (courseOf w))) d
-unfolding maintainCall decide doneBy lentBy
-maintain-course n bytes d e =
+-- LAW: else it leaves what its rewrites left, pruned if none was refused
+pub maintain-job : (n bytes : List ℕ) (d : Desk) → refusedNoting (worldOf (lentOf d)) notes ≡ false
+    → doneBy key.Maintain n bytes d ≡ onLent (called moved (λ (w : World). jobEnded (jobOf w notes .stop) (jobOf w notes))) d
+unfolding nightlyCall decide doneBy lentBy
+maintain-job n bytes d e =
     let w = worldOf (lentOf d) in
-    let run : maintainCall w ≡ finished (courseOf w) = rw e refl in
+    let run : nightlyCall w notes ≡ jobEnded (jobOf w notes .stop) (jobOf w notes) = rw e refl in
     ap (λ (a : After). putBack d (answered moved (d .bench) a)) run

@@ -5,21 +5,23 @@ use crate::Turn;
 use crate::turns::answered;
 use crate::turns::with_claims;
 use crate::turns::with_state;
+use marble::Request;
 ghost use mathlib.Core.Path.{_≡_};
+ghost use lib.ListN.{length};
 ghost use Rattle.rules.specs.Base.{List, ℕ};
 ghost use Rattle.rules.specs.Claims.{claimCall, releaseCall};
 ghost use Rattle.rules.specs.Counts.{countsCall};
-ghost use Rattle.rules.specs.Maintenance.{maintainCall};
 ghost use Rattle.rules.specs.Prune.{pruneCall};
 ghost use Rattle.rules.specs.Read.{readCall};
 ghost use Rattle.rules.specs.Reopen.{reopenCall};
 ghost use Rattle.rules.specs.Sync.{syncState};
 ghost use Rattle.rules.specs.TableCalls.{loadCall, storeCall, compareCall, greaterCall};
+ghost use Rattle.rules.specs.TwoCalls.{rewriteCall, nightlyCall};
 ghost use Rattle.rules.specs.World.{World};
 ghost use Rattle.rules.specs.Layout.{Table};
 ghost use Rattle.rules.specs.Write.{writeCall};
 ghost use Rattle.through.specs.Through.{throughCall};
-ghost use Rattle.desk.specs.Commands.{unsyncedBy, salvageOn, salvageBy};
+ghost use Rattle.desk.specs.Commands.{unsyncedBy, salvageOn, salvageBy, notes, planOn, planBy};
 ghost use Rattle.desk.specs.Desk.{desk, left, called, onTable};
 ghost use Rattle.desk.specs.Desk.{plain, found, pieced, moved, counted, marks, located, compared, raised};
 
@@ -75,11 +77,84 @@ pub fn prune(b: Bench, heap: &mut [u8], table: &[u64]) -> Turn
     answered(answer, with_state(b, done.state))
 }
 
+// A place or a piece for each entry of the longest table.
+fn notes() -> [u32; 65536]
+    ensures { λ r. ⌜ 65536 ≡ length r ⌝ }
+{
+    [0u32; 65536]
+}
+
+// Request P7, "one call plans": what it gives comes to stand in the words.
+pub fn plan(b: Bench, heap: &[u8], table: &[u64], words: &mut [u64; 777]) -> Turn
+    ensures leaves { λ r. ⌜
+        left r (now (heap .entry)) (now (table .entry))
+        ≡ planBy (desk b (now (heap .entry)) (now (table .entry)))
+        ⌝ }
+    ensures gives { λ _. ⌜
+        now (words .exit)
+        ≡ planOn (desk b (now (heap .entry)) (now (table .entry)))
+        ⌝ }
+{
+    let mut places = notes();
+    let mut pieces = notes();
+    let done = marble::plan(
+        b.settings,
+        b.state,
+        b.claims,
+        heap,
+        table,
+        &mut places,
+        &mut pieces,
+    );
+    let answer = done.answer;
+    plan_words::put_plan(done.plan, words);
+    Turn {
+        reply: Reply::Planned(answer),
+        bench: b,
+    }
+}
+
+// Request P7, "the other rewrites one named generation".
+pub fn rewrite(b: Bench, heap: &mut [u8], table: &mut [u64], asked: Request) -> Turn
+    ensures { λ r. ⌜ left r (now (heap .exit)) (now (table .exit))
+        ≡ called moved (λ (w : World). rewriteCall w notes (asked .generation) (asked .mark) (asked .count))
+        (desk b (now (heap .entry)) (now (table .entry))) ⌝ }
+{
+    let mut places = notes();
+    let mut pieces = notes();
+    let done = marble::rewrite(
+        b.settings,
+        b.state,
+        b.claims,
+        heap,
+        table,
+        &mut places,
+        &mut pieces,
+        asked,
+    );
+    let answer = done.answer;
+    Turn {
+        reply: Reply::Rewrote(answer),
+        bench: with_state(b, done.state),
+    }
+}
+
+// The nightly job.
 pub fn maintain(b: Bench, heap: &mut [u8], table: &mut [u64]) -> Turn
     ensures { λ r. ⌜ left r (now (heap .exit)) (now (table .exit))
-        ≡ called moved maintainCall (desk b (now (heap .entry)) (now (table .entry))) ⌝ }
+        ≡ called moved (λ (w : World). nightlyCall w notes) (desk b (now (heap .entry)) (now (table .entry))) ⌝ }
 {
-    let done = marble::maintain(b.settings, b.state, b.claims, heap, table);
+    let mut places = notes();
+    let mut pieces = notes();
+    let done = marble::nightly(
+        b.settings,
+        b.state,
+        b.claims,
+        heap,
+        table,
+        &mut places,
+        &mut pieces,
+    );
     let answer = done.answer;
     Turn {
         reply: Reply::Maintained(answer),

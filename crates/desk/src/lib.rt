@@ -5,6 +5,7 @@ pub mod calls;
 pub mod looks;
 mod turns;
 
+use marble::Request;
 use rules::Answer;
 use rules::Claims;
 use rules::CompareAnswer;
@@ -13,6 +14,7 @@ use rules::GreaterAnswer;
 use rules::LoadAnswer;
 use rules::MaintainAnswer;
 use rules::ReadAnswer;
+use rules::RewriteAnswer;
 use rules::Settings;
 use rules::State;
 use salvage::SalvageAnswer;
@@ -27,7 +29,8 @@ ghost use Rattle.rules.specs.Base.{List, ℕ, pick};
 ghost use Rattle.rules.specs.World.{noState};
 ghost use Rattle.desk.specs.Desk.{desk, left, lentOf, onLent};
 ghost use Rattle.desk.specs.Kinds.{Among, atBench, asking, tabling};
-ghost use Rattle.desk.specs.Commands.{freshBench, salvageOn, salvageBy, reportBy, lentBy, doneBy};
+ghost use Rattle.desk.specs.Commands.{freshBench, requestFrom, lentBy, doneBy};
+ghost use Rattle.desk.specs.Commands.{salvageOn, salvageBy, reportBy, planOn, planBy, wordsBy};
 
 // What lies beside the buffers, and how much of each buffer is lent: bytes of the heap, words of the table.
 pub struct Bench {
@@ -48,12 +51,15 @@ pub enum Look {
     Bytes(u64, u64),
 }
 
-// What a command answers. Marks: how many files are not synced, or whether a mark changed.
+// What a command answers. Marks: how many files are not synced, or whether a mark changed. Planned: what the plan gives stands in words
+// of its own.
 pub enum Reply {
     BadLine,
     Answered(Answer),
     Read(ReadAnswer),
     Through(ThroughAnswer),
+    Planned(Answer),
+    Rewrote(RewriteAnswer),
     Maintained(MaintainAnswer),
     Counted(CountsAnswer),
     Marks(u64),
@@ -166,6 +172,17 @@ fn on_table(b: Bench, keyword: Keyword, n: [u64; 9], table: &mut [u64]) -> Turn
     }
 }
 
+// `rewrite G MARK COUNT`
+fn request_of(n: [u64; 9]) -> Request
+    ensures { λ r. ⌜ r ≡ requestFrom n ⌝ }
+{
+    Request {
+        generation: n[0],
+        mark: n[1],
+        count: n[2],
+    }
+}
+
 // Commands on the lent parts of the buffers.
 fn after_lent(
     b: Bench,
@@ -184,6 +201,7 @@ fn after_lent(
         Keyword::Write => calls::write(b, heap, table, bytes),
         Keyword::Through => calls::through(b, heap, table, bytes, n[0]),
         Keyword::Prune => calls::prune(b, heap, table),
+        Keyword::Rewrite => calls::rewrite(b, heap, table, request_of(n)),
         Keyword::Maintain => calls::maintain(b, heap, table),
         Keyword::Entry | Keyword::Store | Keyword::Cas | Keyword::Max => {
             on_table(b, keyword, n, table)
@@ -230,7 +248,23 @@ fn salvaged(b: Bench, heap: &mut [u8], table: &[u64], report: &mut [u64; 512]) -
     calls::salvage(b, &mut heap[0..h], &table[0..t], report)
 }
 
-// A command: its reply, and the desk after it. A salvage's lines come to stand in the report.
+// A plan on the lent parts of the buffers.
+fn planned(b: Bench, heap: &[u8], table: &[u64], words: &mut [u64; 777]) -> Turn
+    ensures leaves { λ r. ⌜
+        left r (now (heap .entry)) (now (table .entry))
+        ≡ onLent planBy (desk b (now (heap .entry)) (now (table .entry)))
+        ⌝ }
+    ensures gives { λ _. ⌜
+        now (words .exit)
+        ≡ planOn (lentOf (desk b (now (heap .entry)) (now (table .entry))))
+        ⌝ }
+{
+    let h = least(b.heap_len, heap.len());
+    let t = least(b.table_words, table.len());
+    calls::plan(b, &heap[0..h], &table[0..t], words)
+}
+
+// A command: its reply, and the desk after it. A salvage's lines come to stand in the report, what a plan gives in its words.
 pub fn after_order(
     b: Bench,
     keyword: Keyword,
@@ -239,6 +273,7 @@ pub fn after_order(
     heap: &mut [u8],
     table: &mut [u64],
     report: &mut [u64; 512],
+    plan: &mut [u64; 777],
 ) -> Turn
     ensures leaves { λ r. ⌜
         left r (now (heap .exit)) (now (table .exit))
@@ -247,6 +282,10 @@ pub fn after_order(
     ensures reports { λ _. ⌜
         now (report .exit)
         ≡ reportBy keyword (desk b (now (heap .entry)) (now (table .entry))) (now (report .entry))
+        ⌝ }
+    ensures plans { λ _. ⌜
+        now (plan .exit)
+        ≡ wordsBy keyword (desk b (now (heap .entry)) (now (table .entry))) (now (plan .entry))
         ⌝ }
 {
     match keyword {
@@ -265,6 +304,7 @@ pub fn after_order(
         | Keyword::Dump
         | Keyword::Help => at_bench(b, keyword, n),
         Keyword::Salvage => salvaged(b, heap, table, report),
+        Keyword::Plan => planned(b, heap, table, plan),
         _ => lent(b, keyword, n, bytes, heap, table),
     }
 }

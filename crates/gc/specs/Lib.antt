@@ -1,2 +1,2 @@
-pub mod GroupSteps
+pub mod Rewrites
 pub mod Unique

@@ -1,152 +1,315 @@
-// Maintenance (`src/gc.rs`): the groups of the candidates, generation by generation, then a prune.
+// Request P7: "the other rewrites one named generation"; and the nightly job, "plan, rewrite 1, 2, 3, then prune" (`src/gc.rs`).
 
-use gc_candidates::plan;
+use as_numbers::state_words::put_state;
+use as_numbers::state_words::state_in;
+use gc_candidates::group_count;
 use gc_course::Halt;
+use gc_course::Request;
 use gc_course::Run;
 use gc_course::answer_of;
 use gc_course::halt_of;
-use gc_course::is_due;
 use gc_course::is_going;
+use gc_group::Group;
+use gc_notes::clear;
+use gc_notes::too_short;
+use gc_rewrite::Course;
 use gc_rewrite::rewrite_group;
+use gc_words::candidates_in;
+use gc_words::count_in;
+use gc_words::refused_in;
 use prune::pruned;
+use rules::Answer;
 use rules::Claims;
 use rules::MaintainAnswer;
 use rules::Refusal;
+use rules::RewriteAnswer;
 use rules::Settings;
 use rules::State;
 ghost use mathlib.Core.Path.{_≡_};
+ghost use mathlib.Core.Bool.{false};
 ghost use mathlib.Core.List.{List};
-ghost use Prim.Native.Nat.{ℕ, _+_, _^_, _≤_, _<_};
+ghost use Prim.Native.Nat.{ℕ, _≤_, _<_};
 ghost use lib.ListN.{length};
-ghost use Rattle.rules.specs.declared.Claims.{Claims};
+ghost use Rattle.rules.specs.Layout.{capacityOf};
+ghost use Rattle.rules.specs.Condition1.{refused1};
 ghost use Rattle.rules.specs.Condition1Laws.{Passed};
-ghost use Rattle.rules.specs.Maintenance.{rewriteGroup, courseOf, finished, maintainCall};
-ghost use Rattle.rules.specs.World.{world, leaving, maintainGiven};
+ghost use Rattle.rules.specs.TwoCalls.{roomOf, notesLeft, generationRewritten, rewriteCall, jobOf, jobEnded, nightlyCall};
+ghost use Rattle.rules.specs.World.{world, leaving, maintainGiven, rewriteGiven};
+ghost use Rattle.as_numbers.specs.StateWords.{stateIn};
 ghost use Rattle.prune.specs.Labels.{LabelsIn};
-ghost use Rattle.gc_candidates.specs.Plan.{planned};
-ghost use Rattle.gc_course.specs.Runs.{standing, byPlan, Underway};
+ghost use Rattle.gc_course.specs.Runs.{stopOf, standing, answerOf};
+ghost use Rattle.gc_course.specs.Own.{OwnStop};
+ghost use Rattle.gc_rewrite.specs.Courses.{courseGiven};
+ghost use Rattle.gc.specs.Rewrites.{answeredOf};
 
-// What maintenance answers, and the state after it.
+// What a rewrite answers, and the state after it.
+pub struct Rewritten {
+    pub answer: RewriteAnswer,
+    pub state: State,
+}
+
+// What the nightly job answers, and the state after it.
 pub struct Maintained {
     pub answer: MaintainAnswer,
     pub state: State,
 }
 
-// A group whose turn it is, rewritten.
-fn generation_step(
+// The state that its words hold, for a caller that is not told how many there are after a call.
+fn state_held(words: &[u64; 1801]) -> State
+    ensures { λ s. ⌜ s ≡ stateIn (now (words .entry)) ⌝ }
+{
+    state_in(words)
+}
+
+// A generation's group as mark and count give it, rewritten; one of too few files is left: "a generation that yields no group succeeds with
+// count 0".
+fn rewrite_generation(
     settings: Settings,
-    run: Run,
+    state: &mut [u64; 1801],
+    claims: Claims,
     heap: &mut [u8],
     table: &mut [u64],
-    plan: &[u64],
-    generation: u64,
-) -> Run
-    requires { ⌜ Underway settings (length (now heap)) (now table) (run .state) (now plan) ⌝ }
-    requires { ⌜ (0 < generation) × (generation ≤ 3) × (run .moved ≤ 2 ^ 32) ⌝ }
-    ensures leaves { λ r. ⌜ ((c : Claims)
-        → standing r (world settings (r .state) c (now (heap .exit)) (now (table .exit)))
-        ≡ rewriteGroup generation (planned (now (plan .entry)) generation) (run .moved)
-        (world settings (run .state) c (now (heap .entry)) (now (table .entry)))) ⌝ }
-    ensures underway { λ r. ⌜ Underway settings (length (now (heap .exit))) (now (table .exit))
-        (r .state) (now (plan .entry)) ⌝ }
-    ensures moved { λ r. ⌜ r .moved ≤ run .moved + 65536 ⌝ }
+    places: &mut [u32],
+    pieces: &mut [u32],
+    asked: Request,
+) -> Course
+    requires { ⌜ Passed settings (length (now heap)) (now table) (stateIn (now state)) ⌝ }
+    requires { ⌜ (capacityOf (now table) ≤ length (now places)) × (capacityOf (now table) ≤ length (now pieces)) ⌝ }
+    requires { ⌜ (0 < asked .generation) × (asked .generation ≤ 3) ⌝ }
+    ensures leaves { λ r. ⌜ courseGiven (asked .generation) (r .answer) (r .moved)
+        (world settings (stateIn (now (state .exit))) claims (now (heap .exit)) (now (table .exit)))
+        ≡ generationRewritten (world settings (stateIn (now (state .entry))) claims (now (heap .entry)) (now (table .entry)))
+        (asked .generation) (asked .mark) (asked .count) ⌝ }
+    ensures passed { λ _. ⌜ Passed settings (length (now (heap .exit))) (now (table .exit)) (stateIn (now (state .exit))) ⌝ }
+    ensures moved { λ r. ⌜ r .moved ≤ 65536 ⌝ }
 {
-    let state = run.state;
-    let course = rewrite_group(settings, state, heap, table, plan, generation, run.moved);
-    let answer = course.answer;
-    let after = course.state;
-    Run {
-        halt: halt_of(answer, generation),
-        moved: course.moved,
-        state: after,
+    let candidates = candidates_in(settings, state, claims, asked.mark, asked.count);
+    let generation = asked.generation;
+    if group_count(&candidates, generation) < settings.min_compaction_files {
+        return Course {
+            answer: Answer::Done,
+            moved: 0,
+        };
+    }
+    let group = Group {
+        settings: settings,
+        generation: generation,
+    };
+    clear(places);
+    rewrite_group(group, state, heap, table, &candidates, places, pieces)
+}
+
+// "It answers ids moved, or the number alone."
+fn answered(answer: Answer, moved: u64) -> RewriteAnswer
+    ensures { λ a. ⌜ a ≡ answeredOf answer moved ⌝ }
+{
+    match answer {
+        Answer::Done => RewriteAnswer::Rewrote(moved),
+        Answer::Refused(refusal) => RewriteAnswer::RewriteRefused(refusal),
     }
 }
 
-// "Groups go in ascending generation"
-fn generations(
+// "1, then 22 outside 1..3", then the group's own, on the state's words. The lent notes are zeros after it, on 1 as they were.
+pub fn rewrite_in(
     settings: Settings,
-    state: State,
+    state: &mut [u64; 1801],
+    claims: Claims,
     heap: &mut [u8],
     table: &mut [u64],
-    plan: &[u64],
-) -> Run
-    requires { ⌜ Underway settings (length (now heap)) (now table) state (now plan) ⌝ }
-    ensures leaves { λ r. ⌜ ((c : Claims)
-        → standing r (world settings (r .state) c (now (heap .exit)) (now (table .exit)))
-        ≡ byPlan (now (plan .entry))
-        (world settings state c (now (heap .entry)) (now (table .entry)))) ⌝ }
-    ensures underway { λ r. ⌜ Underway settings (length (now (heap .exit))) (now (table .exit))
-        (r .state) (now (plan .entry)) ⌝ }
+    places: &mut [u32],
+    pieces: &mut [u32],
+    asked: Request,
+) -> RewriteAnswer
+    ensures leaves { λ r. ⌜ leaving (rewriteGiven r)
+        (world settings (stateIn (now (state .exit))) claims (now (heap .exit)) (now (table .exit)))
+        ≡ rewriteCall (world settings (stateIn (now (state .entry))) claims (now (heap .entry)) (now (table .entry)))
+        (roomOf (now (places .entry)) (now (pieces .entry))) (asked .generation) (asked .mark) (asked .count) ⌝ }
+    ensures places { λ r. ⌜ now (places .exit) ≡ notesLeft (rewriteGiven r) (now (places .entry)) ⌝ }
+    ensures pieces { λ r. ⌜ now (pieces .exit) ≡ notesLeft (rewriteGiven r) (now (pieces .entry)) ⌝ }
 {
+    if refused_in(settings, state, heap, table) {
+        return RewriteAnswer::RewriteRefused(Refusal::Limits);
+    }
+    if too_short(table, places, pieces) {
+        return RewriteAnswer::RewriteRefused(Refusal::Limits);
+    }
+    if asked.generation == 0 || 3 < asked.generation {
+        clear(places);
+        clear(pieces);
+        return RewriteAnswer::RewriteRefused(Refusal::Generation);
+    }
+    let course = rewrite_generation(settings, state, claims, heap, table, places, pieces, asked);
+    clear(places);
+    clear(pieces);
+    let answer = course.answer;
+    answered(answer, course.moved)
+}
+
+// The same with the state by value.
+pub fn rewrite(
+    settings: Settings,
+    state: State,
+    claims: Claims,
+    heap: &mut [u8],
+    table: &mut [u64],
+    places: &mut [u32],
+    pieces: &mut [u32],
+    asked: Request,
+) -> Rewritten
+    ensures leaves { λ r. ⌜ leaving (rewriteGiven (r .answer))
+        (world settings (r .state) claims (now (heap .exit)) (now (table .exit)))
+        ≡ rewriteCall (world settings state claims (now (heap .entry)) (now (table .entry)))
+        (roomOf (now (places .entry)) (now (pieces .entry))) (asked .generation) (asked .mark) (asked .count) ⌝ }
+    ensures places { λ r. ⌜ now (places .exit) ≡ notesLeft (rewriteGiven (r .answer)) (now (places .entry)) ⌝ }
+    ensures pieces { λ r. ⌜ now (pieces .exit) ≡ notesLeft (rewriteGiven (r .answer)) (now (pieces .entry)) ⌝ }
+{
+    let mut words = [0u64; 1801];
+    put_state(&mut words, state);
+    let answer = rewrite_in(
+        settings,
+        &mut words,
+        claims,
+        heap,
+        table,
+        places,
+        pieces,
+        asked,
+    );
+    Rewritten {
+        answer: answer,
+        state: state_held(&words),
+    }
+}
+
+// "rewrite 1, 2, 3", each with the plan's mark and file count. Of the plan no more is taken, and no group is foretold: "one that the plan
+// only foretells stops nothing".
+fn rewrites(
+    settings: Settings,
+    state: &mut [u64; 1801],
+    claims: Claims,
+    heap: &mut [u8],
+    table: &mut [u64],
+    places: &mut [u32],
+    pieces: &mut [u32],
+) -> Run
+    requires { ⌜ Passed settings (length (now heap)) (now table) (stateIn (now state)) ⌝ }
+    requires { ⌜ (capacityOf (now table) ≤ length (now places)) × (capacityOf (now table) ≤ length (now pieces)) ⌝ }
+    ensures leaves { λ r. ⌜ standing r (world settings (stateIn (now (state .exit))) claims (now (heap .exit)) (now (table .exit)))
+        ≡ jobOf (world settings (stateIn (now (state .entry))) claims (now (heap .entry)) (now (table .entry)))
+        (roomOf (now (places .entry)) (now (pieces .entry))) ⌝ }
+    ensures passed { λ _. ⌜ Passed settings (length (now (heap .exit))) (now (table .exit)) (stateIn (now (state .exit))) ⌝ }
+    ensures own { λ r. ⌜ OwnStop (stopOf (r .halt)) ⌝ }
+{
+    let mark = state[1800];
+    let count = count_in(state);
     let mut run = Run {
         halt: Halt::Going,
         moved: 0,
-        state: state,
     };
     let mut generation: u64 = 1;
     while generation <= 3 {
         let halt = run.halt;
-        if is_due(halt, plan, settings.min_compaction_files, generation) {
-            run = generation_step(settings, run, heap, table, plan, generation);
+        if is_going(halt) {
+            let asked = Request {
+                generation: generation,
+                mark: mark,
+                count: count,
+            };
+            let course = rewrite_generation(
+                settings,
+                state,
+                claims,
+                heap,
+                table,
+                places,
+                pieces,
+                asked,
+            );
+            let answer = course.answer;
+            run = Run {
+                halt: halt_of(answer, generation),
+                moved: run.moved + course.moved,
+            };
         }
         generation += 1;
     }
     run
 }
 
-// "Candidates, fixed as the call starts": their plan is made once.
-fn rewrite_groups(
+// "nothing is pruned. Success prunes and gives the count of ids moved."
+fn finish(
     settings: Settings,
-    state: State,
+    run: Run,
+    state: &mut [u64; 1801],
     claims: Claims,
     heap: &mut [u8],
-    table: &mut [u64],
-) -> Run
-    requires { ⌜ Passed settings (length (now heap)) (now table) state ⌝ }
-    ensures leaves { λ r. ⌜ standing r (world settings (r .state) claims (now (heap .exit)) (now (table .exit)))
-        ≡ courseOf (world settings state claims (now (heap .entry)) (now (table .entry))) ⌝ }
-    ensures labels { λ r. ⌜ LabelsIn (settings .«slot_bytes») (r .state .files .records) (length (now (heap .exit))) ⌝ }
-{
-    let files = state.files;
-    let candidates = plan(settings, claims, files);
-    generations(settings, state, heap, table, &candidates)
-}
-
-// "nothing is pruned. Success prunes and gives the count of ids moved."
-fn finish(settings: Settings, run: Run, claims: Claims, heap: &mut [u8]) -> Maintained
-    requires { ⌜ LabelsIn (settings .«slot_bytes») (run .state .files .records) (length (now heap)) ⌝ }
-    ensures { λ r. ⌜ ((table : List ℕ)
-        → leaving (maintainGiven (r .answer)) (world settings (r .state) claims (now (heap .exit)) table)
-        ≡ finished (standing run (world settings (run .state) claims (now (heap .entry)) table))) ⌝ }
+) -> MaintainAnswer
+    requires { ⌜ LabelsIn (settings .«slot_bytes») (stateIn (now state) .files .records) (length (now heap)) ⌝ }
+    ensures answers { λ r. ⌜ r ≡ answerOf (run .halt) (run .moved) ⌝ }
+    ensures leaves { λ r. ⌜ ((table : List ℕ)
+        → refused1 (world settings (stateIn (now (state .entry))) claims (now (heap .entry)) table) ≡ false
+        → leaving (maintainGiven r) (world settings (stateIn (now (state .exit))) claims (now (heap .exit)) table)
+        ≡ jobEnded (stopOf (run .halt)) (standing run (world settings (stateIn (now (state .entry))) claims (now (heap .entry)) table))) ⌝ }
 {
     let end = run.halt;
-    let state = run.state;
-    let answer = answer_of(end, run.moved);
-    let after = pruned(settings, state, claims, heap, is_going(end));
-    Maintained {
-        answer: answer,
-        state: after,
-    }
+    let was = state_in(state);
+    let after = pruned(settings, was, claims, heap, is_going(end));
+    put_state(state, after);
+    answer_of(end, run.moved)
 }
 
-// Refusal 1 first, "(0 and 0 with 1)"; then the groups, then the end.
-pub fn maintain(
+// "the nightly job becomes plan, rewrite 1, 2, 3, then prune, stopping at the first call refused", on the state's words. The lent notes are
+// zeros after it, on 1 as they were.
+pub fn nightly_in(
+    settings: Settings,
+    state: &mut [u64; 1801],
+    claims: Claims,
+    heap: &mut [u8],
+    table: &mut [u64],
+    places: &mut [u32],
+    pieces: &mut [u32],
+) -> MaintainAnswer
+    ensures leaves { λ r. ⌜ leaving (maintainGiven r)
+        (world settings (stateIn (now (state .exit))) claims (now (heap .exit)) (now (table .exit)))
+        ≡ nightlyCall (world settings (stateIn (now (state .entry))) claims (now (heap .entry)) (now (table .entry)))
+        (roomOf (now (places .entry)) (now (pieces .entry))) ⌝ }
+    ensures places { λ r. ⌜ now (places .exit) ≡ notesLeft (maintainGiven r) (now (places .entry)) ⌝ }
+    ensures pieces { λ r. ⌜ now (pieces .exit) ≡ notesLeft (maintainGiven r) (now (pieces .entry)) ⌝ }
+{
+    if refused_in(settings, state, heap, table) {
+        return MaintainAnswer::Stopped(Refusal::Limits, 0, 0);
+    }
+    if too_short(table, places, pieces) {
+        return MaintainAnswer::Stopped(Refusal::Limits, 0, 0);
+    }
+    let run = rewrites(settings, state, claims, heap, table, places, pieces);
+    clear(places);
+    clear(pieces);
+    finish(settings, run, state, claims, heap)
+}
+
+// The same with the state by value.
+pub fn nightly(
     settings: Settings,
     state: State,
     claims: Claims,
     heap: &mut [u8],
     table: &mut [u64],
+    places: &mut [u32],
+    pieces: &mut [u32],
 ) -> Maintained
-    ensures { λ r. ⌜ leaving (maintainGiven (r .answer))
+    ensures leaves { λ r. ⌜ leaving (maintainGiven (r .answer))
         (world settings (r .state) claims (now (heap .exit)) (now (table .exit)))
-        ≡ maintainCall (world settings state claims (now (heap .entry)) (now (table .entry))) ⌝ }
+        ≡ nightlyCall (world settings state claims (now (heap .entry)) (now (table .entry)))
+        (roomOf (now (places .entry)) (now (pieces .entry))) ⌝ }
+    ensures places { λ r. ⌜ now (places .exit) ≡ notesLeft (maintainGiven (r .answer)) (now (places .entry)) ⌝ }
+    ensures pieces { λ r. ⌜ now (pieces .exit) ≡ notesLeft (maintainGiven (r .answer)) (now (pieces .entry)) ⌝ }
 {
-    if limits::refused(settings, heap.len() as u64, table, state) {
-        return Maintained {
-            answer: MaintainAnswer::Stopped(Refusal::Limits, 0, 0),
-            state: state,
-        };
+    let mut words = [0u64; 1801];
+    put_state(&mut words, state);
+    let answer = nightly_in(settings, &mut words, claims, heap, table, places, pieces);
+    Maintained {
+        answer: answer,
+        state: state_held(&words),
     }
-    let run = rewrite_groups(settings, state, claims, heap, table);
-    finish(settings, run, claims, heap)
 }

@@ -1,4 +1,4 @@
--- "Candidates, fixed as the call starts": a number for each slot, so that the groups stay while files are rewritten.
+-- Candidates by a mark and a file count: a number for each slot, so that the groups stay while files are rewritten.
 use mathlib.Core.Path.{_≡_, refl, sym, ap, _∙_, subst}
 use mathlib.Core.Logic.{_⊎_, inl, inr}
 use Prim.Native.Nat.{_≤_, _<_}
@@ -14,23 +14,23 @@ use Rattle.rules.specs.BaseLaws.{All, same?}
 use Rattle.rules.specs.declared.Record.{Record}
 use Rattle.rules.specs.declared.Settings.{Settings}
 use Rattle.rules.specs.declared.Claims.{Claims}
-use Rattle.rules.specs.FileMap.{isEmpty, recordAt, slotsWhere, fileCount}
+use Rattle.rules.specs.FileMap.{isEmpty, recordAt, slotsWhere}
 use Rattle.rules.specs.Maintenance.{newGeneration, isCandidate, group}
 use Rattle.rules.specs.MaintenanceLaws.{candidate}
 use Rattle.rules.specs.World.{World, recordsOf}
 
 -- a candidate's new generation; 0 for any other slot
-unfoldable pub planFor : Settings → Claims → ℕ → ℕ → Record → ℕ
-planFor s claims files slot r = pick (isCandidate s claims files slot r) (newGeneration (r .label .generation)) 0
+unfoldable pub planFor : Settings → Claims → ℕ → ℕ → ℕ → Record → ℕ
+planFor s claims mark count slot r = pick (isCandidate s claims mark count slot r) (newGeneration (r .label .generation)) 0
 
 -- of the records from slot i on
-unfoldable pub planFrom : Settings → Claims → ℕ → ℕ → List Record → List ℕ
-planFrom s claims files i [] = []
-planFrom s claims files i (r ∷ rs) = planFor s claims files i r ∷ planFrom s claims files (suc i) rs
+unfoldable pub planFrom : Settings → Claims → ℕ → ℕ → ℕ → List Record → List ℕ
+planFrom s claims mark count i [] = []
+planFrom s claims mark count i (r ∷ rs) = planFor s claims mark count i r ∷ planFrom s claims mark count (suc i) rs
 
--- of all records; the file count is theirs
-unfoldable pub planOf : Settings → Claims → List Record → List ℕ
-planOf s claims rs = planFrom s claims (fileCount rs) 0 rs
+-- of all records
+unfoldable pub planOf : Settings → Claims → ℕ → ℕ → List Record → List ℕ
+planOf s claims mark count rs = planFrom s claims mark count 0 rs
 
 -- the slots, from i on, with that number, ascending
 unfoldable pub plannedFrom : ℕ → List ℕ → ℕ → List ℕ
@@ -46,59 +46,60 @@ for-group : (b : Bool) (n generation : ℕ) → 0 < generation → (b && eqb n g
 for-group true n generation h = refl
 for-group false n generation h = sym (ne-eqb 0 generation (λ e. omega arith))
 
-from-group : (s : Settings) (claims : Claims) (files generation i : ℕ) (rs : List Record) → 0 < generation
-    → slotsWhere (λ (k : ℕ) (r : Record). isCandidate s claims files k r && eqb (newGeneration (r .label .generation)) generation) i rs
-    ≡ plannedFrom i (planFrom s claims files i rs) generation
+from-group : (s : Settings) (claims : Claims) (mark count generation i : ℕ) (rs : List Record) → 0 < generation
+    → slotsWhere (λ (k : ℕ) (r : Record). isCandidate s claims mark count k r && eqb (newGeneration (r .label .generation)) generation) i rs
+    ≡ plannedFrom i (planFrom s claims mark count i rs) generation
 unfolding slotsWhere plannedFrom planFrom planFor
-from-group s claims files generation i [] h = refl
-from-group s claims files generation i (r ∷ rs) h =
-    rw (from-group s claims files generation (suc i) rs h, for-group (isCandidate s claims files i r) (newGeneration (r .label .generation)) generation h) refl
+from-group s claims mark count generation i [] h = refl
+from-group s claims mark count generation i (r ∷ rs) h =
+    rw (from-group s claims mark count generation (suc i) rs h, for-group (isCandidate s claims mark count i r) (newGeneration (r .label .generation)) generation h) refl
 
 -- "They are grouped by new generation"
-pub group-planned : (w : World) (generation : ℕ) → 0 < generation → group w generation ≡ planned (planOf (w .settings) (w .claims) (recordsOf w)) generation
+pub group-planned : (w : World) (generation mark count : ℕ) → 0 < generation
+    → group w generation mark count ≡ planned (planOf (w .settings) (w .claims) mark count (recordsOf w)) generation
 unfolding group planned planOf
-group-planned w generation h = from-group (w .settings) (w .claims) (fileCount (recordsOf w)) generation 0 (recordsOf w) h
+group-planned w generation mark count h = from-group (w .settings) (w .claims) mark count generation 0 (recordsOf w) h
 
 -- ---- a plan slot by slot
-from-length : (s : Settings) (claims : Claims) (files i : ℕ) (rs : List Record) → length (planFrom s claims files i rs) ≡ length rs
+from-length : (s : Settings) (claims : Claims) (mark count i : ℕ) (rs : List Record) → length (planFrom s claims mark count i rs) ≡ length rs
 unfolding planFrom
-from-length s claims files i [] = refl
-from-length s claims files i (r ∷ rs) = ap suc (from-length s claims files (suc i) rs)
+from-length s claims mark count i [] = refl
+from-length s claims mark count i (r ∷ rs) = ap suc (from-length s claims mark count (suc i) rs)
 
-from-at : (s : Settings) (claims : Claims) (files i : ℕ) (rs : List Record) (k : ℕ) → k < length rs → getD (planFrom s claims files i rs) k 0 ≡ planFor s claims files (i + k) (recordAt rs k)
+from-at : (s : Settings) (claims : Claims) (mark count i : ℕ) (rs : List Record) (k : ℕ) → k < length rs → getD (planFrom s claims mark count i rs) k 0 ≡ planFor s claims mark count (i + k) (recordAt rs k)
 unfolding planFrom
-from-at s claims files i [] k h = absurd (not-suc-le-zero h)
-from-at s claims files i (r ∷ rs) zero h = let e : i ≡ i + 0 = omega arith in ap (λ (n : ℕ). planFor s claims files n r) e
-from-at s claims files i (r ∷ rs) (suc k) h =
+from-at s claims mark count i [] k h = absurd (not-suc-le-zero h)
+from-at s claims mark count i (r ∷ rs) zero h = let e : i ≡ i + 0 = omega arith in ap (λ (n : ℕ). planFor s claims mark count n r) e
+from-at s claims mark count i (r ∷ rs) (suc k) h =
     let e : suc i + k ≡ i + suc k = omega arith in
-    from-at s claims files (suc i) rs k (le-of-suc-le-suc h) ∙ ap (λ (n : ℕ). planFor s claims files n (recordAt rs k)) e
+    from-at s claims mark count (suc i) rs k (le-of-suc-le-suc h) ∙ ap (λ (n : ℕ). planFor s claims mark count n (recordAt rs k)) e
 
 -- as many slots as records
-pub plan-length : (s : Settings) (claims : Claims) (rs : List Record) → length (planOf s claims rs) ≡ length rs
+pub plan-length : (s : Settings) (claims : Claims) (mark count : ℕ) (rs : List Record) → length (planOf s claims mark count rs) ≡ length rs
 unfolding planOf
-plan-length s claims rs = from-length s claims (fileCount rs) 0 rs
+plan-length s claims mark count rs = from-length s claims mark count 0 rs
 
 -- slot k's number
-pub plan-at : (s : Settings) (claims : Claims) (rs : List Record) (k : ℕ) → k < length rs → getD (planOf s claims rs) k 0 ≡ planFor s claims (fileCount rs) k (recordAt rs k)
+pub plan-at : (s : Settings) (claims : Claims) (mark count : ℕ) (rs : List Record) (k : ℕ) → k < length rs → getD (planOf s claims mark count rs) k 0 ≡ planFor s claims mark count k (recordAt rs k)
 unfolding planOf
-plan-at s claims rs k h = from-at s claims (fileCount rs) 0 rs k h ∙ ap (λ (n : ℕ). planFor s claims (fileCount rs) n (recordAt rs k)) (zero-add k)
+plan-at s claims mark count rs k h = from-at s claims mark count 0 rs k h ∙ ap (λ (n : ℕ). planFor s claims mark count n (recordAt rs k)) (zero-add k)
 
-plan-some : (s : Settings) (claims : Claims) (files slot : ℕ) (r : Record) → 0 < planFor s claims files slot r → isEmpty r ≡ false
+plan-some : (s : Settings) (claims : Claims) (mark count slot : ℕ) (r : Record) → 0 < planFor s claims mark count slot r → isEmpty r ≡ false
 unfolding planFor
-plan-some s claims files slot r h = go (isCandidate s claims files slot r) refl h
+plan-some s claims mark count slot r h = go (isCandidate s claims mark count slot r) refl h
   where
-    go : (t : Bool) → isCandidate s claims files slot r ≡ t → 0 < pick t (newGeneration (r .label .generation)) 0 → isEmpty r ≡ false
-    go true e h = candidate s claims files slot r e .file
+    go : (t : Bool) → isCandidate s claims mark count slot r ≡ t → 0 < pick t (newGeneration (r .label .generation)) 0 → isEmpty r ≡ false
+    go true e h = candidate s claims mark count slot r e .file
     go false e h = absurd (omega arith)
 
 -- a slot of the plan has a file
-pub plan-files : (s : Settings) (claims : Claims) (rs : List Record) (k : ℕ) → 0 < getD (planOf s claims rs) k 0 → isEmpty (recordAt rs k) ≡ false
-plan-files s claims rs k h = go (either-way k (length rs))
+pub plan-files : (s : Settings) (claims : Claims) (mark count : ℕ) (rs : List Record) (k : ℕ) → 0 < getD (planOf s claims mark count rs) k 0 → isEmpty (recordAt rs k) ≡ false
+plan-files s claims mark count rs k h = go (either-way k (length rs))
   where
     go : (k < length rs) ⊎ (length rs ≤ k) → isEmpty (recordAt rs k) ≡ false
-    go (inl i) = let n = plan-at s claims rs k i in plan-some s claims (fileCount rs) k (recordAt rs k) (omega arith)
+    go (inl i) = let n = plan-at s claims mark count rs k i in plan-some s claims mark count k (recordAt rs k) (omega arith)
     go (inr i) =
-        let z : getD (planOf s claims rs) k 0 ≡ 0 = List·getD-eq-default (planOf s claims rs) 0 {n = k} (omega (arith, plan-length s claims rs)) in
+        let z : getD (planOf s claims mark count rs) k 0 ≡ 0 = List·getD-eq-default (planOf s claims mark count rs) 0 {n = k} (omega (arith, plan-length s claims mark count rs)) in
         absurd (omega arith)
 
 -- ---- a turn over the slots of a group

@@ -1,5 +1,6 @@
-// The candidates of maintenance (`src/gc.rs`), fixed as the call starts, and the groups that they make: a new generation for each slot.
+// The candidates of maintenance (`src/gc.rs`), by a mark and a file count, and the groups that they make: a new generation for each slot.
 use claims::is_claimed;
+use disk_location::masked;
 use file_map::is_empty;
 use rules::Claims;
 use rules::FileMap;
@@ -53,12 +54,19 @@ pub fn new_generation(g: u64) -> u64
     g + 1
 }
 
-// "unclaimed files with live not 0, and .."; `files` is the file count.
-pub fn is_candidate(s: Settings, claims: Claims, files: u64, slot: u64, r: Record) -> bool
+// "unclaimed files with live not 0, and .."; "only files with masked lsn below the mark", the threshold "against that count".
+pub fn is_candidate(
+    s: Settings,
+    claims: Claims,
+    mark: u64,
+    count: u64,
+    slot: u64,
+    r: Record,
+) -> bool
     requires { ⌜ InRanges s ⌝ }
     requires { ⌜ Small r ⌝ }
     requires { ⌜ slot < 256 ⌝ }
-    ensures { λ b. ⌜ b ≡ isCandidate s claims files slot r ⌝ }
+    ensures { λ b. ⌜ b ≡ isCandidate s claims mark count slot r ⌝ }
 {
     if is_empty(r) {
         return false;
@@ -69,33 +77,35 @@ pub fn is_candidate(s: Settings, claims: Claims, files: u64, slot: u64, r: Recor
     if r.live == 0 {
         return false;
     }
-    worth_it(s, files, r)
+    if !worth_it(s, count, r) {
+        return false;
+    }
+    masked(r.label.lsn) < mark
 }
 
 // A candidate's new generation; 0 for any other slot.
-fn plan_for(s: Settings, claims: Claims, files: u64, slot: u64, r: Record) -> u64
+fn plan_for(s: Settings, claims: Claims, mark: u64, count: u64, slot: u64, r: Record) -> u64
     requires { ⌜ InRanges s ⌝ }
     requires { ⌜ Small r ⌝ }
     requires { ⌜ slot < 256 ⌝ }
-    ensures { λ n. ⌜ n ≡ planFor s claims files slot r ⌝ }
+    ensures { λ n. ⌜ n ≡ planFor s claims mark count slot r ⌝ }
 {
-    if is_candidate(s, claims, files, slot, r) {
+    if is_candidate(s, claims, mark, count, slot, r) {
         return new_generation(r.label.generation);
     }
     0
 }
 
-// "Candidates, fixed as the call starts": the file count is of all files, claimed and dead ones too.
-pub fn plan(s: Settings, claims: Claims, m: FileMap) -> [u64; RECORDS]
+// The groups of all generations, by a mark and a file count.
+pub fn plan(s: Settings, claims: Claims, m: FileMap, mark: u64, count: u64) -> [u64; RECORDS]
     requires { ⌜ InRanges s ⌝ }
     requires { ⌜ Bounded (m .records) ⌝ }
-    ensures { λ p. ⌜ p ≡ planOf s claims (m .records) ⌝ }
+    ensures { λ p. ⌜ p ≡ planOf s claims mark count (m .records) ⌝ }
 {
-    let files = file_map::counts(m).files;
     let mut p = [0u64; RECORDS];
     let mut i: usize = 0;
     while i < RECORDS {
-        p[i] = plan_for(s, claims, files, i as u64, m.records[i]);
+        p[i] = plan_for(s, claims, mark, count, i as u64, m.records[i]);
         i += 1;
     }
     p

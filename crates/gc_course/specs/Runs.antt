@@ -1,19 +1,11 @@
--- Where the call stands between two groups, as the definitions say it, and what is known there.
-use mathlib.Core.Path.{_≡_}
-use Prim.Native.Nat.{_<_}
-use Rattle.rules.specs.Base.{Bool, true, false, List, ℕ, length, getD}
-use Rattle.rules.specs.declared.Settings.{Settings}
-use Rattle.rules.specs.declared.State.{State}
+-- Where the nightly job stands between two rewrites, as the definitions say it.
+use Rattle.rules.specs.Base.{Bool, true, false, List, [], _∷_, ℕ, zero, suc, _+_}
 use Rattle.rules.specs.declared.Answer.{Answer}
 use Rattle.rules.specs.declared.Answer.the-variants.{Done, Refused}
 use Rattle.rules.specs.declared.MaintainAnswer.{MaintainAnswer}
 use Rattle.rules.specs.declared.MaintainAnswer.the-variants.{Moved, Stopped}
-use Rattle.rules.specs.Layout.{Table}
-use Rattle.rules.specs.FileMap.{isEmpty, recordAt}
-use Rattle.rules.specs.Condition1Laws.{Passed}
-use Rattle.rules.specs.Maintenance.{Stop, going, stopped, Course, onward}
+use Rattle.rules.specs.Maintenance.{Stop, going, stopped, Course}
 use Rattle.rules.specs.World.{World}
-use Rattle.gc_candidates.specs.Plan.{planned}
 use Rattle.gc_course.specs.declared.Halt.{Halt}
 use Rattle.gc_course.specs.declared.Halt.the-variants.{Going, Halted}
 use Rattle.gc_course.specs.declared.Run.{Run}
@@ -29,9 +21,9 @@ stopOf Going = going
 stopOf (Halted r g) = stopped r g
 
 -- a group's answer
-abbrev pub stopGiven : ℕ → Answer → Stop
-stopGiven generation Done = going
-stopGiven generation (Refused r) = stopped r generation
+abbrev pub stopBy : ℕ → Answer → Stop
+stopBy generation Done = going
+stopBy generation (Refused r) = stopped r generation
 
 -- the code's struct with the world that it stands in
 abbrev pub standing : Run → World → Course
@@ -42,16 +34,7 @@ abbrev pub answerOf : Halt → ℕ → MaintainAnswer
 answerOf Going moved = Moved moved
 answerOf (Halted r g) moved = Stopped r g moved
 
--- one generation by a plan
-abbrev pub stepped : List ℕ → ℕ → Course → Course
-stepped plan generation c = onward (c .stop) generation (planned plan generation) c
-
--- generations 1, 2 and 3 by a plan
-abbrev pub byPlan : List ℕ → World → Course
-byPlan plan w = stepped plan 3 (stepped plan 2 (stepped plan 1 (record { stop = going; moved = 0; world = w })))
-
--- between two groups: 1 would not refuse the call, and each slot of the plan has its file still
-pub record Underway (s : Settings) (heapLen : ℕ) (b : Table) (t : State) (plan : List ℕ) : Type 0 where
-  pub limits : Passed s heapLen b t
-  pub slots : length plan ≡ 256
-  pub files : (k : ℕ) → 0 < getD plan k 0 → isEmpty (recordAt (t .files .records) k) ≡ false
+-- so many generations, from this one on
+abbrev pub generationsFrom : ℕ → ℕ → List ℕ
+generationsFrom zero generation = []
+generationsFrom (suc k) generation = generation ∷ generationsFrom k (generation + 1)

@@ -74,18 +74,18 @@ passed-lie s heapLen b t w k = ⊎-elim
     (empty-or-not (recordAt (t .files .records) k))
 
 -- a planned slot is one of the heap's
-pub planned-within : (s : Settings) (claims : Claims) (heapLen : ℕ) (b : Table) (t : State) → Passed s heapLen b t
-    → (k : ℕ) → 0 < getD (planOf s claims (t .files .records)) k 0 → k * s .«slot_bytes» + s .«slot_bytes» ≤ heapLen
-planned-within s claims heapLen b t w k h =
-    slot-within s heapLen k (w .limits .heap) (w .records k (plan-files s claims (t .files .records) k h) .place)
+pub planned-within : (s : Settings) (claims : Claims) (mark count heapLen : ℕ) (b : Table) (t : State) → Passed s heapLen b t
+    → (k : ℕ) → 0 < getD (planOf s claims mark count (t .files .records)) k 0 → k * s .«slot_bytes» + s .«slot_bytes» ≤ heapLen
+planned-within s claims mark count heapLen b t w k h =
+    slot-within s heapLen k (w .limits .heap) (w .records k (plan-files s claims mark count (t .files .records) k h) .place)
 
 -- records and plan of a call that 1 does not refuse are ready for each of its groups
-pub ready : (s : Settings) (claims : Claims) (heapLen : ℕ) (b : Table) (t : State) (generation : ℕ) → Passed s heapLen b t → length (t .files .records) ≡ 256 → 0 < generation
-    → Ready (s .«slot_bytes») heapLen (t .files .records) (planOf s claims (t .files .records)) generation
-ready s claims heapLen b t generation w n g = record {
-  slots = plan-length s claims (t .files .records) ∙ n;
+pub ready : (s : Settings) (claims : Claims) (mark count heapLen : ℕ) (b : Table) (t : State) (generation : ℕ) → Passed s heapLen b t → length (t .files .records) ≡ 256 → 0 < generation
+    → Ready (s .«slot_bytes») heapLen (t .files .records) (planOf s claims mark count (t .files .records)) generation
+ready s claims mark count heapLen b t generation w n g = record {
+  slots = plan-length s claims mark count (t .files .records) ∙ n;
   files = passed-lie s heapLen b t w;
-  standing = λ k e. planned-within s claims heapLen b t w k (omega arith);
+  standing = λ k e. planned-within s claims mark count heapLen b t w k (omega arith);
 }
 
 -- a file has no more object bytes than its label says

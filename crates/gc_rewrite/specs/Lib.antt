@@ -1,6 +1,3 @@
 pub mod Courses
-pub mod Fitting
 pub mod Putting
-pub mod Orders
 pub mod Rewriting
-pub mod Groups

@@ -1,16 +1,9 @@
 -- The files of a group, added one after the other.
 use mathlib.Core.Path.{_≡_, refl, sym, ap, _∙_, subst}
-use mathlib.Core.Logic.{_⊎_, inl, inr}
 use Prim.Native.Nat.{_≤_, _<_}
 use native.Mathlib.Omega.{arith}
-use borrow.Author.Tests.{lt-ltb, le-ltb}
-use lib.ListN.{length-append, length-drop}
-use lib.Seq.{length-take-le, getD-take, take-suc-set, append-snoc, take-at, take-append-seam}
-use mathlib.Core.List.{append-nil}
-use native.Mathlib.Numerals.{add-one}
-use Rattle.numbers.specs.Parts.{front}
-use Rattle.numbers.specs.GroupLaws.{either-way}
-use Rattle.rules.specs.Base.{false, List, [], _∷_, _++_, map, ℕ, _+_, _^_, length, getD, set, take, drop, ltb, pick}
+use lib.ListN.{length-drop}
+use Rattle.rules.specs.Base.{false, List, _∷_, ℕ, _+_, _^_, length, getD, drop}
 use Rattle.rules.specs.TurnLaws.{left-next, left-none}
 use Rattle.rules.specs.declared.Settings.{Settings}
 use Rattle.rules.specs.declared.State.{State}
@@ -19,7 +12,7 @@ use Rattle.rules.specs.Claims.{noClaims}
 use Rattle.rules.specs.Settings.{slotsIn}
 use Rattle.rules.specs.Ops.{Op, fileBytes}
 use Rattle.rules.specs.Layout.{tableIds}
-use Rattle.rules.specs.FileMap.{isEmpty, recordAt, emptySlots, lowestEmpty}
+use Rattle.rules.specs.FileMap.{isEmpty, recordAt, lowestEmpty}
 use Rattle.rules.specs.Condition1Laws.{Passed}
 use Rattle.rules.specs.Install.{installed, installedAll}
 use Rattle.rules.specs.World.{World, world, recordsOf}
@@ -28,50 +21,15 @@ use Rattle.rules.specs.LabelLaws.{lsn-some}
 use Rattle.rules.specs.FileMapLaws.{not-empty}
 use Rattle.gc_files.specs.Places.{filedOps}
 use Rattle.gc_install.specs.Placing.{Placing}
-use Rattle.gc_rewrite.specs.Fitting.{Fitting, span, first-fits, first-room, first-positions, fitting-rest}
-
--- the files with these numbers, in order
-abbrev pub filesIn : List ℕ → List ℕ → List ℕ → List ℕ → List ℕ → List (List Op)
-filesIn heap ids places pieces order = map (λ (q : ℕ). filedOps q heap ids places pieces) order
-
--- the slots of a heap that are empty, ascending
-abbrev pub emptiesIn : Settings → State → List ℕ → List ℕ
-emptiesIn s t heap = emptySlots (slotsIn s (length heap)) (t .files .records)
-
--- how many
-abbrev pub emptyIn : Settings → State → List ℕ → ℕ
-emptyIn s t heap = length (emptiesIn s t heap)
-
--- they stand first in a list with room for them
-pub record Listed (empties frees : List ℕ) : Type 0 where
-  pub room : length empties ≤ length frees
-  pub same : take (length empties) frees ≡ empties
-
--- one more is listed, others are left
-pub listed-next : (frees : List ℕ) (k slot : ℕ) (rest : List ℕ) → k < length frees → take k frees ++ (slot ∷ rest) ≡ take (k + 1) (set frees k slot) ++ rest
-listed-next frees k slot rest h =
-    let more : take (k + 1) (set frees k slot) ≡ take k frees ++ (slot ∷ []) = rw (add-one k) (take-suc-set frees k slot h) in
-    sym (ap (λ (ns : List ℕ). ns ++ rest) more ∙ append-snoc (take k frees) slot rest)
-
--- none is left
-pub listed-end : (empties frees : List ℕ) (k : ℕ) → k ≤ length frees → empties ≡ take k frees ++ [] → (k ≡ length empties) × Listed empties frees
-listed-end empties frees k h e =
-    let all : empties ≡ take k frees = e ∙ append-nil (take k frees) in
-    let many : length empties ≡ k = ap length all ∙ length-take-le k frees h in
-    (sym many, record { room = omega (arith, many, h); same = ap (λ (n : ℕ). take n frees) many ∙ sym all })
-
--- each at its place
-pub listed-at : (empties frees : List ℕ) → Listed empties frees → (k : ℕ) → k < length empties → getD frees k 0 ≡ getD empties k 0
-listed-at empties frees w k h = sym (getD-take (length empties) frees k 0 h) ∙ ap (λ (ns : List ℕ). getD ns k 0) (w .same)
-
--- numbers of 32 bits
-abbrev pub Words : List ℕ → Type 0
-Words ns = (k : ℕ) → getD ns k 0 < 2 ^ 32
+use Rattle.gc_decision.specs.Empties.{emptiesIn, emptyIn, Listed, listed-at}
+use Rattle.gc_decision.specs.Orders.{Words}
+use Rattle.gc_decision.specs.Splits.{filesIn}
+use Rattle.gc_decision.specs.Fitting.{Fitting, span, first-fits, first-room, first-positions, fitting-rest}
 
 -- what adding the files with these numbers asks for
 pub record Puttable (s : Settings) (t : State) (heap table places pieces order : List ℕ) : Type 0 where
   pub placing : Placing s t heap table places pieces
-  pub fitting : Fitting (s .«slot_bytes») (emptyIn s t heap) (t .«next_position») (filesIn heap (tableIds table) places pieces order)
+  pub fitting : Fitting (s .«slot_bytes») (emptyIn s (t .files) heap) (t .«next_position») (filesIn heap (tableIds table) places pieces order)
   pub small : Words order
 
 -- a slot that had a file has one
@@ -90,7 +48,7 @@ pub record Added (s : Settings) (generation : ℕ) (places pieces : List ℕ) (t
   pub placing : Placing s r heap′ table′ places pieces
   pub filed : (p : ℕ) → filedOps p heap′ (tableIds table′) places pieces ≡ filedOps p heap (tableIds table) places pieces
   pub slot : ℕ
-  pub frees : emptiesIn s t heap ≡ slot ∷ emptiesIn s r heap′
+  pub frees : emptiesIn s (t .files) heap ≡ slot ∷ emptiesIn s (r .files) heap′
   pub next : r .«next_position» ≡ t .«next_position» + span (filedOps q heap (tableIds table) places pieces)
   pub sameHeap : length heap′ ≡ length heap
   pub sameIds : tableIds table′ ≡ tableIds table
@@ -102,10 +60,10 @@ module _ (s : Settings) (generation : ℕ) (places pieces order : List ℕ) (t :
     pub low : f ≤ length order
     pub placing : Placing s r heap′ table′ places pieces
     pub filed : (q : ℕ) → filedOps q heap′ (tableIds table′) places pieces ≡ filedOps q heap (tableIds table) places pieces
-    pub fitting : Fitting (s .«slot_bytes») (emptyIn s r heap′) (r .«next_position») (filesIn heap (tableIds table) places pieces (drop f order))
+    pub fitting : Fitting (s .«slot_bytes») (emptyIn s (r .files) heap′) (r .«next_position») (filesIn heap (tableIds table) places pieces (drop f order))
     pub left : (c : Claims) → installedAll 0 generation (world s r c heap′ table′) (filesIn heap (tableIds table) places pieces (drop f order))
         ≡ installedAll 0 generation (world s t c heap table) (filesIn heap (tableIds table) places pieces order)
-    pub frees : emptiesIn s r heap′ ≡ drop f (emptiesIn s t heap)
+    pub frees : emptiesIn s (r .files) heap′ ≡ drop f (emptiesIn s (t .files) heap)
     pub kept : Kept t r
     pub sameHeap : length heap′ ≡ length heap
     pub sameIds : tableIds table′ ≡ tableIds table
@@ -125,27 +83,27 @@ module _ (s : Settings) (generation : ℕ) (places pieces order : List ℕ) (t :
     step = ap (filesIn heap (tableIds table) places pieces) (left-next order f 0 h) ∙ ap (λ (q : ℕ). filedOps q heap (tableIds table) places pieces ∷ rest) (sym is)
 
     -- all of them fit
-    fits : Fitting (s .«slot_bytes») (emptyIn s r heap′) (r .«next_position») (filedOps p heap (tableIds table) places pieces ∷ rest)
-    fits = subst (Fitting (s .«slot_bytes») (emptyIn s r heap′) (r .«next_position»)) step (w .fitting)
+    fits : Fitting (s .«slot_bytes») (emptyIn s (r .files) heap′) (r .«next_position») (filedOps p heap (tableIds table) places pieces ∷ rest)
+    fits = subst (Fitting (s .«slot_bytes») (emptyIn s (r .files) heap′) (r .«next_position»)) step (w .fitting)
 
     -- what it asks for
     pub put-asks : let ops = filedOps p heap′ (tableIds table′) places pieces in
-        (64 + length (fileBytes ops) ≤ s .«slot_bytes») × (0 < emptyIn s r heap′) × (r .«next_position» + span ops ≤ 2 ^ 62)
+        (64 + length (fileBytes ops) ≤ s .«slot_bytes») × (0 < emptyIn s (r .files) heap′) × (r .«next_position» + span ops ≤ 2 ^ 62)
     put-asks = rw (w .filed p) (first-fits _ _ _ _ _ fits, first-room _ _ _ _ _ fits, first-positions _ _ _ _ _ fits)
 
     -- an empty slot is left for it: the one at its own number
-    next-free : (f < length (emptiesIn s t heap)) × (emptiesIn s r heap′ ≡ getD (emptiesIn s t heap) f 0 ∷ drop (f + 1) (emptiesIn s t heap))
+    next-free : (f < length (emptiesIn s (t .files) heap)) × (emptiesIn s (r .files) heap′ ≡ getD (emptiesIn s (t .files) heap) f 0 ∷ drop (f + 1) (emptiesIn s (t .files) heap))
     next-free =
         let some = first-room _ _ _ _ _ fits in
-        let here : f < length (emptiesIn s t heap) = omega (arith, some, ap length (w .frees), length-drop f (emptiesIn s t heap)) in
-        (here, w .frees ∙ left-next (emptiesIn s t heap) f 0 here)
+        let here : f < length (emptiesIn s (t .files) heap) = omega (arith, some, ap length (w .frees), length-drop f (emptiesIn s (t .files) heap)) in
+        (here, w .frees ∙ left-next (emptiesIn s (t .files) heap) f 0 here)
 
     -- which is the lowest
-    pub put-slot : (frees : List ℕ) → Listed (emptiesIn s t heap) frees → (f < length frees) × (getD frees f 0 ≡ lowestEmpty (slotsIn s (length heap′)) (r .files .records))
+    pub put-slot : (frees : List ℕ) → Listed (emptiesIn s (t .files) heap) frees → (f < length frees) × (getD frees f 0 ≡ lowestEmpty (slotsIn s (length heap′)) (r .files .records))
     unfolding lowestEmpty
     put-slot frees l =
         let n = next-free in
-        (omega (arith, n .0, l .room), listed-at (emptiesIn s t heap) frees l f (n .0) ∙ sym (ap (λ (ks : List ℕ). getD ks 0 (slotsIn s (length heap′))) (n .1)))
+        (omega (arith, n .0, l .room), listed-at (emptiesIn s (t .files) heap) frees l f (n .0) ∙ sym (ap (λ (ks : List ℕ). getD ks 0 (slotsIn s (length heap′))) (n .1)))
 
     -- and what is left after it
     pub put-turn : (q : State) (heap″ table″ : List ℕ) → Added s generation places pieces r heap′ table′ p q heap″ table″
@@ -155,7 +113,7 @@ module _ (s : Settings) (generation : ℕ) (places pieces order : List ℕ) (t :
       low = omega arith;
       placing = a .placing;
       filed = λ n. a .filed n ∙ w .filed n;
-      fitting = fitting-rest _ _ _ _ _ fits (emptyIn s q heap″) (q .«next_position») (omega (arith, ap length (a .frees))) (a .next ∙ ap (λ (ops : List Op). r .«next_position» + span ops) same);
+      fitting = fitting-rest _ _ _ _ _ fits (emptyIn s (q .files) heap″) (q .«next_position») (omega (arith, ap length (a .frees))) (a .next ∙ ap (λ (ops : List Op). r .«next_position» + span ops) same);
       left = λ c.
           ap (λ (v : World). installedAll 0 generation v rest) (a .worlds c ∙ ap (installed 0 generation (world s r c heap′ table′)) same)
           ∙ ap (installedAll 0 generation (world s r c heap′ table′)) (sym step)
@@ -182,41 +140,3 @@ module _ (s : Settings) (generation : ℕ) (places pieces order : List ℕ) (t :
     limits = w .placing .limits;
     kept = w .kept;
   }
-
--- the numbers of that many files: those of what is left of the shards, then those of the fragments
-abbrev pub orderIn : ℕ → List ℕ → List ℕ → List ℕ
-orderIn files rests cuts = take files (rests ++ cuts)
-
--- that many
-pub order-long : (files : ℕ) (rests cuts : List ℕ) → files ≤ length cuts → length (orderIn files rests cuts) ≡ files
-order-long files rests cuts h = length-take-le files (rests ++ cuts) (omega (arith, length-append rests cuts))
-
--- they are read where they were put: in front of the fragments' list
-pub order-read : (files : ℕ) (rests cuts : List ℕ) → files ≤ length cuts → take files (front (orderIn files rests cuts) cuts) ≡ orderIn files rests cuts
-unfolding front
-order-read files rests cuts h = take-at (orderIn files rests cuts) (drop (length (orderIn files rests cuts)) cuts) files (order-long files rests cuts h)
-
--- as many of them as there is room for
-abbrev pub atMost : ℕ → ℕ → ℕ
-atMost files room = pick (ltb files room) files room
-
--- not more
-pub at-most-room : (many files room : ℕ) → many ≡ atMost files room → many ≤ room
-at-most-room many files room e = go (either-way files room)
-  where
-    go : (files < room) ⊎ (room ≤ files) → many ≤ room
-    go (inl h) = rw (e, lt-ltb files room h) (omega arith)
-    go (inr h) = rw (e, le-ltb files room h) (omega arith)
-
--- all, where there is room
-pub at-most-all : (files room : ℕ) → files ≤ room → atMost files room ≡ files
-at-most-all files room few = go (either-way files room)
-  where
-    go : (files < room) ⊎ (room ≤ files) → atMost files room ≡ files
-    go (inl h) = rw (lt-ltb files room h) refl
-    go (inr h) = rw (le-ltb files room h) (omega arith)
-
--- what is left of the shards is read where it was put
-pub rests-read : (rests blank lent : List ℕ) (left : ℕ) → lent ≡ front rests blank → left ≡ length rests → (left ≤ length lent) × (take left lent ≡ rests)
-unfolding front
-rests-read rests blank lent left e n = rw (e, n) (omega (arith, length-append rests (drop (length rests) blank)), take-append-seam rests (drop (length rests) blank))

@@ -10,7 +10,7 @@ use Rattle.rules.specs.SettledLaws.{lastOn}
 use Rattle.rules.specs.FileMap.{isEmpty, recordAt}
 use Rattle.rules.specs.Read.{readOf}
 use Rattle.rules.specs.Write.{writeCall}
-use Rattle.rules.specs.Maintenance.{maintainCall}
+use Rattle.rules.specs.TwoCalls.{rewriteCall}
 use Rattle.rules.specs.Prune.{pruneCall}
 use Rattle.rules.specs.Reopen.{reopenCall}
 use Rattle.rules.specs.Sync.{markedAll}
@@ -21,25 +21,25 @@ use Rattle.theory.specs.Marks.{withoutMark, marks-alone}
 use Rattle.theory.specs.SoundWorld.{SoundWorld, SmallWorld}
 use Rattle.history_theory.specs.Writing.{engine, heard, sound-write}
 use Rattle.history_theory.specs.Reading.{Reads, sound-read}
-use Rattle.history_theory.specs.Maintaining.{sound-maintain}
-use Rattle.history_theory.specs.Small.{small-write, small-maintain, small-pruned, small-same}
+use Rattle.history_theory.specs.Maintaining.{sound-rewrite}
+use Rattle.history_theory.specs.Small.{small-write, small-rewrite, small-pruned, small-same}
 use Rattle.history_theory.specs.Pruning.{file-slot, prune-accepted, sound-prune}
 use Rattle.history_theory.specs.Quiet.{QuietCall, quietly, undisturbed}
 use Rattle.history_theory.specs.Again.{again, reopen-accepted, sound-again}
 use Rattle.history_theory.specs.Fresh.{Blank, views-blank, fresh-opens, sound-fresh}
 
--- the calls that change a store
+-- the calls that change a store, and those that only ask; a rewrite's numbers are the room of the lent notes, generation, mark and file count
 pub data Call : Type 0 where
   write : List ℕ → Call
-  maintain : Call
+  rewrite : ℕ → ℕ → ℕ → ℕ → Call
   prune : Call
   reopen : Call
   quiet : QuietCall → Call
 
--- document 01's call, accepted or refused
+-- document 01's call, or request P7's, accepted or refused
 abbrev pub called : World → Call → After
 called w (write bytes) = writeCall w bytes
-called w maintain = maintainCall w
+called w (rewrite room g mark count) = rewriteCall w room g mark count
 called w prune = pruneCall w
 called w reopen = reopenCall w
 called w (quiet q) = quietly w q
@@ -47,7 +47,7 @@ called w (quiet q) = quietly w q
 -- the plain engine: the operations of all accepted writes, in order
 abbrev pub hears : World → List Op → Call → List Op
 hears w history (write bytes) = heard history bytes (writeCall w bytes .answer)
-hears w history maintain = history
+hears w history (rewrite room g mark count) = history
 hears w history prune = history
 hears w history reopen = history
 hears w history (quiet q) = history
@@ -112,7 +112,7 @@ sound-kept w history s =
 -- each call keeps the invariant
 pub sound-called : (w : World) (history : List Op) (c : Call) → SoundWorld w (engine history) → SoundWorld (called w c .world) (engine (hears w history c))
 sound-called w history (write bytes) s = sound-write w history s bytes
-sound-called w history maintain s = sound-maintain history w s
+sound-called w history (rewrite room g mark count) s = sound-rewrite history w s room g mark count
 sound-called w history prune s = sound-prune w (engine history) s
 sound-called w history reopen s =
     subst (λ (a : After). SoundWorld (a .world) (engine history)) (sym (reopen-accepted w (engine history) s)) (sound-again w (engine history) s)
@@ -121,7 +121,7 @@ sound-called w history (quiet q) s = undisturbed w q .sound (engine history) s
 -- and a small store small
 small-called : (w : World) (history : List Op) (c : Call) → SoundWorld w (engine history) → SmallWorld w → SmallWorld (called w c .world)
 small-called w history (write bytes) s small = small-write w history s small bytes
-small-called w history maintain s small = small-maintain history w s small
+small-called w history (rewrite room g mark count) s small = small-rewrite w history s small room g mark count
 small-called w history prune s small = subst (λ (a : After). SmallWorld (a .world)) (sym (prune-accepted w (engine history) s)) (small-pruned w history s small)
 small-called w history reopen s small = subst (λ (a : After). SmallWorld (a .world)) (sym (reopen-accepted w (engine history) s)) small
 small-called w history (quiet q) s small = small-same w (quietly w q .world) (undisturbed w q .settings) (undisturbed w q .heap) small

@@ -9,6 +9,7 @@ pub mod Fresh
 pub mod Moving
 pub mod Shards
 pub mod Rewriting
+pub mod OneGeneration
 pub mod Maintaining
 pub mod Small
 -- demand 3, and that stores accept writes
@@ -17,5 +18,7 @@ pub mod Clean
 pub mod Ends
 pub mod Accepting
 pub mod Writes
+-- request P7: the nightly job, by its calls
+pub mod Nightly
 -- request P6: the marks
 pub mod MarksLeft

@@ -1,4 +1,4 @@
--- Maintenance on a store of the invariant, refused or not, group by group: nothing else is said of any id.
+-- A group rewritten on a store of the invariant, refused or not: nothing else is said of any id.
 use mathlib.Core.Path.{_≡_, refl}
 use Prim.Native.Nat.{_≤_}
 use native.Mathlib.Omega.{arith}
@@ -8,18 +8,18 @@ use Rattle.rules.specs.BaseLaws.{All, all-map}
 use Rattle.rules.specs.Refusal.{decide, after, NoneHolds, clear-when, none-first, none-rest}
 use Rattle.rules.specs.Ops.{Op}
 use Rattle.rules.specs.SettledLaws.{settled-rising}
-use Rattle.rules.specs.FileMap.{recordAt}
 use Rattle.rules.specs.Install.{installedAll, roomTests, emptyOf, positionTests}
 use Rattle.rules.specs.InstallLaws.{room-clear, positions-clear}
-use Rattle.rules.specs.Maintenance.{foundIn, found, filesOf, fileTests, slotOf, Stop, going, stopped, Course, group, groupTests, rewriteGroup, onward, groupsFrom, courseOf, ended, maintainCall}
-use Rattle.rules.specs.World.{World, recordsOf, mappings}
-use Rattle.theory.specs.SoundWorld.{SoundWorld, sound-fine}
+use Rattle.rules.specs.Maintenance.{foundIn, found, filesOf, Stop, going, stopped, Course, group, sourceTests, groupTests, rewriteGroup, onward}
+use Rattle.rules.specs.TwoCalls.{generationRewritten, rewriteCall}
+use Rattle.rules.specs.World.{World}
+use Rattle.theory.specs.SoundWorld.{SoundWorld}
 use Rattle.history_theory.specs.Writing.{engine}
 use Rattle.theory.specs.Standing.{AllStood}
-use Rattle.history_theory.specs.Pruning.{sound-pruned}
 use Rattle.history_theory.specs.Moving.{Movable, found-movable}
 use Rattle.history_theory.specs.Shards.{sub-rising, sub-all, PartOf, files-parts}
 use Rattle.history_theory.specs.Rewriting.{Rewritable, sound-rewritten}
+use Rattle.history_theory.specs.OneGeneration.{rewrite-leaves}
 
 module _ (history : List Op) where
   -- what a group moves, in files
@@ -52,11 +52,11 @@ module _ (history : List Op) where
   unfolding groupTests
   group-rewritten g aged slots w s e =
       group-installed w s g aged (filesOf (w .settings .«target_file_size») (found w slots)) (files-rewritable w s slots (w .settings .«target_file_size»))
-      (none-rest (each (λ (k : ℕ). fileTests (w .settings .«max_object_size») (mappings w) (recordAt (recordsOf w) k .label) (slotOf w k)) slots) _
+      (none-rest (sourceTests w slots) _
       (clear-when (groupTests w slots (filesOf (w .settings .«target_file_size») (found w slots))) e))
 
   -- LAW: a group, rewritten or refused
-  sound-group : (g : ℕ) → g ≤ 255 → (slots : List ℕ) (moved : ℕ) (w : World) → SoundWorld w (engine history) → SoundWorld (rewriteGroup g slots moved w .world) (engine history)
+  pub sound-group : (g : ℕ) → g ≤ 255 → (slots : List ℕ) (moved : ℕ) (w : World) → SoundWorld w (engine history) → SoundWorld (rewriteGroup g slots moved w .world) (engine history)
   unfolding rewriteGroup
   sound-group g aged slots moved w s = go (decide (groupTests w slots (filesOf (w .settings .«target_file_size») (found w slots)))) refl
     where
@@ -75,20 +75,9 @@ module _ (history : List Op) where
       go true = s
       go false = sound-group g aged slots (c .moved) (c .world) s
 
-  sound-groups : (gs : List ℕ) → All (λ (g : ℕ). g ≤ 255) gs → (start : World) (c : Course) → SoundWorld (c .world) (engine history) → SoundWorld (groupsFrom gs start c .world) (engine history)
-  unfolding groupsFrom
-  sound-groups [] y start c s = s
-  sound-groups (g ∷ gs) y start c s =
-      sound-groups gs (y .1) start (onward (c .stop) g (group start g) c) (sound-onward (c .stop) g (y .0) (group start g) c s)
-
-  sound-ended : (stop : Stop) (c : Course) → SoundWorld (c .world) (engine history) → SoundWorld (ended stop c .world) (engine history)
-  sound-ended (stopped r g) c s = s
-  sound-ended going c s = sound-pruned (c .world) (engine history) s
-
-  -- LAW: maintenance keeps the invariant, and the engine hears nothing
-  pub sound-maintain : (w : World) → SoundWorld w (engine history) → SoundWorld (maintainCall w .world) (engine history)
-  unfolding maintainCall decide courseOf
-  sound-maintain w s =
-      rw (sound-fine w (engine history) s)
-      (sound-ended (courseOf w .stop) (courseOf w)
-      (sound-groups (1 ∷ 2 ∷ 3 ∷ []) (omega arith, (omega arith, (omega arith, tt))) w (record { stop = going; moved = 0; world = w }) s))
+  -- LAW: a rewrite keeps the invariant, whatever numbers it is given, and the engine hears nothing
+  pub sound-rewrite : (w : World) → SoundWorld w (engine history) → (room g mark count : ℕ) → SoundWorld (rewriteCall w room g mark count .world) (engine history)
+  unfolding generationRewritten
+  sound-rewrite w s room g mark count =
+      rewrite-leaves (λ (v : World). SoundWorld v (engine history)) w room g mark count s
+      (λ low high. sound-onward going g (omega arith) (group w g mark count) (record { stop = going; moved = 0; world = w }) s)

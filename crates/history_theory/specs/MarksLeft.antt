@@ -1,5 +1,5 @@
 -- Request P6: what each call leaves of the marks. "clear on writing, set by a sync call, set on reopening; an empty record has it clear".
-use mathlib.Core.Path.{_≡_, refl, sym, ap, _∙_}
+use mathlib.Core.Path.{_≡_, refl, sym, ap, _∙_, subst}
 use mathlib.Core.Logic.{_⊎_, inl, inr}
 use Prim.Native.Nat.{_<_, _≤_}
 use native.Mathlib.Nat.{zero-add}
@@ -10,9 +10,9 @@ use Rattle.disk_location.specs.LocationLaws.{masked-pos}
 use borrow.Author.Tests.{eq-eqb, ne-eqb}
 use Rattle.numbers.specs.GroupLaws.{either-way}
 use Rattle.rules.specs.Base.{Bool, true, false, not, _&&_, _||_, List, [], _∷_, _++_, map, ℕ, zero, suc, _+_, _-_, _^_, length, set, replicate, ltb, eqb, pick, sum}
-use Rattle.theory.specs.Types.{Entry, Label, Record, Answer, Done, Refused, Refusal, Limits, Stopped}
+use Rattle.theory.specs.Types.{Entry, Label, Record, Answer, Done, Refused, Refusal, Limits}
 use Rattle.rules.specs.Refusal.{_gives_, decide, after}
-use Rattle.rules.specs.BaseLaws.{same?}
+use Rattle.rules.specs.BaseLaws.{same?, All}
 use Rattle.rules.specs.Ops.{Op, settled}
 use Rattle.rules.specs.Batch.{batchIn, opsOf}
 use Rattle.rules.specs.SlotFile.{View, empty, damaged, holds}
@@ -25,10 +25,11 @@ use Rattle.rules.specs.Write.{newFiles, written, writeTests, writeCall}
 use Rattle.rules.specs.WriteLaws.{opsIn, write-accepted}
 use Rattle.rules.specs.Prune.{isDead, emptiedFrom, pruned, pruneCall}
 use Rattle.rules.specs.PruneLaws.{emptied-length, emptied-at}
-use Rattle.rules.specs.Maintenance.{Stop, going, stopped, Course, groupTests, found, filesOf, group, rewriteGroup, onward, groupsFrom, courseOf, ended, finished, maintainCall}
+use Rattle.rules.specs.Maintenance.{going, stopped, Course, group, groupTests, found, filesOf, rewriteGroup}
+use Rattle.rules.specs.TwoCalls.{markOf, countOf, generationRewritten, rewriteCall, nightlyCall}
 use Rattle.rules.specs.Reopen.{recordOf, recordsFrom, tableOf, filesIn, reopenTests, givenUp, opened, reopenCall}
 use Rattle.rules.specs.Sync.{isUnsynced, unsyncedIn, syncState}
-use Rattle.rules.specs.World.{World, recordsOf, mappings, accepted, maintainGiven, Given, unchanged, After}
+use Rattle.rules.specs.World.{World, recordsOf, mappings, accepted, Given, unchanged, After, leaving}
 use Rattle.theory.specs.Marks.{none-unsynced}
 use Rattle.theory.specs.Places.{record-holds}
 use Rattle.theory.specs.Reopened.{refused-not}
@@ -38,6 +39,9 @@ use Rattle.theory.specs.SoundWorld.{SoundWorld}
 use Rattle.history_theory.specs.Writing.{engine, fits-write}
 use Rattle.history_theory.specs.Pruning.{file-slot}
 use Rattle.history_theory.specs.Syncing.{sync-accepted}
+use Rattle.history_theory.specs.OneGeneration.{rewrite-leaves}
+use Rattle.history_theory.specs.History.{Call, rewrite, called}
+use Rattle.history_theory.specs.Nightly.{movedWith, generationNamed, together, nightly, job-made}
 
 -- ---- every call but sync and reopening: slot by slot the file stays with its mark; or a file was written, its lsn from the next position
 -- before the call up to the one after it (bit: the batch bit, or 0), and its mark is clear; or the record was emptied
@@ -129,30 +133,7 @@ carries-group generation slots moved w = go (decide (groupTests w slots (filesOf
     go Done = carries-all 0 generation w files
     go (Refused r) = carries-same 0 w
 
-carries-onward : (s : Stop) (generation : ℕ) (slots : List ℕ) (c : Course) → Carries 0 (c .world) (onward s generation slots c .world)
-carries-onward (stopped r g) generation slots c = carries-same 0 (c .world)
-carries-onward going generation slots c = go (ltb (length slots) (c .world .settings .«min_compaction_files»))
-  where
-    go : (b : Bool) → Carries 0 (c .world) (pick b c (rewriteGroup generation slots (c .moved) (c .world)) .world)
-    go true = carries-same 0 (c .world)
-    go false = carries-group generation slots (c .moved) (c .world)
-
-carries-groups : (gs : List ℕ) (start : World) (c : Course) → Carries 0 (c .world) (groupsFrom gs start c .world)
-unfolding groupsFrom
-carries-groups [] start c = carries-same 0 (c .world)
-carries-groups (g ∷ gs) start c =
-    carries-then 0 (c .world) (onward (c .stop) g (group start g) c .world) (groupsFrom gs start (onward (c .stop) g (group start g) c) .world)
-    (carries-onward (c .stop) g (group start g) c) (carries-groups gs start (onward (c .stop) g (group start g) c))
-
-carries-course : (w : World) → Carries 0 w (courseOf w .world)
-unfolding courseOf
-carries-course w = carries-groups (1 ∷ 2 ∷ 3 ∷ []) w (record { stop = going; moved = 0; world = w })
-
-carries-ended : (s : Stop) (w : World) (c : Course) → Carries 0 w (c .world) → Carries 0 w (ended s c .world)
-carries-ended (stopped r g) w c h = h
-carries-ended going w c h = carries-then 0 w (c .world) (pruned (c .world)) h (carries-pruned 0 (c .world))
-
--- LAW: of any world, whatever the answer: write, maintenance and prune carry the marks
+-- LAW: of any world, whatever the answer: write, rewrite, prune and, below, the nightly job carry the marks
 pub write-carries : (w : World) (bytes : List ℕ) → Carries (2 ^ 62) w (writeCall w bytes .world)
 unfolding writeCall written
 write-carries w bytes = go (decide (writeTests w bytes))
@@ -161,13 +142,14 @@ write-carries w bytes = go (decide (writeTests w bytes))
     go Done = carries-all (2 ^ 62) 0 w (newFiles (settled (opsOf (batchIn bytes))))
     go (Refused r) = carries-same (2 ^ 62) w
 
-pub maintain-carries : (w : World) → Carries 0 w (maintainCall w .world)
-unfolding maintainCall
-maintain-carries w = go (decide (refused1 w gives Limits ∷ []))
+pub rewrite-carries : (w : World) (room g mark count : ℕ) → Carries 0 w (rewriteCall w room g mark count .world)
+unfolding generationRewritten
+rewrite-carries w room g mark count =
+    rewrite-leaves (Carries 0 w) w room g mark count (carries-same 0 w) (λ low high. go (ltb (length (group w g mark count)) (w .settings .«min_compaction_files»)))
   where
-    go : (a : Answer) → Carries 0 w (after a (λ (r : Refusal). record { answer = maintainGiven (Stopped r 0 0); world = w }) (finished (courseOf w)) .world)
-    go Done = carries-ended (courseOf w .stop) w (courseOf w) (carries-course w)
-    go (Refused r) = carries-same 0 w
+    go : (b : Bool) → Carries 0 w (pick b (record { stop = going; moved = 0; world = w }) (rewriteGroup g (group w g mark count) 0 w) .world)
+    go true = carries-same 0 w
+    go false = carries-group g (group w g mark count) 0 w
 
 pub prune-carries : (w : World) → Carries 0 w (pruneCall w .world)
 unfolding pruneCall
@@ -176,6 +158,30 @@ prune-carries w = go (decide (refused1 w gives Limits ∷ []))
     go : (a : Answer) → Carries 0 w (after a (unchanged w) (record { answer = accepted []; world = pruned w }) .world)
     go Done = carries-pruned 0 w
     go (Refused r) = carries-same 0 w
+
+-- calls one after another, as far as none is refused
+carries-together : (cs : List Call) → All (λ (c : Call). (w : World) → Carries 0 w (called w c .world)) cs → (moved : ℕ) (w : World) → Carries 0 w (together moved w cs .world)
+unfolding together
+carries-together [] a moved w = carries-same 0 w
+carries-together (c ∷ cs) a moved w =
+    carries-then 0 w (called w c .world) _ (a .0 w)
+    (go (carries-together cs (a .1) (movedWith c (called w c .answer) moved) (called w c .world)) (eqb (called w c .answer .number) 0))
+  where
+    go : Carries 0 (called w c .world) (together (movedWith c (called w c .answer) moved) (called w c .world) cs .world) → (b : Bool)
+        → Carries 0 (called w c .world) (pick b (together (movedWith c (called w c .answer) moved) (called w c .world) cs)
+        (leaving (record { number = called w c .answer .number; values = generationNamed c ∷ moved ∷ [] }) (called w c .world)) .world)
+    go ih true = ih
+    go ih false = carries-same 0 (called w c .world)
+
+-- LAW: so the nightly job, of any world
+pub nightly-carries : (w : World) (room : ℕ) → Carries 0 w (nightlyCall w room .world)
+nightly-carries w room = subst (λ (a : After). Carries 0 w (a .world)) (sym (job-made w room)) (carries-together (nightly w room) each-call 0 w)
+  where
+    rewritten : (g : ℕ) (v : World) → Carries 0 v (called v (rewrite room g (markOf w) (countOf w)) .world)
+    rewritten g v = rewrite-carries v room g (markOf w) (countOf w)
+
+    each-call : All (λ (c : Call). (v : World) → Carries 0 v (called v c .world)) (nightly w room)
+    each-call = (carries-same 0, (rewritten 1, (rewritten 2, (rewritten 3, (prune-carries, tt)))))
 
 -- ---- "set on reopening"
 none-of-views : (table : List Entry) (views : List View) (n : ℕ) → unsyncedIn (map (recordOf table) views ++ replicate n emptyRecord) ≡ 0

@@ -6,7 +6,8 @@ use Rattle.rules.specs.Refusal.{_gives_, decide, after}
 use Rattle.rules.specs.Condition1.{refused1}
 use Rattle.rules.specs.Claims.{isClaimed, notAFile, claimSet, claimCleared, withClaims, claimCall, releaseCall}
 use Rattle.rules.specs.Sync.{Synced, syncState}
-use Rattle.rules.specs.World.{World, recordsOf, stateWith, accepted, After, unchanged}
+use Rattle.rules.specs.TwoCalls.{planCall}
+use Rattle.rules.specs.World.{World, recordsOf, stateWith, accepted, After, unchanged, leaving}
 use Rattle.theory.specs.Picture.{Said}
 use Rattle.theory.specs.SoundWorld.{SoundWorld}
 use Rattle.history_theory.specs.Syncing.{sync-refused, sound-synced}
@@ -16,12 +17,14 @@ pub data QuietCall : Type 0 where
   claim : ℕ → QuietCall
   release : ℕ → QuietCall
   sync : QuietCall
+  plan : ℕ → QuietCall
 
--- document 01's call, or request P6's, accepted or refused
+-- document 01's call, or request P6's, or P7's, which is lent notes of this room; accepted or refused
 abbrev pub quietly : World → QuietCall → After
 quietly w (claim slot) = claimCall w slot
 quietly w (release slot) = releaseCall w slot
 quietly w sync = syncState w
+quietly w (plan room) = leaving (planCall w room) w
 
 -- what such a call leaves
 pub record Undisturbed (w : World) (a : After) : Type 0 where
@@ -63,3 +66,4 @@ undisturbed w sync = record {
         table = w .table;
       }) (sync-refused (recordsOf w) n .1);
 }
+undisturbed w (plan room) = record { heap = refl; settings = refl; sound = λ told s. s; refused = λ n. refl }

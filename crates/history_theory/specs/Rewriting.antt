@@ -6,7 +6,7 @@ use native.Mathlib.Omega.{arith}
 use lib.ListN.{length-take, length-set, List·getD-eq-default}
 use lib.Seq.{getD-take, getD-set-other}
 use borrow.Author.Tests.{ltb-true, ltb-false, eqb-true}
-use Rattle.rules.specs.Base.{Bool, true, false, List, [], _∷_, ℕ, zero, suc, _+_, _-_, _*_, _^_, length, set, take, ltb, eqb, pick, sum}
+use Rattle.rules.specs.Base.{Bool, true, false, List, [], _∷_, ℕ, zero, suc, _+_, _*_, _^_, length, set, take, ltb, eqb, pick, sum}
 use Rattle.theory.specs.Types.{Record, Settings, Held, Mapped, Unmapped}
 use Rattle.rules.specs.BaseLaws.{All, all-map}
 use Rattle.rules.specs.Settings.{slotsIn}

@@ -1,4 +1,4 @@
--- A store in which no object is of max_object_size or more stays one: 3 refuses no batch that would bring one, and maintenance makes none.
+-- A store in which no object is of max_object_size or more stays one: 3 refuses no batch that would bring one, and a rewrite makes none.
 use mathlib.Core.Path.{_≡_, refl, sym, ap, _∙_, subst}
 use mathlib.Core.Logic.{_⊎_, inl, inr, ⊎-elim}
 use Prim.Native.Nat.{_≤_}
@@ -22,21 +22,23 @@ use Rattle.rules.specs.FileMap.{recordAt}
 use Rattle.rules.specs.Install.{newSlot, newLsn, installed, installedAll}
 use Rattle.rules.specs.Write.{writeTests, written, writeCall}
 use Rattle.rules.specs.WriteLaws.{opsIn, Accepted, write-accepted}
-use Rattle.rules.specs.Maintenance.{deletesOf, objectsFound, deletesFound, storedObjects, slotOf, foundIn, found, filesOf, Stop, going, stopped, Course, group, groupTests, rewriteGroup, onward, groupsFrom, courseOf, ended, maintainCall}
+use Rattle.rules.specs.Maintenance.{deletesOf, objectsFound, deletesFound, storedObjects, slotOf, foundIn, found, filesOf, going, stopped, Course, group, groupTests, rewriteGroup}
+use Rattle.rules.specs.TwoCalls.{generationRewritten, rewriteCall}
 use Rattle.rules.specs.Prune.{pruned}
 use Rattle.rules.specs.Settings.{slotsIn}
 use Rattle.rules.specs.World.{World, recordsOf, mappings, accepted, unchanged}
 use Rattle.theory.specs.Places.{viewAt, holds-inj, not-empty, record-holds, record-empty, no-damage}
 use Rattle.theory.specs.Picture.{viewsOf}
 use Rattle.theory.specs.Sound.{SmallFile}
-use Rattle.theory.specs.SoundWorld.{SoundWorld, SmallWorld, sound-fine, shown}
+use Rattle.theory.specs.SoundWorld.{SoundWorld, SmallWorld, shown}
 use Rattle.history_theory.specs.Writing.{engine, fits-write}
 use Rattle.theory.specs.Standing.{Stood, AllStood, fitting-stands}
 use Rattle.history_theory.specs.Reading.{body-is}
 use Rattle.history_theory.specs.Pruning.{each-slot}
 use Rattle.history_theory.specs.Moving.{StandsIn, objects-stand, none-found}
 use Rattle.history_theory.specs.Shards.{PartOf, sub-all, files-parts}
-use Rattle.history_theory.specs.Maintaining.{group-rewritten, sound-onward}
+use Rattle.history_theory.specs.OneGeneration.{rewrite-leaves}
+use Rattle.history_theory.specs.Maintaining.{group-rewritten}
 use Rattle.theory.specs.Lists.{all-kept, all-pass, all-each, every}
 
 -- an operation that 3 does not refuse
@@ -162,34 +164,15 @@ module _ (w : World) (history : List Op) (s : SoundWorld w (engine history)) (sm
           small-installed-all 0 g (filesOf (w .settings .«target_file_size») (found w ks)) w (group-rewritten history g aged ks w s e .0)
           (files-small ks (w .settings .«target_file_size»)) small
 
-module _ (history : List Op) where
-  small-onward : (stop : Stop) (g : ℕ) → g ≤ 255 → (ks : List ℕ) (c : Course) → SoundWorld (c .world) (engine history) → SmallWorld (c .world) → SmallWorld (onward stop g ks c .world)
-  small-onward (stopped r n) g aged ks c s small = small
-  small-onward going g aged ks c s small = go (ltb (length ks) (c .world .settings .«min_compaction_files»))
+  -- LAW: a rewrite, whatever numbers it is given, accepted or refused
+  pub small-rewrite : (room g mark count : ℕ) → SmallWorld (rewriteCall w room g mark count .world)
+  unfolding generationRewritten
+  small-rewrite room g mark count =
+      rewrite-leaves SmallWorld w room g mark count small (λ low high. go (omega arith) (ltb (length (group w g mark count)) (w .settings .«min_compaction_files»)))
     where
-      go : (b : Bool) → SmallWorld (pick b c (rewriteGroup g ks (c .moved) (c .world)) .world)
-      go true = small
-      go false = small-group (c .world) history s small g aged ks (c .moved)
-
-  -- generation by generation
-  pub small-groups : (gs : List ℕ) → All (λ (g : ℕ). g ≤ 255) gs → (start : World) (c : Course) → SoundWorld (c .world) (engine history) → SmallWorld (c .world)
-      → SoundWorld (groupsFrom gs start c .world) (engine history) × SmallWorld (groupsFrom gs start c .world)
-  unfolding groupsFrom
-  small-groups [] y start c s small = (s, small)
-  small-groups (g ∷ gs) y start c s small =
-      small-groups gs (y .1) start (onward (c .stop) g (group start g) c) (sound-onward history (c .stop) g (y .0) (group start g) c s)
-      (small-onward (c .stop) g (y .0) (group start g) c s small)
-
-  small-ended : (stop : Stop) (c : Course) → SoundWorld (c .world) (engine history) → SmallWorld (c .world) → SmallWorld (ended stop c .world)
-  small-ended (stopped r g) c s small = small
-  small-ended going c s small = small-pruned (c .world) history s small
-
-  -- LAW: maintenance, refused or not
-  pub small-maintain : (w : World) → SoundWorld w (engine history) → SmallWorld w → SmallWorld (maintainCall w .world)
-  unfolding maintainCall decide courseOf
-  small-maintain w s small =
-      let z = small-groups (1 ∷ 2 ∷ 3 ∷ []) (omega arith, (omega arith, (omega arith, tt))) w (record { stop = going; moved = 0; world = w }) s small in
-      rw (sound-fine w (engine history) s) (small-ended (courseOf w .stop) (courseOf w) (z .0) (z .1))
+      go : g ≤ 255 → (b : Bool) → SmallWorld (pick b (record { stop = going; moved = 0; world = w }) (rewriteGroup g (group w g mark count) 0 w) .world)
+      go aged true = small
+      go aged false = small-group g aged (group w g mark count) 0
 
 -- the same heap and settings
 pub small-same : (w v : World) → v .settings ≡ w .settings → v .heap ≡ w .heap → SmallWorld w → SmallWorld v

@@ -22,10 +22,11 @@ use Rattle.theory.specs.Reopened.{refused-not}
 use Rattle.theory.specs.Standing.{Stood, fitting-stands}
 use Rattle.history_theory.specs.Writing.{engine, heard, fits-write, sound-write}
 use Rattle.history_theory.specs.Reading.{Reads, sound-read}
+use Rattle.history_theory.specs.OneGeneration.{rewrite-refused}
 use Rattle.history_theory.specs.Again.{reopen-accepted}
 use Rattle.history_theory.specs.Quiet.{undisturbed}
 use Rattle.history_theory.specs.Fresh.{Blank}
-use Rattle.history_theory.specs.History.{Call, write, maintain, prune, reopen, quiet, called, hears, Life, lived, Starts, sound-called, sound-lived, born, born-starts}
+use Rattle.history_theory.specs.History.{Call, write, rewrite, prune, reopen, quiet, called, hears, Life, lived, Starts, sound-called, sound-lived, born, born-starts}
 
 -- what a read gives a host: never written, deleted, the bytes of a part of the heap, or a refusal
 pub data Got : Type 0 where
@@ -128,15 +129,15 @@ any-write w range blank = lived-write (born w) (born-starts w range blank)
 -- a call that brings no put and no delete
 abbrev pub Unheard : Call → Type 0
 Unheard (write batch) = ⊥
-Unheard maintain = Unit {0}
+Unheard (rewrite room g mark count) = Unit {0}
 Unheard prune = Unit {0}
 Unheard reopen = Unit {0}
 Unheard (quiet q) = Unit {0}
 
 -- so the engine hears nothing of it
-hears-nothing : (w : World) (history : List Op) (c : Call) → Unheard c → hears w history c ≡ history
+pub hears-nothing : (w : World) (history : List Op) (c : Call) → Unheard c → hears w history c ≡ history
 hears-nothing w history (write batch) q = absurd q
-hears-nothing w history maintain q = refl
+hears-nothing w history (rewrite room g mark count) q = refl
 hears-nothing w history prune q = refl
 hears-nothing w history reopen q = refl
 hears-nothing w history (quiet p) q = refl
@@ -158,10 +159,10 @@ pub any-reads-stay : (w : World) → outOfRange (w .settings) (length (w .heap))
 any-reads-stay w range blank = lived-reads-stay (born w) (born-starts w range blank)
 
 -- ---- refused calls
--- all but maintenance, which keeps finished groups, and reopening, which gives the old table up
+-- all but reopening, which gives the old table up
 abbrev pub Plain : Call → Type 0
 Plain (write batch) = Unit {0}
-Plain maintain = ⊥
+Plain (rewrite room g mark count) = Unit {0}
 Plain prune = Unit {0}
 Plain reopen = ⊥
 Plain (quiet q) = Unit {0}
@@ -175,7 +176,7 @@ or-unchanged w v (Refused r) n = refl
 pub refused-unchanged : (w : World) (c : Call) → Plain c → (called w c .answer .number ≡ 0 → ⊥) → called w c .world ≡ w
 unfolding writeCall pruneCall
 refused-unchanged w (write batch) p n = or-unchanged w (written w (settled (opsOf (batchIn batch)))) (decide (writeTests w batch)) n
-refused-unchanged w maintain p n = absurd p
+refused-unchanged w (rewrite room g mark count) p n = rewrite-refused w room g mark count n
 refused-unchanged w prune p n = or-unchanged w (pruned w) (decide (refused1 w gives Limits ∷ [])) n
 refused-unchanged w reopen p n = absurd p
 refused-unchanged w (quiet q) p n = undisturbed w q .refused n

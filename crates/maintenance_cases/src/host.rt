@@ -150,7 +150,10 @@ pub fn maintain(
     heap: &mut [u8],
     table: &mut [u64],
 ) -> State {
-    let m = marble::maintain(s, state, claim_words(hand.claimed), heap, table);
+    let mut places = [0u32; 8];
+    let mut pieces = [0u32; 8];
+    let claims = claim_words(hand.claimed);
+    let m = marble::nightly(s, state, claims, heap, table, &mut places, &mut pieces);
     let answer = m.answer;
     let after = m.state;
     show::maintained(answer);

@@ -5,9 +5,9 @@ use mathlib.Core.Logic.{_⊎_, inl, inr, ⊎-elim}
 use Prim.Native.Nat.{_<_, _≤_}
 use native.Mathlib.Omega.{arith}
 use borrow.Author.Tests.{ne-eqb, ltb-false, le-ltb}
-use Rattle.rules.specs.Base.{Bool, true, false, _&&_, List, [], _∷_, ℕ, zero, suc, _+_, length, ltb, eqb, pick, keep}
+use Rattle.rules.specs.Base.{Bool, true, false, List, [], _∷_, ℕ, zero, suc, _^_, length, ltb, pick, keep}
 use Rattle.theory.specs.Types.{Record, Settings, Claims, Refusal, Done, Moved, Mapped, Is}
-use Rattle.rules.specs.BaseLaws.{All, all-map, Some, same?, order, and-true}
+use Rattle.rules.specs.BaseLaws.{All, all-map, Some, same?, order}
 use Rattle.rules.specs.Refusal.{decide}
 use Rattle.rules.specs.Condition1.{outOfRange}
 use Rattle.rules.specs.Ops.{Op}
@@ -16,15 +16,15 @@ use Rattle.rules.specs.Table.{lookup}
 use Rattle.rules.specs.TableLaws.{Has, has-lookup, mapped-one}
 use Rattle.rules.specs.Claims.{isClaimed}
 use Rattle.rules.specs.FileMap.{emptyRecord, recordAt, fileFor, fileCount}
-use Rattle.rules.specs.FileMapLaws.{not-empty, Among, slot-passes}
+use Rattle.rules.specs.FileMapLaws.{not-empty, Among}
 use Rattle.rules.specs.Install.{installed, installedAll}
 use Rattle.rules.specs.InstallLaws.{isAt}
-use Rattle.rules.specs.Maintenance.{found, filesOf, Course, isCandidate, newGeneration, group, groupTests, maintainCall}
+use Rattle.rules.specs.Maintenance.{found, filesOf, Course, startGroup, groupTests, maintainCall}
 use Rattle.rules.specs.MaintenanceLaws.{candidate, Enough, decided-one, group-decided, group-added}
 use Rattle.rules.specs.Prune.{pruned}
 use Rattle.rules.specs.PruneLaws.{is-dead}
 use Rattle.rules.specs.Reopen.{inRange, mappedInto}
-use Rattle.rules.specs.World.{World, recordsOf, mappings, maintainGiven}
+use Rattle.rules.specs.World.{World, recordsOf, mappings, maintainGiven, After}
 use Rattle.theory.specs.Counting.{count-none}
 use Rattle.theory.specs.Newest.{maskedAt}
 use Rattle.theory.specs.Places as places
@@ -36,6 +36,7 @@ use Rattle.theory.specs.Standing.{AllStood}
 use Rattle.history_theory.specs.Writing.{engine}
 use Rattle.history_theory.specs.Pruning.{file-slot, view-after, record-after, each-slot, sound-pruned}
 use Rattle.maintenance_theory.specs.Tally.{heardIn}
+use Rattle.maintenance_theory.specs.Groups.{in-group}
 use Rattle.theory.specs.Lists.{among-get}
 use Rattle.maintenance_theory.specs.Checked.{Oversized}
 use Rattle.maintenance_theory.specs.Stopping.{Refusable, Remain, stood-all-remain, Stay, group-files}
@@ -57,29 +58,37 @@ pub record Finishes (w : World) (g : ℕ) : Type 0 where
   pub due : Due w g
   pub passes : (h : ℕ) → Among generations h → h < suc g → Passes w h
 
--- what becomes of the ids in its files, and of the files
-pub record Rewrote (w : World) (g : ℕ) : Type 0 where
+-- what becomes of the ids in its files, and of the files: the call's answer and what it leaves are a
+pub record RewroteAs (w : World) (g : ℕ) (a : After) : Type 0 where
   -- an id whose location, as the call starts, is in one of them is in a new file of g, in a slot that was empty: after the group, and after the call
-  pub moved : (x : ℕ) → Inside w (group w g) x → Arrived g (withFinished w (before g)) (withFinished w (before (suc g))) x
-  pub stays : (x : ℕ) → Inside w (group w g) x → Arrived g (withFinished w (before g)) (maintainCall w .world) x
+  pub moved : (x : ℕ) → Inside w (startGroup w g) x → Arrived g (withFinished w (before g)) (withFinished w (before (suc g))) x
+  pub stays : (x : ℕ) → Inside w (startGroup w g) x → Arrived g (withFinished w (before g)) (a .world) x
   -- they have no live entry, after the group and after the call
-  pub dead : (k : ℕ) → Among (group w g) k → recordAt (recordsOf (withFinished w (before (suc g)))) k .live ≡ 0
-  pub left : (k : ℕ) → Among (group w g) k → recordAt (recordsOf (maintainCall w .world)) k .live ≡ 0
+  pub dead : (k : ℕ) → Among (startGroup w g) k → recordAt (recordsOf (withFinished w (before (suc g)))) k .live ≡ 0
+  pub left : (k : ℕ) → Among (startGroup w g) k → recordAt (recordsOf (a .world)) k .live ≡ 0
   -- on success their slots are empty
-  pub emptied : (n : ℕ) → maintainCall w .answer ≡ maintainGiven (Moved n) → (k : ℕ) → Among (group w g) k
-      → (viewAt (viewsOf (maintainCall w .world)) k ≡ empty) × (recordAt (recordsOf (maintainCall w .world)) k ≡ emptyRecord)
+  pub emptied : (n : ℕ) → a .answer ≡ maintainGiven (Moved n) → (k : ℕ) → Among (startGroup w g) k
+      → (viewAt (viewsOf (a .world)) k ≡ empty) × (recordAt (recordsOf (a .world)) k ≡ emptyRecord)
+
+-- of the old call
+abbrev pub Rewrote : World → ℕ → Type 0
+Rewrote w g = RewroteAs w g (maintainCall w)
 
 -- ---- one group, in the world in which it is rewritten
-record Rewrites (history : List Op) (g : ℕ) (u v : World) (ks : List ℕ) : Type 0 where
-  left : (x : ℕ) → heardIn (found u ks) x ≡ false → Left u v x
-  arrived : (x : ℕ) → heardIn (found u ks) x ≡ true → Arrived g u v x
-  remain : Remain u v
-  fewer : (k : ℕ) (c : File) → viewAt (viewsOf u) k ≡ holds c → recordAt (recordsOf v) k .live ≤ recordAt (recordsOf u) k .live
-  dead : (k : ℕ) → Among ks k → recordAt (recordsOf v) k .live ≡ 0
+-- what becomes of the ids and of the files of a group ks that is rewritten
+pub record Rewrites (history : List Op) (g : ℕ) (u v : World) (ks : List ℕ) : Type 0 where
+  -- an id that the group did not find is left, one that it found has arrived in a new file
+  pub left : (x : ℕ) → heardIn (found u ks) x ≡ false → Left u v x
+  pub arrived : (x : ℕ) → heardIn (found u ks) x ≡ true → Arrived g u v x
+  -- each file is where it was, none gains a live entry, and those of the group have none
+  pub remain : Remain u v
+  pub fewer : (k : ℕ) (c : File) → viewAt (viewsOf u) k ≡ holds c → recordAt (recordsOf v) k .live ≤ recordAt (recordsOf u) k .live
+  pub dead : (k : ℕ) → Among ks k → recordAt (recordsOf v) k .live ≡ 0
 
 module _ (history : List Op) (u : World) (s : SoundWorld u (engine history)) (g : ℕ) (aged : g ≤ 255) (ks : List ℕ) (files : All (λ (k : ℕ). 0 < recordAt (recordsOf u) k .label .lsn) ks)
     (sizes : Oversized u ks → ⊥) (enough : Enough u (filesOf (u .settings .«target_file_size») (found u ks))) where
-  done : decide (groupTests u ks (filesOf (u .settings .«target_file_size») (found u ks))) ≡ Done
+  -- no test of it holds
+  pub done : decide (groupTests u ks (filesOf (u .settings .«target_file_size») (found u ks))) ≡ Done
   done =
       decided-one u (filesOf (u .settings .«target_file_size») (found u ks)) _ Done
       (group-decided u ks (filesOf (u .settings .«target_file_size») (found u ks))
@@ -144,7 +153,8 @@ module _ (history : List Op) (u : World) (s : SoundWorld u (engine history)) (g 
           go (inl i) = absurd (no x l e (q ∙ ap Is i) (heardIn (found u ks) x) refl)
           go (inr n) = sym (found-in-range (viewsOf v) (recordsOf v) (stood .1 .sound .filed) x l (t .0) k (t .1) (z .0) here) ∙ ap (isAt k) q ∙ ne-eqb (t .0) k n
 
-  group-rewrites : Rewrites history g u (installedAll 0 g u (filesOf (u .settings .«target_file_size») (found u ks))) ks
+  -- LAW: a group that nothing refuses
+  pub group-rewrites : Rewrites history g u (installedAll 0 g u (filesOf (u .settings .«target_file_size») (found u ks))) ks
   group-rewrites = record {
     left = group-left;
     arrived = group-arrived;
@@ -163,19 +173,11 @@ claims-all g (f ∷ fs) w = claims-all g fs (installed 0 g w f)
 claims-finished : (w : World) (gs : List ℕ) (v : World) → finishedFrom w gs v .claims ≡ v .claims
 unfolding finishedFrom
 claims-finished w [] v = refl
-claims-finished w (g ∷ gs) v = claims-finished w gs (finishing w g v) ∙ go (ltb (length (group w g)) (w .settings .«min_compaction_files»))
+claims-finished w (g ∷ gs) v = claims-finished w gs (finishing w g v) ∙ go (ltb (length (startGroup w g)) (w .settings .«min_compaction_files»))
   where
     go : (b : Bool) → pick b v (installedAll 0 g v (newFiles w g)) .claims ≡ v .claims
     go true = refl
     go false = claims-all g (newFiles w g) v
-
--- no candidate is claimed
-group-unclaimed : (w : World) (g k : ℕ) → Among (group w g) k → isClaimed (w .claims) k ≡ false
-unfolding group
-group-unclaimed w g k a =
-    let p = slot-passes (λ (i : ℕ) (r : Record). isCandidate (w .settings) (w .claims) (fileCount (recordsOf w)) i r && eqb (newGeneration (r .label .generation)) g) 0 (recordsOf w) k a in
-    let c = candidate (w .settings) (w .claims) (fileCount (recordsOf w)) (0 + p .off) (recordAt (recordsOf w) (p .off)) (and-true _ _ (p .passes) .0) in
-    ap (isClaimed (w .claims)) (p .is) ∙ c .unclaimed
 
 -- generations: 1 to 3
 is-generation : (g : ℕ) → 0 < g → g < 4 → Among generations g
@@ -243,19 +245,19 @@ module _ (history : List Op) (w : World) (s : SoundWorld w (engine history)) whe
   abbrev Below : ℕ → Type 0
   Below n = (h : ℕ) → Among generations h → h < n → Passes w h
 
-  still : (n : ℕ) → Among generations n ⊎ (n ≡ 4) → Below n → (g k : ℕ) → Among (group w g) k → (c : File) × (viewAt (viewsOf (withFinished w (before n))) k ≡ holds c)
+  still : (n : ℕ) → Among generations n ⊎ (n ≡ 4) → Below n → (g k : ℕ) → Among (startGroup w g) k → (c : File) × (viewAt (viewsOf (withFinished w (before n))) k ≡ holds c)
   still n i p g k a =
       let t = reached history w s n i p in
       let z = file-slot (withFinished w (before n)) (engine history) (t .0) k
-      (not-empty (recordAt (recordsOf (withFinished w (before n))) k) (t .1 k (among-get (λ (j : ℕ). 0 < recordAt (recordsOf w) j .label .lsn) (group w g) (group-files w history s g) k a))) in
+      (not-empty (recordAt (recordsOf (withFinished w (before n))) k) (t .1 k (among-get (λ (j : ℕ). 0 < recordAt (recordsOf w) j .label .lsn) (startGroup w g) (group-files w history s g) k a))) in
       (z .0, z .1)
 
   -- a due generation's turn
-  turn-rewrites : (g : ℕ) → Among generations g → Due w g → Below (suc g) → Rewrites history g (withFinished w (before g)) (withFinished w (before (suc g))) (group w g)
+  turn-rewrites : (g : ℕ) → Among generations g → Due w g → Below (suc g) → Rewrites history g (withFinished w (before g)) (withFinished w (before (suc g))) (startGroup w g)
   turn-rewrites g i due p =
-      subst (λ (v : World). Rewrites history g (withFinished w (before g)) v (group w g)) after
-      (group-rewrites history u (t .0) g (let l = within-three g i .1 in omega arith) (group w g) (all-map (λ (k : ℕ). 0 < recordAt (recordsOf w) k .label .lsn) (λ (k : ℕ). 0 < recordAt (recordsOf u) k .label .lsn) (group w g) (t .1) (group-files w history s g))
-      (λ o. clear .sizes (oversized-earlier history w u s (group w g) (group-files w history s g) (t .2) (settings-finished w (before g) w) o)) (subst (Enough u) (sym same) (clear .enough)))
+      subst (λ (v : World). Rewrites history g (withFinished w (before g)) v (startGroup w g)) after
+      (group-rewrites history u (t .0) g (let l = within-three g i .1 in omega arith) (startGroup w g) (all-map (λ (k : ℕ). 0 < recordAt (recordsOf w) k .label .lsn) (λ (k : ℕ). 0 < recordAt (recordsOf u) k .label .lsn) (startGroup w g) (t .1) (group-files w history s g))
+      (λ o. clear .sizes (oversized-earlier history w u s (startGroup w g) (group-files w history s g) (t .2) (settings-finished w (before g) w) o)) (subst (Enough u) (sym same) (clear .enough)))
     where
       u : World
       u = withFinished w (before g)
@@ -269,20 +271,20 @@ module _ (history : List Op) (w : World) (s : SoundWorld w (engine history)) whe
       clear : Clears w g
       clear = p g i (omega arith) due
 
-      same : filesOf (u .settings .«target_file_size») (found u (group w g)) ≡ newFiles w g
+      same : filesOf (u .settings .«target_file_size») (found u (startGroup w g)) ≡ newFiles w g
       same =
-          ap (λ (c : Settings). filesOf (c .«target_file_size») (found u (group w g))) (settings-finished w (before g) w)
+          ap (λ (c : Settings). filesOf (c .«target_file_size») (found u (startGroup w g))) (settings-finished w (before g) w)
           ∙ ap (filesOf (w .settings .«target_file_size»)) (reached-found history w s g i earlier)
 
-      after : installedAll 0 g u (filesOf (u .settings .«target_file_size») (found u (group w g))) ≡ withFinished w (before (suc g))
+      after : installedAll 0 g u (filesOf (u .settings .«target_file_size») (found u (startGroup w g))) ≡ withFinished w (before (suc g))
       after =
           ap (installedAll 0 g u) same
-          ∙ sym (one-more w g i ∙ ap (λ (b : Bool). pick b u (installedAll 0 g u (newFiles w g))) (le-ltb (length (group w g)) (w .settings .«min_compaction_files») due))
+          ∙ sym (one-more w g i ∙ ap (λ (b : Bool). pick b u (installedAll 0 g u (newFiles w g))) (le-ltb (length (startGroup w g)) (w .settings .«min_compaction_files») due))
 
   -- an id that has arrived stays where it is while a later generation has its turn
   carried : (g : ℕ) → Among generations g → (m : ℕ) → Among generations m → g < m → Below (suc m) → (x : ℕ)
       → Arrived g (withFinished w (before g)) (withFinished w (before m)) x → Arrived g (withFinished w (before g)) (withFinished w (before (suc m))) x
-  carried g i m j l p x a = go (ltb (length (group w m)) (w .settings .«min_compaction_files»)) refl
+  carried g i m j l p x a = go (ltb (length (startGroup w m)) (w .settings .«min_compaction_files»)) refl
     where
       u : World
       u = withFinished w (before m)
@@ -291,32 +293,32 @@ module _ (history : List Op) (w : World) (s : SoundWorld w (engine history)) whe
       t = reached history w s m (inl j) (λ h b c. p h b (omega arith))
 
       -- it is in none of that generation's files
-      out : (b : Bool) → heardIn (found u (group w m)) x ≡ b → heardIn (found u (group w m)) x ≡ false
+      out : (b : Bool) → heardIn (found u (startGroup w m)) x ≡ b → heardIn (found u (startGroup w m)) x ≡ false
       out false h = h
       out true h =
-          let y = moved-exactly u history (t .0) (group w m)
-          (all-map (λ (k : ℕ). 0 < recordAt (recordsOf w) k .label .lsn) (λ (k : ℕ). 0 < recordAt (recordsOf u) k .label .lsn) (group w m) (t .1) (group-files w history s m)) .only x h in
+          let y = moved-exactly u history (t .0) (startGroup w m)
+          (all-map (λ (k : ℕ). 0 < recordAt (recordsOf w) k .label .lsn) (λ (k : ℕ). 0 < recordAt (recordsOf u) k .label .lsn) (startGroup w m) (t .1) (group-files w history s m)) .only x h in
           let e : a .slot ≡ y .2 .0 = is-one (sym (a .found) ∙ ap (fileFor (recordsOf u)) (mapped-one (sym (a .table) ∙ y .1)) ∙ y .2 .2) in
           let z = still g (inl i) (λ h b c. p h b (omega arith)) m (y .2 .0) (y .2 .1) in
           absurd (places.not-empty (sym (a .free) ∙ ap (viewAt (viewsOf (withFinished w (before g)))) e ∙ z .1))
 
-      go : (b : Bool) → ltb (length (group w m)) (w .settings .«min_compaction_files») ≡ b → Arrived g (withFinished w (before g)) (withFinished w (before (suc m))) x
+      go : (b : Bool) → ltb (length (startGroup w m)) (w .settings .«min_compaction_files») ≡ b → Arrived g (withFinished w (before g)) (withFinished w (before (suc m))) x
       go true e =
           subst (λ (v : World). Arrived g (withFinished w (before g)) v x)
           (sym (one-more w m j ∙ ap (λ (b : Bool). pick b u (installedAll 0 m u (newFiles w m))) e)) a
       go false e =
           let r = turn-rewrites m j (ltb-false _ _ e) p in
-          arrived-left g (withFinished w (before g)) u (withFinished w (before (suc m))) x a (r .left x (out (heardIn (found u (group w m)) x) refl)) (r .remain)
+          arrived-left g (withFinished w (before g)) u (withFinished w (before (suc m))) x a (r .left x (out (heardIn (found u (startGroup w m)) x) refl)) (r .remain)
 
   -- so a file of the group has no live entry still
-  dead-still : (g m : ℕ) → Among generations m → Below (suc m) → (k : ℕ) → Among (group w g) k
+  dead-still : (g m : ℕ) → Among generations m → Below (suc m) → (k : ℕ) → Among (startGroup w g) k
       → recordAt (recordsOf (withFinished w (before m))) k .live ≡ 0 → recordAt (recordsOf (withFinished w (before (suc m)))) k .live ≡ 0
-  dead-still g m j p k a n = go (ltb (length (group w m)) (w .settings .«min_compaction_files»)) refl
+  dead-still g m j p k a n = go (ltb (length (startGroup w m)) (w .settings .«min_compaction_files»)) refl
     where
       u : World
       u = withFinished w (before m)
 
-      go : (b : Bool) → ltb (length (group w m)) (w .settings .«min_compaction_files») ≡ b → recordAt (recordsOf (withFinished w (before (suc m)))) k .live ≡ 0
+      go : (b : Bool) → ltb (length (startGroup w m)) (w .settings .«min_compaction_files») ≡ b → recordAt (recordsOf (withFinished w (before (suc m)))) k .live ≡ 0
       go true e =
           subst (λ (v : World). recordAt (recordsOf v) k .live ≡ 0)
           (sym (one-more w m j ∙ ap (λ (b : Bool). pick b u (installedAll 0 m u (newFiles w m))) e)) n
@@ -327,16 +329,16 @@ module _ (history : List Op) (w : World) (s : SoundWorld w (engine history)) whe
 
   module _ (g : ℕ) (f : Finishes w g) where
     -- found, by the store in which the group is rewritten
-    is-found : (x : ℕ) → Inside w (group w g) x → heardIn (found (withFinished w (before g)) (group w g)) x ≡ true
+    is-found : (x : ℕ) → Inside w (startGroup w g) x → heardIn (found (withFinished w (before g)) (startGroup w g)) x ≡ true
     is-found x i =
         ap (λ (os : List Op). heardIn os x) (reached-found history w s g (f .generation) (λ h b c. f .passes h b (omega arith)))
-        ∙ moved-exactly w history s (group w g) (group-files w history s g) .every x i
+        ∙ moved-exactly w history s (startGroup w g) (group-files w history s g) .every x i
 
-    here : Rewrites history g (withFinished w (before g)) (withFinished w (before (suc g))) (group w g)
+    here : Rewrites history g (withFinished w (before g)) (withFinished w (before (suc g))) (startGroup w g)
     here = turn-rewrites g (f .generation) (f .due) (f .passes)
 
     -- as each later turn comes, and at last
-    arrived-at : (n : ℕ) → g < n → n ≤ 4 → Below n → (x : ℕ) → Inside w (group w g) x → Arrived g (withFinished w (before g)) (withFinished w (before n)) x
+    arrived-at : (n : ℕ) → g < n → n ≤ 4 → Below n → (x : ℕ) → Inside w (startGroup w g) x → Arrived g (withFinished w (before g)) (withFinished w (before n)) x
     arrived-at zero l e p x i = absurd (omega arith)
     arrived-at (suc m) l e p x i = go (order g m) (λ b. arrived-at m b (omega arith) (λ h c d. p h c (omega arith)) x i)
       where
@@ -345,7 +347,7 @@ module _ (history : List Op) (w : World) (s : SoundWorld w (engine history)) whe
         go (inr (inl b)) ih = subst (λ (k : ℕ). Arrived g (withFinished w (before g)) (withFinished w (before (suc k))) x) b (here .arrived x (is-found x i))
         go (inr (inr b)) ih = absurd (omega arith)
 
-    dead-at : (n : ℕ) → g < n → n ≤ 4 → Below n → (k : ℕ) → Among (group w g) k → recordAt (recordsOf (withFinished w (before n))) k .live ≡ 0
+    dead-at : (n : ℕ) → g < n → n ≤ 4 → Below n → (k : ℕ) → Among (startGroup w g) k → recordAt (recordsOf (withFinished w (before n))) k .live ≡ 0
     dead-at zero l e p k a = absurd (omega arith)
     dead-at (suc m) l e p k a = go (order g m) (λ b. dead-at m b (omega arith) (λ h c d. p h c (omega arith)) k a)
       where
@@ -364,16 +366,16 @@ module _ (history : List Op) (w : World) (s : SoundWorld w (engine history)) whe
         go (inr (inr l)) = absurd (never-both history w s h r (e .due) (e .refused) (f .passes h (e .generation) (omega arith)))
 
     -- success: the group's slots are empty
-    success : (n : ℕ) → maintainCall w .answer ≡ maintainGiven (Moved n) → (k : ℕ) → Among (group w g) k
+    success : (n : ℕ) → maintainCall w .answer ≡ maintainGiven (Moved n) → (k : ℕ) → Among (startGroup w g) k
         → (viewAt (viewsOf (pruned (withFinished w (before 4)))) k ≡ empty) × (recordAt (recordsOf (pruned (withFinished w (before 4)))) k ≡ emptyRecord)
     success n a k i =
         let p : Below 4 = λ h b l. maintain-ends history w s .succeeds n a .0 h b in
         let t = reached history w s 4 (inr refl) p in
         let z = still 4 (inr refl) p g k i in
         pruned-dead history (withFinished w (before 4)) (t .0) k (z .0) (z .1)
-        (t .1 k (among-get (λ (j : ℕ). 0 < recordAt (recordsOf w) j .label .lsn) (group w g) (group-files w history s g) k i))
+        (t .1 k (among-get (λ (j : ℕ). 0 < recordAt (recordsOf w) j .label .lsn) (startGroup w g) (group-files w history s g) k i))
         (dead-at 4 (within-three g (f .generation) .1) (omega arith) p k i)
-        (ap (λ (c : Claims). isClaimed c k) (claims-finished w (before 4) w) ∙ group-unclaimed w g k i)
+        (ap (λ (c : Claims). isClaimed c k) (claims-finished w (before 4) w) ∙ in-group w g (2 ^ 62) (fileCount (recordsOf w)) k i .candidate .unclaimed)
 
     -- C: what becomes of a finished generation's ids and files
     pub finished-rewrote : Rewrote w g
@@ -387,7 +389,7 @@ module _ (history : List Op) (w : World) (s : SoundWorld w (engine history)) whe
           subst (λ (v : World). (viewAt (viewsOf v) k ≡ empty) × (recordAt (recordsOf v) k ≡ emptyRecord)) (sym (maintain-ends history w s .prunes n a)) (success n a k i);
     }
       where
-        stays : (x : ℕ) → Inside w (group w g) x → AnswersBut (λ r g. Refusable w (group w g) r) w → Arrived g (withFinished w (before g)) (maintainCall w .world) x
+        stays : (x : ℕ) → Inside w (startGroup w g) x → AnswersBut (λ r g. Refusable w (startGroup w g) r) w → Arrived g (withFinished w (before g)) (maintainCall w .world) x
         stays x i (inl a) =
             let p : Below 4 = λ h b l. maintain-ends history w s .succeeds _ a .0 h b in
             subst (λ (v : World). Arrived g (withFinished w (before g)) v x) (sym (maintain-ends history w s .prunes _ a))
@@ -398,7 +400,7 @@ module _ (history : List Op) (w : World) (s : SoundWorld w (engine history)) whe
             subst (λ (v : World). Arrived g (withFinished w (before g)) v x) (sym (maintain-ends history w s .keeps r h _ a))
             (arrived-at h (later h r e .0) (later h r e .1) (e .earlier) x i)
 
-        left : (k : ℕ) → Among (group w g) k → AnswersBut (λ r g. Refusable w (group w g) r) w → recordAt (recordsOf (maintainCall w .world)) k .live ≡ 0
+        left : (k : ℕ) → Among (startGroup w g) k → AnswersBut (λ r g. Refusable w (startGroup w g) r) w → recordAt (recordsOf (maintainCall w .world)) k .live ≡ 0
         left k i (inl a) =
             subst (λ (v : World). recordAt (recordsOf v) k .live ≡ 0) (sym (maintain-ends history w s .prunes _ a)) (ap (λ (r : Record). r .live) (success _ a k i .1))
         left k i (inr (r, h, a, z)) =

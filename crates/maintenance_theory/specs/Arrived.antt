@@ -6,7 +6,7 @@ use mathlib.Core.Logic.{_⊎_, inl, inr}
 use Prim.Native.Nat.{_<_, _≤_}
 use native.Mathlib.Omega.{arith}
 use lib.Seq.{getD-set-same, getD-set-other}
-use Rattle.rules.specs.Base.{true, false, List, [], _∷_, ℕ, _+_, _*_, _^_, length, any, sum}
+use Rattle.rules.specs.Base.{true, List, [], _∷_, ℕ, _+_, _*_, _^_, length, any, sum}
 use Rattle.theory.specs.Types.{Record, Settings, Held, Mapped, Is}
 use Rattle.rules.specs.BaseLaws.{All, Some, any-true, same?}
 use Rattle.rules.specs.Ops.{Content, Op, isDelete, sizeOf, objectsOf, entriesOf, fileBytes}

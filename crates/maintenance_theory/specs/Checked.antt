@@ -19,7 +19,7 @@ use Rattle.rules.specs.Table.{lookup, loadedOf, load, neverWritten}
 use Rattle.rules.specs.TableLaws.{never-unmapped, Has}
 use Rattle.rules.specs.FileMap.{recordAt}
 use Rattle.rules.specs.FileMapLaws.{Among, not-empty}
-use Rattle.rules.specs.Maintenance.{movedTests, deleteTests, deletesOf, fileTests, slotOf}
+use Rattle.rules.specs.Maintenance.{movedTests, deleteTests, deletesOf, fileTests, slotOf, sourceTests}
 use Rattle.rules.specs.World.{World, recordsOf, mappings}
 use Rattle.theory.specs.Newest.{Newest}
 use Rattle.theory.specs.Places.{viewAt, rowsOf, WellMade, kinds, record-holds, stands-has}
@@ -141,7 +141,7 @@ module _ (w : World) (history : List Op) (s : SoundWorld w (engine history)) whe
 
   -- LAW: so of the files of a group
   pub group-only : (ks : List ℕ) → All (λ (k : ℕ). 0 < recordAt (recordsOf w) k .label .lsn) ks
-      → All (OnlySize (Oversized w ks)) (each (λ (k : ℕ). fileTests (w .settings .«max_object_size») (mappings w) (recordAt (recordsOf w) k .label) (slotOf w k)) ks)
+      → All (OnlySize (Oversized w ks)) (sourceTests w ks)
   group-only ks files =
       all-each (OnlySize (Oversized w ks)) (λ (k : ℕ). fileTests (w .settings .«max_object_size») (mappings w) (recordAt (recordsOf w) k .label) (slotOf w k)) ks
       (all-among (λ (k : ℕ). 0 < recordAt (recordsOf w) k .label .lsn) (λ (k : ℕ). All (OnlySize (Oversized w ks)) (fileTests (w .settings .«max_object_size») (mappings w) (recordAt (recordsOf w) k .label) (slotOf w k))) ks

@@ -5,9 +5,9 @@ use mathlib.Core.Logic.{_⊎_, inl, inr, ⊎-elim}
 use Prim.Native.Nat.{_<_, _≤_}
 use native.Mathlib.Omega.{arith}
 use borrow.Author.Tests.{eqb-true, eq-eqb}
-use Rattle.rules.specs.Base.{Bool, true, false, not, _&&_, List, [], _∷_, _++_, ℕ, _+_, length, ltb, eqb, pick, any, keep, each, sum}
+use Rattle.rules.specs.Base.{Bool, true, false, not, _&&_, List, [], _∷_, _++_, ℕ, _+_, _^_, length, ltb, pick, any, keep, each, sum}
 use Rattle.theory.specs.Types.{Entry, Record, Refusal, Answer, Done, Refused, Moved, Stopped, Held, Mapped, Unmapped, Slot, Is, NoSlot}
-use Rattle.rules.specs.BaseLaws.{All, all-map, and-true, or-true, or-holds}
+use Rattle.rules.specs.BaseLaws.{All, all-map, or-true, or-holds}
 use Rattle.rules.specs.Refusal.{decide, after}
 use Rattle.rules.specs.Ops.{Content, Op}
 use Rattle.rules.specs.OpsLaws.{RisingOps}
@@ -16,14 +16,14 @@ use Rattle.rules.specs.SlotFile.{File, holds}
 use Rattle.rules.specs.Table.{lookup, unmapped}
 use Rattle.rules.specs.TableLaws.{Rising, mapped-one, has-lookup}
 use Rattle.rules.specs.FileMap.{recordAt, fileFor, fileCount}
-use Rattle.rules.specs.FileMapLaws.{not-empty, Among, slot-passes}
+use Rattle.rules.specs.FileMapLaws.{not-empty, Among}
 use Rattle.rules.specs.Condition1.{outOfRange}
 use Rattle.rules.specs.Install.{installedAll}
 use Rattle.rules.specs.InstallLaws.{isAt}
-use Rattle.rules.specs.Maintenance.{objectsFound, deletesFound, foundIn, found, slotOf, filesOf, Stop, going, stopped, Course, isCandidate, newGeneration, group, groupTests, rewriteGroup, onward, groupsFrom, courseOf, ended, maintainCall}
+use Rattle.rules.specs.Maintenance.{objectsFound, deletesFound, foundIn, found, slotOf, filesOf, Stop, going, stopped, Course, startGroup, groupTests, rewriteGroup, onward, groupsFrom, courseOf, ended, maintainCall}
 use Rattle.rules.specs.Prune.{pruned}
 use Rattle.rules.specs.Reopen.{inRange}
-use Rattle.rules.specs.World.{World, recordsOf, mappings, maintainGiven}
+use Rattle.rules.specs.World.{World, recordsOf, mappings, maintainGiven, After}
 use Rattle.theory.specs.Newest.{maskedAt}
 use Rattle.theory.specs.Places as places
 use Rattle.theory.specs.Places.{viewAt, record-holds, found-in-range}
@@ -35,6 +35,7 @@ use Rattle.history_theory.specs.Pruning.{file-slot}
 use Rattle.history_theory.specs.Moving.{Movable, found-movable}
 use Rattle.history_theory.specs.Rewriting.{last-all, heard-of}
 use Rattle.maintenance_theory.specs.Tally.{known, heardIn, keep-same, count-heard}
+use Rattle.maintenance_theory.specs.Groups.{groups-apart, both-ways}
 use Rattle.maintenance_theory.specs.Moved.{InRangeOf, found-inside, heard-each}
 use Rattle.maintenance_theory.specs.Stopping.{Underway, underway-first, still-files, onward-well}
 use Rattle.maintenance_theory.specs.Relocated.{Left, Anew, group-relocates}
@@ -85,11 +86,6 @@ unfolding any
 slot-any p [] k a h = absurd a
 slot-any p (j ∷ ks) k (inl q) h = or-holds (p j) (any p ks) (inl (ap p q ∙ h))
 slot-any p (j ∷ ks) k (inr a) h = or-holds (p j) (any p ks) (inr (slot-any p ks k a h))
-
-both-ways : (a b : Bool) → (a ≡ true → b ≡ true) → (b ≡ true → a ≡ true) → a ≡ b
-both-ways true b f g = sym (f refl)
-both-ways false true f g = g refl
-both-ways false false f g = refl
 
 -- ---- a group in the world in which it is rewritten
 module _ (w : World) (history : List Op) (s : SoundWorld w (engine history)) where
@@ -194,7 +190,7 @@ goesOn (stopped r g) = false
 abbrev pub rewrittenAt : World → ℕ → Course → Bool
 rewrittenAt start g c =
     goesOn (c .stop)
-    && (not (ltb (length (group start g)) (c .world .settings .«min_compaction_files»)) && goesOn (rewriteGroup g (group start g) (c .moved) (c .world) .stop))
+    && (not (ltb (length (startGroup start g)) (c .world .settings .«min_compaction_files»)) && goesOn (rewriteGroup g (startGroup start g) (c .moved) (c .world) .stop))
 
 -- maintenance rewrites the group of generation g
 abbrev pub rewritten : World → ℕ → Bool
@@ -202,18 +198,22 @@ rewritten w g = rewrittenAt w g (turn w g)
 
 -- the ids whose location, as the call starts, is in a file of that group: counted where it is rewritten
 abbrev pub idsMoved : World → ℕ → ℕ
-idsMoved w g = pick (rewritten w g) (length (entriesInside w (group w g))) 0
+idsMoved w g = pick (rewritten w g) (length (entriesInside w (startGroup w g))) 0
 
--- what maintenance moves
-pub record Moves (w : World) : Type 0 where
+-- what maintenance moves on the store w: its answer and what it leaves are a
+pub record MovesAs (w : World) (a : After) : Type 0 where
   -- each group, when its turn comes: exactly the ids whose location, as the call starts, is in one of its files
-  pub groups : All (λ (g : ℕ). Exactly w (group w g) (found (turn w g .world) (group w g))) (1 ∷ 2 ∷ 3 ∷ [])
+  pub groups : All (λ (g : ℕ). Exactly w (startGroup w g) (found (turn w g .world) (startGroup w g))) (1 ∷ 2 ∷ 3 ∷ [])
   -- the count that the call answers, refused or not, is the number of those ids in all groups that are rewritten
-  pub counts : (maintainCall w .answer ≡ maintainGiven (Moved (sum (idsMoved w) (1 ∷ 2 ∷ 3 ∷ []))))
-      ⊎ ((r : Refusal) × (g : ℕ) × (maintainCall w .answer ≡ maintainGiven (Stopped r g (sum (idsMoved w) (1 ∷ 2 ∷ 3 ∷ [])))))
+  pub counts : (a .answer ≡ maintainGiven (Moved (sum (idsMoved w) (1 ∷ 2 ∷ 3 ∷ []))))
+      ⊎ ((r : Refusal) × (g : ℕ) × (a .answer ≡ maintainGiven (Stopped r g (sum (idsMoved w) (1 ∷ 2 ∷ 3 ∷ [])))))
   -- every other id keeps its location
-  pub others : (x : ℕ) → All (λ (g : ℕ). rewritten w g ≡ true → Inside w (group w g) x → ⊥) (1 ∷ 2 ∷ 3 ∷ [])
-      → lookup (mappings (maintainCall w .world)) x ≡ lookup (mappings w) x
+  pub others : (x : ℕ) → All (λ (g : ℕ). rewritten w g ≡ true → Inside w (startGroup w g) x → ⊥) (1 ∷ 2 ∷ 3 ∷ [])
+      → lookup (mappings (a .world)) x ≡ lookup (mappings w) x
+
+-- what the old call moves
+abbrev pub Moves : World → Type 0
+Moves w = MovesAs w (maintainCall w)
 
 -- a refused group changes nothing
 refused-same : (g : ℕ) (ks : List ℕ) (moved : ℕ) (w : World) → goesOn (rewriteGroup g ks moved w .stop) ≡ false → rewriteGroup g ks moved w .world ≡ w
@@ -242,14 +242,14 @@ group-adds g ks moved w = go (decide (groupTests w ks (filesOf (w .settings .«t
     go (Refused r) = omega arith
 
 -- a turn adds the ids that it found, where the group is rewritten
-turn-adds : (start : World) (stop : Stop) (g : ℕ) (c : Course) (n : ℕ) → length (found (c .world) (group start g)) ≡ n
-    → onward stop g (group start g) c .moved ≡ c .moved + pick (goesOn stop && (not (ltb (length (group start g)) (c .world .settings .«min_compaction_files»)) && goesOn (rewriteGroup g (group start g) (c .moved) (c .world) .stop))) n 0
+turn-adds : (start : World) (stop : Stop) (g : ℕ) (c : Course) (n : ℕ) → length (found (c .world) (startGroup start g)) ≡ n
+    → onward stop g (startGroup start g) c .moved ≡ c .moved + pick (goesOn stop && (not (ltb (length (startGroup start g)) (c .world .settings .«min_compaction_files»)) && goesOn (rewriteGroup g (startGroup start g) (c .moved) (c .world) .stop))) n 0
 turn-adds start (stopped r h) g c n m = omega arith
-turn-adds start going g c n m = go (ltb (length (group start g)) (c .world .settings .«min_compaction_files»))
+turn-adds start going g c n m = go (ltb (length (startGroup start g)) (c .world .settings .«min_compaction_files»))
   where
-    go : (b : Bool) → pick b c (rewriteGroup g (group start g) (c .moved) (c .world)) .moved ≡ c .moved + pick (not b && goesOn (rewriteGroup g (group start g) (c .moved) (c .world) .stop)) n 0
+    go : (b : Bool) → pick b c (rewriteGroup g (startGroup start g) (c .moved) (c .world)) .moved ≡ c .moved + pick (not b && goesOn (rewriteGroup g (startGroup start g) (c .moved) (c .world) .stop)) n 0
     go true = omega arith
-    go false = group-adds g (group start g) (c .moved) (c .world) ∙ ap (λ (k : ℕ). c .moved + pick (goesOn (rewriteGroup g (group start g) (c .moved) (c .world) .stop)) k 0) m
+    go false = group-adds g (startGroup start g) (c .moved) (c .world) ∙ ap (λ (k : ℕ). c .moved + pick (goesOn (rewriteGroup g (startGroup start g) (c .moved) (c .world) .stop)) k 0) m
 
 -- a slot's number
 pub is-one : {j k : ℕ} → Is j ≡ Is k → j ≡ k
@@ -259,82 +259,69 @@ is-one h = cc
 abbrev Same : World → World → List ℕ → Type 0
 Same w v ks = (x : ℕ) → (Inside w ks x → Inside v ks x) × (Inside v ks x → Inside w ks x)
 
--- no slot is in two groups
-groups-apart : (w : World) (g h k : ℕ) → Among (group w g) k → Among (group w h) k → g ≡ h
-unfolding group
-groups-apart w g h k a b =
-    let p = slot-passes (λ (i : ℕ) (r : Record). isCandidate (w .settings) (w .claims) (fileCount (recordsOf w)) i r && eqb (newGeneration (r .label .generation)) g) 0 (recordsOf w) k a in
-    let q = slot-passes (λ (i : ℕ) (r : Record). isCandidate (w .settings) (w .claims) (fileCount (recordsOf w)) i r && eqb (newGeneration (r .label .generation)) h) 0 (recordsOf w) k b in
-    let y = p .is in
-    let z = q .is in
-    let o : p .off ≡ q .off = omega arith in
-    sym (eqb-true _ g (and-true (isCandidate (w .settings) (w .claims) (fileCount (recordsOf w)) (0 + p .off) (recordAt (recordsOf w) (p .off))) _ (p .passes) .1))
-    ∙ ap (λ (i : ℕ). newGeneration (recordAt (recordsOf w) i .label .generation)) o
-    ∙ eqb-true _ h (and-true (isCandidate (w .settings) (w .claims) (fileCount (recordsOf w)) (0 + q .off) (recordAt (recordsOf w) (q .off))) _ (q .passes) .1)
-
 module _ (history : List Op) (start : World) (st : SoundWorld start (engine history)) where
   -- another group's files keep their ids, and get none
   same-group : (g h : ℕ) → (h ≡ g → ⊥) → h ≤ 255 → (c : Course) → Underway history start c
-      → Same (c .world) (rewriteGroup h (group start h) (c .moved) (c .world) .world) (group start g)
-  same-group g h n aged c u x = (there (group-relocates history (c .world) (u .sound) h aged (group start h) (c .moved) x), back (group-relocates history (c .world) (u .sound) h aged (group start h) (c .moved) x))
+      → Same (c .world) (rewriteGroup h (startGroup start h) (c .moved) (c .world) .world) (startGroup start g)
+  same-group g h n aged c u x = (there (group-relocates history (c .world) (u .sound) h aged (startGroup start h) (c .moved) x), back (group-relocates history (c .world) (u .sound) h aged (startGroup start h) (c .moved) x))
     where
       v : World
-      v = rewriteGroup h (group start h) (c .moved) (c .world) .world
+      v = rewriteGroup h (startGroup start h) (c .moved) (c .world) .world
 
-      there : Left (c .world) v x ⊎ (Anew (c .world) v x × (heardIn (found (c .world) (group start h)) x ≡ true)) → Inside (c .world) (group start g) x → Inside v (group start g) x
+      there : Left (c .world) v x ⊎ (Anew (c .world) v x × (heardIn (found (c .world) (startGroup start h)) x ≡ true)) → Inside (c .world) (startGroup start g) x → Inside v (startGroup start g) x
       there (inl y) (l, e, (k, a, q)) = (l, y .table ∙ e, (k, a, y .file l e ∙ q))
       there (inr y) (l, e, (k, a, q)) =
-          let i = moved-exactly (c .world) history (u .sound) (group start h) (still-files history start st h c u) .only x (y .1) in
+          let i = moved-exactly (c .world) history (u .sound) (startGroup start h) (still-files history start st h c u) .only x (y .1) in
           let j : i .2 .0 ≡ k = is-one (sym (i .2 .2) ∙ ap (fileFor (recordsOf (c .world))) (mapped-one (sym (i .1) ∙ e)) ∙ q) in
-          absurd (n (groups-apart start h g k (subst (Among (group start h)) j (i .2 .1)) a))
+          absurd (n (groups-apart start h g (2 ^ 62) (fileCount (recordsOf start)) k (subst (Among (startGroup start h)) j (i .2 .1)) a))
 
-      back : Left (c .world) v x ⊎ (Anew (c .world) v x × (heardIn (found (c .world) (group start h)) x ≡ true)) → Inside v (group start g) x → Inside (c .world) (group start g) x
+      back : Left (c .world) v x ⊎ (Anew (c .world) v x × (heardIn (found (c .world) (startGroup start h)) x ≡ true)) → Inside v (startGroup start g) x → Inside (c .world) (startGroup start g) x
       back (inl y) (l, e, (k, a, q)) = let z = sym (y .table) ∙ e in (l, z, (k, a, sym (y .file l z) ∙ q))
       back (inr y) (l, e, (k, a, q)) =
           let j : y .0 .slot ≡ k = is-one (sym (y .0 .file) ∙ ap (fileFor (recordsOf v)) (mapped-one (sym (y .0 .table) ∙ e)) ∙ q) in
-          let f = file-slot (c .world) (engine history) (u .sound) k (not-empty (recordAt (recordsOf (c .world)) k) (among-get (λ (m : ℕ). 0 < recordAt (recordsOf (c .world)) m .label .lsn) (group start g) (still-files history start st g c u) k a)) in
+          let f = file-slot (c .world) (engine history) (u .sound) k (not-empty (recordAt (recordsOf (c .world)) k) (among-get (λ (m : ℕ). 0 < recordAt (recordsOf (c .world)) m .label .lsn) (startGroup start g) (still-files history start st g c u) k a)) in
           absurd (places.not-empty (sym (y .0 .free) ∙ ap (viewAt (viewsOf (c .world))) j ∙ f .1))
 
-  same-onward : (stop : Stop) (g h : ℕ) → (h ≡ g → ⊥) → h ≤ 255 → (c : Course) → Underway history start c → Same start (c .world) (group start g)
-      → Same start (onward stop h (group start h) c .world) (group start g)
+  same-onward : (stop : Stop) (g h : ℕ) → (h ≡ g → ⊥) → h ≤ 255 → (c : Course) → Underway history start c → Same start (c .world) (startGroup start g)
+      → Same start (onward stop h (startGroup start h) c .world) (startGroup start g)
   same-onward (stopped r m) g h n aged c u y = y
-  same-onward going g h n aged c u y = go (ltb (length (group start h)) (c .world .settings .«min_compaction_files»))
+  same-onward going g h n aged c u y = go (ltb (length (startGroup start h)) (c .world .settings .«min_compaction_files»))
     where
-      go : (b : Bool) → Same start (pick b c (rewriteGroup h (group start h) (c .moved) (c .world)) .world) (group start g)
+      go : (b : Bool) → Same start (pick b c (rewriteGroup h (startGroup start h) (c .moved) (c .world)) .world) (startGroup start g)
       go true = y
       go false = λ x. let z = same-group g h n aged c u x in (λ i. z .0 (y x .0 i), λ i. y x .1 (z .1 i))
 
-  same-groups : (g : ℕ) (hs : List ℕ) → All (λ (h : ℕ). (h ≤ 255) × (h ≡ g → ⊥)) hs → (c : Course) → Underway history start c → Same start (c .world) (group start g)
-      → Underway history start (groupsFrom hs start c) × Same start (groupsFrom hs start c .world) (group start g)
+  same-groups : (g : ℕ) (hs : List ℕ) → All (λ (h : ℕ). (h ≤ 255) × (h ≡ g → ⊥)) hs → (c : Course) → Underway history start c → Same start (c .world) (startGroup start g)
+      → Underway history start (groupsFrom hs start c) × Same start (groupsFrom hs start c .world) (startGroup start g)
   unfolding groupsFrom
   same-groups g [] a c u y = (u, y)
   same-groups g (h ∷ hs) a c u y =
-      same-groups g hs (a .1) (onward (c .stop) h (group start h) c) (onward-well history start st (c .stop) h (a .0 .0) c refl u)
+      same-groups g hs (a .1) (onward (c .stop) h (startGroup start h) c) (onward-well history start st (c .stop) h (a .0 .0) c refl u)
       (same-onward (c .stop) g h (a .0 .1) (a .0 .0) c u y)
 
   -- a group in its turn, by the table and the records as the call starts
-  turn-exactly : (g : ℕ) → All (λ (h : ℕ). (h ≤ 255) × (h ≡ g → ⊥)) (before g) → Underway history start (turn start g) × Exactly start (group start g) (found (turn start g .world) (group start g))
+  turn-exactly : (g : ℕ) → All (λ (h : ℕ). (h ≤ 255) × (h ≡ g → ⊥)) (before g) → Underway history start (turn start g) × Exactly start (startGroup start g) (found (turn start g .world) (startGroup start g))
   turn-exactly g a =
       let z = same-groups g (before g) a (record { stop = going; moved = 0; world = start }) (underway-first history start st) (λ x. (λ i. i, λ i. i)) in
-      let m = moved-exactly (turn start g .world) history (z .0 .sound) (group start g) (still-files history start st g (turn start g) (z .0)) in
-      (z .0, exactly start history st (group start g) (found (turn start g .world) (group start g)) (m .once) (λ x h. z .1 x .1 (m .only x h)) (λ x i. m .every x (z .1 x .0 i)))
+      let m = moved-exactly (turn start g .world) history (z .0 .sound) (startGroup start g) (still-files history start st g (turn start g) (z .0)) in
+      (z .0, exactly start history st (startGroup start g) (found (turn start g .world) (startGroup start g)) (m .once) (λ x h. z .1 x .1 (m .only x h)) (λ x i. m .every x (z .1 x .0 i)))
 
   -- an id that a turn does not move keeps its location
   turn-leaves : (stop : Stop) (g : ℕ) → g ≤ 255 → (c : Course) → Underway history start c → (x : ℕ)
-      → ((goesOn stop && (not (ltb (length (group start g)) (c .world .settings .«min_compaction_files»)) && goesOn (rewriteGroup g (group start g) (c .moved) (c .world) .stop))) ≡ true
-      → heardIn (found (c .world) (group start g)) x ≡ true → ⊥)
-      → lookup (mappings (onward stop g (group start g) c .world)) x ≡ lookup (mappings (c .world)) x
+      → ((goesOn stop && (not (ltb (length (startGroup start g)) (c .world .settings .«min_compaction_files»)) && goesOn (rewriteGroup g (startGroup start g) (c .moved) (c .world) .stop))) ≡ true
+      → heardIn (found (c .world) (startGroup start g)) x ≡ true → ⊥)
+      → lookup (mappings (onward stop g (startGroup start g) c .world)) x ≡ lookup (mappings (c .world)) x
   turn-leaves (stopped r m) g aged c u x n = refl
-  turn-leaves going g aged c u x n = go (ltb (length (group start g)) (c .world .settings .«min_compaction_files»)) n
+  turn-leaves going g aged c u x n = go (ltb (length (startGroup start g)) (c .world .settings .«min_compaction_files»)) n
     where
       v : Course
-      v = rewriteGroup g (group start g) (c .moved) (c .world)
+      v = rewriteGroup g (startGroup start g) (c .moved) (c .world)
 
-      by : (b : Bool) → goesOn (v .stop) ≡ b → (goesOn (v .stop) ≡ true → heardIn (found (c .world) (group start g)) x ≡ true → ⊥) → lookup (mappings (v .world)) x ≡ lookup (mappings (c .world)) x
-      by false e n = ap (λ (y : World). lookup (mappings y) x) (refused-same g (group start g) (c .moved) (c .world) e)
-      by true e n = ⊎-elim (λ y. y .table) (λ y. absurd (n e (y .1))) (group-relocates history (c .world) (u .sound) g aged (group start g) (c .moved) x)
+      by : (b : Bool) → goesOn (v .stop) ≡ b → (goesOn (v .stop) ≡ true → heardIn (found (c .world) (startGroup start g)) x ≡ true → ⊥) → lookup (mappings (v .world)) x ≡ lookup (mappings (c .world)) x
+      by false e n = ap (λ (y : World). lookup (mappings y) x) (refused-same g (startGroup start g) (c .moved) (c .world) e)
+      by true e n = ⊎-elim (λ y. y .table) (λ y. absurd (n e (y .1))) (group-relocates history (c .world) (u .sound) g aged (startGroup start g) (c .moved) x)
 
-      go : (b : Bool) → ((not b && goesOn (v .stop)) ≡ true → heardIn (found (c .world) (group start g)) x ≡ true → ⊥) → lookup (mappings (pick b c v .world)) x ≡ lookup (mappings (c .world)) x
+      go : (b : Bool) → ((not b && goesOn (v .stop)) ≡ true → heardIn (found (c .world) (startGroup start g)) x ≡ true → ⊥) → lookup (mappings (pick b c v .world)) x ≡ lookup (mappings (c .world)) x
       go true n = refl
       go false n = by (goesOn (v .stop)) refl n
 
@@ -356,13 +343,13 @@ module _ (history : List Op) (start : World) (st : SoundWorld start (engine hist
         ∙ turn-leaves (turn start 1 .stop) 1 (omega arith) (turn start 1) (t1 .0) x (λ r h. n .0 r (t1 .1 .only x h)));
   }
     where
-      t1 : Underway history start (turn start 1) × Exactly start (group start 1) (found (turn start 1 .world) (group start 1))
+      t1 : Underway history start (turn start 1) × Exactly start (startGroup start 1) (found (turn start 1 .world) (startGroup start 1))
       t1 = turn-exactly 1 tt
 
-      t2 : Underway history start (turn start 2) × Exactly start (group start 2) (found (turn start 2 .world) (group start 2))
+      t2 : Underway history start (turn start 2) × Exactly start (startGroup start 2) (found (turn start 2 .world) (startGroup start 2))
       t2 = turn-exactly 2 ((omega arith, λ z. omega arith), tt)
 
-      t3 : Underway history start (turn start 3) × Exactly start (group start 3) (found (turn start 3 .world) (group start 3))
+      t3 : Underway history start (turn start 3) × Exactly start (startGroup start 3) (found (turn start 3 .world) (startGroup start 3))
       t3 = turn-exactly 3 ((omega arith, λ z. omega arith), ((omega arith, λ z. omega arith), tt))
 
       total : courseOf start .moved ≡ sum (idsMoved start) (1 ∷ 2 ∷ 3 ∷ [])

@@ -4,24 +4,22 @@ use mathlib.Core.Bool.{true≢false}
 use mathlib.Core.List.{append-assoc, append-nil}
 use mathlib.Core.Logic.{_⊎_, inl, inr, ⊎-elim}
 use Prim.Native.Nat.{_<_, _≤_}
-use native.Mathlib.Nat.{zero-add}
 use native.Mathlib.Omega.{arith}
-use borrow.Author.Tests.{eqb-true}
-use Rattle.rules.specs.Base.{Bool, true, false, _&&_, List, [], _∷_, _++_, ℕ, suc, _+_, length, ltb, eqb, pick, keep, each, sum}
+use Rattle.rules.specs.Base.{Bool, true, false, List, [], _∷_, _++_, ℕ, _+_, _^_, length, ltb, pick, keep, each, sum}
 use Rattle.theory.specs.Types.{Record, Settings, Refusal, Answer, Done, Refused, Moved, Stopped, Mapped}
-use Rattle.rules.specs.BaseLaws.{All, all-map, same?, and-true}
+use Rattle.rules.specs.BaseLaws.{All, all-map, same?}
 use Rattle.rules.specs.Refusal.{decide, after, NoneHolds, clear-when, none-first, none-rest}
 use Rattle.rules.specs.Ops.{Op}
 use Rattle.rules.specs.SettledLaws.{settled-all}
 use Rattle.rules.specs.Table.{lookup}
 use Rattle.rules.specs.TableLaws.{lookup-has}
-use Rattle.rules.specs.FileMap.{recordAt, slotsWhere, fileCount}
-use Rattle.rules.specs.FileMapLaws.{not-empty, Among, slot-passes}
+use Rattle.rules.specs.FileMap.{recordAt, fileCount}
+use Rattle.rules.specs.FileMapLaws.{not-empty, Among}
 use Rattle.rules.specs.Install.{installedAll, roomTests, emptyOf, positionTests}
 use Rattle.rules.specs.InstallLaws.{room-clear, positions-clear}
-use Rattle.rules.specs.Maintenance.{objectsFound, deletesFound, foundIn, found, filesOf, fileTests, slotOf, Stop, going, stopped, Course, isCandidate, newGeneration, group, groupTests, rewriteGroup, onward, groupsFrom, courseOf, ended, maintainCall}
+use Rattle.rules.specs.Maintenance.{objectsFound, deletesFound, foundIn, found, filesOf, slotOf, Stop, going, stopped, Course, startGroup, sourceTests, groupTests, rewriteGroup, onward, groupsFrom, courseOf, ended, maintainCall}
 use Rattle.rules.specs.Reopen.{inRange}
-use Rattle.rules.specs.World.{World, recordsOf, mappings, maintainGiven}
+use Rattle.rules.specs.World.{World, recordsOf, mappings, Given, maintainGiven}
 use Rattle.theory.specs.Newest.{maskedAt}
 use Rattle.theory.specs.Places.{record-holds}
 use Rattle.theory.specs.Picture.{viewsOf}
@@ -30,6 +28,7 @@ use Rattle.history_theory.specs.Writing.{engine}
 use Rattle.history_theory.specs.Pruning.{file-slot}
 use Rattle.history_theory.specs.Shards.{PartOf, sub-all, files-parts}
 use Rattle.maintenance_theory.specs.Tally.{Ascending, sum-same}
+use Rattle.maintenance_theory.specs.Groups.{groups-apart, group-ascending}
 use Rattle.maintenance_theory.specs.Moved.{InRangeOf, found-inside, one-range, found-count}
 use Rattle.history_theory.specs.Maintaining.{files-rewritable}
 use Rattle.maintenance_theory.specs.Checked.{not-oversized}
@@ -43,46 +42,26 @@ use Rattle.history_theory.specs.History.{Call, Life, lived, Starts, sound-lived
 
 -- the ids mapped into a generation's candidates, as the call starts; none where the group is skipped
 abbrev pub liveOf : World → ℕ → ℕ
-liveOf w g = pick (ltb (length (group w g)) (w .settings .«min_compaction_files»)) 0 (sum (λ (k : ℕ). recordAt (recordsOf w) k .live) (group w g))
+liveOf w g = pick (ltb (length (startGroup w g)) (w .settings .«min_compaction_files»)) 0 (sum (λ (k : ℕ). recordAt (recordsOf w) k .live) (startGroup w g))
 
 -- the generations before one
 abbrev pub before : ℕ → List ℕ
 before g = keep (λ (h : ℕ). ltb h g) (1 ∷ 2 ∷ 3 ∷ [])
 
--- what maintenance answers: the live counts of all groups that are not skipped; or a number, its generation, and those of the generations before
+-- what maintenance answers on the store w: the live counts of all groups that are not skipped; or a number, its generation, and those of the
+-- generations before
+abbrev pub AnswersAs : (Refusal → ℕ → Type 0) → World → Given → Type 0
+AnswersAs refuses w a =
+    (a ≡ maintainGiven (Moved (sum (liveOf w) (1 ∷ 2 ∷ 3 ∷ []))))
+    ⊎ ((r : Refusal) × (g : ℕ) × (a ≡ maintainGiven (Stopped r g (sum (liveOf w) (before g)))) × refuses r g)
+
+-- what the old call answers
 abbrev pub AnswersBut : (Refusal → ℕ → Type 0) → World → Type 0
-AnswersBut refuses w =
-    (maintainCall w .answer ≡ maintainGiven (Moved (sum (liveOf w) (1 ∷ 2 ∷ 3 ∷ []))))
-    ⊎ ((r : Refusal) × (g : ℕ) × (maintainCall w .answer ≡ maintainGiven (Stopped r g (sum (liveOf w) (before g)))) × refuses r g)
+AnswersBut refuses w = AnswersAs refuses w (maintainCall w .answer)
 
 -- with 4, 5 or 7 only
 abbrev pub Answers : World → Type 0
 Answers = AnswersBut (λ r g. Spent r)
-
--- ---- slots of a group: ascending, and of one generation only
-where-ascending : (f : ℕ → Record → Bool) (i : ℕ) (rs : List Record) → Ascending i (slotsWhere f i rs)
-unfolding slotsWhere
-where-ascending f i [] = tt
-where-ascending f i (r ∷ rs) = go (f i r) (where-ascending f (suc i) rs)
-  where
-    lower : (i : ℕ) (ks : List ℕ) → Ascending (suc i) ks → Ascending i ks
-    lower i [] a = tt
-    lower i (k ∷ ks) a = let b = a .0 in (omega arith, a .1)
-
-    go : (b : Bool) → Ascending (suc i) (slotsWhere f (suc i) rs) → Ascending i (pick b (i ∷ slotsWhere f (suc i) rs) (slotsWhere f (suc i) rs))
-    go true a = (omega arith, a)
-    go false a = lower i (slotsWhere f (suc i) rs) a
-
-group-ascending : (w : World) (g : ℕ) → Ascending 0 (group w g)
-unfolding group
-group-ascending w g = where-ascending _ 0 (recordsOf w)
-
-group-generation : (w : World) (g k : ℕ) → Among (group w g) k → newGeneration (recordAt (recordsOf w) k .label .generation) ≡ g
-unfolding group
-group-generation w g k a =
-    let p = slot-passes (λ (i : ℕ) (r : Record). isCandidate (w .settings) (w .claims) (fileCount (recordsOf w)) i r && eqb (newGeneration (r .label .generation)) g) 0 (recordsOf w) k a in
-    ap (λ (i : ℕ). newGeneration (recordAt (recordsOf w) i .label .generation)) (p .is ∙ zero-add (p .off))
-    ∙ eqb-true _ _ (and-true (isCandidate (w .settings) (w .claims) (fileCount (recordsOf w)) (0 + p .off) (recordAt (recordsOf w) (p .off))) _ (p .passes) .1)
 
 -- ---- what a group moves is in its own files
 module _ (history : List Op) (w : World) (s : SoundWorld w (engine history)) where
@@ -118,7 +97,7 @@ module _ (history : List Op) (w : World) (s : SoundWorld w (engine history)) whe
       unmoved history g (f ∷ fs) w s aged r (b .fits) (b .slots) c k some a
 
   -- a file outside the group keeps its record
-  group-unmoved : (g : ℕ) → g ≤ 255 → (ks : List ℕ) (moved : ℕ) → All (λ (j : ℕ). 0 < recordAt (recordsOf w) j .label .lsn) ks → (k : ℕ) → 0 < recordAt (recordsOf w) k .label .lsn → ((j : ℕ) → Among ks j → k ≡ j → ⊥)
+  pub group-unmoved : (g : ℕ) → g ≤ 255 → (ks : List ℕ) (moved : ℕ) → All (λ (j : ℕ). 0 < recordAt (recordsOf w) j .label .lsn) ks → (k : ℕ) → 0 < recordAt (recordsOf w) k .label .lsn → ((j : ℕ) → Among ks j → k ≡ j → ⊥)
       → recordAt (recordsOf (rewriteGroup g ks moved w .world)) k ≡ recordAt (recordsOf w) k
   unfolding rewriteGroup groupTests
   group-unmoved g aged ks moved files k some out = go (decide (groupTests w ks (filesOf (w .settings .«target_file_size») (found w ks)))) refl
@@ -133,7 +112,7 @@ module _ (history : List Op) (w : World) (s : SoundWorld w (engine history)) whe
       go Done e =
           files-unmoved g aged (filesOf (w .settings .«target_file_size») (found w ks)) (files-rewritable history w s ks (w .settings .«target_file_size»)) k some
           (part (filesOf (w .settings .«target_file_size») (found w ks)) (files-parts (w .settings .«target_file_size») (found w ks)))
-          (none-rest (each (λ (k : ℕ). fileTests (w .settings .«max_object_size») (mappings w) (recordAt (recordsOf w) k .label) (slotOf w k)) ks) _
+          (none-rest (sourceTests w ks) _
           (clear-when (groupTests w ks (filesOf (w .settings .«target_file_size») (found w ks))) e))
 
   -- what a group that is rewritten moves
@@ -173,7 +152,7 @@ MovedBy start ds (stopped r g) n = n ≡ sum (liveOf start) (before g)
 
 record Tallied (start : World) (ds gs : List ℕ) (c : Course) : Type 0 where
   settings : c .world .settings ≡ start .settings
-  same : All (λ (g : ℕ). All (λ (k : ℕ). recordAt (recordsOf (c .world)) k ≡ recordAt (recordsOf start) k) (group start g)) gs
+  same : All (λ (g : ℕ). All (λ (k : ℕ). recordAt (recordsOf (c .world)) k ≡ recordAt (recordsOf start) k) (startGroup start g)) gs
   moved : MovedBy start ds (c .stop) (c .moved)
 
 -- ds are the generations before the next one, and no generation comes twice
@@ -188,75 +167,75 @@ sum-snoc f (d ∷ ds) g = let i = sum-snoc f ds g in omega arith
 
 module _ (history : List Op) (start : World) (st : SoundWorld start (engine history)) where
   tally-group : (g : ℕ) → g ≤ 255 → (ds gs : List ℕ) → Splits ds (g ∷ gs) → (c : Course) → Underway history start c → c .stop ≡ going → Tallied start ds (g ∷ gs) c
-      → ltb (length (group start g)) (start .settings .«min_compaction_files») ≡ false
-      → Tallied start (ds ++ (g ∷ [])) gs (rewriteGroup g (group start g) (c .moved) (c .world))
+      → ltb (length (startGroup start g)) (start .settings .«min_compaction_files») ≡ false
+      → Tallied start (ds ++ (g ∷ [])) gs (rewriteGroup g (startGroup start g) (c .moved) (c .world))
   tally-group g aged ds gs p c u e t enough = record {
-    settings = settings-group g (group start g) (c .moved) (c .world) ∙ t .settings;
+    settings = settings-group g (startGroup start g) (c .moved) (c .world) ∙ t .settings;
     same = keeps gs (p .1) (t .same .1);
-    moved = counted (rewriteGroup g (group start g) (c .moved) (c .world) .stop) refl;
+    moved = counted (rewriteGroup g (startGroup start g) (c .moved) (c .world) .stop) refl;
   }
     where
-      files : All (λ (k : ℕ). 0 < recordAt (recordsOf (c .world)) k .label .lsn) (group start g)
+      files : All (λ (k : ℕ). 0 < recordAt (recordsOf (c .world)) k .label .lsn) (startGroup start g)
       files = still-files history start st g c u
 
       here : c .moved ≡ sum (liveOf start) ds
       here = subst (λ (o : Stop). MovedBy start ds o (c .moved)) e (t .moved)
 
-      keeps : (hs : List ℕ) → All (λ (h : ℕ). h ≡ g → ⊥) hs → All (λ (h : ℕ). All (λ (k : ℕ). recordAt (recordsOf (c .world)) k ≡ recordAt (recordsOf start) k) (group start h)) hs
-          → All (λ (h : ℕ). All (λ (k : ℕ). recordAt (recordsOf (rewriteGroup g (group start g) (c .moved) (c .world) .world)) k ≡ recordAt (recordsOf start) k) (group start h)) hs
+      keeps : (hs : List ℕ) → All (λ (h : ℕ). h ≡ g → ⊥) hs → All (λ (h : ℕ). All (λ (k : ℕ). recordAt (recordsOf (c .world)) k ≡ recordAt (recordsOf start) k) (startGroup start h)) hs
+          → All (λ (h : ℕ). All (λ (k : ℕ). recordAt (recordsOf (rewriteGroup g (startGroup start g) (c .moved) (c .world) .world)) k ≡ recordAt (recordsOf start) k) (startGroup start h)) hs
       keeps [] n a = tt
       keeps (h ∷ hs) n a = (one, keeps hs (n .1) (a .1))
         where
-          one : All (λ (k : ℕ). recordAt (recordsOf (rewriteGroup g (group start g) (c .moved) (c .world) .world)) k ≡ recordAt (recordsOf start) k) (group start h)
+          one : All (λ (k : ℕ). recordAt (recordsOf (rewriteGroup g (startGroup start g) (c .moved) (c .world) .world)) k ≡ recordAt (recordsOf start) k) (startGroup start h)
           one = all-among (λ (k : ℕ). recordAt (recordsOf (c .world)) k ≡ recordAt (recordsOf start) k)
-              (λ (k : ℕ). recordAt (recordsOf (rewriteGroup g (group start g) (c .moved) (c .world) .world)) k ≡ recordAt (recordsOf start) k) (group start h)
+              (λ (k : ℕ). recordAt (recordsOf (rewriteGroup g (startGroup start g) (c .moved) (c .world) .world)) k ≡ recordAt (recordsOf start) k) (startGroup start h)
               (λ k i q.
-              group-unmoved history (c .world) (u .sound) g aged (group start g) (c .moved) files k
-              (subst (λ (r : Record). 0 < r .label .lsn) (sym q) (among-get (λ (m : ℕ). 0 < recordAt (recordsOf start) m .label .lsn) (group start h) (group-files start history st h) k i))
-              (λ j b z. n .0 (sym (group-generation start h k i) ∙ ap (λ (m : ℕ). newGeneration (recordAt (recordsOf start) m .label .generation)) z ∙ group-generation start g j b)) ∙ q)
+              group-unmoved history (c .world) (u .sound) g aged (startGroup start g) (c .moved) files k
+              (subst (λ (r : Record). 0 < r .label .lsn) (sym q) (among-get (λ (m : ℕ). 0 < recordAt (recordsOf start) m .label .lsn) (startGroup start h) (group-files start history st h) k i))
+              (λ j b z. n .0 (groups-apart start h g (2 ^ 62) (fileCount (recordsOf start)) k i (subst (Among (startGroup start g)) (sym z) b))) ∙ q)
               (a .0)
 
-      counted : (o : Stop) → rewriteGroup g (group start g) (c .moved) (c .world) .stop ≡ o
-          → MovedBy start (ds ++ (g ∷ [])) (rewriteGroup g (group start g) (c .moved) (c .world) .stop) (rewriteGroup g (group start g) (c .moved) (c .world) .moved)
-      counted o q = ⊎-elim went halted (rewrite-ends g (group start g) (c .moved) (c .world))
+      counted : (o : Stop) → rewriteGroup g (startGroup start g) (c .moved) (c .world) .stop ≡ o
+          → MovedBy start (ds ++ (g ∷ [])) (rewriteGroup g (startGroup start g) (c .moved) (c .world) .stop) (rewriteGroup g (startGroup start g) (c .moved) (c .world) .moved)
+      counted o q = ⊎-elim went halted (rewrite-ends g (startGroup start g) (c .moved) (c .world))
         where
-          went : rewriteGroup g (group start g) (c .moved) (c .world) .stop ≡ going
-              → MovedBy start (ds ++ (g ∷ [])) (rewriteGroup g (group start g) (c .moved) (c .world) .stop) (rewriteGroup g (group start g) (c .moved) (c .world) .moved)
+          went : rewriteGroup g (startGroup start g) (c .moved) (c .world) .stop ≡ going
+              → MovedBy start (ds ++ (g ∷ [])) (rewriteGroup g (startGroup start g) (c .moved) (c .world) .stop) (rewriteGroup g (startGroup start g) (c .moved) (c .world) .moved)
           went z =
-              let a = group-count history (c .world) (u .sound) g (group start g) (c .moved) (group-ascending start g) files z in
-              let b = sum-same (λ (k : ℕ). recordAt (recordsOf (c .world)) k .live) (λ (k : ℕ). recordAt (recordsOf start) k .live) (group start g)
-              (all-map (λ (k : ℕ). recordAt (recordsOf (c .world)) k ≡ recordAt (recordsOf start) k) (λ (k : ℕ). recordAt (recordsOf (c .world)) k .live ≡ recordAt (recordsOf start) k .live) (group start g)
+              let a = group-count history (c .world) (u .sound) g (startGroup start g) (c .moved) (group-ascending start g (2 ^ 62) (fileCount (recordsOf start))) files z in
+              let b = sum-same (λ (k : ℕ). recordAt (recordsOf (c .world)) k .live) (λ (k : ℕ). recordAt (recordsOf start) k .live) (startGroup start g)
+              (all-map (λ (k : ℕ). recordAt (recordsOf (c .world)) k ≡ recordAt (recordsOf start) k) (λ (k : ℕ). recordAt (recordsOf (c .world)) k .live ≡ recordAt (recordsOf start) k .live) (startGroup start g)
               (λ k y. ap (λ (r : Record). r .live) y) (t .same .0)) in
-              let d : liveOf start g ≡ sum (λ (k : ℕ). recordAt (recordsOf start) k .live) (group start g)
-              = ap (λ (x : Bool). pick x 0 (sum (λ (k : ℕ). recordAt (recordsOf start) k .live) (group start g))) enough in
+              let d : liveOf start g ≡ sum (λ (k : ℕ). recordAt (recordsOf start) k .live) (startGroup start g)
+              = ap (λ (x : Bool). pick x 0 (sum (λ (k : ℕ). recordAt (recordsOf start) k .live) (startGroup start g))) enough in
               let m = sum-snoc (liveOf start) ds g in
               let n = here in
-              subst (λ (o : Stop). MovedBy start (ds ++ (g ∷ [])) o (rewriteGroup g (group start g) (c .moved) (c .world) .moved)) (sym z) (omega arith)
+              subst (λ (o : Stop). MovedBy start (ds ++ (g ∷ [])) o (rewriteGroup g (startGroup start g) (c .moved) (c .world) .moved)) (sym z) (omega arith)
 
-          halted : (r : Refusal) × (rewriteGroup g (group start g) (c .moved) (c .world) .stop ≡ stopped r g) × (rewriteGroup g (group start g) (c .moved) (c .world) .moved ≡ c .moved)
-              → MovedBy start (ds ++ (g ∷ [])) (rewriteGroup g (group start g) (c .moved) (c .world) .stop) (rewriteGroup g (group start g) (c .moved) (c .world) .moved)
+          halted : (r : Refusal) × (rewriteGroup g (startGroup start g) (c .moved) (c .world) .stop ≡ stopped r g) × (rewriteGroup g (startGroup start g) (c .moved) (c .world) .moved ≡ c .moved)
+              → MovedBy start (ds ++ (g ∷ [])) (rewriteGroup g (startGroup start g) (c .moved) (c .world) .stop) (rewriteGroup g (startGroup start g) (c .moved) (c .world) .moved)
           halted (r, z, y) =
-              subst (λ (o : Stop). MovedBy start (ds ++ (g ∷ [])) o (rewriteGroup g (group start g) (c .moved) (c .world) .moved)) (sym z)
+              subst (λ (o : Stop). MovedBy start (ds ++ (g ∷ [])) o (rewriteGroup g (startGroup start g) (c .moved) (c .world) .moved)) (sym z)
               (y ∙ here ∙ ap (sum (liveOf start)) (sym (p .0)))
 
   tally-onward : (stop : Stop) (g : ℕ) → g ≤ 255 → (ds gs : List ℕ) → Splits ds (g ∷ gs) → (c : Course) → c .stop ≡ stop → Underway history start c → Tallied start ds (g ∷ gs) c
-      → Tallied start (ds ++ (g ∷ [])) gs (onward stop g (group start g) c)
+      → Tallied start (ds ++ (g ∷ [])) gs (onward stop g (startGroup start g) c)
   tally-onward (stopped r h) g aged ds gs p c e u t = record {
     settings = t .settings;
     same = t .same .1;
     moved = subst (λ (o : Stop). MovedBy start (ds ++ (g ∷ [])) o (c .moved)) (sym e) (subst (λ (o : Stop). MovedBy start ds o (c .moved)) e (t .moved));
   }
-  tally-onward going g aged ds gs p c e u t = go (ltb (length (group start g)) (c .world .settings .«min_compaction_files»)) refl
+  tally-onward going g aged ds gs p c e u t = go (ltb (length (startGroup start g)) (c .world .settings .«min_compaction_files»)) refl
     where
-      limit : ltb (length (group start g)) (start .settings .«min_compaction_files») ≡ ltb (length (group start g)) (c .world .settings .«min_compaction_files»)
-      limit = ap (λ (x : Settings). ltb (length (group start g)) (x .«min_compaction_files»)) (sym (t .settings))
+      limit : ltb (length (startGroup start g)) (start .settings .«min_compaction_files») ≡ ltb (length (startGroup start g)) (c .world .settings .«min_compaction_files»)
+      limit = ap (λ (x : Settings). ltb (length (startGroup start g)) (x .«min_compaction_files»)) (sym (t .settings))
 
-      go : (b : Bool) → ltb (length (group start g)) (c .world .settings .«min_compaction_files») ≡ b
-          → Tallied start (ds ++ (g ∷ [])) gs (pick b c (rewriteGroup g (group start g) (c .moved) (c .world)))
+      go : (b : Bool) → ltb (length (startGroup start g)) (c .world .settings .«min_compaction_files») ≡ b
+          → Tallied start (ds ++ (g ∷ [])) gs (pick b c (rewriteGroup g (startGroup start g) (c .moved) (c .world)))
       go false q = tally-group g aged ds gs p c u e t (limit ∙ q)
       go true q =
           let a : c .moved ≡ sum (liveOf start) ds = subst (λ (o : Stop). MovedBy start ds o (c .moved)) e (t .moved) in
-          let b : liveOf start g ≡ 0 = ap (λ (x : Bool). pick x 0 (sum (λ (k : ℕ). recordAt (recordsOf start) k .live) (group start g))) (limit ∙ q) in
+          let b : liveOf start g ≡ 0 = ap (λ (x : Bool). pick x 0 (sum (λ (k : ℕ). recordAt (recordsOf start) k .live) (startGroup start g))) (limit ∙ q) in
           let m = sum-snoc (liveOf start) ds g in
           record { settings = t .settings; same = t .same .1; moved = subst (λ (o : Stop). MovedBy start (ds ++ (g ∷ [])) o (c .moved)) (sym e) (omega arith) }
 
@@ -265,17 +244,17 @@ module _ (history : List Op) (start : World) (st : SoundWorld start (engine hist
   unfolding groupsFrom
   tally-groups ds [] y p c u t = rw (append-nil ds) t
   tally-groups ds (g ∷ gs) y p c u t =
-      subst (λ (l : List ℕ). Tallied start l [] (groupsFrom gs start (onward (c .stop) g (group start g) c))) (append-assoc ds (g ∷ []) gs)
-      (tally-groups (ds ++ (g ∷ [])) gs (y .1) (p .2) (onward (c .stop) g (group start g) c)
+      subst (λ (l : List ℕ). Tallied start l [] (groupsFrom gs start (onward (c .stop) g (startGroup start g) c))) (append-assoc ds (g ∷ []) gs)
+      (tally-groups (ds ++ (g ∷ [])) gs (y .1) (p .2) (onward (c .stop) g (startGroup start g) c)
       (onward-well history start st (c .stop) g (y .0) c refl u)
       (tally-onward (c .stop) g (y .0) ds gs p c refl u t))
 
-  all-same : (gs : List ℕ) → All (λ (g : ℕ). All (λ (k : ℕ). recordAt (recordsOf start) k ≡ recordAt (recordsOf start) k) (group start g)) gs
+  all-same : (gs : List ℕ) → All (λ (g : ℕ). All (λ (k : ℕ). recordAt (recordsOf start) k ≡ recordAt (recordsOf start) k) (startGroup start g)) gs
   all-same [] = tt
-  all-same (g ∷ gs) = (among-all (λ (k : ℕ). recordAt (recordsOf start) k ≡ recordAt (recordsOf start) k) (group start g) (λ k a. refl), all-same gs)
+  all-same (g ∷ gs) = (among-all (λ (k : ℕ). recordAt (recordsOf start) k ≡ recordAt (recordsOf start) k) (startGroup start g) (λ k a. refl), all-same gs)
 
   -- LAW: maintenance on a store of the invariant stops with 4, 5 or 7, or with 3 where an object of the group is of max_object_size or more
-  pub maintain-answer : AnswersBut (λ r g. Refusable start (group start g) r) start
+  pub maintain-answer : AnswersBut (λ r g. Refusable start (startGroup start g) r) start
   unfolding maintainCall decide courseOf sum keep
   maintain-answer = rw (sound-fine start (engine history) st) (by (courseOf start .stop) (u .stop) (t .moved))
     where
@@ -290,16 +269,16 @@ module _ (history : List Op) (start : World) (st : SoundWorld start (engine hist
 
       by : (o : Stop) → StopsWell start o → MovedBy start (1 ∷ 2 ∷ 3 ∷ []) o (courseOf start .moved)
           → (ended o (courseOf start) .answer ≡ maintainGiven (Moved (sum (liveOf start) (1 ∷ 2 ∷ 3 ∷ []))))
-          ⊎ ((r : Refusal) × (g : ℕ) × (ended o (courseOf start) .answer ≡ maintainGiven (Stopped r g (sum (liveOf start) (before g)))) × Refusable start (group start g) r)
+          ⊎ ((r : Refusal) × (g : ℕ) × (ended o (courseOf start) .answer ≡ maintainGiven (Stopped r g (sum (liveOf start) (before g)))) × Refusable start (startGroup start g) r)
       by going s m = inl (ap (λ (n : ℕ). maintainGiven (Moved n)) m)
       by (stopped r g) s m = inr (r, g, ap (λ (n : ℕ). maintainGiven (Stopped r g n)) m, s)
 
   -- LAW: with 4, 5 or 7 only, where no object is so large
   pub small-answer : SmallWorld start → Answers start
-  small-answer small = ⊎-elim inl (λ z. inr (z .0, z .1, z .2, ⊎-elim (λ p. p) (λ o. absurd (not-oversized start small (group start (z .1)) (o .1))) (z .3))) maintain-answer
+  small-answer small = ⊎-elim inl (λ z. inr (z .0, z .1, z .2, ⊎-elim (λ p. p) (λ o. absurd (not-oversized start small (startGroup start (z .1)) (o .1))) (z .3))) maintain-answer
 
 -- C: on any store of the invariant, whatever calls were made
-pub lived-maintenance : (l : Life) → Starts l → (calls : List Call) → AnswersBut (λ r g. Refusable (lived l calls .world) (group (lived l calls .world) g) r) (lived l calls .world)
+pub lived-maintenance : (l : Life) → Starts l → (calls : List Call) → AnswersBut (λ r g. Refusable (lived l calls .world) (startGroup (lived l calls .world) g) r) (lived l calls .world)
 lived-maintenance l s calls = maintain-answer (lived l calls .history) (lived l calls .world) (sound-lived l s calls)
 
 -- with 4, 5 or 7 only, if no object was of max_object_size or more as it started

@@ -16,7 +16,7 @@ use Rattle.rules.specs.Ops.{Content, put, delete, Op}
 use Rattle.rules.specs.SettledLaws.{Last, silent, last, lastOn, ops-ext}
 use Rattle.rules.specs.FileMapLaws.{Among}
 use Rattle.rules.specs.Install.{installedAll, roomTests, emptyOf, positionTests}
-use Rattle.rules.specs.Maintenance.{found, filesOf, Stop, going, stopped, Course, group, groupTests, rewriteGroup, onward, groupsFrom, courseOf, ended, maintainCall}
+use Rattle.rules.specs.Maintenance.{found, filesOf, Stop, going, stopped, Course, startGroup, groupTests, rewriteGroup, onward, groupsFrom, courseOf, ended, maintainCall}
 use Rattle.rules.specs.MaintenanceLaws.{Enough, Lacks, DecidedBy, SourcesPass, decided-one, group-decided, group-added, group-kept}
 use Rattle.rules.specs.Prune.{pruned}
 use Rattle.rules.specs.World.{World, maintainGiven, After}
@@ -42,15 +42,15 @@ generations = 1 ∷ 2 ∷ 3 ∷ []
 
 -- "one with fewer files than min_compaction_files is skipped": the others are due
 abbrev pub Due : World → ℕ → Type 0
-Due w g = w .settings .«min_compaction_files» ≤ length (group w g)
+Due w g = w .settings .«min_compaction_files» ≤ length (startGroup w g)
 
 -- the files that come out of a generation's group, by the store as the call starts
 abbrev pub newFiles : World → ℕ → List (List Op)
-newFiles w g = filesOf (w .settings .«target_file_size») (found w (group w g))
+newFiles w g = filesOf (w .settings .«target_file_size») (found w (startGroup w g))
 
 -- a generation of the store w finished, in a store v: its new files are added, if it is due
 abbrev pub finishing : World → ℕ → World → World
-finishing w g v = pick (ltb (length (group w g)) (w .settings .«min_compaction_files»)) v (installedAll 0 g v (newFiles w g))
+finishing w g v = pick (ltb (length (startGroup w g)) (w .settings .«min_compaction_files»)) v (installedAll 0 g v (newFiles w g))
 
 -- generations finished one after another
 unfoldable pub finishedFrom : World → List ℕ → World → World
@@ -64,12 +64,12 @@ withFinished w gs = finishedFrom w gs w
 -- generation g is not refused: no object of its files is of max_object_size or more, and its new files have room, empty slots and positions when
 -- its turn comes
 pub record Clears (w : World) (g : ℕ) : Type 0 where
-  pub sizes : Oversized w (group w g) → ⊥
+  pub sizes : Oversized w (startGroup w g) → ⊥
   pub enough : Enough (withFinished w (before g)) (newFiles w g)
 
 -- it is refused with r: with 3 for such an object; else with 4, 5 or 7 by its own new files, the empty slots and the base then
 abbrev pub RefusedWith : World → ℕ → Refusal → Type 0
-RefusedWith w g r = ((r ≡ ObjectSize) × Oversized w (group w g)) ⊎ ((Oversized w (group w g) → ⊥) × Lacks (withFinished w (before g)) (newFiles w g) r)
+RefusedWith w g r = ((r ≡ ObjectSize) × Oversized w (startGroup w g)) ⊎ ((Oversized w (startGroup w g) → ⊥) × Lacks (withFinished w (before g)) (newFiles w g) r)
 
 -- it is skipped, or not refused
 abbrev pub Passes : World → ℕ → Type 0
@@ -86,18 +86,22 @@ pub record FirstRefused (w : World) (g : ℕ) (r : Refusal) : Type 0 where
 abbrev pub NoneRefused : World → Type 0
 NoneRefused w = (g : ℕ) → Among generations g → Passes w g
 
--- how maintenance ends
-pub record Ends (w : World) : Type 0 where
+-- how maintenance ends on the store w: its answer and what it leaves are a
+pub record EndsAs (w : World) (a : After) : Type 0 where
   -- it stops with r in generation g exactly if g is the first that is refused, and with r; the count is the live counts before it
-  pub stops : (r : Refusal) (g n : ℕ) → maintainCall w .answer ≡ maintainGiven (Stopped r g n) → FirstRefused w g r × (n ≡ sum (liveOf w) (before g))
-  pub refused : (r : Refusal) (g : ℕ) → FirstRefused w g r → maintainCall w .answer ≡ maintainGiven (Stopped r g (sum (liveOf w) (before g)))
+  pub stops : (r : Refusal) (g n : ℕ) → a .answer ≡ maintainGiven (Stopped r g n) → FirstRefused w g r × (n ≡ sum (liveOf w) (before g))
+  pub refused : (r : Refusal) (g : ℕ) → FirstRefused w g r → a .answer ≡ maintainGiven (Stopped r g (sum (liveOf w) (before g)))
   -- it succeeds exactly if none is; the count is that of all generations
-  pub succeeds : (n : ℕ) → maintainCall w .answer ≡ maintainGiven (Moved n) → NoneRefused w × (n ≡ sum (liveOf w) generations)
-  pub moved : NoneRefused w → maintainCall w .answer ≡ maintainGiven (Moved (sum (liveOf w) generations))
+  pub succeeds : (n : ℕ) → a .answer ≡ maintainGiven (Moved n) → NoneRefused w × (n ≡ sum (liveOf w) generations)
+  pub moved : NoneRefused w → a .answer ≡ maintainGiven (Moved (sum (liveOf w) generations))
   -- "keeps finished groups .. nothing is pruned": the store left is that of the generations before
-  pub keeps : (r : Refusal) (g n : ℕ) → maintainCall w .answer ≡ maintainGiven (Stopped r g n) → maintainCall w .world ≡ withFinished w (before g)
+  pub keeps : (r : Refusal) (g n : ℕ) → a .answer ≡ maintainGiven (Stopped r g n) → a .world ≡ withFinished w (before g)
   -- "Success prunes": that of all generations, pruned
-  pub prunes : (n : ℕ) → maintainCall w .answer ≡ maintainGiven (Moved n) → maintainCall w .world ≡ pruned (withFinished w generations)
+  pub prunes : (n : ℕ) → a .answer ≡ maintainGiven (Moved n) → a .world ≡ pruned (withFinished w generations)
+
+-- how the old call ends
+abbrev pub Ends : World → Type 0
+Ends w = EndsAs w (maintainCall w)
 
 -- ---- what a group finds, and so its new files, are the same when its turn comes
 said-one : (c d : Content) → lastSays (last c) ≡ lastSays (last d) → c ≡ d
@@ -124,7 +128,7 @@ found-same history w v ks s t a b =
 pub settings-finished : (w : World) (gs : List ℕ) (v : World) → finishedFrom w gs v .settings ≡ v .settings
 unfolding finishedFrom
 settings-finished w [] v = refl
-settings-finished w (g ∷ gs) v = settings-finished w gs (finishing w g v) ∙ go (ltb (length (group w g)) (w .settings .«min_compaction_files»))
+settings-finished w (g ∷ gs) v = settings-finished w gs (finishing w g v) ∙ go (ltb (length (startGroup w g)) (w .settings .«min_compaction_files»))
   where
     go : (b : Bool) → pick b v (installedAll 0 g v (newFiles w g)) .settings ≡ v .settings
     go true = refl
@@ -137,11 +141,12 @@ At w n going v = (v ≡ withFinished w (before n)) × ((h : ℕ) → Among gener
 At w n (stopped r g) v = (v ≡ withFinished w (before g)) × FirstRefused w g r × (g < n)
 
 module _ (history : List Op) (w : World) (s : SoundWorld w (engine history)) where
-  same-files : (g : ℕ) (v : World) → SoundWorld v (engine history) → v .settings ≡ w .settings → Exactly w (group w g) (found v (group w g))
-      → filesOf (v .settings .«target_file_size») (found v (group w g)) ≡ newFiles w g
+  -- so its new files are
+  pub same-files : (g : ℕ) (v : World) → SoundWorld v (engine history) → v .settings ≡ w .settings → Exactly w (startGroup w g) (found v (startGroup w g))
+      → filesOf (v .settings .«target_file_size») (found v (startGroup w g)) ≡ newFiles w g
   same-files g v t same x =
-      ap (λ (c : Settings). filesOf (c .«target_file_size») (found v (group w g))) same
-      ∙ ap (filesOf (w .settings .«target_file_size»)) (found-same history w v (group w g) s t x (moved-exactly w history s (group w g) (group-files w history s g)))
+      ap (λ (c : Settings). filesOf (c .«target_file_size») (found v (startGroup w g))) same
+      ∙ ap (filesOf (w .settings .«target_file_size»)) (found-same history w v (startGroup w g) s t x (moved-exactly w history s (startGroup w g) (group-files w history s g)))
 
   -- one more generation passes
   passes-next : (g : ℕ) → ((h : ℕ) → Among generations h → h < g → Passes w h) → Passes w g → (h : ℕ) → Among generations h → h < suc g → Passes w h
@@ -153,14 +158,14 @@ module _ (history : List Op) (w : World) (s : SoundWorld w (engine history)) whe
       go (inr (inr i)) = absurd (omega arith)
 
   module _ (g : ℕ) (is : Among generations g) (step : withFinished w (before (suc g)) ≡ finishing w g (withFinished w (before g))) where
-    one-group : (c : Course) → Underway history w c → Exactly w (group w g) (found (c .world) (group w g)) → c .world ≡ withFinished w (before g)
+    one-group : (c : Course) → Underway history w c → Exactly w (startGroup w g) (found (c .world) (startGroup w g)) → c .world ≡ withFinished w (before g)
         → ((h : ℕ) → Among generations h → h < g → Passes w h) → Due w g
-        → At w (suc g) (rewriteGroup g (group w g) (c .moved) (c .world) .stop) (rewriteGroup g (group w g) (c .moved) (c .world) .world)
+        → At w (suc g) (rewriteGroup g (startGroup w g) (c .moved) (c .world) .stop) (rewriteGroup g (startGroup w g) (c .moved) (c .world) .world)
     unfolding groupTests
-    one-group c u x e p due = split (sources-decided (c .world) history (u .sound) (group w g) (still-files history w s g c u) (limits))
+    one-group c u x e p due = split (sources-decided (c .world) history (u .sound) (startGroup w g) (still-files history w s g c u) (limits))
       where
         files : List (List Op)
-        files = filesOf (c .world .settings .«target_file_size») (found (c .world) (group w g))
+        files = filesOf (c .world .settings .«target_file_size») (found (c .world) (startGroup w g))
 
         limits : List Test
         limits = roomTests (c .world .settings .«slot_bytes») (emptyOf (c .world)) files ++ positionTests (c .world .state .«next_position») files
@@ -169,52 +174,52 @@ module _ (history : List Op) (w : World) (s : SoundWorld w (engine history)) whe
         same = same-files g (c .world) (u .sound) (u .settings) x
 
         tests : List Test
-        tests = groupTests (c .world) (group w g) files
+        tests = groupTests (c .world) (startGroup w g) files
 
-        here : SourcesPass (c .world) (group w g) → (a : Answer) → decide tests ≡ a → DecidedBy (withFinished w (before g)) (newFiles w g) a
+        here : SourcesPass (c .world) (startGroup w g) → (a : Answer) → decide tests ≡ a → DecidedBy (withFinished w (before g)) (newFiles w g) a
         here pass a q =
             subst (λ (v : World). DecidedBy v (newFiles w g) a) e
             (subst (λ (fs : List (List Op)). DecidedBy (c .world) fs a) same
-            (subst (DecidedBy (c .world) files) q (group-decided (c .world) (group w g) files pass)))
+            (subst (DecidedBy (c .world) files) q (group-decided (c .world) (startGroup w g) files pass)))
 
-        small : SourcesPass (c .world) (group w g) → Oversized w (group w g) → ⊥
-        small pass o = passed-small (c .world) history (u .sound) (group w g) pass (oversized-later w (c .world) (group w g) (u .remain) (u .settings) o)
+        small : SourcesPass (c .world) (startGroup w g) → Oversized w (startGroup w g) → ⊥
+        small pass o = passed-small (c .world) history (u .sound) (startGroup w g) pass (oversized-later w (c .world) (startGroup w g) (u .remain) (u .settings) o)
 
         refuses : (r : Refusal) → decide tests ≡ Refused r → RefusedWith w g r
-            → At w (suc g) (rewriteGroup g (group w g) (c .moved) (c .world) .stop) (rewriteGroup g (group w g) (c .moved) (c .world) .world)
+            → At w (suc g) (rewriteGroup g (startGroup w g) (c .moved) (c .world) .stop) (rewriteGroup g (startGroup w g) (c .moved) (c .world) .world)
         refuses r q f =
-            subst (λ (d : Course). At w (suc g) (d .stop) (d .world)) (sym (group-kept g (group w g) (c .moved) (c .world) r q))
+            subst (λ (d : Course). At w (suc g) (d .stop) (d .world)) (sym (group-kept g (startGroup w g) (c .moved) (c .world) r q))
             (e, record { generation = is; due = due; refused = f; earlier = p }, omega arith)
 
-        by : SourcesPass (c .world) (group w g) → (a : Answer) → decide tests ≡ a
-            → At w (suc g) (rewriteGroup g (group w g) (c .moved) (c .world) .stop) (rewriteGroup g (group w g) (c .moved) (c .world) .world)
+        by : SourcesPass (c .world) (startGroup w g) → (a : Answer) → decide tests ≡ a
+            → At w (suc g) (rewriteGroup g (startGroup w g) (c .moved) (c .world) .stop) (rewriteGroup g (startGroup w g) (c .moved) (c .world) .world)
         by pass Done q =
-            subst (λ (d : Course). At w (suc g) (d .stop) (d .world)) (sym (group-added g (group w g) (c .moved) (c .world) q)) (
+            subst (λ (d : Course). At w (suc g) (d .stop) (d .world)) (sym (group-added g (startGroup w g) (c .moved) (c .world) q)) (
               ap (λ (fs : List (List Op)). installedAll 0 g (c .world) fs) same
                   ∙ ap (λ (v : World). installedAll 0 g v (newFiles w g)) e
-                  ∙ sym (step ∙ ap (λ (b : Bool). pick b (withFinished w (before g)) (installedAll 0 g (withFinished w (before g)) (newFiles w g))) (le-ltb (length (group w g)) (w .settings .«min_compaction_files») due)),
+                  ∙ sym (step ∙ ap (λ (b : Bool). pick b (withFinished w (before g)) (installedAll 0 g (withFinished w (before g)) (newFiles w g))) (le-ltb (length (startGroup w g)) (w .settings .«min_compaction_files») due)),
               passes-next g p (λ d. record { sizes = small pass; enough = here pass Done q }),
             )
         by pass (Refused r) q = refuses r q (inr (small pass, here pass (Refused r) q))
 
-        split : ((decide tests ≡ Refused ObjectSize) × Oversized (c .world) (group w g)) ⊎ SourcesPass (c .world) (group w g)
-            → At w (suc g) (rewriteGroup g (group w g) (c .moved) (c .world) .stop) (rewriteGroup g (group w g) (c .moved) (c .world) .world)
-        split (inl (q, o)) = refuses ObjectSize q (inl (refl, oversized-earlier history w (c .world) s (group w g) (group-files w history s g) (u .remain) (u .settings) o))
+        split : ((decide tests ≡ Refused ObjectSize) × Oversized (c .world) (startGroup w g)) ⊎ SourcesPass (c .world) (startGroup w g)
+            → At w (suc g) (rewriteGroup g (startGroup w g) (c .moved) (c .world) .stop) (rewriteGroup g (startGroup w g) (c .moved) (c .world) .world)
+        split (inl (q, o)) = refuses ObjectSize q (inl (refl, oversized-earlier history w (c .world) s (startGroup w g) (group-files w history s g) (u .remain) (u .settings) o))
         split (inr pass) = by pass (decide tests) refl
 
-    one-turn : (c : Course) → Underway history w c → Exactly w (group w g) (found (c .world) (group w g)) → (stop : Stop) → c .stop ≡ stop → At w g stop (c .world)
-        → At w (suc g) (onward stop g (group w g) c .stop) (onward stop g (group w g) c .world)
+    one-turn : (c : Course) → Underway history w c → Exactly w (startGroup w g) (found (c .world) (startGroup w g)) → (stop : Stop) → c .stop ≡ stop → At w g stop (c .world)
+        → At w (suc g) (onward stop g (startGroup w g) c .stop) (onward stop g (startGroup w g) c .world)
     one-turn c u x (stopped r h) q (e, f, l) = subst (λ (o : Stop). At w (suc g) o (c .world)) (sym q) (e, f, omega arith)
-    one-turn c u x going q (e, p) = go (ltb (length (group w g)) (c .world .settings .«min_compaction_files»)) refl
+    one-turn c u x going q (e, p) = go (ltb (length (startGroup w g)) (c .world .settings .«min_compaction_files»)) refl
       where
-        limit : ltb (length (group w g)) (w .settings .«min_compaction_files») ≡ ltb (length (group w g)) (c .world .settings .«min_compaction_files»)
-        limit = ap (λ (x : Settings). ltb (length (group w g)) (x .«min_compaction_files»)) (sym (u .settings))
+        limit : ltb (length (startGroup w g)) (w .settings .«min_compaction_files») ≡ ltb (length (startGroup w g)) (c .world .settings .«min_compaction_files»)
+        limit = ap (λ (x : Settings). ltb (length (startGroup w g)) (x .«min_compaction_files»)) (sym (u .settings))
 
-        go : (b : Bool) → ltb (length (group w g)) (c .world .settings .«min_compaction_files») ≡ b
-            → At w (suc g) (pick b c (rewriteGroup g (group w g) (c .moved) (c .world)) .stop) (pick b c (rewriteGroup g (group w g) (c .moved) (c .world)) .world)
+        go : (b : Bool) → ltb (length (startGroup w g)) (c .world .settings .«min_compaction_files») ≡ b
+            → At w (suc g) (pick b c (rewriteGroup g (startGroup w g) (c .moved) (c .world)) .stop) (pick b c (rewriteGroup g (startGroup w g) (c .moved) (c .world)) .world)
         go false z = one-group c u x e p (ltb-false _ _ (limit ∙ z))
         go true z =
-            let few = ltb-true (length (group w g)) (w .settings .«min_compaction_files») (limit ∙ z) in
+            let few = ltb-true (length (startGroup w g)) (w .settings .«min_compaction_files») (limit ∙ z) in
             subst (λ (o : Stop). At w (suc g) o (c .world)) (sym q) (
               e ∙ sym (step ∙ ap (λ (b : Bool). pick b (withFinished w (before g)) (installedAll 0 g (withFinished w (before g)) (newFiles w g))) (limit ∙ z)),
               passes-next g p (λ d. absurd (omega arith)),
@@ -244,7 +249,7 @@ module _ (history : List Op) (w : World) (s : SoundWorld w (engine history)) whe
 
   -- where the call stands as a generation's turn comes
   abbrev Stand : ℕ → Type 0
-  Stand g = (c : Course) × Underway history w c × At w g (c .stop) (c .world) × Exactly w (group w g) (found (c .world) (group w g))
+  Stand g = (c : Course) × Underway history w c × At w g (c .stop) (c .world) × Exactly w (startGroup w g) (found (c .world) (startGroup w g))
 
   -- each turn, and the end
   turns : All Stand generations × (Underway history w (courseOf w) × At w 4 (courseOf w .stop) (courseOf w .world))
@@ -255,10 +260,10 @@ module _ (history : List Op) (w : World) (s : SoundWorld w (engine history)) whe
       c1 = record { stop = going; moved = 0; world = w }
 
       c2 : Course
-      c2 = onward (c1 .stop) 1 (group w 1) c1
+      c2 = onward (c1 .stop) 1 (startGroup w 1) c1
 
       c3 : Course
-      c3 = onward (c2 .stop) 2 (group w 2) c2
+      c3 = onward (c2 .stop) 2 (startGroup w 2) c2
 
       u1 : Underway history w c1
       u1 = underway-first history w s
@@ -269,10 +274,10 @@ module _ (history : List Op) (w : World) (s : SoundWorld w (engine history)) whe
       u3 : Underway history w c3
       u3 = onward-well history w s (c2 .stop) 2 (omega arith) c2 refl u2
 
-      u4 : Underway history w (onward (c3 .stop) 3 (group w 3) c3)
+      u4 : Underway history w (onward (c3 .stop) 3 (startGroup w 3) c3)
       u4 = onward-well history w s (c3 .stop) 3 (omega arith) c3 refl u3
 
-      x : All (λ (g : ℕ). Exactly w (group w g) (found (turn w g .world) (group w g))) generations
+      x : All (λ (g : ℕ). Exactly w (startGroup w g) (found (turn w g .world) (startGroup w g))) generations
       x = sound-moves history w s .groups
 
       t1 : At w 1 (c1 .stop) (c1 .world)
@@ -289,7 +294,7 @@ module _ (history : List Op) (w : World) (s : SoundWorld w (engine history)) whe
       t3 : At w 3 (c3 .stop) (c3 .world)
       t3 = one-turn 2 (inr (inl refl)) refl c2 u2 (x .1 .0) (c2 .stop) refl t2
 
-      t4 : At w 4 (onward (c3 .stop) 3 (group w 3) c3 .stop) (onward (c3 .stop) 3 (group w 3) c3 .world)
+      t4 : At w 4 (onward (c3 .stop) 3 (startGroup w 3) c3 .stop) (onward (c3 .stop) 3 (startGroup w 3) c3 .world)
       t4 = one-turn 3 (inr (inr (inl refl))) refl c3 u3 (x .1 .1 .0) (c3 .stop) refl t3
 
   -- where all generations below n pass, their files stand there as n's turn comes
@@ -311,11 +316,11 @@ module _ (history : List Op) (w : World) (s : SoundWorld w (engine history)) whe
 
   -- a generation's files, found when its turn comes, are those found as the call starts
   pub reached-found : (g : ℕ) → Among generations g → ((h : ℕ) → Among generations h → h < g → Passes w h)
-      → found (withFinished w (before g)) (group w g) ≡ found w (group w g)
+      → found (withFinished w (before g)) (startGroup w g) ≡ found w (startGroup w g)
   reached-found g a p =
       let t = among-get Stand generations (turns .0) g a in
-      subst (λ (v : World). found v (group w g) ≡ found w (group w g)) (came g p (t .0 .stop) (t .0 .world) (t .2))
-      (found-same history w (t .0 .world) (group w g) s (t .1 .sound) (t .3) (moved-exactly w history s (group w g) (group-files w history s g)))
+      subst (λ (v : World). found v (startGroup w g) ≡ found w (startGroup w g)) (came g p (t .0 .stop) (t .0 .world) (t .2))
+      (found-same history w (t .0 .world) (startGroup w g) s (t .1 .sound) (t .3) (moved-exactly w history s (startGroup w g) (group-files w history s g)))
 
   -- one of the two ends
   abbrev Success : Type 0
@@ -342,7 +347,7 @@ module _ (history : List Op) (w : World) (s : SoundWorld w (engine history)) whe
           low g (inr (inl e)) = omega arith
           low g (inr (inr (inl e))) = omega arith
 
-          counted : AnswersBut (λ r g. Refusable w (group w g) r) w → maintainCall w .answer ≡ maintainGiven (Moved (sum (liveOf w) generations))
+          counted : AnswersBut (λ r g. Refusable w (startGroup w g) r) w → maintainCall w .answer ≡ maintainGiven (Moved (sum (liveOf w) generations))
           counted (inl a) = a
           counted (inr (r, g, a, z)) =
               let b = maintain-one (Moved (courseOf w .moved)) (Stopped r g (sum (liveOf w) (before g))) (sym (ap (λ (a : After). a .answer) is) ∙ a) in
@@ -352,7 +357,7 @@ module _ (history : List Op) (w : World) (s : SoundWorld w (engine history)) whe
           is : maintainCall w ≡ ended (stopped r g) (courseOf w)
           is = called ∙ ap (λ (o : Stop). ended o (courseOf w)) q
 
-          counted : AnswersBut (λ r g. Refusable w (group w g) r) w → maintainCall w .answer ≡ maintainGiven (Stopped r g (sum (liveOf w) (before g)))
+          counted : AnswersBut (λ r g. Refusable w (startGroup w g) r) w → maintainCall w .answer ≡ maintainGiven (Stopped r g (sum (liveOf w) (before g)))
           counted (inl a) =
               let b = maintain-one (Stopped r g (courseOf w .moved)) (Moved (sum (liveOf w) generations)) (sym (ap (λ (a : After). a .answer) is) ∙ a) in
               absurd (let z : _≡_ {A = ℕ} 0 1 = cc in omega arith)
@@ -409,7 +414,7 @@ module _ (history : List Op) (w : World) (s : SoundWorld w (engine history)) whe
 
 -- where no object is so large it is refused with 4, 5 or 7
 pub small-lacks : (w : World) → SmallWorld w → (g : ℕ) (r : Refusal) → RefusedWith w g r → Lacks (withFinished w (before g)) (newFiles w g) r
-small-lacks w small g r (inl a) = absurd (not-oversized w small (group w g) (a .1))
+small-lacks w small g r (inl a) = absurd (not-oversized w small (startGroup w g) (a .1))
 small-lacks w small g r (inr a) = a .1
 
 -- C: on any store of the invariant, whatever calls were made

@@ -7,7 +7,7 @@ use Rattle.theory.specs.Types.{Refusal, Limits, Done, Refused, Moved, Stopped}
 use Rattle.rules.specs.Answers.{maintain-one}
 use Rattle.rules.specs.Refusal.{decide, done-or-refused}
 use Rattle.rules.specs.Condition1.{refused1}
-use Rattle.rules.specs.Maintenance.{found, filesOf, Stop, going, stopped, Course, group, groupTests, rewriteGroup, onward, groupsFrom, courseOf, ended, maintainCall}
+use Rattle.rules.specs.Maintenance.{found, filesOf, Stop, going, stopped, Course, startGroup, groupTests, rewriteGroup, onward, groupsFrom, courseOf, ended, maintainCall}
 use Rattle.rules.specs.MaintenanceLaws.{group-added, group-kept}
 use Rattle.rules.specs.World.{World, maintainGiven, After}
 use Rattle.maintenance_theory.specs.Exactly.{turn}
@@ -49,19 +49,19 @@ module _ (slots : List ℕ) (g : ℕ) (c : Course) (r : Refusal) (h : ℕ) where
 
 course-halts : (w : World) (r : Refusal) (h : ℕ) → courseOf w .stop ≡ stopped r h → KeepsFinished w h (courseOf w .world)
 unfolding courseOf groupsFrom keep
-course-halts w r h e = third (halts (group w 3) 3 c3 r h (c3 .stop) refl e)
+course-halts w r h e = third (halts (startGroup w 3) 3 c3 r h (c3 .stop) refl e)
   where
     c1 : Course
     c1 = record { stop = going; moved = 0; world = w }
 
     c2 : Course
-    c2 = onward (c1 .stop) 1 (group w 1) c1
+    c2 = onward (c1 .stop) 1 (startGroup w 1) c1
 
     c3 : Course
-    c3 = onward (c2 .stop) 2 (group w 2) c2
+    c3 = onward (c2 .stop) 2 (startGroup w 2) c2
 
     c4 : Course
-    c4 = onward (c3 .stop) 3 (group w 3) c3
+    c4 = onward (c3 .stop) 3 (startGroup w 3) c3
 
     at : (g : ℕ) (c : Course) → turn w g ≡ c → (v : World) → v ≡ c .world → c .stop ≡ going → h ≡ g → KeepsFinished w h v
     at g c t v a b d = subst (λ (k : ℕ). KeepsFinished w k v) (sym d) (record { world = a ∙ sym (ap (λ (x : Course). x .world) t); going = ap (λ (x : Course). x .stop) t ∙ b })
@@ -72,11 +72,11 @@ course-halts w r h e = third (halts (group w 3) 3 c3 r h (c3 .stop) refl e)
 
     second : (v : World) → v ≡ c3 .world → ((c2 .stop ≡ going) × (h ≡ 2) × (c3 .world ≡ c2 .world)) ⊎ ((c2 .stop ≡ stopped r h) × (c3 .world ≡ c2 .world)) → KeepsFinished w h v
     second v i (inl (a, b, d)) = at 2 c2 refl v (i ∙ d) a b
-    second v i (inr (a, d)) = first v (i ∙ d) (halts (group w 1) 1 c1 r h (c1 .stop) refl a)
+    second v i (inr (a, d)) = first v (i ∙ d) (halts (startGroup w 1) 1 c1 r h (c1 .stop) refl a)
 
     third : ((c3 .stop ≡ going) × (h ≡ 3) × (c4 .world ≡ c3 .world)) ⊎ ((c3 .stop ≡ stopped r h) × (c4 .world ≡ c3 .world)) → KeepsFinished w h (c4 .world)
     third (inl (a, b, d)) = at 3 c3 refl (c4 .world) d a b
-    third (inr (a, d)) = second (c4 .world) d (halts (group w 2) 2 c2 r h (c2 .stop) refl a)
+    third (inr (a, d)) = second (c4 .world) d (halts (startGroup w 2) 2 c2 r h (c2 .stop) refl a)
 
 -- LAW: of every world: "(0 and 0 with 1)", and then the world is as it was
 pub limits-unchanged : (w : World) → refused1 w ≡ true → maintainCall w ≡ record { answer = maintainGiven (Stopped Limits 0 0); world = w }

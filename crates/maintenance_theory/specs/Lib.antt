@@ -2,6 +2,7 @@
 pub mod Checked
 pub mod Stopping
 pub mod Tally
+pub mod Groups
 pub mod Moved
 pub mod Unmoved
 pub mod Finished
@@ -14,3 +15,9 @@ pub mod Covered
 pub mod Arrived
 pub mod Afterwards
 pub mod Sufficing
+-- request P7: a group stays while others are rewritten; C of one rewrite; the nightly job gives what the old call gives
+pub mod Persisting
+pub mod Rewrites
+pub mod AsBefore
+pub mod ForetoldGroup
+pub mod Foretold

@@ -5,7 +5,7 @@ use mathlib.Core.Bool.{true≢false}
 use mathlib.Core.Logic.{_⊎_, inl, inr, ⊎-elim}
 use Prim.Native.Nat.{_<_, _≤_}
 use native.Mathlib.Omega.{arith}
-use Rattle.rules.specs.Base.{true, _||_, List, [], _∷_, _++_, ℕ, _+_, _^_, length, any, each, sum}
+use Rattle.rules.specs.Base.{true, _||_, List, [], _∷_, _++_, ℕ, _+_, _^_, length, any, sum}
 use Rattle.theory.specs.Types.{Settings, Refusal, Answer, Done, Refused, Held, Mapped, Unmapped, Is}
 use Rattle.rules.specs.BaseLaws.{All, all-map, same?, or-true, or-holds}
 use Rattle.rules.specs.Refusal.{decide, after, NoneHolds, clear-when, none-first, none-rest}
@@ -15,10 +15,10 @@ use Rattle.rules.specs.SettledLaws.{Last, silent, last, lastOn}
 use Rattle.rules.specs.SlotFile.{empty}
 use Rattle.rules.specs.Table.{lookup}
 use Rattle.rules.specs.TableLaws.{lookup-has, orElse, lookup-insert-all}
-use Rattle.rules.specs.FileMap.{recordAt, fileFor}
+use Rattle.rules.specs.FileMap.{fileFor}
 use Rattle.rules.specs.Install.{newSlot, newLsn, installed, installedAll, roomTests, emptyOf, positionTests}
 use Rattle.rules.specs.InstallLaws.{room-clear, positions-clear}
-use Rattle.rules.specs.Maintenance.{found, filesOf, fileTests, slotOf, going, stopped, Course, groupTests, rewriteGroup}
+use Rattle.rules.specs.Maintenance.{found, filesOf, going, stopped, Course, sourceTests, groupTests, rewriteGroup}
 use Rattle.rules.specs.World.{World, recordsOf, mappings}
 use Rattle.rules.specs.WrittenLaws.{fileOfOps}
 use Rattle.theory.specs.Entries.{rising-absolute, absolute-has}
@@ -198,5 +198,5 @@ group-relocates history w s g aged ks moved x = go (decide (groupTests w ks (fil
     go (Refused r) e = inl (record { table = refl; file = λ l e. refl })
     go Done e =
         fits-relocate history w s g aged ks x (filesOf (w .settings .«target_file_size») (found w ks)) (files-rewritable history w s ks (w .settings .«target_file_size»)) (files-parts (w .settings .«target_file_size») (found w ks))
-        (none-rest (each (λ (k : ℕ). fileTests (w .settings .«max_object_size») (mappings w) (recordAt (recordsOf w) k .label) (slotOf w k)) ks) _
+        (none-rest (sourceTests w ks) _
         (clear-when (groupTests w ks (filesOf (w .settings .«target_file_size») (found w ks))) e))

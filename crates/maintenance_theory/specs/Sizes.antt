@@ -13,7 +13,7 @@ use Rattle.rules.specs.Ops.{Op}
 use Rattle.rules.specs.SlotFile.{objectPart, trailerPart, holds}
 use Rattle.rules.specs.FileMap.{recordAt}
 use Rattle.rules.specs.FileMapLaws.{not-empty, Among}
-use Rattle.rules.specs.Maintenance.{movedTests, fileTests, slotOf}
+use Rattle.rules.specs.Maintenance.{movedTests, fileTests, slotOf, sourceTests}
 use Rattle.rules.specs.MaintenanceLaws.{SourcesPass}
 use Rattle.rules.specs.World.{World, recordsOf, mappings}
 use Rattle.theory.specs.Places.{holds-inj, record-holds}
@@ -48,7 +48,7 @@ none-large limit table (o ∷ os) n = or-clear (leb limit (o .size)) _ (n .1 .0)
 module _ (w : World) (history : List Op) (s : SoundWorld w (engine history)) (ks : List ℕ) where
   -- LAW: the files of a group are refused with 3, for an object of that size, or pass
   pub sources-decided : All (λ (k : ℕ). 0 < recordAt (recordsOf w) k .label .lsn) ks → (us : List Test)
-      → ((decide (each (λ (k : ℕ). fileTests (w .settings .«max_object_size») (mappings w) (recordAt (recordsOf w) k .label) (slotOf w k)) ks ++ us) ≡ Refused ObjectSize) × Oversized w ks) ⊎ SourcesPass w ks
+      → ((decide (sourceTests w ks ++ us) ≡ Refused ObjectSize) × Oversized w ks) ⊎ SourcesPass w ks
   sources-decided files us = only-splits (Oversized w ks) _ us (group-only w history s ks files)
 
   -- LAW: and where they pass there is none

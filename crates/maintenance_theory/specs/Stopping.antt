@@ -2,23 +2,22 @@
 use mathlib.Core.Path.{_≡_, refl, sym, ap, _∙_, subst}
 use mathlib.Core.Logic.{_⊎_, inl, inr}
 use Prim.Native.Nat.{_<_, _≤_}
-use native.Mathlib.Nat.{zero-add}
 use native.Mathlib.Omega.{arith}
 use lib.Seq.{getD-set-other}
-use Rattle.rules.specs.Base.{Bool, true, false, _&&_, List, [], _∷_, _++_, ℕ, _+_, length, ltb, leb, eqb, pick, any, each}
+use Rattle.rules.specs.Base.{Bool, true, false, List, [], _∷_, _++_, ℕ, _+_, _^_, length, ltb, leb, pick, any}
 use Rattle.theory.specs.Types.{Record, Settings, Refusal, ObjectSize, SlotRoom, NoEmptySlot, PositionsSpent, Answer, Done, Refused}
-use Rattle.rules.specs.BaseLaws.{All, all-map, and-true}
+use Rattle.rules.specs.BaseLaws.{All, all-map}
 use Rattle.rules.specs.Refusal.{_gives_, decide, after}
 use Rattle.rules.specs.Object.{Stored, objectsIn}
 use Rattle.rules.specs.Ops.{Op}
 use Rattle.rules.specs.SlotFile.{File, View, empty, holds}
 use Rattle.rules.specs.WrittenLaws.{fileOfOps}
 use Rattle.rules.specs.FileMap.{isEmpty, recordAt, fileCount}
-use Rattle.rules.specs.FileMapLaws.{not-empty, slot-passes}
+use Rattle.rules.specs.FileMapLaws.{not-empty}
 use Rattle.rules.specs.Install.{newSlot, newLsn, nextWith, installed, installedAll, roomTests, emptyOf, positionTests}
-use Rattle.rules.specs.Maintenance.{found, filesOf, fileTests, slotOf, Stop, going, stopped, Course, isCandidate, newGeneration, group, groupTests, rewriteGroup, onward, groupsFrom}
+use Rattle.rules.specs.Maintenance.{found, filesOf, Stop, going, stopped, Course, group, startGroup, sourceTests, groupTests, rewriteGroup, onward, groupsFrom}
 use Rattle.rules.specs.MaintenanceLaws.{candidate}
-use Rattle.rules.specs.World.{World, recordsOf, mappings}
+use Rattle.rules.specs.World.{World, recordsOf}
 use Rattle.rules.specs.InstallLaws.{installed-lsn}
 use Rattle.disk_location.specs.LocationLaws.{masked-pos}
 use Rattle.theory.specs.Places as places
@@ -29,6 +28,7 @@ use Rattle.history_theory.specs.Writing.{engine}
 use Rattle.history_theory.specs.Pruning.{file-slot}
 use Rattle.theory.specs.Standing.{Stood, AllStood}
 use Rattle.history_theory.specs.Maintaining.{group-rewritten, sound-onward}
+use Rattle.maintenance_theory.specs.Groups.{in-group}
 use Rattle.maintenance_theory.specs.Checked.{Oversized, only-decides, group-only}
 use Rattle.theory.specs.Lists.{among-all, among-get}
 
@@ -88,13 +88,15 @@ next-installed : (bit g : ℕ) (w : World) (os : List Op) → 0 < w .state .«ne
 unfolding installed nextWith
 next-installed bit g w os h = omega arith
 
-stay-all : (g : ℕ) (files : List (List Op)) (w : World) → 0 < w .state .«next_position» → Stay w (installedAll 0 g w files)
+-- files that are added leave a file in each slot that has one
+pub stay-all : (g : ℕ) (files : List (List Op)) (w : World) → 0 < w .state .«next_position» → Stay w (installedAll 0 g w files)
 unfolding installedAll
 stay-all g [] w h k l = l
 stay-all g (f ∷ fs) w h k l = stay-all g fs (installed 0 g w f) (next-installed 0 g w f h) k (installed-lsn 0 g w f h k l)
 
 -- ---- the slots of a group are files', as the call starts and when the group's turn comes
-file-lsn : (w : World) (history : List Op) → SoundWorld w (engine history) → (k : ℕ) → isEmpty (recordAt (recordsOf w) k) ≡ false → 0 < recordAt (recordsOf w) k .label .lsn
+-- a file has an lsn
+pub file-lsn : (w : World) (history : List Op) → SoundWorld w (engine history) → (k : ℕ) → isEmpty (recordAt (recordsOf w) k) ≡ false → 0 < recordAt (recordsOf w) k .label .lsn
 file-lsn w history s k h =
     let f = file-slot w (engine history) s k h in
     let e : recordAt (recordsOf w) k .label .lsn ≡ f .0 .label .lsn = ap (λ (r : Record). r .label .lsn) (record-holds (viewsOf w) (recordsOf w) (s .sound .filed) k (f .0) (f .1)) in
@@ -102,17 +104,18 @@ file-lsn w history s k h =
     omega arith
 
 -- candidates are files
-pub group-files : (w : World) (history : List Op) → SoundWorld w (engine history) → (g : ℕ) → All (λ (k : ℕ). 0 < recordAt (recordsOf w) k .label .lsn) (group w g)
-unfolding group
-group-files w history s g = among-all (λ (k : ℕ). 0 < recordAt (recordsOf w) k .label .lsn) (group w g) (λ k a.
-    let p = slot-passes (λ (i : ℕ) (r : Record). isCandidate (w .settings) (w .claims) (fileCount (recordsOf w)) i r && eqb (newGeneration (r .label .generation)) g) 0 (recordsOf w) k a in
-    let c = candidate (w .settings) (w .claims) (fileCount (recordsOf w)) (0 + p .off) (recordAt (recordsOf w) (p .off)) (and-true _ _ (p .passes) .0) in
-    subst (λ (i : ℕ). 0 < recordAt (recordsOf w) i .label .lsn) (sym (p .is ∙ zero-add (p .off))) (file-lsn w history s (p .off) (c .file)))
+pub files-in-group : (w : World) (history : List Op) → SoundWorld w (engine history) → (g mark count : ℕ) → All (λ (k : ℕ). 0 < recordAt (recordsOf w) k .label .lsn) (group w g mark count)
+files-in-group w history s g mark count =
+    among-all (λ (k : ℕ). 0 < recordAt (recordsOf w) k .label .lsn) (group w g mark count) (λ k a. file-lsn w history s k (in-group w g mark count k a .candidate .file))
+
+-- those of the call too
+pub group-files : (w : World) (history : List Op) → SoundWorld w (engine history) → (g : ℕ) → All (λ (k : ℕ). 0 < recordAt (recordsOf w) k .label .lsn) (startGroup w g)
+group-files w history s g = files-in-group w history s g (2 ^ 62) (fileCount (recordsOf w))
 
 -- where the call may stand
 abbrev pub StopsWell : World → Stop → Type 0
 StopsWell start going = Unit {0}
-StopsWell start (stopped r g) = Refusable start (group start g) r
+StopsWell start (stopped r g) = Refusable start (startGroup start g) r
 
 -- the invariant, the settings and files as the call starts, and a stop for these reasons only
 pub record Underway (history : List Op) (start : World) (c : Course) : Type 0 where
@@ -141,10 +144,10 @@ group-stops history g slots moved w s files P went halted = go (decide (groupTes
         → P (after {A = Course} a (λ (r : Refusal). record { stop = stopped r g; moved = moved; world = w })
         (record { stop = going; moved = moved + length (found w slots); world = installedAll 0 g w (filesOf (w .settings .«target_file_size») (found w slots)) }) .stop)
     go Done e = went
-    go (Refused r) e = halted r (why r (only-decides (Oversized w slots) (each (λ (k : ℕ). fileTests (w .settings .«max_object_size») (mappings w) (recordAt (recordsOf w) k .label) (slotOf w k)) slots) _ r (group-only w history s slots files) e))
+    go (Refused r) e = halted r (why r (only-decides (Oversized w slots) (sourceTests w slots) _ r (group-only w history s slots files) e))
 
 -- and no file is lost
-group-stays : (history : List Op) (g : ℕ) → g ≤ 255 → (slots : List ℕ) (moved : ℕ) (w : World) → SoundWorld w (engine history)
+pub group-stays : (history : List Op) (g : ℕ) → g ≤ 255 → (slots : List ℕ) (moved : ℕ) (w : World) → SoundWorld w (engine history)
     → Stay w (rewriteGroup g slots moved w .world) × Remain w (rewriteGroup g slots moved w .world)
 unfolding rewriteGroup
 group-stays history g aged slots moved w s = go (decide (groupTests w slots (filesOf (w .settings .«target_file_size») (found w slots)))) refl
@@ -162,14 +165,14 @@ group-stays history g aged slots moved w s = go (decide (groupTests w slots (fil
 
 module _ (history : List Op) (start : World) (st : SoundWorld start (engine history)) where
   -- a group's files are files when its turn comes
-  pub still-files : (g : ℕ) (c : Course) → Underway history start c → All (λ (k : ℕ). 0 < recordAt (recordsOf (c .world)) k .label .lsn) (group start g)
-  still-files g c u = all-map (λ (k : ℕ). 0 < recordAt (recordsOf start) k .label .lsn) (λ (k : ℕ). 0 < recordAt (recordsOf (c .world)) k .label .lsn) (group start g) (λ k h. u .stay k h) (group-files start history st g)
+  pub still-files : (g : ℕ) (c : Course) → Underway history start c → All (λ (k : ℕ). 0 < recordAt (recordsOf (c .world)) k .label .lsn) (startGroup start g)
+  still-files g c u = all-map (λ (k : ℕ). 0 < recordAt (recordsOf start) k .label .lsn) (λ (k : ℕ). 0 < recordAt (recordsOf (c .world)) k .label .lsn) (startGroup start g) (λ k h. u .stay k h) (group-files start history st g)
 
   -- and the same files: what refuses it then stands there as the call starts
-  refused-start : (g : ℕ) (c : Course) → Underway history start c → (r : Refusal) → Refusable (c .world) (group start g) r → Refusable start (group start g) r
+  refused-start : (g : ℕ) (c : Course) → Underway history start c → (r : Refusal) → Refusable (c .world) (startGroup start g) r → Refusable start (startGroup start g) r
   refused-start g c u r (inl p) = inl p
   refused-start g c u r (inr (e, o)) =
-      let z = file-slot start (engine history) st (o .slot) (not-empty (recordAt (recordsOf start) (o .slot)) (among-get (λ (k : ℕ). 0 < recordAt (recordsOf start) k .label .lsn) (group start g) (group-files start history st g) (o .slot) (o .among))) in
+      let z = file-slot start (engine history) st (o .slot) (not-empty (recordAt (recordsOf start) (o .slot)) (among-get (λ (k : ℕ). 0 < recordAt (recordsOf start) k .label .lsn) (startGroup start g) (group-files start history st g) (o .slot) (o .among))) in
       inr (
         e,
         record {
@@ -182,25 +185,25 @@ module _ (history : List Op) (start : World) (st : SoundWorld start (engine hist
       )
 
   -- one generation
-  pub onward-well : (stop : Stop) (g : ℕ) → g ≤ 255 → (c : Course) → c .stop ≡ stop → Underway history start c → Underway history start (onward stop g (group start g) c)
+  pub onward-well : (stop : Stop) (g : ℕ) → g ≤ 255 → (c : Course) → c .stop ≡ stop → Underway history start c → Underway history start (onward stop g (startGroup start g) c)
   onward-well (stopped r n) g aged c e u = u
-  onward-well going g aged c e u = go (ltb (length (group start g)) (c .world .settings .«min_compaction_files»)) (sound-onward history going g aged (group start g) c (u .sound))
+  onward-well going g aged c e u = go (ltb (length (startGroup start g)) (c .world .settings .«min_compaction_files»)) (sound-onward history going g aged (startGroup start g) c (u .sound))
     where
-      go : (b : Bool) → SoundWorld (pick b c (rewriteGroup g (group start g) (c .moved) (c .world)) .world) (engine history)
-          → Underway history start (pick b c (rewriteGroup g (group start g) (c .moved) (c .world)))
+      go : (b : Bool) → SoundWorld (pick b c (rewriteGroup g (startGroup start g) (c .moved) (c .world)) .world) (engine history)
+          → Underway history start (pick b c (rewriteGroup g (startGroup start g) (c .moved) (c .world)))
       go true s = u
       go false s =
-          let z = group-stays history g aged (group start g) (c .moved) (c .world) (u .sound) in
+          let z = group-stays history g aged (startGroup start g) (c .moved) (c .world) (u .sound) in
           record {
             sound = s;
             stay = λ k h. z .0 k (u .stay k h);
             remain = λ k f h. z .1 k f (u .remain k f h);
-            settings = settings-group g (group start g) (c .moved) (c .world) ∙ u .settings;
-            stop = group-stops history g (group start g) (c .moved) (c .world) (u .sound) (still-files g c u) (StopsWell start) tt (refused-start g c u);
+            settings = settings-group g (startGroup start g) (c .moved) (c .world) ∙ u .settings;
+            stop = group-stops history g (startGroup start g) (c .moved) (c .world) (u .sound) (still-files g c u) (StopsWell start) tt (refused-start g c u);
           }
 
 -- all generations
 pub groups-well : (history : List Op) (gs : List ℕ) → All (λ (g : ℕ). g ≤ 255) gs → (start : World) → SoundWorld start (engine history) → (c : Course) → Underway history start c → Underway history start (groupsFrom gs start c)
 unfolding groupsFrom
 groups-well history [] y start s c u = u
-groups-well history (g ∷ gs) y start s c u = groups-well history gs (y .1) start s (onward (c .stop) g (group start g) c) (onward-well history start s (c .stop) g (y .0) c refl u)
+groups-well history (g ∷ gs) y start s c u = groups-well history gs (y .1) start s (onward (c .stop) g (startGroup start g) c) (onward-well history start s (c .stop) g (y .0) c refl u)

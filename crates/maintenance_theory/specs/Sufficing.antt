@@ -10,7 +10,7 @@ use Rattle.rules.specs.BaseLaws.{All}
 use Rattle.rules.specs.Ops.{Op, objectsOf, fileBytes}
 use Rattle.rules.specs.FileMapLaws.{Among}
 use Rattle.rules.specs.Install.{installed, installedAll, emptyOf}
-use Rattle.rules.specs.Maintenance.{group, maintainCall}
+use Rattle.rules.specs.Maintenance.{startGroup, maintainCall}
 use Rattle.rules.specs.World.{World, maintainGiven}
 use Rattle.theory.specs.SoundWorld.{SoundWorld}
 use Rattle.history_theory.specs.Writing.{engine}
@@ -25,11 +25,11 @@ positionsOf files = sum (λ (f : List Op). length (objectsOf f) + 1) files
 
 -- a number of the new files of a generation, 0 where it is not due
 abbrev pub ifDue : World → (List (List Op) → ℕ) → ℕ → ℕ
-ifDue w f g = pick (ltb (length (group w g)) (w .settings .«min_compaction_files»)) 0 (f (newFiles w g))
+ifDue w f g = pick (ltb (length (startGroup w g)) (w .settings .«min_compaction_files»)) 0 (f (newFiles w g))
 
 -- within the limits of a store, as the call starts: 3, 4, 5 and 7 refuse no due generation
 pub record Suffices (w : World) : Type 0 where
-  pub small : (g : ℕ) → Among generations g → Due w g → Oversized w (group w g) → ⊥
+  pub small : (g : ℕ) → Among generations g → Due w g → Oversized w (startGroup w g) → ⊥
   pub fits : (g : ℕ) → Among generations g → Due w g → All (λ (f : List Op). 64 + length (fileBytes f) ≤ w .settings .«slot_bytes») (newFiles w g)
   pub slots : sum (ifDue w length) generations ≤ emptyOf w
   pub positions : w .state .«next_position» + sum (ifDue w positionsOf) generations ≤ 2 ^ 62
@@ -40,7 +40,8 @@ unfolding installedAll
 all-slots g [] w = omega arith
 all-slots g (f ∷ fs) w = let a = one-fewer 0 g w f in let b = all-slots g fs (installed 0 g w f) in omega arith
 
-all-positions : (g : ℕ) (files : List (List Op)) (w : World) → installedAll 0 g w files .state .«next_position» ≡ w .state .«next_position» + positionsOf files
+-- the next position grows by T + 1 of each
+pub all-positions : (g : ℕ) (files : List (List Op)) (w : World) → installedAll 0 g w files .state .«next_position» ≡ w .state .«next_position» + positionsOf files
 unfolding installedAll sum
 all-positions g [] w = omega arith
 all-positions g (f ∷ fs) w =
@@ -56,7 +57,7 @@ taken w (g ∷ gs) v =
     let a = taken w gs (finishing w g v) in
     let a0 = a .0 in
     let a1 = a .1 in
-    let b = go (ltb (length (group w g)) (w .settings .«min_compaction_files»)) in
+    let b = go (ltb (length (startGroup w g)) (w .settings .«min_compaction_files»)) in
     let b0 = b .0 in
     let b1 = b .1 in
     (omega arith, omega arith)
@@ -80,7 +81,7 @@ none-refused w h g a due =
     let t1 = t .1 in
     let i = up-to (ifDue w length) g a in
     let j = up-to (ifDue w positionsOf) g a in
-    let few = le-ltb (length (group w g)) (w .settings .«min_compaction_files») due in
+    let few = le-ltb (length (startGroup w g)) (w .settings .«min_compaction_files») due in
     let m : ifDue w length g ≡ length (newFiles w g) = rw few refl in
     let n : ifDue w positionsOf g ≡ positionsOf (newFiles w g) = rw few refl in
     let b = h .slots in

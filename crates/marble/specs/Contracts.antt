@@ -43,8 +43,13 @@ use Rattle.claims.specs.declared.ClaimAnswer.{ClaimAnswer}
 use Rattle.claims.proofs.claim.Reads as claim
 use Rattle.claims.proofs.release.Reads as release
 use Rattle.claims.proofs.counts.Reads as counts
+use Rattle.gc_course.specs.declared.Request.{Request}
+use Rattle.gc_plan.specs.declared.Planned.{Planned}
+use Rattle.gc_plan.proofs.plan.Reads as plan
+use Rattle.gc.specs.declared.Rewritten.{Rewritten}
+use Rattle.gc.proofs.rewrite.Reads as rewrite
 use Rattle.gc.specs.declared.Maintained.{Maintained}
-use Rattle.gc.proofs.maintain.Reads as maintain
+use Rattle.gc.proofs.nightly.Reads as nightly
 use Rattle.prune.specs.declared.PruneAnswer.{PruneAnswer}
 use Rattle.prune.proofs.prune.Reads as prune
 use Rattle.checker.specs.declared.CheckAnswer.{CheckAnswer}
@@ -58,7 +63,7 @@ use Rattle.table_calls.proofs.load.Reads as load
 use Rattle.table_calls.proofs.store.Reads as store
 use Rattle.table_calls.proofs.«compare_and_store».Reads as compare
 use Rattle.table_calls.proofs.«store_if_greater».Reads as greater
-use Rattle.marble.specs.Results.{wrote, maintained, pruned, claimed, released, reopened, answered, read, answeredThrough, readThrough, counted, unsyncedCounted, synced, checked, Admitted}
+use Rattle.marble.specs.Results.{Notes, wrote, planned, rewrote, maintained, pruned, claimed, released, reopened, answered, read, answeredThrough, readThrough, counted, unsyncedCounted, synced, checked, Admitted}
 
 -- a lent buffer of numbers: where it is, and what it holds
 abbrev pub Lent : Type 0
@@ -104,11 +109,6 @@ module _ (settings : Settings) (state : State) (heap table : Lent) where
         ≡ Admitted (world settings state claims (now heap) (now table)) (reopened r (now table′))
     reopen-contract r table′ = refl
 
-    pub maintain-contract : (r : Maintained) (heap′ table′ : Lent)
-        → maintain.Learnt κs (settings, (state, (claims, (heap, (table, tt))))) r (settings, (state, (claims, (heap′, (table′, tt)))))
-        ≡ Admitted (world settings state claims (now heap) (now table)) (maintained r (now heap′) (now table′))
-    maintain-contract r heap′ table′ = refl
-
     pub prune-contract : (r : PruneAnswer) (heap′ : Lent)
         → prune.Learnt κs (settings, (state, (claims, (heap, (table, tt))))) r (settings, (state, (claims, (heap′, (table, tt)))))
         ≡ Admitted (world settings state claims (now heap) (now table)) (pruned r (now heap′))
@@ -123,6 +123,31 @@ module _ (settings : Settings) (state : State) (heap table : Lent) where
         → release.Learnt κs (settings, (state, (claims, (heap, (table, (slot, tt)))))) r (settings, (state, (claims, (heap, (table, (slot, tt))))))
         ≡ Admitted (world settings state claims (now heap) (now table)) (released slot r)
     release-contract slot r = refl
+
+  -- with notes lent
+  module _ (claims : Claims) (κs : Lfts 4) (places pieces places′ pieces′ : Lent) where
+    -- before and after
+    abbrev before : Notes
+    before = record { places = now places; pieces = now pieces }
+
+    abbrev after : Notes
+    after = record { places = now places′; pieces = now pieces′ }
+
+    pub plan-contract : (r : Planned)
+        → plan.Learnt κs (settings, (state, (claims, (heap, (table, (places, (pieces, tt))))))) r (settings, (state, (claims, (heap, (table, (places′, (pieces′, tt)))))))
+        ≡ Admitted (world settings state claims (now heap) (now table)) (planned before r after)
+    plan-contract r = refl
+
+    module _ (heap′ table′ : Lent) where
+      pub rewrite-contract : (asked : Request) (r : Rewritten)
+          → rewrite.Learnt κs (settings, (state, (claims, (heap, (table, (places, (pieces, (asked, tt)))))))) r (settings, (state, (claims, (heap′, (table′, (places′, (pieces′, (asked, tt))))))))
+          ≡ Admitted (world settings state claims (now heap) (now table)) (rewrote before asked r (now heap′) (now table′) after)
+      rewrite-contract asked r = refl
+
+      pub nightly-contract : (r : Maintained)
+          → nightly.Learnt κs (settings, (state, (claims, (heap, (table, (places, (pieces, tt))))))) r (settings, (state, (claims, (heap′, (table′, (places′, (pieces′, tt)))))))
+          ≡ Admitted (world settings state claims (now heap) (now table)) (maintained before r (now heap′) (now table′) after)
+      nightly-contract r = refl
 
 -- ---- the calls on a lent list of records, of any host whose state has that list as its records. Their proofs are walks, for which the kit makes no `Learnt`: the clause itself, in any model
 module _ {M : Type 1} (𝓤 : URA M) (H : Heap 𝓤) (A : Atoms 𝓤) (mem : Memory → SProp 𝓤) (run : Routine → Fun 𝓤)

@@ -4,8 +4,8 @@
 pub use Rattle.rules.specs.WrittenLaws.{views-made, object-written, read-clear}
 -- a write that says `Done`, and a reopening that does: each id at its entry of greatest masked position; live counts; the next position above every file
 pub use Rattle.marble.specs.Lives.{life-wrote, reopened-opens}
--- maintenance: what it moves, and what it refuses with
-pub use Rattle.marble.specs.Maintaining.{maintain-answers, maintain-moves, maintain-counts, maintain-leaves}
+-- the nightly job: as the old call; what it moves, and what it refuses with; a rewrite of one generation; what a plan says is what happens
+pub use Rattle.marble.specs.Maintaining.{nightly-as-before, maintain-answers, maintain-moves, maintain-counts, maintain-leaves, life-rewrites, life-foretells}
 -- from any clean heap, whatever the calls gave, and wherever power was cut: a read gives the last accepted put, or what the first reopening's read gave, and a
 -- reopening finds the same store
 pub use Rattle.marble.specs.Lives.{life-kept, life-answers, life-reads, life-resumes, life-survives}

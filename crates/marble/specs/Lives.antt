@@ -24,11 +24,12 @@ use Rattle.theory.specs.Marks.{any-counted}
 use Rattle.rules.specs.World.{World, world, recordsOf, stateWith, Given, accepted, After, answerGiven}
 use Rattle.history_theory.specs.Writing.{engine, heard}
 use Rattle.history_theory.specs.Syncing.{sync-accepted, syncedFrom, sound-synced-from}
-use Rattle.history_theory.specs.MarksLeft.{Carries, maintain-carries, reopen-marks, sync-marks, write-marks}
+use Rattle.history_theory.specs.MarksLeft.{Carries, rewrite-carries, nightly-carries, reopen-marks, sync-marks, write-marks}
 use Rattle.history_theory.specs.Reading.{Reads}
 use Rattle.theory.specs.Reopened.{Opened, reopened-means}
-use Rattle.history_theory.specs.Quiet.{claim, release, sync}
-use Rattle.history_theory.specs.History.{Call, write, maintain, prune, reopen, quiet, called, hears, Life, lived, Starts, Kept, sound-kept}
+use Rattle.history_theory.specs.Quiet.{claim, release, sync, plan}
+use Rattle.history_theory.specs.Nightly.{jobCalls, job-lived}
+use Rattle.history_theory.specs.History.{Call, write, rewrite, prune, reopen, quiet, called, hears, Life, lived, Starts, Kept, sound-kept}
 use Rattle.history_theory.specs.Clean.{heardAt, resumed, clean-starts}
 use Rattle.history_theory.specs.Writes.{never, gotBy, got, leftBy, got-last, write-means}
 use Rattle.through.specs.declared.ThroughAnswer.{ThroughAnswer}
@@ -39,8 +40,10 @@ use Rattle.power_cuts.specs.Cuts as cuts
 use Rattle.power_cuts.specs.PowerCut.{cut-survived, sound-lived-on}
 use Rattle.recovery.specs.declared.Reopened.{Reopened}
 use Rattle.writepath.specs.declared.Written.{Written}
+use Rattle.gc_course.specs.declared.Request.{Request}
+use Rattle.gc.specs.declared.Rewritten.{Rewritten}
 use Rattle.gc.specs.declared.Maintained.{Maintained}
-use Rattle.marble.specs.Results.{Result, wrote, maintained, pruned, claimed, released, reopened, answered, read, answeredThrough, readThrough, counted, unsyncedCounted, synced, checked, left, Admitted, hearing, Event, gave, cut, Happens, next, lives, AllHappen, begun, Lived, reached, since}
+use Rattle.marble.specs.Results.{Notes, roomIn, Result, wrote, planned, rewrote, maintained, pruned, claimed, released, reopened, answered, read, answeredThrough, readThrough, counted, unsyncedCounted, synced, checked, left, Admitted, hearing, Event, gave, cut, Happens, next, lives, AllHappen, begun, Lived, reached, since}
 
 -- the bytes that the last operation on an id leaves
 abbrev pub bodyLast : Last → List ℕ
@@ -49,69 +52,39 @@ bodyLast (last delete) = []
 bodyLast (last (put body)) = body
 
 -- ---- lives of results are those of the definitions
--- the calls of the results, each made to its end, and the cuts; a call that is only lent the store is none of them
-abbrev theCalls : Event → List cuts.Event → List cuts.Event
-theCalls (gave (wrote batch r heap table)) es = done (write batch) ∷ es
-theCalls (gave (maintained r heap table)) es = done maintain ∷ es
-theCalls (gave (pruned r heap)) es = done prune ∷ es
-theCalls (gave (claimed slot r)) es = done (quiet (claim slot)) ∷ es
-theCalls (gave (released slot r)) es = done (quiet (release slot)) ∷ es
-theCalls (gave (reopened r table)) es = done reopen ∷ es
-theCalls (gave (answered id r)) es = es
-theCalls (gave (read id part)) es = es
-theCalls (gave (answeredThrough batch id r)) es = es
-theCalls (gave (readThrough batch id part)) es = es
-theCalls (gave (counted r)) es = es
-theCalls (gave (unsyncedCounted r)) es = es
-theCalls (gave (synced r records)) es = done (quiet sync) ∷ es
-theCalls (gave (checked before r after)) es = es
-theCalls (cut k c v r table) es = cuts.cut k c v ∷ es
+-- the calls that a result comes from, on the store that the host had: the nightly job is several; a call that is only lent the store is none
+abbrev theCalls : World → Result → List Call
+theCalls w (wrote batch r heap table) = write batch ∷ []
+theCalls w (planned before r after) = quiet (plan (roomIn before)) ∷ []
+theCalls w (rewrote before asked r heap table after) = rewrite (roomIn before) (asked .generation) (asked .mark) (asked .count) ∷ []
+theCalls w (maintained before r heap table after) = jobCalls w (roomIn before)
+theCalls w (pruned r heap) = prune ∷ []
+theCalls w (claimed slot r) = quiet (claim slot) ∷ []
+theCalls w (released slot r) = quiet (release slot) ∷ []
+theCalls w (reopened r table) = reopen ∷ []
+theCalls w (answered id r) = []
+theCalls w (read id part) = []
+theCalls w (answeredThrough batch id r) = []
+theCalls w (readThrough batch id part) = []
+theCalls w (counted r) = []
+theCalls w (unsyncedCounted r) = []
+theCalls w (synced r records) = quiet sync ∷ []
+theCalls w (checked before r after) = []
 
-unfoldable calls : List Event → List cuts.Event
-calls [] = []
-calls (e ∷ es) = theCalls e (calls es)
+-- of the results of a life, one behind the other
+unfoldable pub callsOf : Life → List Result → List Call
+callsOf l [] = []
+callsOf l (r ∷ rs) = theCalls (l .world) r ++ callsOf (next l (gave r)) rs
 
--- of results alone, the calls alone
-abbrev theCall : Result → List Call → List Call
-theCall (wrote batch r heap table) cs = write batch ∷ cs
-theCall (maintained r heap table) cs = maintain ∷ cs
-theCall (pruned r heap) cs = prune ∷ cs
-theCall (claimed slot r) cs = quiet (claim slot) ∷ cs
-theCall (released slot r) cs = quiet (release slot) ∷ cs
-theCall (reopened r table) cs = reopen ∷ cs
-theCall (answered id r) cs = cs
-theCall (read id part) cs = cs
-theCall (answeredThrough batch id r) cs = cs
-theCall (readThrough batch id part) cs = cs
-theCall (counted r) cs = cs
-theCall (unsyncedCounted r) cs = cs
-theCall (synced r records) cs = quiet sync ∷ cs
-theCall (checked before r after) cs = cs
+-- of its events: each call made to its end, and the cuts
+abbrev theEvents : World → Event → List cuts.Event
+theEvents w (gave r) = map done (theCalls w r)
+theEvents w (cut k c v r table) = cuts.cut k c v ∷ []
 
-unfoldable pub callsOf : List Result → List Call
-callsOf [] = []
-callsOf (r ∷ rs) = theCall r (callsOf rs)
-
--- an event and what it is there: it leaves the same store, and the engine has heard the same
-pub record Alike (l : Life) (e : Event) (d : cuts.Event) : Type 0 where
-  pub happens : cuts.Happens (l .world) d
-  pub same : next l e ≡ happened l d
-
--- so it is of the events after it
-pub record AllAlike (l : Life) (es : List Event) (ds : List cuts.Event) : Type 0 where
-  pub happen : cuts.AllHappen l ds
-  pub same : lives l es ≡ livedOn l ds
-
-alike-then : (l : Life) (e : Event) (d : cuts.Event) (es : List Event) (ds : List cuts.Event) → Alike l e d → AllAlike (next l e) es ds → AllAlike l (e ∷ es) (d ∷ ds)
-unfolding lives livedOn cuts.AllHappen
-alike-then l e d es ds a b = record {
-  happen = (a .happens, subst (λ (m : Life). cuts.AllHappen m ds) (a .same) (b .happen));
-  same = b .same ∙ ap (λ (m : Life). livedOn m ds) (a .same);
-}
-
--- a result that its contract admits leaves what the definition of its call leaves
-alike-left : (l : Life) (r : Result) (c : Call) → left (l .world) r ≡ called (l .world) c .world → hearing (l .history) r ≡ hears (l .world) (l .history) c → Alike l (gave r) (done c)
-alike-left l r c p q = record { happens = tt; same = λ i. record { world = p i; history = q i } }
+-- one behind the other
+unfoldable eventsOf : Life → List Event → List cuts.Event
+eventsOf l [] = []
+eventsOf l (e ∷ es) = theEvents (l .world) e ++ eventsOf (next l e) es
 
 -- a sync leaves the records that the definition leaves, and nothing else changed
 synced-left : (w : World) (r : One) (records : List Record) → Admitted w (synced r records) → left w (synced r records) ≡ syncState w .world
@@ -119,56 +92,84 @@ unfolding syncState
 synced-left w r records a =
     ap (λ (rs : List Record). world (w .settings) (stateWith (w .state) rs (w .state .«next_position»)) (w .claims) (w .heap) (w .table)) (a .1)
 
--- event by event
-alike : (l : Life) (es : List Event) → AllHappen l es → AllAlike l es (calls es)
-unfolding lives livedOn AllHappen cuts.AllHappen calls
-alike l [] h = record { happen = tt; same = refl }
-alike l (e ∷ es) h = go e (h .0) (alike (next l e) es (h .1))
-  where
-    go : (e : Event) → Happens (l .world) e → AllAlike (next l e) es (calls es) → AllAlike l (e ∷ es) (theCalls e (calls es))
-    go (gave (wrote batch r heap table)) a b =
-        alike-then l (gave (wrote batch r heap table)) (done (write batch)) es (calls es)
-        (alike-left l (wrote batch r heap table) (write batch) (ap (λ (x : After). x .world) a) (ap (λ (x : After). heard (l .history) batch (x .answer)) a)) b
-    go (gave (maintained r heap table)) a b =
-        alike-then l (gave (maintained r heap table)) (done maintain) es (calls es) (alike-left l (maintained r heap table) maintain (ap (λ (x : After). x .world) a) refl) b
-    go (gave (pruned r heap)) a b = alike-then l (gave (pruned r heap)) (done prune) es (calls es) (alike-left l (pruned r heap) prune (ap (λ (x : After). x .world) a) refl) b
-    go (gave (claimed slot r)) a b =
-        alike-then l (gave (claimed slot r)) (done (quiet (claim slot))) es (calls es) (alike-left l (claimed slot r) (quiet (claim slot)) (ap (λ (x : After). x .world) a) refl) b
-    go (gave (released slot r)) a b =
-        alike-then l (gave (released slot r)) (done (quiet (release slot))) es (calls es) (alike-left l (released slot r) (quiet (release slot)) (ap (λ (x : After). x .world) a) refl) b
-    go (gave (reopened r table)) a b =
-        alike-then l (gave (reopened r table)) (done reopen) es (calls es) (alike-left l (reopened r table) reopen (ap (λ (x : After). x .world) a) refl) b
-    go (gave (answered id r)) a b = record { happen = b .happen; same = b .same }
-    go (gave (read id part)) a b = record { happen = b .happen; same = b .same }
-    go (gave (answeredThrough batch id r)) a b = record { happen = b .happen; same = b .same }
-    go (gave (readThrough batch id part)) a b = record { happen = b .happen; same = b .same }
-    go (gave (counted r)) a b = record { happen = b .happen; same = b .same }
-    go (gave (unsyncedCounted r)) a b = record { happen = b .happen; same = b .same }
-    go (gave (synced r records)) a b =
-        alike-then l (gave (synced r records)) (done (quiet sync)) es (calls es) (alike-left l (synced r records) (quiet sync) (synced-left (l .world) r records a) refl) b
-    go (gave (checked before r after)) a b = record { happen = b .happen; same = b .same }
-    go (cut k c v r table) a b =
-        alike-then l (cut k c v r table) (cuts.cut k c v) es (calls es)
-        (record { happens = a .0; same = λ i. record { world = a .1 i .world; history = hearsCut k (l .world) (l .history) c } }) b
+-- a result that its contract admits leaves what the definition of its call leaves
+alike-left : (l : Life) (r : Result) (c : Call) → left (l .world) r ≡ called (l .world) c .world → hearing (l .history) r ≡ hears (l .world) (l .history) c
+    → next l (gave r) ≡ lived l (c ∷ [])
+unfolding lived
+alike-left l r c p q = λ i. record { world = p i; history = q i }
 
--- without a cut they are a life of calls made to their ends
-uncut : (l : Life) (rs : List Result) → livedOn l (calls (map gave rs)) ≡ lived l (callsOf rs)
-unfolding calls callsOf livedOn lived
-uncut l [] = refl
-uncut l (wrote batch r heap table ∷ rs) = uncut (happened l (done (write batch))) rs
-uncut l (maintained r heap table ∷ rs) = uncut (happened l (done maintain)) rs
-uncut l (pruned r heap ∷ rs) = uncut (happened l (done prune)) rs
-uncut l (claimed slot r ∷ rs) = uncut (happened l (done (quiet (claim slot)))) rs
-uncut l (released slot r ∷ rs) = uncut (happened l (done (quiet (release slot)))) rs
-uncut l (reopened r table ∷ rs) = uncut (happened l (done reopen)) rs
-uncut l (answered id r ∷ rs) = uncut l rs
-uncut l (read id part ∷ rs) = uncut l rs
-uncut l (answeredThrough batch id r ∷ rs) = uncut l rs
-uncut l (readThrough batch id part ∷ rs) = uncut l rs
-uncut l (counted r ∷ rs) = uncut l rs
-uncut l (unsyncedCounted r ∷ rs) = uncut l rs
-uncut l (synced r records ∷ rs) = uncut (happened l (done (quiet sync))) rs
-uncut l (checked before r after ∷ rs) = uncut l rs
+-- so it does for all calls that it comes from
+as-calls : (l : Life) (r : Result) → Admitted (l .world) r → next l (gave r) ≡ lived l (theCalls (l .world) r)
+unfolding lived
+as-calls l (wrote batch r heap table) a =
+    alike-left l (wrote batch r heap table) (write batch) (ap (λ (x : After). x .world) a) (ap (λ (x : After). heard (l .history) batch (x .answer)) a)
+as-calls l (planned before r after) a = refl
+as-calls l (rewrote before asked r heap table after) a =
+    alike-left l (rewrote before asked r heap table after) (rewrite (roomIn before) (asked .generation) (asked .mark) (asked .count)) (ap (λ (x : After). x .world) (a .0)) refl
+as-calls l (maintained before r heap table after) a =
+    ap (λ (x : After). record { world = x .world; history = l .history }) (a .0) ∙ sym (job-lived (l .world) (l .history) (roomIn before))
+as-calls l (pruned r heap) a = alike-left l (pruned r heap) prune (ap (λ (x : After). x .world) a) refl
+as-calls l (claimed slot r) a = alike-left l (claimed slot r) (quiet (claim slot)) (ap (λ (x : After). x .world) a) refl
+as-calls l (released slot r) a = alike-left l (released slot r) (quiet (release slot)) (ap (λ (x : After). x .world) a) refl
+as-calls l (reopened r table) a = alike-left l (reopened r table) reopen (ap (λ (x : After). x .world) a) refl
+as-calls l (answered id r) a = refl
+as-calls l (read id part) a = refl
+as-calls l (answeredThrough batch id r) a = refl
+as-calls l (readThrough batch id part) a = refl
+as-calls l (counted r) a = refl
+as-calls l (unsyncedCounted r) a = refl
+as-calls l (synced r records) a = alike-left l (synced r records) (quiet sync) (synced-left (l .world) r records a) refl
+as-calls l (checked before r after) a = refl
+
+-- ---- a life of events is one of calls and cuts
+-- calls made to their ends come first
+calls-first : (l : Life) (cs : List Call) (ds : List cuts.Event) → livedOn l (map done cs ++ ds) ≡ livedOn (lived l cs) ds
+unfolding livedOn lived
+calls-first l [] ds = refl
+calls-first l (c ∷ cs) ds = calls-first (happened l (done c)) cs ds
+
+calls-happen : (l : Life) (cs : List Call) (ds : List cuts.Event) → cuts.AllHappen (lived l cs) ds → cuts.AllHappen l (map done cs ++ ds)
+unfolding cuts.AllHappen lived
+calls-happen l [] ds h = h
+calls-happen l (c ∷ cs) ds h = (tt, calls-happen (happened l (done c)) cs ds h)
+
+-- the events there, which happen and leave the same
+pub record AllAlike (l : Life) (es : List Event) (ds : List cuts.Event) : Type 0 where
+  pub happen : cuts.AllHappen l ds
+  pub same : lives l es ≡ livedOn l ds
+
+-- event by event
+alike : (l : Life) (es : List Event) → AllHappen l es → AllAlike l es (eventsOf l es)
+unfolding lives livedOn AllHappen cuts.AllHappen eventsOf
+alike l [] h = record { happen = tt; same = refl }
+alike l (gave r ∷ es) h =
+    let e = as-calls l r (h .0) in
+    let b = alike (next l (gave r)) es (h .1) in
+    let ds = eventsOf (next l (gave r)) es in
+    record {
+      happen = calls-happen l (theCalls (l .world) r) ds (subst (λ (m : Life). cuts.AllHappen m ds) e (b .happen));
+      same = b .same ∙ ap (λ (m : Life). livedOn m ds) e ∙ sym (calls-first l (theCalls (l .world) r) ds);
+    }
+alike l (cut k c v r table ∷ es) h =
+    let a = h .0 in
+    let e : next l (cut k c v r table) ≡ happened l (cuts.cut k c v) = λ i. record { world = a .1 i .world; history = hearsCut k (l .world) (l .history) c } in
+    let b = alike (next l (cut k c v r table)) es (h .1) in
+    let ds = eventsOf (next l (cut k c v r table)) es in
+    record { happen = (a .0, subst (λ (m : Life). cuts.AllHappen m ds) e (b .happen)); same = b .same ∙ ap (λ (m : Life). livedOn m ds) e }
+
+-- without a cut it is one of calls made to their ends
+calls-behind : (l : Life) (cs ds : List Call) → lived l (cs ++ ds) ≡ lived (lived l cs) ds
+unfolding lived
+calls-behind l [] ds = refl
+calls-behind l (c ∷ cs) ds = calls-behind (happened l (done c)) cs ds
+
+uncut : (l : Life) (rs : List Result) → AllHappen l (map gave rs) → lives l (map gave rs) ≡ lived l (callsOf l rs)
+unfolding lives AllHappen callsOf lived
+uncut l [] h = refl
+uncut l (r ∷ rs) h =
+    uncut (next l (gave r)) rs (h .1)
+    ∙ ap (λ (m : Life). lived m (callsOf (next l (gave r)) rs)) (as-calls l r (h .0))
+    ∙ sym (calls-behind l (theCalls (l .world) r) (callsOf (next l (gave r)) rs))
 
 -- ---- what is heard is heard behind what was heard before
 batch-behind : (h ops : List Op) (b : Bool) → pick b (h ++ ops) h ≡ h ++ pick b ops []
@@ -177,7 +178,9 @@ batch-behind h ops false = sym (append-nil h)
 
 hearing-behind : (h : List Op) (r : Result) → hearing h r ≡ h ++ hearing [] r
 hearing-behind h (wrote batch r heap table) = batch-behind h (opsOf (batchIn batch)) (eqb (answerGiven (r .answer) .number) 0)
-hearing-behind h (maintained r heap table) = sym (append-nil h)
+hearing-behind h (planned before r after) = sym (append-nil h)
+hearing-behind h (rewrote before asked r heap table after) = sym (append-nil h)
+hearing-behind h (maintained before r heap table after) = sym (append-nil h)
 hearing-behind h (pruned r heap) = sym (append-nil h)
 hearing-behind h (claimed slot r) = sym (append-nil h)
 hearing-behind h (released slot r) = sym (append-nil h)
@@ -193,7 +196,7 @@ hearing-behind h (checked before r after) = sym (append-nil h)
 
 hears-behind : (w : World) (h : List Op) (c : Call) → hears w h c ≡ h ++ hears w [] c
 hears-behind w h (write batch) = batch-behind h (opsOf (batchIn batch)) (eqb (writeCall w batch .answer .number) 0)
-hears-behind w h maintain = sym (append-nil h)
+hears-behind w h (rewrite room g mark count) = sym (append-nil h)
 hears-behind w h prune = sym (append-nil h)
 hears-behind w h reopen = sym (append-nil h)
 hears-behind w h (quiet q) = sym (append-nil h)
@@ -226,19 +229,22 @@ module _ (l : Lived) where
   resumed-as : begun (l .start) (l .opening) (l .table) ≡ resumed (l .start)
   resumed-as = λ i. record { world = l .first i .world; history = heardAt (l .first i .world) }
 
-  as-called : AllAlike (resumed (l .start)) (l .events) (calls (l .events))
-  as-called = subst (λ (b : Life). AllAlike b (l .events) (calls (l .events))) resumed-as (alike (begun (l .start) (l .opening) (l .table)) (l .events) (l .happen))
+  as-called : AllAlike (resumed (l .start)) (l .events) (eventsOf (resumed (l .start)) (l .events))
+  as-called = subst (λ (b : Life). AllAlike b (l .events) (eventsOf b (l .events))) resumed-as (alike (begun (l .start) (l .opening) (l .table)) (l .events) (l .happen))
 
-  reached-as : livedOn (resumed (l .start)) (calls (l .events)) ≡ reached l
+  reached-as : livedOn (resumed (l .start)) (eventsOf (resumed (l .start)) (l .events)) ≡ reached l
   reached-as = sym (as-called .same) ∙ sym (ap (λ (b : Life). lives b (l .events)) resumed-as)
 
   -- of results without a cut: every theorem about a life of calls is one about these
-  pub results-called : (rs : List Result) → l .events ≡ map gave rs → lived (resumed (l .start)) (callsOf rs) ≡ reached l
-  results-called rs e = sym (uncut (resumed (l .start)) rs) ∙ ap (λ (es : List Event). livedOn (resumed (l .start)) (calls es)) (sym e) ∙ reached-as
+  pub results-called : (rs : List Result) → l .events ≡ map gave rs → lived (resumed (l .start)) (callsOf (resumed (l .start)) rs) ≡ reached l
+  results-called rs e =
+      sym (uncut (resumed (l .start)) rs (subst (λ (b : Life). AllHappen b (map gave rs)) resumed-as (subst (AllHappen (begun (l .start) (l .opening) (l .table))) e (l .happen))))
+      ∙ sym (ap (λ (b : Life). lives b (map gave rs)) resumed-as)
+      ∙ ap (lives (begun (l .start) (l .opening) (l .table))) (sym e)
 
   -- the invariant holds
   pub life-sound : Starts (reached l)
-  life-sound = subst Starts reached-as (sound-lived-on (resumed (l .start)) (clean-starts (l .start) (l .clean)) (calls (l .events)) (as-called .happen))
+  life-sound = subst Starts reached-as (sound-lived-on (resumed (l .start)) (clean-starts (l .start) (l .clean)) (eventsOf (resumed (l .start)) (l .events)) (as-called .happen))
 
   -- DEMAND 3: reads give the last put of the writes that said `Done` (and of those cut whose run was complete), or what the first reopening's reads gave, and a
   -- reopening finds the store
@@ -323,10 +329,19 @@ module _ (l : Lived) where
       sound-kept (syncedFrom from count (reached l .world)) (reached l .history)
       (sound-synced-from (reached l .world) (engine (reached l .history)) life-sound from count)
 
-  -- maintenance: each slot's file is as it was, and its mark too; or it was written by the call, and its mark is clear; or the record was emptied
-  pub life-marks-maintained : (r : Maintained) (heap table : List ℕ) → Admitted (reached l .world) (maintained r heap table)
-      → Carries 0 (reached l .world) (left (reached l .world) (maintained r heap table))
-  life-marks-maintained r heap table a = subst (λ (x : After). Carries 0 (reached l .world) (x .world)) (sym a) (maintain-carries (reached l .world))
+  -- a rewrite: each slot's file is as it was, and its mark too; or it was written by the call, and its mark is clear
+  pub life-marks-rewritten : (before : Notes) (asked : Request) (r : Rewritten) (heap table : List ℕ) (after : Notes)
+      → Admitted (reached l .world) (rewrote before asked r heap table after)
+      → Carries 0 (reached l .world) (left (reached l .world) (rewrote before asked r heap table after))
+  life-marks-rewritten before asked r heap table after a =
+      subst (λ (x : After). Carries 0 (reached l .world) (x .world)) (sym (a .0))
+      (rewrite-carries (reached l .world) (roomIn before) (asked .generation) (asked .mark) (asked .count))
+
+  -- the nightly job: so too, or the record was emptied
+  pub life-marks-maintained : (before : Notes) (r : Maintained) (heap table : List ℕ) (after : Notes) → Admitted (reached l .world) (maintained before r heap table after)
+      → Carries 0 (reached l .world) (left (reached l .world) (maintained before r heap table after))
+  life-marks-maintained before r heap table after a =
+      subst (λ (x : After). Carries 0 (reached l .world) (x .world)) (sym (a .0)) (nightly-carries (reached l .world) (roomIn before))
 
   -- a sync is never refused, leaves no file unsynced, and tells whether one was
   pub life-synced : (r : One) (records : List Record) → Admitted (reached l .world) (synced r records)

@@ -9,6 +9,7 @@ use Rattle.rules.specs.Claims.{withClaims, claimCall, releaseCall}
 use Rattle.rules.specs.Counts.{countsCall}
 use Rattle.rules.specs.Read.{readOf, partOf}
 use Rattle.rules.specs.Reopen.{reopenCall}
+use Rattle.rules.specs.TwoCalls.{roomOf}
 use Rattle.rules.specs.World.{World, world, recordsOf, stateWith, leaving, answerGiven, countsGiven}
 use Rattle.history_theory.specs.Writing.{heard}
 use Rattle.history_theory.specs.History.{Call, Life}
@@ -19,8 +20,12 @@ use Rattle.recovery.specs.Reopening.{leaves}
 use Rattle.writepath.specs.declared.Written.{Written}
 use Rattle.writepath.specs.Unique.{Writes}
 use Rattle.claims.specs.declared.ClaimAnswer.{ClaimAnswer}
+use Rattle.gc_course.specs.declared.Request.{Request}
+use Rattle.gc_plan.specs.declared.Planned.{Planned}
+use Rattle.gc_plan.specs.Unique.{Plans}
+use Rattle.gc.specs.declared.Rewritten.{Rewritten}
 use Rattle.gc.specs.declared.Maintained.{Maintained}
-use Rattle.gc.specs.Unique.{Maintains}
+use Rattle.gc.specs.Unique.{Lent, Asked, Rewrites, Nightly}
 use Rattle.prune.specs.declared.PruneAnswer.{PruneAnswer}
 use Rattle.prune.specs.CallLaws.{Prunes}
 use Rattle.through.specs.declared.ThroughAnswer.{ThroughAnswer}
@@ -32,12 +37,33 @@ use Rattle.faults.specs.Faults.{checkCall}
 use Rattle.checker.specs.declared.CheckAnswer.{CheckAnswer}
 use Rattle.marble.specs.Unique.{Claims-leaves, Checks}
 
+-- the notes that a host lends to a plan, a rewrite or the nightly job
+pub record Notes : Type 0 where
+  pub places : List ℕ
+  pub pieces : List ℕ
+
+-- what they have room for
+abbrev pub roomIn : Notes → ℕ
+roomIn n = roomOf (n .places) (n .pieces)
+
+-- all that a rewrite or the nightly job is lent
+abbrev pub lent : List ℕ → List ℕ → Notes → Lent
+lent heap table n = record { heap = heap; table = table; places = n .places; pieces = n .pieces }
+
+-- by a host that has w
+abbrev pub lending : World → Notes → Asked
+lending w n = record { settings = w .settings; state = w .state; claims = w .claims; lent = lent (w .heap) (w .table) n }
+
 -- a call and what it gave: what was asked, what it returned, and the buffers that it may change, as it left them
 pub data Result : Type 0 where
   -- batch; heap, table
   wrote : List ℕ → Written → List ℕ → List ℕ → Result
-  -- heap, table
-  maintained : Maintained → List ℕ → List ℕ → Result
+  -- notes before; after
+  planned : Notes → Planned → Notes → Result
+  -- notes before, generation, mark and count; heap, table, notes after
+  rewrote : Notes → Request → Rewritten → List ℕ → List ℕ → Notes → Result
+  -- the nightly job: notes before; heap, table, notes after
+  maintained : Notes → Maintained → List ℕ → List ℕ → Notes → Result
   -- heap
   pruned : PruneAnswer → List ℕ → Result
   -- slot
@@ -61,7 +87,9 @@ pub data Result : Type 0 where
 -- what the host has after it
 abbrev pub left : World → Result → World
 left w (wrote batch r heap table) = world (w .settings) (r .state) (w .claims) heap table
-left w (maintained r heap table) = world (w .settings) (r .state) (w .claims) heap table
+left w (planned before r after) = w
+left w (rewrote before asked r heap table after) = world (w .settings) (r .state) (w .claims) heap table
+left w (maintained before r heap table after) = world (w .settings) (r .state) (w .claims) heap table
 left w (pruned r heap) = world (w .settings) (r .state) (w .claims) heap (w .table)
 left w (claimed slot r) = withClaims w (r .claims)
 left w (released slot r) = withClaims w (r .claims)
@@ -78,7 +106,9 @@ left w (checked before r after) = w
 -- the contract of its call admits it, where the host had w and handed it on
 abbrev pub Admitted : World → Result → Type 0
 Admitted w (wrote batch r heap table) = Writes (w .settings) w batch (w .claims) r heap table
-Admitted w (maintained r heap table) = Maintains (w .settings) (w .claims) w r heap table
+Admitted w (planned before r after) = Plans w (before .places) (before .pieces) r (after .places) (after .pieces)
+Admitted w (rewrote before asked r heap table after) = Rewrites (lending w before) asked r (lent heap table after)
+Admitted w (maintained before r heap table after) = Nightly (lending w before) r (lent heap table after)
 Admitted w (pruned r heap) = Prunes (w .settings) (w .state) (w .claims) (w .heap) (w .table) r heap
 Admitted w (claimed slot r) = Claims-leaves (w .settings) (w .state) (w .heap) (w .table) (claimCall w slot) r
 Admitted w (released slot r) = Claims-leaves (w .settings) (w .state) (w .heap) (w .table) (releaseCall w slot) r
@@ -96,7 +126,9 @@ Admitted w (checked before r after) = Checks (checkCall (w .settings) (w .heap) 
 -- the plain engine hears the operations of a write whose result says `Done`, and nothing else
 abbrev pub hearing : List Op → Result → List Op
 hearing history (wrote batch r heap table) = heard history batch (answerGiven (r .answer))
-hearing history (maintained r heap table) = history
+hearing history (planned before r after) = history
+hearing history (rewrote before asked r heap table after) = history
+hearing history (maintained before r heap table after) = history
 hearing history (pruned r heap) = history
 hearing history (claimed slot r) = history
 hearing history (released slot r) = history

@@ -19,12 +19,13 @@ use Rattle.faults.specs.Faults.{Checked}
 use Rattle.checker.specs.declared.CheckAnswer.{CheckAnswer}
 use Rattle.checker.specs.declared.CheckAnswer.the-variants.{Faults, CheckRefused}
 use Rattle.checker.specs.Answers.{checkGiven, checked}
--- reopen, write, read, a read through a batch, maintain, prune and salvage have theirs beside their code
+-- reopen, write, read, a read through a batch, plan, rewrite, the nightly job, prune and salvage have theirs beside their code
 pub use Rattle.recovery.specs.Unique.{reopen-one}
 pub use Rattle.writepath.specs.Unique.{write-one}
 pub use Rattle.readpath.specs.ReadLaws.{read-one, part-one}
 pub use Rattle.through.specs.ThroughLaws.{through-one, through-part-one}
-pub use Rattle.gc.specs.Unique.{maintain-one}
+pub use Rattle.gc_plan.specs.Unique.{plan-one}
+pub use Rattle.gc.specs.Unique.{rewrite-one, nightly-one}
 pub use Rattle.prune.specs.CallLaws.{prune-one}
 pub use Rattle.marks_in_place.specs.Unique.{one-count, one-sync}
 pub use Rattle.salvage.specs.Answers.{salvage-one}

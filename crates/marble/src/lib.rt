@@ -31,9 +31,19 @@ pub use claims::release;
 // Claim and release on the claim record itself, lent.
 pub mod in_place;
 
-// "Maintenance"
+// Request P7, "Maintenance in two calls": one plans, the other rewrites one named generation; and the nightly job over these and prune.
 pub use gc::Maintained;
-pub use gc::maintain;
+pub use gc::Rewritten;
+pub use gc::nightly;
+pub use gc::nightly_in;
+pub use gc::rewrite;
+pub use gc::rewrite_in;
+pub use gc_course::Halt;
+pub use gc_course::Request;
+pub use gc_plan::PlanValues;
+pub use gc_plan::Planned;
+pub use gc_plan::plan;
+pub use gc_plan::plan_in;
 
 // "Prune"
 pub use prune::PruneAnswer;

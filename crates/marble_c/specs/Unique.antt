@@ -1,27 +1,28 @@
 -- "Show that any two results it admits are equal", for each call of a host in C: number, out-parameters, words of state and claim record, buffers.
 use mathlib.Core.Path.{_≡_, sym, ap, _∙_}
-use Rattle.rules.specs.Base.{List, [], ℕ, length}
+use Rattle.rules.specs.Base.{List, [], _∷_, ℕ, length, getD, set}
 use Rattle.rules.specs.declared.Settings.{Settings}
 use Rattle.rules.specs.declared.Claims.{Claims}
 use Rattle.rules.specs.declared.Record.{Record}
 use Rattle.rules.specs.Claims.{noClaims, claimCall, releaseCall}
 use Rattle.rules.specs.Counts.{countsCall}
-use Rattle.rules.specs.Maintenance.{maintainCall}
 use Rattle.rules.specs.Prune.{pruneCall}
 use Rattle.rules.specs.Read.{readCall}
 use Rattle.rules.specs.Reopen.{reopenCall}
 use Rattle.rules.specs.Sync.{unsyncedCall, syncCall}
 use Rattle.rules.specs.TableCalls.{TableAfter, loadCall, storeCall, compareCall, greaterCall}
-use Rattle.rules.specs.World.{After, world, leaving}
+use Rattle.rules.specs.TwoCalls.{roomOf, notesLeft, nightlyCall}
+use Rattle.rules.specs.World.{Given, After, world, leaving}
 use Rattle.rules.specs.Write.{writeCall}
 use Rattle.through.specs.Through.{throughCall}
 use Rattle.faults.specs.Faults.{checkCall}
 use Rattle.losses.specs.Salvage.{Salvaged, salvageCall}
 use Rattle.as_numbers.specs.ClaimWords.{claims-one}
+use Rattle.as_numbers.specs.Numbered.{numbered}
 use Rattle.as_numbers.specs.Shown.{given, shown, stopAfter, shownTable}
 use Rattle.as_numbers.specs.StateLaws.{state-one}
 use Rattle.as_numbers.specs.StateWords.{stateIn}
-use Rattle.marble_c.specs.Host.{worldIn}
+use Rattle.marble_c.specs.Host.{worldIn, planShown, shownAfter, rewriteAsked}
 use Rattle.marble_c.specs.Salvages.{shownRescue}
 
 -- what a call gave and left: its number, its out-parameters, the words and the buffers
@@ -72,9 +73,6 @@ module _ (s : Settings) (state claims heap table : List ℕ) where
   abbrev pub Prunes : Left → Type 0
   Prunes l = said s l ≡ pruneCall (worldIn s state claims heap table)
 
-  abbrev pub Maintains : Left → Type 0
-  Maintains l = said s l ≡ stopAfter (maintainCall (worldIn s state claims heap table))
-
   -- any two are equal
   pub reopen-one : (l m : Left) → Sized l → Sized m → Reopens l → Reopens m → l ≡ m
   reopen-one = left-one s (reopenCall (worldIn s state claims heap table))
@@ -88,8 +86,53 @@ module _ (s : Settings) (state claims heap table : List ℕ) where
   pub prune-one : (l m : Left) → Sized l → Sized m → Prunes l → Prunes m → l ≡ m
   prune-one = left-one s (pruneCall (worldIn s state claims heap table))
 
-  pub maintain-one : (l m : Left) → Sized l → Sized m → Maintains l → Maintains m → l ≡ m
-  maintain-one = left-one s (stopAfter (maintainCall (worldIn s state claims heap table)))
+-- ---- calls that are lent notes too: places and pieces
+-- as they are left, by the call's number
+abbrev pub NotesLeft : List ℕ → List ℕ → ℕ → List ℕ → List ℕ → Type 0
+NotesLeft places pieces r ps qs = (ps ≡ notesLeft (numbered r) places) × (qs ≡ notesLeft (numbered r) pieces)
+
+-- one number, one list of each
+notes-one : (places pieces : List ℕ) (r q : ℕ) (ps qs us vs : List ℕ) → r ≡ q → NotesLeft places pieces r ps qs → NotesLeft places pieces q us vs → (ps ≡ us) × (qs ≡ vs)
+notes-one places pieces r q ps qs us vs e a b = (
+  a .0 ∙ ap (λ (n : ℕ). notesLeft (numbered n) places) e ∙ sym (b .0),
+  a .1 ∙ ap (λ (n : ℕ). notesLeft (numbered n) pieces) e ∙ sym (b .1),
+)
+
+module _ (s : Settings) (state claims heap table places pieces : List ℕ) where
+  -- the words of a plan; what a rewrite was asked, with the ids moved told behind it
+  abbrev pub PlansOut : ℕ → List ℕ → List ℕ → List ℕ → Type 0
+  PlansOut r words ps qs = (given r words ≡ planShown (worldIn s state claims heap table) (roomOf places pieces)) × NotesLeft places pieces r ps qs
+
+  abbrev pub RewritesOut : List ℕ → List ℕ → Left → List ℕ → List ℕ → Type 0
+  RewritesOut asked told l ps qs =
+      (said s l ≡ shownAfter 1 (rewriteAsked (worldIn s state claims heap table) (roomOf places pieces) asked))
+      × ((told ≡ set asked 3 (getD told 3 0)) × NotesLeft places pieces (l .number) ps qs)
+
+  abbrev pub NightlyOut : Left → List ℕ → List ℕ → Type 0
+  NightlyOut l ps qs = (said s l ≡ stopAfter (nightlyCall (worldIn s state claims heap table) (roomOf places pieces))) × NotesLeft places pieces (l .number) ps qs
+
+  -- any two are equal
+  pub plan-one : (r q : ℕ) (ws vs ps qs us ts : List ℕ) → PlansOut r ws ps qs → PlansOut q vs us ts → (r ≡ q) × (ws ≡ vs) × (ps ≡ us) × (qs ≡ ts)
+  plan-one r q ws vs ps qs us ts a b =
+      let both = a .0 ∙ sym (b .0) in
+      let n = ap (λ (g : Given). g .number) both in
+      let notes = notes-one places pieces r q ps qs us ts n (a .1) (b .1) in
+      (n, ap (λ (g : Given). g .values) both, notes .0, notes .1)
+
+  -- where the values that are said are those told
+  pub rewrite-one : (asked told sold : List ℕ) (l m : Left) (ps qs us ts : List ℕ) → l .values ≡ getD told 3 0 ∷ [] → m .values ≡ getD sold 3 0 ∷ [] → Sized l → Sized m
+      → RewritesOut asked told l ps qs → RewritesOut asked sold m us ts → (l ≡ m) × (told ≡ sold) × (ps ≡ us) × (qs ≡ ts)
+  rewrite-one asked told sold l m ps qs us ts x y p q a b =
+      let same = left-one s (shownAfter 1 (rewriteAsked (worldIn s state claims heap table) (roomOf places pieces) asked)) l m p q (a .0) (b .0) in
+      let moved : getD told 3 0 ≡ getD sold 3 0 = ap (λ (vs : List ℕ). getD vs 0 0) (sym x ∙ ap (λ (z : Left). z .values) same ∙ y) in
+      let notes = notes-one places pieces (l .number) (m .number) ps qs us ts (ap (λ (z : Left). z .number) same) (a .1 .1) (b .1 .1) in
+      (same, a .1 .0 ∙ ap (set asked 3) moved ∙ sym (b .1 .0), notes .0, notes .1)
+
+  pub nightly-one : (l m : Left) (ps qs us ts : List ℕ) → Sized l → Sized m → NightlyOut l ps qs → NightlyOut m us ts → (l ≡ m) × (ps ≡ us) × (qs ≡ ts)
+  nightly-one l m ps qs us ts p q a b =
+      let same = left-one s (stopAfter (nightlyCall (worldIn s state claims heap table) (roomOf places pieces))) l m p q (a .0) (b .0) in
+      let notes = notes-one places pieces (l .number) (m .number) ps qs us ts (ap (λ (z : Left). z .number) same) (a .1) (b .1) in
+      (same, notes .0, notes .1)
 
 -- ---- calls that are not lent the claim record
 module _ (s : Settings) (state heap table : List ℕ) where

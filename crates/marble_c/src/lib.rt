@@ -13,28 +13,32 @@ use as_numbers::answers::number;
 use as_numbers::answers::put_counts;
 use as_numbers::answers::read_shown;
 use as_numbers::answers::refusal_number;
+use as_numbers::answers::rewrite_shown;
 use as_numbers::claim_words::claims_in;
 use as_numbers::claim_words::put_claims;
 use as_numbers::four_words::put_four;
 use as_numbers::state_words::put_state;
 use as_numbers::state_words::state_in;
 use marble::CheckAnswer;
+use marble::Request;
 use marble::SalvageAnswer;
 use marble::ThroughAnswer;
+use plan_words::put_plan;
 use rules::ReadAnswer;
 use rules::Record;
 use rules::Settings;
 ghost use mathlib.Core.Path.{_≡_};
 ghost use mathlib.Core.List.{[], _∷_};
+ghost use lib.ListN.{length, getD, set};
 ghost use Rattle.rules.specs.declared.Claims.{Claims};
 ghost use Rattle.rules.specs.Claims.{claimCall, releaseCall};
 ghost use Rattle.rules.specs.Counts.{countsCall};
-ghost use Rattle.rules.specs.Maintenance.{maintainCall};
 ghost use Rattle.rules.specs.Prune.{pruneCall};
 ghost use Rattle.rules.specs.Read.{readOf, readCall};
 ghost use Rattle.rules.specs.Reopen.{reopenCall};
 ghost use Rattle.rules.specs.Sync.{unsyncedCall, syncCall};
 ghost use Rattle.rules.specs.TableCalls.{loadCall, storeCall, compareCall, greaterCall};
+ghost use Rattle.rules.specs.TwoCalls.{roomOf, notesLeft, nightlyCall};
 ghost use Rattle.rules.specs.World.{world, leaving};
 ghost use Rattle.rules.specs.Write.{writeCall};
 ghost use Rattle.location_table.specs.Tables.{leaving as tableLeaving};
@@ -46,7 +50,7 @@ ghost use Rattle.through.specs.Through.{throughGiven, throughCall};
 ghost use Rattle.as_numbers.specs.Numbered.{numbered};
 ghost use Rattle.as_numbers.specs.Shown.{given, shown, stopAfter, shownTable};
 ghost use Rattle.as_numbers.specs.StateWords.{stateIn};
-ghost use Rattle.marble_c.specs.Host.{worldIn};
+ghost use Rattle.marble_c.specs.Host.{worldIn, planShown, shownAfter, rewriteAsked};
 ghost use Rattle.marble_c.specs.Salvages.{rescue, shownRescue};
 ghost use Rattle.marble_c.specs.Version.{version};
 
@@ -55,7 +59,7 @@ ghost use Rattle.marble_c.specs.Version.{version};
 pub extern "C" fn marble_version() -> u64
     ensures { λ r. ⌜ r ≡ version ⌝ }
 {
-    4000
+    5000
 }
 
 // ---- the store
@@ -282,32 +286,122 @@ pub extern "C" fn marble_prune(
     number(answer)
 }
 
-// "Maintenance": the generation where it stopped, or 0, and the ids moved.
+// Request P7, "one call plans": the words of a plan.
 #[no_mangle]
-pub extern "C" fn marble_maintain(
+pub extern "C" fn marble_plan(
+    settings: Settings,
+    state: &[u64; 1801],
+    claims: &[u64; 4],
+    heap: &[u8],
+    table: &[u64],
+    places: &mut [u32],
+    pieces: &mut [u32],
+    plan: &mut [u64; 777],
+) -> u64
+    ensures tells { λ r. ⌜ given r (now (plan .exit)) ≡ planShown
+        (worldIn settings (now (state .entry)) (now (claims .entry)) (now (heap .entry)) (now (table .entry)))
+        (roomOf (now (places .entry)) (now (pieces .entry))) ⌝ }
+    ensures places { λ r. ⌜ now (places .exit) ≡ notesLeft (numbered r) (now (places .entry)) ⌝ }
+    ensures pieces { λ r. ⌜ now (pieces .exit) ≡ notesLeft (numbered r) (now (pieces .entry)) ⌝ }
+{
+    let held = claims_in(claims);
+    let done = marble::plan_in(settings, state, held, heap, table, places, pieces);
+    let answer = done.answer;
+    put_plan(done.plan, plan);
+    number(answer)
+}
+
+// The ids moved, behind generation, mark and count.
+fn put_moved(asked: &mut [u64], moved: u64)
+    requires { ⌜ length (now asked) ≡ 4 ⌝ }
+    ensures puts { λ _. ⌜ now (asked .exit) ≡ set (now (asked .entry)) 3 moved ⌝ }
+    ensures tells { λ _. ⌜ getD (now (asked .exit)) 3 0 ≡ moved ⌝ }
+{
+    asked[3] = moved;
+}
+
+// Two numbers in two lent words.
+fn put_two(words: &mut [u64], a: u64, b: u64)
+    requires { ⌜ length (now words) ≡ 2 ⌝ }
+    ensures { λ _. ⌜ now (words .exit) ≡ a ∷ b ∷ [] ⌝ }
+{
+    words[0] = a;
+    words[1] = b;
+}
+
+// Request P7, "the other rewrites one named generation": asked are generation, mark and count, and the ids moved are told beside them.
+#[no_mangle]
+pub extern "C" fn marble_rewrite(
     settings: Settings,
     state: &mut [u64; 1801],
     claims: &[u64; 4],
     heap: &mut [u8],
     table: &mut [u64],
-    generation: &mut u64,
-    moved: &mut u64,
+    places: &mut [u32],
+    pieces: &mut [u32],
+    asked: &mut [u64; 4],
 ) -> u64
-    ensures { λ r. ⌜ leaving (given r (now (generation .exit) ∷ now (moved .exit) ∷ []))
+    ensures leaves { λ r. ⌜ leaving (given r (getD (now (asked .exit)) 3 0 ∷ []))
         (worldIn settings (now (state .exit)) (now (claims .entry)) (now (heap .exit)) (now (table .exit)))
-        ≡ stopAfter (maintainCall
-        (worldIn settings (now (state .entry)) (now (claims .entry)) (now (heap .entry)) (now (table .entry)))) ⌝ }
+        ≡ shownAfter 1 (rewriteAsked
+        (worldIn settings (now (state .entry)) (now (claims .entry)) (now (heap .entry)) (now (table .entry)))
+        (roomOf (now (places .entry)) (now (pieces .entry))) (now (asked .entry))) ⌝ }
+    ensures asked { λ _. ⌜ now (asked .exit) ≡ set (now (asked .entry)) 3 (getD (now (asked .exit)) 3 0) ⌝ }
+    ensures places { λ r. ⌜ now (places .exit) ≡ notesLeft (numbered r) (now (places .entry)) ⌝ }
+    ensures pieces { λ r. ⌜ now (pieces .exit) ≡ notesLeft (numbered r) (now (pieces .entry)) ⌝ }
 {
-    let was = state_in(state);
     let held = claims_in(claims);
-    let done = marble::maintain(settings, was, held, heap, table);
-    let answer = done.answer;
-    let after = done.state;
-    put_state(state, after);
-    let told = maintain_shown(answer);
-    *generation = told.first;
-    *moved = told.second;
+    let request = Request {
+        generation: asked[0],
+        mark: asked[1],
+        count: asked[2],
+    };
+    let told = rewrite_shown(marble::rewrite_in(
+        settings,
+        state,
+        held,
+        heap,
+        table,
+        places,
+        pieces,
+        request,
+    ));
+    put_moved(asked, told.value);
     told.number
+}
+
+// The nightly job: the generation where it stopped, or 0, and the ids moved.
+#[no_mangle]
+pub extern "C" fn marble_nightly(
+    settings: Settings,
+    state: &mut [u64; 1801],
+    claims: &[u64; 4],
+    heap: &mut [u8],
+    table: &mut [u64],
+    places: &mut [u32],
+    pieces: &mut [u32],
+    told: &mut [u64; 2],
+) -> u64
+    ensures leaves { λ r. ⌜ leaving (given r (now (told .exit)))
+        (worldIn settings (now (state .exit)) (now (claims .entry)) (now (heap .exit)) (now (table .exit)))
+        ≡ stopAfter (nightlyCall
+        (worldIn settings (now (state .entry)) (now (claims .entry)) (now (heap .entry)) (now (table .entry)))
+        (roomOf (now (places .entry)) (now (pieces .entry)))) ⌝ }
+    ensures places { λ r. ⌜ now (places .exit) ≡ notesLeft (numbered r) (now (places .entry)) ⌝ }
+    ensures pieces { λ r. ⌜ now (pieces .exit) ≡ notesLeft (numbered r) (now (pieces .entry)) ⌝ }
+{
+    let held = claims_in(claims);
+    let stopped = maintain_shown(marble::nightly_in(
+        settings,
+        state,
+        held,
+        heap,
+        table,
+        places,
+        pieces,
+    ));
+    put_two(told, stopped.first, stopped.second);
+    stopped.number
 }
 
 // "Files, bytes, present, live, summed over files."

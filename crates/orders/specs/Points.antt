@@ -27,7 +27,7 @@ use Rattle.rules.specs.Claims.{noClaims, isClaimed, claimSet, claimCleared, wit
 use Rattle.rules.specs.Prune.{isDead, emptiedFrom, pruneStores, pruned, pruneCall}
 use Rattle.rules.specs.Counts.{countsOf, countsCall}
 use Rattle.rules.specs.Listing.{decimal, fileLine}
-use Rattle.rules.specs.Maintenance.{worthIt, cutOff, joining, splitFrom, filesOf, isCandidate, group, movedTests, deleteTests, deletesOf, fileTests, objectsFound, deletesFound, found, groupTests, rewriteGroup, groupsFrom, courseOf, maintainCall}
+use Rattle.rules.specs.Maintenance.{worthIt, cutOff, joining, splitFrom, filesOf, isCandidate, group, startGroup, movedTests, deleteTests, deletesOf, fileTests, objectsFound, deletesFound, found, groupTests, rewriteGroup, groupsFrom, courseOf, maintainCall}
 use Rattle.rules.specs.Reopen.{filesIn, overlapping, notRising, latest, latestFrom, tableOf, reopenTests, mappedInto, recordsFrom, nextAfter, opened, givenUp, reopenCall}
 use Rattle.rules.specs.Positions.{relativeGiven}
 use Rattle.rules.specs.World.{World, recordsOf, noState, answerGiven, After}
@@ -412,18 +412,31 @@ filePoints =
       ours =
           let s = six 128 50 1 100 3 17 in
           map bit
-          (isCandidate s claimed 1 0 (kept 1 0 10 100 49)
-          ∷ isCandidate s claimed 1 1 (kept 1 0 10 100 49)
-          ∷ isCandidate s claimed 1 1 (kept 1 0 10 100 0)
-          ∷ isCandidate s claimed 1 1 emptyRecord
+          (isCandidate s claimed 2 1 0 (kept 1 0 10 100 49)
+          ∷ isCandidate s claimed 2 1 1 (kept 1 0 10 100 49)
+          ∷ isCandidate s claimed 2 1 1 (kept 1 0 10 100 0)
+          ∷ isCandidate s claimed 2 1 1 emptyRecord
           ∷ []);
       paper = 0 ∷ 1 ∷ 0 ∷ 0 ∷ [];
+    }
+    -- request P7, "only files with masked lsn below the mark": the mark, one below it, one with the batch bit; "the threshold against that count": 3, and 2
+    ∷ record {
+      ours =
+          let s = six 128 50 1 100 3 17 in
+          map bit
+          (isCandidate s claimed 5 1 1 (kept 5 0 10 100 49)
+          ∷ isCandidate s claimed 5 1 1 (kept 4 0 10 100 49)
+          ∷ isCandidate s claimed 5 1 1 (kept (2 ^ 62 + 4) 0 10 100 49)
+          ∷ isCandidate s claimed 5 3 1 (kept 4 0 49 2 1)
+          ∷ isCandidate s claimed 5 2 1 (kept 4 0 49 2 1)
+          ∷ []);
+      paper = 0 ∷ 1 ∷ 1 ∷ 1 ∷ 0 ∷ [];
     }
     -- "grouped by new generation min(g + 1, 3)": the slots of generations 1, 2 and 3
     ∷ record {
       ours =
           let w = holding (map (λ (g : ℕ). recorded (aged g) 1 1) (0 ∷ 1 ∷ 2 ∷ 3 ∷ 255 ∷ 0 ∷ [])) 100 (replicate 768 0) (one 1 20) in
-          each (λ (g : ℕ). g ∷ group w g) (1 ∷ 2 ∷ 3 ∷ []);
+          each (λ (g : ℕ). g ∷ startGroup w g) (1 ∷ 2 ∷ 3 ∷ []);
       paper = 1 ∷ 0 ∷ 5 ∷ 2 ∷ 1 ∷ 3 ∷ 2 ∷ 3 ∷ 4 ∷ [];
     }
     -- "A refusal stops the call": generation 1 is refused with 9, and generation 2, with nothing wrong, stays; "the count of ids moved": two in one file

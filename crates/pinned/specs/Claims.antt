@@ -6,8 +6,8 @@ use native.Mathlib.Omega.{arith}
 use borrow.Author.Tests.{leb-false, lt-leb, not-false}
 use Rattle.rules.specs.Base.{Bool, true, false, not, _||_, List, [], _∷_, ℕ, _+_, _^_, length, leb, ltb, pick}
 use Rattle.rules.specs.BaseLaws.{or-false, or-clear}
-use Rattle.theory.specs.Types.{Refusal, Answer, Done, Refused, Limits, Claim, Stopped}
-use Rattle.rules.specs.Refusal.{_gives_, decide, after, NoneHolds, decide-none, decide-first, decide-next, clear-when}
+use Rattle.theory.specs.Types.{Refusal, Answer, Done, Refused, Limits, Claim, Moved, Stopped}
+use Rattle.rules.specs.Refusal.{Test, _gives_, decide, after, NoneHolds, decide-none, decide-first, decide-next, clear-when}
 use Rattle.rules.specs.FileMap.{isEmpty, recordAt}
 use Rattle.rules.specs.Condition1.{refused1, outOfRange}
 use Rattle.rules.specs.Condition1Laws.{passed}
@@ -18,12 +18,13 @@ use Rattle.rules.specs.Batch.{batchIn, opsOf}
 use Rattle.rules.specs.Install.{installed, installedAll}
 use Rattle.rules.specs.Write.{newFiles, written, writeTests, writeCall}
 use Rattle.rules.specs.Prune.{pruned, pruneCall}
-use Rattle.rules.specs.Maintenance.{filesOf, found, Stop, going, stopped, Course, group, groupTests, rewriteGroup, onward, groupsFrom, courseOf, ended, maintainCall}
+use Rattle.rules.specs.Maintenance.{filesOf, found, Stop, going, stopped, Course, group, startGroup, groupTests, rewriteGroup, onward, groupsFrom, courseOf, ended, maintainCall}
+use Rattle.rules.specs.TwoCalls.{refusedNoting, markOf, countOf, rewriteTests, generationRewritten, rewriteOf, rewriteAnswered, rewriteCall, jobStep, jobFrom, jobOf, jobEnded, nightlyCall}
 use Rattle.rules.specs.Read.{readCall}
 use Rattle.rules.specs.Counts.{countsCall}
 use Rattle.rules.specs.Reopen.{reopenTests, givenUp, opened, reopenCall}
 use Rattle.rules.specs.SlotFile.{View, viewsIn}
-use Rattle.rules.specs.World.{World, recordsOf, slotsOf, maintainGiven, accepted, After, unchanged}
+use Rattle.rules.specs.World.{World, recordsOf, slotsOf, maintainGiven, accepted, After, unchanged, leaving}
 use Rattle.pinned.specs.Answered.{answered}
 
 -- a file below N, claimed or not
@@ -189,7 +190,7 @@ onward-claims going g slots c = go (ltb (length slots) (c .world .settings .«mi
 groups-claims : (gs : List ℕ) (start : World) (c : Course) → groupsFrom gs start c .world .claims ≡ c .world .claims
 unfolding groupsFrom
 groups-claims [] start c = refl
-groups-claims (g ∷ gs) start c = groups-claims gs start (onward (c .stop) g (group start g) c) ∙ onward-claims (c .stop) g (group start g) c
+groups-claims (g ∷ gs) start c = groups-claims gs start (onward (c .stop) g (startGroup start g) c) ∙ onward-claims (c .stop) g (startGroup start g) c
 
 ended-claims : (stop : Stop) (c : Course) → ended stop c .world .claims ≡ c .world .claims
 unfolding pruned
@@ -210,6 +211,61 @@ maintain-claims w = go (decide (refused1 w gives Limits ∷ []))
     go : (a : Answer) → after {A = After} a (λ (r : Refusal). record { answer = maintainGiven (Stopped r 0 0); world = w }) (ended (end .stop) end) .world .claims ≡ w .claims
     go (Refused r) = refl
     go Done = ended-claims (end .stop) end ∙ groups-claims (1 ∷ 2 ∷ 3 ∷ []) w start
+
+-- of one generation
+rewritten-claims : (w : World) (room g mark count : ℕ) → rewriteOf w room g mark count .world .claims ≡ w .claims
+unfolding rewriteOf generationRewritten
+rewritten-claims w room g mark count = go (decide (rewriteTests w room g))
+  where
+    start : Course
+    start = record { stop = going; moved = 0; world = w }
+
+    go : (a : Answer) → after {A = Course} a (λ (r : Refusal). record { stop = stopped r g; moved = 0; world = w }) (onward going g (group w g mark count) start) .world .claims ≡ w .claims
+    go (Refused r) = refl
+    go Done = onward-claims going g (group w g mark count) start
+
+-- LAW: a rewrite leaves every claim
+pub rewrite-claims : (w : World) (room g mark count : ℕ) → rewriteCall w room g mark count .world .claims ≡ w .claims
+rewrite-claims w room g mark count = go (rewriteOf w room g mark count .stop) ∙ rewritten-claims w room g mark count
+  where
+    c : Course
+    c = rewriteOf w room g mark count
+
+    go : (stop : Stop) → rewriteAnswered stop (c .moved) (c .world) .world .claims ≡ c .world .claims
+    go going = refl
+    go (stopped r h) = refl
+
+job-claims : (gs : List ℕ) (room mark count : ℕ) (c : Course) → jobFrom gs room mark count c .world .claims ≡ c .world .claims
+unfolding jobFrom
+job-claims [] room mark count c = refl
+job-claims (g ∷ gs) room mark count c = job-claims gs room mark count (jobStep (c .stop) room g mark count c) ∙ go (c .stop)
+  where
+    go : (stop : Stop) → jobStep stop room g mark count c .world .claims ≡ c .world .claims
+    go going = rewritten-claims (c .world) room g mark count
+    go (stopped r h) = refl
+
+-- LAW: and so does the nightly job
+pub nightly-claims : (w : World) (room : ℕ) → nightlyCall w room .world .claims ≡ w .claims
+unfolding nightlyCall jobOf pruned
+nightly-claims w room = go (decide (refusedNoting w room gives Limits ∷ []))
+  where
+    start : Course
+    start = record { stop = going; moved = 0; world = w }
+
+    end : Course
+    end = jobFrom (1 ∷ 2 ∷ 3 ∷ []) room (markOf w) (countOf w) start
+
+    last : (a : Answer) → after {A = After} a (λ (r : Refusal). leaving (maintainGiven (Stopped r 0 (end .moved))) (end .world)) (leaving (maintainGiven (Moved (end .moved))) (pruned (end .world))) .world .claims ≡ end .world .claims
+    last (Refused r) = refl
+    last Done = refl
+
+    by : (stop : Stop) → jobEnded stop end .world .claims ≡ end .world .claims
+    by going = last (decide (refused1 (end .world) gives Limits ∷ []))
+    by (stopped r g) = refl
+
+    go : (a : Answer) → after {A = After} a (λ (r : Refusal). leaving (maintainGiven (Stopped r 0 0)) w) (jobEnded (end .stop) end) .world .claims ≡ w .claims
+    go (Refused r) = refl
+    go Done = by (end .stop) ∙ job-claims (1 ∷ 2 ∷ 3 ∷ []) room (markOf w) (countOf w) start
 
 -- LAW: a read and the counts leave all
 pub reads-claims : (w : World) (id : ℕ) → (readCall w id .world ≡ w) × (countsCall w .world ≡ w)

@@ -19,3 +19,5 @@ pub mod Maintenance
 pub mod Deletes
 -- request P6: the synced mark
 pub mod Sync
+-- request P7: plan, rewrite, and the nightly job
+pub mod TwoCalls

@@ -20,7 +20,7 @@ use Rattle.rules.specs.World.{accepted, refused}
 use Rattle.theory.specs.Marks.{by-mark, marked-at, marked-label, marked-live, any-counted}
 use Rattle.history_theory.specs.Syncing.{sync-taken}
 -- what each call leaves of the marks
-pub use Rattle.history_theory.specs.MarksLeft.{Carried, Carries, write-carries, maintain-carries, prune-carries, reopen-marks, sync-marks, write-marks}
+pub use Rattle.history_theory.specs.MarksLeft.{Carried, Carries, write-carries, rewrite-carries, nightly-carries, prune-carries, reopen-marks, sync-marks, write-marks}
 
 -- LAW: counted is exactly a file's record whose mark is clear; "an empty record has it clear and is never counted"
 pub unsynced-exactly : (r : Record) → isUnsynced r ≡ true → (isEmpty r ≡ false) × (r .synced ≡ 0)

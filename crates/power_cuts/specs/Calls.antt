@@ -16,13 +16,13 @@ use Rattle.rules.specs.WriteLaws.{opsIn, write-accepted}
 use Rattle.rules.specs.World.{World, accepted, unchanged}
 use Rattle.theory.specs.SoundWorld.{SoundWorld, sound-fine}
 use Rattle.history_theory.specs.Writing.{engine, fits-write, sound-write}
-use Rattle.history_theory.specs.History.{Call, write, maintain, prune, reopen, quiet, hears}
+use Rattle.history_theory.specs.History.{Call, write, rewrite, prune, reopen, quiet, hears}
 use Rattle.power_cuts.specs.Runs.{filesRun, unlessRefused, writeRun, pruneRun, runOf, run-made}
 use Rattle.power_cuts.specs.Cuts.{Alike}
 use Rattle.power_cuts.specs.Enduring.{alike-self, StandsOn, endured-none}
 use Rattle.power_cuts.specs.Hidden.{file-hidden}
 use Rattle.power_cuts.specs.Emptying.{prune-endured}
-use Rattle.power_cuts.specs.Rewriting.{alike-installed, maintain-endured}
+use Rattle.power_cuts.specs.Rewriting.{alike-installed, rewrite-endured}
 
 module _ (w : World) (history : List Op) (s : SoundWorld w (engine history)) where
   -- ---- write
@@ -81,7 +81,7 @@ module _ (w : World) (history : List Op) (s : SoundWorld w (engine history)) whe
   -- LAW: before its last store nothing of a call is seen
   pub cut-early : (c : Call) (k : ℕ) → k < length (runOf w c) → StandsOn w (made (take k (runOf w c)) (w .heap)) (engine history)
   cut-early (write bytes) k h = write-early bytes k h
-  cut-early maintain k h = maintain-endured history w s .cut k
+  cut-early (rewrite room g mark count) k h = rewrite-endured history w s room g mark count .cut k
   cut-early prune k h = prune-cut k
   cut-early reopen k h = none-cut k
   cut-early (quiet q) k h = none-cut k
@@ -89,7 +89,7 @@ module _ (w : World) (history : List Op) (s : SoundWorld w (engine history)) whe
   -- LAW: with its last store all of it is
   pub cut-whole : (c : Call) (k : ℕ) → length (runOf w c) ≤ k → StandsOn w (made (take k (runOf w c)) (w .heap)) (engine (hears w history c))
   cut-whole (write bytes) k h = write-whole bytes k h
-  cut-whole maintain k h = maintain-endured history w s .cut k
+  cut-whole (rewrite room g mark count) k h = rewrite-endured history w s room g mark count .cut k
   cut-whole prune k h = prune-cut k
   cut-whole reopen k h = none-cut k
   cut-whole (quiet q) k h = none-cut k

@@ -9,7 +9,7 @@ use Rattle.rules.specs.Stores.{made}
 use Rattle.rules.specs.Write.{writeCall}
 use Rattle.rules.specs.Reopen.{reopenCall}
 use Rattle.rules.specs.World.{World, accepted}
-use Rattle.history_theory.specs.History.{Call, write, maintain, prune, reopen, quiet, called, hears, Life}
+use Rattle.history_theory.specs.History.{Call, write, rewrite, prune, reopen, quiet, called, hears, Life}
 use Rattle.history_theory.specs.Writes.{got}
 use Rattle.power_cuts.specs.Runs.{runOf}
 
@@ -32,7 +32,7 @@ SameReads v w = (id : ℕ) → got v id ≡ got w id
 -- reads as before."
 abbrev pub ReadsAfterCut : World → Call → World → Type 0
 ReadsAfterCut w (write bytes) v = SameReads v w ⊎ SameReads v (writeCall w bytes .world)
-ReadsAfterCut w maintain v = SameReads v w
+ReadsAfterCut w (rewrite room g mark count) v = SameReads v w
 ReadsAfterCut w prune v = SameReads v w
 ReadsAfterCut w reopen v = SameReads v w
 ReadsAfterCut w (quiet q) v = SameReads v w

@@ -5,7 +5,7 @@ pub mod Cuts
 -- what stands on a heap, and that a reopening finds it
 pub mod Enduring
 pub mod Reopening
--- the first stores of a file's run, of prune's, of maintenance's; call by call
+-- the first stores of a file's run, of prune's, of a rewrite's; call by call
 pub mod FirstByte
 pub mod Hidden
 pub mod Emptying

@@ -3,8 +3,9 @@ use mathlib.Core.Path.{_≡_, refl, sym, _∙_, subst}
 use mathlib.Core.Logic.{_⊎_, inl, inr}
 use Prim.Native.Nat.{_<_, _≤_}
 use borrow.Author.Tests.{leb-true, leb-false}
-use Rattle.rules.specs.Base.{Bool, true, false, List, [], _∷_, ℕ, _-_, length, take, leb, pick}
+use Rattle.rules.specs.Base.{Bool, true, false, List, [], _∷_, ℕ, length, getD, take, leb, pick}
 use Rattle.numbers.specs.GroupLaws.{either-way}
+use Rattle.rules.specs.BaseLaws.{All, all-take}
 use Rattle.rules.specs.Refusal.{after}
 use Rattle.rules.specs.Condition1.{outOfRange}
 use Rattle.rules.specs.Ops.{Op}
@@ -12,11 +13,13 @@ use Rattle.rules.specs.Stores.{made}
 use Rattle.rules.specs.Write.{writeCall}
 use Rattle.rules.specs.Reopen.{reopenCall}
 use Rattle.rules.specs.World.{World, accepted}
+use Rattle.theory.specs.Lists.{all-get}
 use Rattle.theory.specs.SoundWorld.{SoundWorld}
 use Rattle.history_theory.specs.Writing.{engine}
 use Rattle.history_theory.specs.Fresh.{Blank}
-use Rattle.history_theory.specs.History.{Call, write, maintain, prune, reopen, quiet, called, hears, Life, lived, Kept, sound-kept, sound-called, Starts, sound-lived, born, born-starts}
-use Rattle.history_theory.specs.Writes.{got-last}
+use Rattle.history_theory.specs.History.{Call, write, rewrite, prune, reopen, quiet, called, hears, Life, lived, Kept, sound-kept, sound-called, Starts, sound-lived, born, born-starts}
+use Rattle.history_theory.specs.Writes.{got-last, Unheard, hears-nothing}
+use Rattle.history_theory.specs.Nightly.{jobCalls, job-unheard}
 use Rattle.power_cuts.specs.Runs.{runOf}
 use Rattle.power_cuts.specs.Cuts.{CutAt, SameReads, ReadsAfterCut, Survived, hearsCut, Event, done, cut, Happens, happened, livedOn, AllHappen}
 use Rattle.power_cuts.specs.Reopening.{reopen-finds}
@@ -70,7 +73,7 @@ module _ (w : World) (history : List Op) (s : SoundWorld w (engine history)) (k 
           → SameReads (reopenCall v .world) w ⊎ SameReads (reopenCall v .world) (writeCall w bytes .world)
       go (inl h) = inl (reads-early w history s k (write bytes) v a h)
       go (inr h) = inr (reads-whole w history s k (write bytes) v a h)
-  reads-cut maintain a = reads-unheard maintain refl a
+  reads-cut (rewrite room g mark count) a = reads-unheard (rewrite room g mark count) refl a
   reads-cut prune a = reads-unheard prune refl a
   reads-cut reopen a = reads-unheard reopen refl a
   reads-cut (quiet q) a = reads-unheard (quiet q) refl a
@@ -96,6 +99,34 @@ lived-cut l s calls c k v a = cut-survived (lived l calls .world) (lived l calls
 pub power-cut : (w : World) → outOfRange (w .settings) (length (w .heap)) (w .table) ≡ false → Blank w
     → (calls : List Call) (c : Call) (k : ℕ) (v : World) → CutAt k (lived (born w) calls .world) c v → Survived k (lived (born w) calls .world) c v
 power-cut w range blank = lived-cut (born w) (born-starts w range blank)
+
+-- ---- the nightly job
+unheard-lived : (l : Life) (calls : List Call) → All Unheard calls → lived l calls .history ≡ l .history
+unfolding lived
+unheard-lived l [] u = refl
+unheard-lived l (c ∷ cs) u =
+    unheard-lived (record { world = called (l .world) c .world; history = hears (l .world) (l .history) c }) cs (u .1) ∙ hears-nothing (l .world) (l .history) c (u .0)
+
+-- LAW: calls that bring no put and no delete were made, and the next such call is cut anywhere: every read as before the first of them
+pub unheard-cut : (l : Life) → Starts l → (calls : List Call) → All Unheard calls → (c : Call) → Unheard c → (k : ℕ) (v : World) → CutAt k (lived l calls .world) c v
+    → (reopenCall v .answer ≡ accepted []) × SameReads (reopenCall v .world) (l .world)
+unheard-cut l s calls u c q k v a =
+    let now = lived l calls in
+    let t = sound-lived l s calls in (
+      cut-survived (now .world) (now .history) t k v c a .reopens,
+      λ id.
+          reads-unheard (now .world) (now .history) t k v c (hears-nothing (now .world) (now .history) c q) a id
+          ∙ same-reads (l .world) (now .world) (l .history) s (subst (λ (h : List Op). SoundWorld (now .world) (engine h)) (unheard-lived l calls u) t) id,
+    )
+
+-- LAW: so where power is cut in call n, from 0, of the nightly job
+pub job-cut : (l : Life) → Starts l → (room n k : ℕ) (v : World)
+    → CutAt k (lived l (take n (jobCalls (l .world) room)) .world) (getD (jobCalls (l .world) room) n prune) v
+    → (reopenCall v .answer ≡ accepted []) × SameReads (reopenCall v .world) (l .world)
+job-cut l s room n =
+    let calls = jobCalls (l .world) room in
+    let u = job-unheard (l .world) room in
+    unheard-cut l s (take n calls) (all-take Unheard n calls u) (getD calls n prune) (all-get Unheard calls n prune u tt)
 
 -- ---- cuts among the calls
 sound-happened : (l : Life) (e : Event) → Starts l → Happens (l .world) e → Starts (happened l e)

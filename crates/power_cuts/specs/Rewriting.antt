@@ -1,10 +1,10 @@
--- Request P8: maintenance's run, cut anywhere: files of current contents one behind the other, group by group, then prune's stores.
+-- Request P8: a rewrite's run, cut anywhere: files of current contents one behind the other.
 use mathlib.Core.Path.{_≡_, refl, sym, ap, subst}
 use mathlib.Core.Logic.{_⊎_, inl, inr}
 use Prim.Native.Nat.{_<_, _≤_}
 use native.Mathlib.Omega.{arith}
 use lib.Seq.{take-all}
-use Rattle.rules.specs.Base.{Bool, true, false, List, [], _∷_, _++_, ℕ, _+_, _^_, length, take, ltb, pick, sum, each}
+use Rattle.rules.specs.Base.{Bool, true, false, List, [], _∷_, _++_, ℕ, _+_, _^_, length, take, pick, sum}
 use Rattle.theory.specs.Types.{Settings, Refusal, Answer, Done, Refused}
 use Rattle.numbers.specs.GroupLaws.{either-way}
 use Rattle.rules.specs.BaseLaws.{All}
@@ -13,26 +13,26 @@ use Rattle.rules.specs.Ops.{Op, objectsOf, fileBytes}
 use Rattle.rules.specs.Layout.{capacityOf}
 use Rattle.rules.specs.LayoutLaws.{laid-out-length}
 use Rattle.rules.specs.WrittenLaws.{fileOfOps}
-use Rattle.rules.specs.FileMap.{recordAt}
 use Rattle.rules.specs.Stores.{Store, made}
 use Rattle.rules.specs.Install.{newLabel, newLsn, storesFor, tableWith, installed, installedAll, roomTests, emptyOf, positionTests}
 use Rattle.rules.specs.InstallLaws.{room-clear, positions-clear}
-use Rattle.rules.specs.Maintenance.{found, filesOf, fileTests, slotOf, Stop, going, stopped, Course, group, groupTests, rewriteGroup, onward, groupsFrom, courseOf, ended, maintainCall}
+use Rattle.rules.specs.Maintenance.{group, found, filesOf, going, stopped, Course, sourceTests, groupTests, rewriteGroup}
+use Rattle.rules.specs.TwoCalls.{tooFew, rewriteTests, generationRewritten, rewriteOf, rewriteCall}
 use Rattle.rules.specs.Table.{insertAll}
-use Rattle.rules.specs.World.{World, recordsOf, mappings}
+use Rattle.rules.specs.World.{World, mappings}
 use Rattle.theory.specs.Picture.{Said, fileSays}
 use Rattle.theory.specs.Installed.{over}
-use Rattle.theory.specs.SoundWorld.{SoundWorld, sound-fine}
+use Rattle.theory.specs.SoundWorld.{SoundWorld}
 use Rattle.theory.specs.Losing.{rowsFor}
 use Rattle.theory.specs.Adding.{Fitting, sound-installed}
 use Rattle.history_theory.specs.Writing.{engine, sound-told}
 use Rattle.history_theory.specs.Rewriting.{Rewritable, one-fewer, still-said, fits-file, installed-numbers}
+use Rattle.history_theory.specs.OneGeneration.{rewrite-world, generation-named}
 use Rattle.history_theory.specs.Maintaining.{files-rewritable}
-use Rattle.power_cuts.specs.Runs.{filesRun, unlessRefused, groupRun, onwardRun, groupsRun, endRun, maintainRun}
+use Rattle.power_cuts.specs.Runs.{filesRun, unlessRefused, groupRun, generationRun, rewriteRun}
 use Rattle.power_cuts.specs.Cuts.{Alike}
 use Rattle.power_cuts.specs.Enduring.{StandsOn, Endured, endured-none, endured-on}
 use Rattle.power_cuts.specs.Hidden.{file-hidden}
-use Rattle.power_cuts.specs.Emptying.{prune-endured}
 
 -- ---- one file
 module _ (w : World) (told : ℕ → Said) (s : SoundWorld w told) (bit g : ℕ) (os : List Op) (f : Fitting bit g w os) where
@@ -113,39 +113,29 @@ module _ (history : List Op) where
       go (Refused r) e = endured-none w (engine history) s
       go Done e =
           room-endured w s g aged (filesOf (w .settings .«target_file_size») (found w slots)) (files-rewritable history w s slots (w .settings .«target_file_size»))
-          (none-rest (each (λ (k : ℕ). fileTests (w .settings .«max_object_size») (mappings w) (recordAt (recordsOf w) k .label) (slotOf w k)) slots) _
+          (none-rest (sourceTests w slots) _
           (clear-when (groupTests w slots (filesOf (w .settings .«target_file_size») (found w slots))) e))
 
-  -- ---- group by group
-  onward-endured : (stop : Stop) (g : ℕ) → g ≤ 255 → (slots : List ℕ) (c : Course) → SoundWorld (c .world) (engine history)
-      → Endured (c .world) (onward stop g slots c .world) (onwardRun stop g slots c) (engine history)
-  onward-endured (stopped r n) g aged slots c s = endured-none (c .world) (engine history) s
-  onward-endured going g aged slots c s = go (ltb (length slots) (c .world .settings .«min_compaction_files»))
+  generation-endured : (w : World) → SoundWorld w (engine history) → (g : ℕ) → g ≤ 255 → (mark count : ℕ)
+      → Endured w (generationRewritten w g mark count .world) (generationRun w g mark count) (engine history)
+  unfolding generationRewritten generationRun
+  generation-endured w s g aged mark count = go (tooFew w (group w g mark count))
     where
-      go : (b : Bool) → Endured (c .world) (pick b c (rewriteGroup g slots (c .moved) (c .world)) .world) (pick b [] (groupRun g slots (c .world))) (engine history)
-      go true = endured-none (c .world) (engine history) s
-      go false = group-endured g aged slots (c .moved) (c .world) s
+      go : (b : Bool)
+          → Endured w (pick b (record { stop = going; moved = 0; world = w }) (rewriteGroup g (group w g mark count) 0 w) .world)
+          (pick b [] (groupRun g (group w g mark count) w)) (engine history)
+      go true = endured-none w (engine history) s
+      go false = group-endured g aged (group w g mark count) 0 w s
 
-  groups-endured : (gs : List ℕ) → All (λ (g : ℕ). g ≤ 255) gs → (start : World) (c : Course) → SoundWorld (c .world) (engine history)
-      → Endured (c .world) (groupsFrom gs start c .world) (groupsRun gs start c) (engine history)
-  unfolding groupsFrom groupsRun
-  groups-endured [] y start c s = endured-none (c .world) (engine history) s
-  groups-endured (g ∷ gs) y start c s =
-      let a = onward-endured (c .stop) g (y .0) (group start g) c s in
-      endured-on (c .world) (onward (c .stop) g (group start g) c .world) (groupsFrom gs start (onward (c .stop) g (group start g) c) .world)
-      (onwardRun (c .stop) g (group start g) c) (groupsRun gs start (onward (c .stop) g (group start g) c)) (engine history)
-      a (groups-endured gs (y .1) start (onward (c .stop) g (group start g) c) (a .sound))
-
-  ended-endured : (stop : Stop) (c : Course) → SoundWorld (c .world) (engine history) → Endured (c .world) (ended stop c .world) (endRun stop (c .world)) (engine history)
-  ended-endured (stopped r g) c s = endured-none (c .world) (engine history) s
-  ended-endured going c s = prune-endured (c .world) (engine history) s
-
-  -- LAW: maintenance's run, cut anywhere
-  pub maintain-endured : (w : World) → SoundWorld w (engine history) → Endured w (maintainCall w .world) (maintainRun w) (engine history)
-  unfolding maintainCall maintainRun decide courseOf
-  maintain-endured w s =
-      let start : Course = record { stop = going; moved = 0; world = w } in
-      let a = groups-endured (1 ∷ 2 ∷ 3 ∷ []) (omega arith, (omega arith, (omega arith, tt))) w start s in
-      rw (sound-fine w (engine history) s)
-      (endured-on w (courseOf w .world) (ended (courseOf w .stop) (courseOf w) .world) (groupsRun (1 ∷ 2 ∷ 3 ∷ []) w start) (endRun (courseOf w .stop) (courseOf w .world)) (engine history)
-      a (ended-endured (courseOf w .stop) (courseOf w) (a .sound)))
+  -- LAW: a rewrite's run, cut anywhere, whatever numbers it is given
+  pub rewrite-endured : (w : World) → SoundWorld w (engine history) → (room g mark count : ℕ)
+      → Endured w (rewriteCall w room g mark count .world) (rewriteRun w room g mark count) (engine history)
+  unfolding rewriteOf rewriteRun
+  rewrite-endured w s room g mark count =
+      subst (λ (v : World). Endured w v (rewriteRun w room g mark count) (engine history)) (sym (rewrite-world w room g mark count)) (go (decide (rewriteTests w room g)) refl)
+    where
+      go : (a : Answer) → decide (rewriteTests w room g) ≡ a
+          → Endured w (after {A = Course} a (λ (r : Refusal). record { stop = stopped r g; moved = 0; world = w }) (generationRewritten w g mark count) .world)
+          (unlessRefused a (generationRun w g mark count)) (engine history)
+      go (Refused r) e = endured-none w (engine history) s
+      go Done e = let n = generation-named w room g e .1 in generation-endured w s g (omega arith) mark count

@@ -1,7 +1,7 @@
 -- Request P8: "a numbered run of single-byte stores" for each call of demand 3, accepted or refused; a call changes the heap by its run alone.
 use mathlib.Core.Path.{_≡_, refl, sym, ap, _∙_}
-use Rattle.rules.specs.Base.{Bool, true, false, List, [], _∷_, _++_, ℕ, _+_, _^_, length, ltb, pick}
-use Rattle.theory.specs.Types.{Refusal, Limits, Answer, Done, Refused, Stopped}
+use Rattle.rules.specs.Base.{Bool, true, false, List, [], _∷_, _++_, ℕ, _+_, _^_, length, pick}
+use Rattle.theory.specs.Types.{Refusal, Limits, Answer, Done, Refused}
 use Rattle.rules.specs.Refusal.{_gives_, decide, after}
 use Rattle.rules.specs.Ops.{Op, settled}
 use Rattle.rules.specs.Batch.{batchIn, opsOf}
@@ -11,12 +11,14 @@ use Rattle.rules.specs.StoreLaws.{made-append}
 use Rattle.rules.specs.Install.{newLabel, newLsn, storesFor, installed, installedAll}
 use Rattle.rules.specs.Write.{newFiles, writeTests, written, writeCall}
 use Rattle.rules.specs.Prune.{pruneStores, pruned, pruneCall}
-use Rattle.rules.specs.Maintenance.{found, filesOf, Stop, going, stopped, Course, group, groupTests, rewriteGroup, onward, groupsFrom, courseOf, ended, finished, maintainCall}
+use Rattle.rules.specs.Maintenance.{group, found, filesOf, going, stopped, Course, groupTests, rewriteGroup}
+use Rattle.rules.specs.TwoCalls.{tooFew, rewriteTests, generationRewritten, rewriteOf, rewriteCall}
 use Rattle.rules.specs.SlotFile.{View, viewsIn}
 use Rattle.rules.specs.Reopen.{reopenTests, givenUp, opened, reopenCall}
-use Rattle.rules.specs.World.{World, slotsOf, accepted, maintainGiven, After, unchanged}
+use Rattle.rules.specs.World.{World, slotsOf, accepted, unchanged}
 use Rattle.history_theory.specs.Quiet.{undisturbed}
-use Rattle.history_theory.specs.History.{Call, write, maintain, prune, reopen, quiet, called}
+use Rattle.history_theory.specs.OneGeneration.{rewrite-world}
+use Rattle.history_theory.specs.History.{Call, write, rewrite, prune, reopen, quiet, called}
 
 -- file by file: "file, then label bytes 2 to 64, then label byte 1" of each (`Stores.fileStores`)
 unfoldable pub filesRun : ℕ → ℕ → World → List (List Op) → List Store
@@ -41,31 +43,20 @@ groupRun generation slots w =
     let files = filesOf (w .settings .«target_file_size») (found w slots) in
     unlessRefused (decide (groupTests w slots files)) (filesRun 0 generation w files)
 
--- a group that is skipped, or comes after a refused one, stores nothing
-abbrev pub onwardRun : Stop → ℕ → List ℕ → Course → List Store
-onwardRun (stopped r g) generation slots c = []
-onwardRun going generation slots c = pick (ltb (length slots) (c .world .settings .«min_compaction_files»)) [] (groupRun generation slots (c .world))
+-- a generation's: none where its group has too few files
+unfoldable pub generationRun : World → ℕ → ℕ → ℕ → List Store
+generationRun w generation mark count =
+    let slots = group w generation mark count in
+    pick (tooFew w slots) [] (groupRun generation slots w)
 
--- group by group
-unfoldable pub groupsRun : List ℕ → World → Course → List Store
-groupsRun [] start c = []
-groupsRun (g ∷ gs) start c = onwardRun (c .stop) g (group start g) c ++ groupsRun gs start (onward (c .stop) g (group start g) c)
-
--- "Success prunes"
-abbrev pub endRun : Stop → World → List Store
-endRun (stopped r g) w = []
-endRun going w = pruneStores w
-
--- maintenance's: the groups', as far as it came, then prune's
-unfoldable pub maintainRun : World → List Store
-maintainRun w =
-    unlessRefused (decide (refused1 w gives Limits ∷ []))
-    (groupsRun (1 ∷ 2 ∷ 3 ∷ []) w (record { stop = going; moved = 0; world = w }) ++ endRun (courseOf w .stop) (courseOf w .world))
+-- a rewrite's: the named generation's
+unfoldable pub rewriteRun : World → ℕ → ℕ → ℕ → ℕ → List Store
+rewriteRun w room generation mark count = unlessRefused (decide (rewriteTests w room generation)) (generationRun w generation mark count)
 
 -- the numbered run of a call
 abbrev pub runOf : World → Call → List Store
 runOf w (write bytes) = writeRun w bytes
-runOf w maintain = maintainRun w
+runOf w (rewrite room g mark count) = rewriteRun w room g mark count
 runOf w prune = pruneRun w
 runOf w reopen = []
 runOf w (quiet q) = []
@@ -107,46 +98,23 @@ group-made g slots moved w = go (decide (groupTests w slots (filesOf (w .setting
     go (Refused r) = refl
     go Done = files-made 0 g w (filesOf (w .settings .«target_file_size») (found w slots))
 
--- one generation
-pub onward-made : (stop : Stop) (g : ℕ) (slots : List ℕ) (c : Course) → onward stop g slots c .world .heap ≡ made (onwardRun stop g slots c) (c .world .heap)
-unfolding made
-onward-made (stopped r n) g slots c = refl
-onward-made going g slots c = go (ltb (length slots) (c .world .settings .«min_compaction_files»))
+generation-made : (w : World) (g mark count : ℕ) → generationRewritten w g mark count .world .heap ≡ made (generationRun w g mark count) (w .heap)
+unfolding generationRewritten generationRun made
+generation-made w g mark count = go (tooFew w (group w g mark count))
   where
-    go : (b : Bool) → pick b c (rewriteGroup g slots (c .moved) (c .world)) .world .heap ≡ made (pick b [] (groupRun g slots (c .world))) (c .world .heap)
+    go : (b : Bool) → pick b (record { stop = going; moved = 0; world = w }) (rewriteGroup g (group w g mark count) 0 w) .world .heap
+        ≡ made (pick b [] (groupRun g (group w g mark count) w)) (w .heap)
     go true = refl
-    go false = group-made g slots (c .moved) (c .world)
+    go false = group-made g (group w g mark count) 0 w
 
--- all generations
-pub groups-made : (gs : List ℕ) (start : World) (c : Course) → groupsFrom gs start c .world .heap ≡ made (groupsRun gs start c) (c .world .heap)
-unfolding groupsFrom groupsRun made
-groups-made [] start c = refl
-groups-made (g ∷ gs) start c =
-    groups-made gs start (onward (c .stop) g (group start g) c)
-    ∙ ap (made (groupsRun gs start (onward (c .stop) g (group start g) c))) (onward-made (c .stop) g (group start g) c)
-    ∙ sym (made-append (onwardRun (c .stop) g (group start g) c) (groupsRun gs start (onward (c .stop) g (group start g) c)) (c .world .heap))
-
-ended-made : (stop : Stop) (c : Course) → ended stop c .world .heap ≡ made (endRun stop (c .world)) (c .world .heap)
-unfolding pruned made
-ended-made (stopped r g) c = refl
-ended-made going c = refl
-
-maintain-made : (w : World) → maintainCall w .world .heap ≡ made (maintainRun w) (w .heap)
-unfolding maintainCall maintainRun courseOf made
-maintain-made w = go (decide (refused1 w gives Limits ∷ []))
+rewrite-made : (w : World) (room g mark count : ℕ) → rewriteCall w room g mark count .world .heap ≡ made (rewriteRun w room g mark count) (w .heap)
+unfolding rewriteOf rewriteRun made
+rewrite-made w room g mark count = ap (λ (v : World). v .heap) (rewrite-world w room g mark count) ∙ go (decide (rewriteTests w room g))
   where
-    all : finished (courseOf w) .world .heap
-        ≡ made (groupsRun (1 ∷ 2 ∷ 3 ∷ []) w (record { stop = going; moved = 0; world = w }) ++ endRun (courseOf w .stop) (courseOf w .world)) (w .heap)
-    all =
-        ended-made (courseOf w .stop) (courseOf w)
-        ∙ ap (made (endRun (courseOf w .stop) (courseOf w .world))) (groups-made (1 ∷ 2 ∷ 3 ∷ []) w (record { stop = going; moved = 0; world = w }))
-        ∙ sym (made-append (groupsRun (1 ∷ 2 ∷ 3 ∷ []) w (record { stop = going; moved = 0; world = w })) (endRun (courseOf w .stop) (courseOf w .world)) (w .heap))
-
-    go : (a : Answer)
-        → after {A = After} a (λ (r : Refusal). record { answer = maintainGiven (Stopped r 0 0); world = w }) (finished (courseOf w)) .world .heap
-        ≡ made (unlessRefused a (groupsRun (1 ∷ 2 ∷ 3 ∷ []) w (record { stop = going; moved = 0; world = w }) ++ endRun (courseOf w .stop) (courseOf w .world))) (w .heap)
+    go : (a : Answer) → after {A = Course} a (λ (r : Refusal). record { stop = stopped r g; moved = 0; world = w }) (generationRewritten w g mark count) .world .heap
+        ≡ made (unlessRefused a (generationRun w g mark count)) (w .heap)
     go (Refused r) = refl
-    go Done = all
+    go Done = generation-made w g mark count
 
 -- "The heap is only read."
 reopen-reads : (w : World) → reopenCall w .world .heap ≡ w .heap
@@ -165,7 +133,7 @@ reopen-reads w = go (decide (outOfRange (w .settings) (length (w .heap)) (w .tab
 pub run-made : (w : World) (c : Call) → called w c .world .heap ≡ made (runOf w c) (w .heap)
 unfolding made
 run-made w (write bytes) = write-made w bytes
-run-made w maintain = maintain-made w
+run-made w (rewrite room g mark count) = rewrite-made w room g mark count
 run-made w prune = prune-made w
 run-made w reopen = reopen-reads w
 run-made w (quiet q) = undisturbed w q .heap

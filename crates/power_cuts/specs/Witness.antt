@@ -5,7 +5,7 @@ use Rattle.disk_location.specs.Locations.{maskedOf, digitsIn}
 use Rattle.numbers.specs.Groups.{groupsOf, readGroups, numberIn}
 use Rattle.numbers.specs.LittleEndian.{leBytes, leValue}
 use Rattle.power_cuts.specs.Cuts.{hearsCut}
-use Rattle.power_cuts.specs.Runs.{filesRun, writeRun, pruneRun, groupRun, groupsRun, maintainRun, runOf}
+use Rattle.power_cuts.specs.Runs.{filesRun, writeRun, pruneRun, groupRun, generationRun, rewriteRun, runOf}
 use Rattle.rules.specs.Base.{any, zeros, keep, each, sum, greatest, padded, List, [], _∷_, ℕ, length, take, replicate, map}
 use Rattle.rules.specs.Batch.{putOperation, operationAt, batchFrom, batchIn, anyTooLarge}
 use Rattle.rules.specs.Claims.{noClaims, isClaimed}
@@ -14,7 +14,8 @@ use Rattle.rules.specs.FileMap.{isEmpty, noFiles, slotsWhere, emptySlots, lowes
 use Rattle.rules.specs.Install.{newLabel, newRecord, losing, recordsWith, storesFor, tableWith, nextWith, installed, installedAll, roomTests, positionTests}
 use Rattle.rules.specs.Label.{labelBytes, fiveIn, labelIn, outOfBounds}
 use Rattle.rules.specs.Layout.{tableIds, tableLocations, alternating, lengthsInRange, formFrom, inForm, usedIn, usedEntries, laidOut}
-use Rattle.rules.specs.Maintenance.{worthIt, cutOff, joining, splitFrom, filesOf, isCandidate, group, movedTests, deleteTests, deletesOf, fileTests, objectsFound, deletesFound, found, groupTests, rewriteGroup, groupsFrom, courseOf, maintainCall}
+use Rattle.rules.specs.Maintenance.{worthIt, cutOff, joining, splitFrom, filesOf, isCandidate, group, movedTests, deleteTests, deletesOf, fileTests, objectsFound, deletesFound, found, groupTests, rewriteGroup}
+use Rattle.rules.specs.TwoCalls.{markOf, countOf, rewriteTests, generationRewritten, rewriteOf}
 use Rattle.rules.specs.Object.{objectBytes, storedAt, objectsFrom, objectsIn, badChecksum}
 use Rattle.rules.specs.Ops.{objectsOf, entriesOf, fileBytes, joined, settled}
 use Rattle.rules.specs.Prune.{isDead, emptiedFrom, pruneStores, pruned, pruneCall}
@@ -29,7 +30,8 @@ use Rattle.rules.specs.Table.{lookup, insert, insertAll}
 use Rattle.rules.specs.Trailer.{listed, trailerBytes, trailerTests, entriesFrom, entriesIn, misplaced}
 use Rattle.rules.specs.World.{World, noState}
 use Rattle.rules.specs.Write.{tooManyIds, writeTests, written, writeCall}
-use Rattle.history_theory.specs.History.{Call, write, maintain, prune, called}
+use Rattle.history_theory.specs.History.{Call, write, rewrite, prune, quiet, called}
+use Rattle.history_theory.specs.Quiet.{plan}
 use Rattle.history_theory.specs.Writes.{Got, bytes, got}
 
 -- three slots of 128 bytes, of zeros
@@ -49,6 +51,10 @@ first = called (reopenCall tiny .world) (write (0x07 ∷ 0x01 ∷ 0x01 ∷ 0x41 
 -- put again as 0x42
 abbrev pub again : Call
 again = write (0x07 ∷ 0x01 ∷ 0x01 ∷ 0x42 ∷ [])
+
+-- its generation rewritten, with a plan's mark and file count
+abbrev pub rewriting : Call
+rewriting = rewrite 1 1 (markOf first) (countOf first)
 
 -- what the robot has: the heap, and nothing else of use
 unfoldable pub lost : World → List ℕ → World
@@ -83,16 +89,20 @@ old = record { number = 0; seven = bytes (0x41 ∷ []); heard = 0 }
 abbrev pub new : ℕ → Finding
 new heard = record { number = 0; seven = bytes (0x42 ∷ []); heard = heard }
 
--- a write of 49 bytes of file and 64 of label: as before until the last store is made. Maintenance, which rewrites that file and prunes its old
--- slot with one store more: always as before. Put again, and the file that it left pruned: one store, read as put again.
+-- a write of 49 bytes of file and 64 of label: as before until the last store is made. A plan, which stores nothing, a rewrite of that file, as long
+-- as a write, and a prune of its old slot, one store: always as before. Put again, and the file that it left pruned: one store, read as put again.
 pub cuts :
     cutsAt first again (0 ∷ 1 ∷ 49 ∷ 50 ∷ 112 ∷ 113 ∷ [])
-    ∷ cutsAt first maintain (0 ∷ 1 ∷ 49 ∷ 112 ∷ 113 ∷ 114 ∷ [])
+    ∷ cutsAt first (quiet (plan 1)) (0 ∷ [])
+    ∷ cutsAt first rewriting (0 ∷ 1 ∷ 49 ∷ 112 ∷ 113 ∷ [])
+    ∷ cutsAt (called first rewriting .world) prune (0 ∷ 1 ∷ [])
     ∷ cutsAt (called first again .world) prune (0 ∷ 1 ∷ [])
     ∷ []
     ≡ record { stores = 113; found = old ∷ old ∷ old ∷ old ∷ old ∷ new 1 ∷ [] }
-    ∷ record { stores = 114; found = old ∷ old ∷ old ∷ old ∷ old ∷ old ∷ [] }
+    ∷ record { stores = 0; found = old ∷ [] }
+    ∷ record { stores = 113; found = old ∷ old ∷ old ∷ old ∷ old ∷ [] }
+    ∷ record { stores = 1; found = old ∷ old ∷ [] }
     ∷ record { stores = 1; found = new 0 ∷ new 0 ∷ [] }
     ∷ []
-unfolding any zeros keep each sum greatest padded putOperation operationAt batchFrom batchIn anyTooLarge outOfRange notTheStates badRecord badFrom conditionOne isEmpty noFiles slotsWhere emptySlots lowestEmpty leads leadFrom fileFor fileCount newRecord newLabel losing recordsWith storesFor tableWith nextWith installed installedAll roomTests positionTests labelBytes fiveIn labelIn outOfBounds tableIds tableLocations alternating lengthsInRange formFrom inForm usedIn usedEntries laidOut worthIt cutOff joining splitFrom filesOf objectBytes storedAt objectsOf entriesOf fileBytes joined settled decide filesIn overlapping notRising latest latestFrom tableOf reopenTests mappedInto recordsFrom nextAfter opened reopenCall inRanges heapInRange sameSettings slotTests viewIn viewsIn made storesOf fileStores lookup insert insertAll listed trailerBytes trailerTests entriesFrom entriesIn misplaced tooManyIds writeTests written writeCall leBytes leValue groupsOf readGroups numberIn shiftBit shifts crcFrom crc32 objectSum maskedOf digitsIn isDead emptiedFrom pruneStores pruned pruneCall isCandidate group movedTests deleteTests deletesOf fileTests objectsFound deletesFound found groupTests rewriteGroup groupsFrom courseOf maintainCall objectsFrom objectsIn badChecksum objectTests readOf slotBytes lastOn givenUp isClaimed filesRun writeRun pruneRun groupRun groupsRun maintainRun lost finding cutsAt
+unfolding any zeros keep each sum greatest padded putOperation operationAt batchFrom batchIn anyTooLarge outOfRange notTheStates badRecord badFrom conditionOne isEmpty noFiles slotsWhere emptySlots lowestEmpty leads leadFrom fileFor fileCount newRecord newLabel losing recordsWith storesFor tableWith nextWith installed installedAll roomTests positionTests labelBytes fiveIn labelIn outOfBounds tableIds tableLocations alternating lengthsInRange formFrom inForm usedIn usedEntries laidOut worthIt cutOff joining splitFrom filesOf objectBytes storedAt objectsOf entriesOf fileBytes joined settled decide filesIn overlapping notRising latest latestFrom tableOf reopenTests mappedInto recordsFrom nextAfter opened reopenCall inRanges heapInRange sameSettings slotTests viewIn viewsIn made storesOf fileStores lookup insert insertAll listed trailerBytes trailerTests entriesFrom entriesIn misplaced tooManyIds writeTests written writeCall leBytes leValue groupsOf readGroups numberIn shiftBit shifts crcFrom crc32 objectSum maskedOf digitsIn isDead emptiedFrom pruneStores pruned pruneCall isCandidate group movedTests deleteTests deletesOf fileTests objectsFound deletesFound found groupTests rewriteGroup rewriteTests generationRewritten rewriteOf objectsFrom objectsIn badChecksum objectTests readOf slotBytes lastOn givenUp isClaimed filesRun writeRun pruneRun groupRun generationRun rewriteRun lost finding cutsAt
 cuts = refl

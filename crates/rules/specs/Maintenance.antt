@@ -1,7 +1,7 @@
 -- "Maintenance"
 use Rattle.rules.specs.Base.{Bool, true, false, not, _&&_, _||_, List, [], _∷_, _++_, map, ℕ, suc, _+_, _*_, _/_, _^_, length, getD, set, replicate, leb, ltb, eqb, pick, keep, each, larger}
 use Rattle.rules.specs.Types.{Entry, Label, Record, Settings, Claims, Refusal, Limits, ObjectSize, Checksum, CutShort, NotThere, Location, Moved, Stopped}
-use Rattle.disk_location.specs.Locations.{positionOf, deleteOf, rawOf}
+use Rattle.disk_location.specs.Locations.{maskedOf, positionOf, deleteOf, rawOf}
 use Rattle.rules.specs.Refusal.{Test, _gives_, decide, after}
 use Rattle.rules.specs.Object.{Stored, objectsIn, badChecksum}
 use Rattle.rules.specs.Trailer.{absolute, trailerTests}
@@ -31,15 +31,20 @@ worthIt s files r =
 abbrev pub newGeneration : ℕ → ℕ
 newGeneration g = pick (leb 3 (suc g)) 3 (suc g)
 
--- "Candidates, fixed as the call starts, are unclaimed files with live not 0, and .."; `files` is the file count
-unfoldable pub isCandidate : Settings → Claims → ℕ → ℕ → Record → Bool
-isCandidate s claims files slot r = not (isEmpty r) && not (isClaimed claims slot) && not (eqb (r .live) 0) && worthIt s files r
+-- "Candidates .. are unclaimed files with live not 0, and .."; request P7: "only files with masked lsn below the mark", the threshold "against that
+-- count"
+unfoldable pub isCandidate : Settings → Claims → ℕ → ℕ → ℕ → Record → Bool
+isCandidate s claims mark count slot r =
+    not (isEmpty r) && not (isClaimed claims slot) && not (eqb (r .live) 0) && worthIt s count r && ltb (maskedOf (r .label .lsn)) mark
 
 -- "They are grouped by new generation": the slots of one, ascending
-unfoldable pub group : World → ℕ → List ℕ
-group w generation =
-    let files = fileCount (recordsOf w) in
-    slotsWhere (λ (i : ℕ) (r : Record). isCandidate (w .settings) (w .claims) files i r && eqb (newGeneration (r .label .generation)) generation) 0 (recordsOf w)
+unfoldable pub group : World → ℕ → ℕ → ℕ → List ℕ
+group w generation mark count =
+    slotsWhere (λ (i : ℕ) (r : Record). isCandidate (w .settings) (w .claims) mark count i r && eqb (newGeneration (r .label .generation)) generation) 0 (recordsOf w)
+
+-- "Candidates, fixed as the call starts": by the file count there; a mark of 2^62 is above every file's masked lsn, so it leaves none out
+abbrev pub startGroup : World → ℕ → List ℕ
+startGroup w generation = group w generation (2 ^ 62) (fileCount (recordsOf w))
 
 -- ---- one file of a group: the table, its label and its slot's bytes
 -- "each object: header past T (16), length ≥ max_object_size (3), id unmapped (18), body past T (16), checksum (10)"
@@ -158,10 +163,14 @@ pub record Course : Type 0 where
   pub moved : ℕ
   pub world : World
 
--- "All files of a group are checked before it writes, ascending by slot"; "4, 5, 7 are decided first, for the whole group"
+-- "All files of a group are checked before it writes, ascending by slot"
+abbrev pub sourceTests : World → List ℕ → List Test
+sourceTests w slots = each (λ (k : ℕ). fileTests (w .settings .«max_object_size») (mappings w) (recordAt (recordsOf w) k .label) (slotOf w k)) slots
+
+-- ".. before it writes"; "4, 5, 7 are decided first, for the whole group"
 unfoldable pub groupTests : World → List ℕ → List (List Op) → List Test
 groupTests w slots files =
-    each (λ (k : ℕ). fileTests (w .settings .«max_object_size») (mappings w) (recordAt (recordsOf w) k .label) (slotOf w k)) slots
+    sourceTests w slots
     ++ (roomTests (w .settings .«slot_bytes») (emptyOf w) files ++ positionTests (w .state .«next_position») files)
 
 -- a group rewritten, or refused and nothing changed; "lsn = base without the batch bit";
@@ -183,7 +192,7 @@ onward going generation slots c =
 -- "Groups go in ascending generation"
 unfoldable pub groupsFrom : List ℕ → World → Course → Course
 groupsFrom [] start c = c
-groupsFrom (g ∷ gs) start c = groupsFrom gs start (onward (c .stop) g (group start g) c)
+groupsFrom (g ∷ gs) start c = groupsFrom gs start (onward (c .stop) g (startGroup start g) c)
 
 -- generations 1, 2 and 3 from the start
 unfoldable pub courseOf : World → Course

@@ -5,17 +5,18 @@ use mathlib.Core.Logic.{_⊎_, inl, inr}
 use Prim.Native.Nat.{_≤_, _<_}
 use native.Mathlib.Omega.{arith}
 use borrow.Author.Tests.{eqb-false, ne-eqb, not-true, ltb-true, ltb-false, lt-ltb, le-ltb, leb-true, le-leb}
-use Rattle.rules.specs.Base.{Bool, true, false, _&&_, List, [], _∷_, _++_, ℕ, _+_, _*_, _/_, _^_, length, leb, ltb, larger, any, each, sum}
+use Rattle.disk_location.specs.Locations.{maskedOf}
+use Rattle.rules.specs.Base.{Bool, true, false, _&&_, List, [], _∷_, _++_, ℕ, _+_, _*_, _/_, _^_, length, leb, ltb, larger, any, sum}
 use Rattle.rules.specs.Types.{Record, Settings, Claims, Refusal, SlotRoom, NoEmptySlot, PositionsSpent, Answer, Done, Refused}
 use Rattle.rules.specs.BaseLaws.{and-true, and-holds, and-false, or-true, or-holds, All, Some, any-true, any-holds, any-false, any-clear, all-map}
 use Rattle.rules.specs.Refusal.{Test, _gives_, decide, NoneHolds, decide-append, after-refused, after-done}
 use Rattle.rules.specs.Ops.{Op, objectsOf, fileBytes}
 use Rattle.rules.specs.Claims.{isClaimed}
-use Rattle.rules.specs.FileMap.{isEmpty, recordAt}
+use Rattle.rules.specs.FileMap.{isEmpty}
 use Rattle.rules.specs.Install.{installedAll, roomTests, emptyOf, positionTests}
 use Rattle.rules.specs.InstallLaws.{Room}
-use Rattle.rules.specs.World.{World, recordsOf, mappings}
-use Rattle.rules.specs.Maintenance.{worthIt, isCandidate, fileTests, slotOf, found, filesOf, going, stopped, Course, groupTests, rewriteGroup}
+use Rattle.rules.specs.World.{World}
+use Rattle.rules.specs.Maintenance.{worthIt, isCandidate, sourceTests, found, filesOf, going, stopped, Course, groupTests, rewriteGroup}
 
 -- "file count ≥ threshold and file_size × min_compaction_files < target_file_size"
 pub record Small (s : Settings) (files : ℕ) (r : Record) : Type 0 where
@@ -45,28 +46,32 @@ is-worth-it s files r (inr w) =
     (inr (and-holds (leb (s .«small_file_cleanup_threshold») files) _ (le-leb _ _ (w .count)) (lt-ltb _ _ (w .size))))
 
 -- "unclaimed files with live not 0, and .."
-pub record Candidate (s : Settings) (claims : Claims) (files slot : ℕ) (r : Record) : Type 0 where
+pub record Candidate (s : Settings) (claims : Claims) (mark count slot : ℕ) (r : Record) : Type 0 where
   pub file : isEmpty r ≡ false
   pub unclaimed : isClaimed claims slot ≡ false
   pub live : 0 < r .live
-  pub worth : WorthIt s files r
+  pub worth : WorthIt s count r
+  pub below : maskedOf (r .label .lsn) < mark
 
 -- a candidate is all of this
-pub candidate : (s : Settings) (claims : Claims) (files slot : ℕ) (r : Record) → isCandidate s claims files slot r ≡ true → Candidate s claims files slot r
+pub candidate : (s : Settings) (claims : Claims) (mark count slot : ℕ) (r : Record) → isCandidate s claims mark count slot r ≡ true
+    → Candidate s claims mark count slot r
 unfolding isCandidate
-candidate s claims files slot r e =
-    let w4 = and-true _ _ e in
+candidate s claims mark count slot r e =
+    let w5 = and-true _ _ e in
+    let w4 = and-true _ _ (w5 .0) in
     let w3 = and-true _ _ (w4 .0) in
     let w2 = and-true _ _ (w3 .0) in
     let some = eqb-false (r .live) 0 (not-true _ (w3 .1)) in
-    record { file = not-true _ (w2 .0); unclaimed = not-true _ (w2 .1); live = omega (arith, some); worth = worth-it s files r (w4 .1) }
+    record { file = not-true _ (w2 .0); unclaimed = not-true _ (w2 .1); live = omega (arith, some); worth = worth-it s count r (w4 .1); below = ltb-true _ _ (w5 .1) }
 
 -- and back
-pub is-candidate : (s : Settings) (claims : Claims) (files slot : ℕ) (r : Record) → Candidate s claims files slot r → isCandidate s claims files slot r ≡ true
+pub is-candidate : (s : Settings) (claims : Claims) (mark count slot : ℕ) (r : Record) → Candidate s claims mark count slot r
+    → isCandidate s claims mark count slot r ≡ true
 unfolding isCandidate
-is-candidate s claims files slot r w =
+is-candidate s claims mark count slot r w =
     let some = w .live in
-    rw (w .file, w .unclaimed, ne-eqb (r .live) 0 (λ z. omega arith), is-worth-it s files r (w .worth))
+    rw (w .file, w .unclaimed, ne-eqb (r .live) 0 (λ z. omega arith), is-worth-it s count r (w .worth), lt-ltb (maskedOf (r .label .lsn)) mark (w .below))
 
 -- ---- a group: "4, 5, 7 are decided first, for the whole group"
 -- "4 64 + file_size > S", of a file
@@ -96,7 +101,7 @@ DecidedBy w files (Refused r) = Lacks w files r
 
 -- no file of the group is refused
 abbrev pub SourcesPass : World → List ℕ → Type 0
-SourcesPass w slots = NoneHolds (each (λ (k : ℕ). fileTests (w .settings .«max_object_size») (mappings w) (recordAt (recordsOf w) k .label) (slotOf w k)) slots)
+SourcesPass w slots = NoneHolds (sourceTests w slots)
 
 -- the three tests of these files
 abbrev limitTests : World → List (List Op) → List Test
@@ -166,7 +171,7 @@ decided-one w files a b d e = sym (decided-limits w files a d) ∙ decided-limit
 -- LAW: where no file of a group is refused, the sizes of the new files, the empty slots and the base decide it, and nothing else
 pub group-decided : (w : World) (slots : List ℕ) (files : List (List Op)) → SourcesPass w slots → DecidedBy w files (decide (groupTests w slots files))
 unfolding groupTests
-group-decided w slots files pass = rw (decide-append (each (λ (k : ℕ). fileTests (w .settings .«max_object_size») (mappings w) (recordAt (recordsOf w) k .label) (slotOf w k)) slots) (limitTests w files) pass) (limits-decided w files)
+group-decided w slots files pass = rw (decide-append (sourceTests w slots) (limitTests w files) pass) (limits-decided w files)
 
 -- LAW: "a group rewritten": its files are added and its operations counted
 pub group-added : (generation : ℕ) (slots : List ℕ) (moved : ℕ) (w : World)

@@ -1,6 +1,6 @@
 -- "Refusal numbers": "Each is given exactly when its condition holds and no earlier one in the call's order does."
 use Rattle.rules.specs.Base.{Bool, true, false, List, [], _∷_, _++_, ℕ, pick}
-use Rattle.rules.specs.Types.{Refusal, Limits, BatchBytes, ObjectSize, SlotRoom, NoEmptySlot, TableRoom, PositionsSpent, LabelBytes, TrailerShort, Checksum, EntryCount, EntryPosition, PresentCount, Overlap, NotRising, CutShort, OtherId, NotThere, EqualLocation, Location, Claim, Answer, Done, Refused}
+use Rattle.rules.specs.Types.{Refusal, Limits, BatchBytes, ObjectSize, SlotRoom, NoEmptySlot, TableRoom, PositionsSpent, LabelBytes, TrailerShort, Checksum, EntryCount, EntryPosition, PresentCount, Overlap, NotRising, CutShort, OtherId, NotThere, EqualLocation, Location, Claim, Generation, Answer, Done, Refused}
 use mathlib.Core.Path.{_≡_, refl, ap}
 use mathlib.Core.Logic.{_⊎_, inl, inr}
 use native.Mathlib.Omega.{arith}
@@ -28,6 +28,7 @@ numberOf NotThere = 18
 numberOf EqualLocation = 19
 numberOf Location = 20
 numberOf Claim = 21
+numberOf Generation = 22
 
 -- a condition and the refusal that it gives
 infix 70 _gives_

@@ -7,13 +7,15 @@ pub use Rattle.rules.specs.declared.FileMap.{FileMap}
 pub use Rattle.rules.specs.declared.State.{State}
 pub use Rattle.rules.specs.declared.Claims.{Claims}
 pub use Rattle.rules.specs.declared.Refusal.{Refusal}
-pub use Rattle.rules.specs.declared.Refusal.the-variants.{Limits, BatchBytes, ObjectSize, SlotRoom, NoEmptySlot, TableRoom, PositionsSpent, LabelBytes, TrailerShort, Checksum, EntryCount, EntryPosition, PresentCount, Overlap, NotRising, CutShort, OtherId, NotThere, EqualLocation, Location, Claim}
+pub use Rattle.rules.specs.declared.Refusal.the-variants.{Limits, BatchBytes, ObjectSize, SlotRoom, NoEmptySlot, TableRoom, PositionsSpent, LabelBytes, TrailerShort, Checksum, EntryCount, EntryPosition, PresentCount, Overlap, NotRising, CutShort, OtherId, NotThere, EqualLocation, Location, Claim, Generation}
 pub use Rattle.rules.specs.declared.Answer.{Answer}
 pub use Rattle.rules.specs.declared.Answer.the-variants.{Done, Refused}
 pub use Rattle.rules.specs.declared.ReadAnswer.{ReadAnswer}
 pub use Rattle.rules.specs.declared.ReadAnswer.the-variants.{Found, Deleted, NeverWritten, ReadRefused}
 pub use Rattle.rules.specs.declared.MaintainAnswer.{MaintainAnswer}
 pub use Rattle.rules.specs.declared.MaintainAnswer.the-variants.{Moved, Stopped}
+pub use Rattle.rules.specs.declared.RewriteAnswer.{RewriteAnswer}
+pub use Rattle.rules.specs.declared.RewriteAnswer.the-variants.{Rewrote, RewriteRefused}
 pub use Rattle.rules.specs.declared.Counts.{Counts}
 pub use Rattle.rules.specs.declared.CountsAnswer.{CountsAnswer}
 pub use Rattle.rules.specs.declared.CountsAnswer.the-variants.{Counted, CountsRefused}

@@ -1,6 +1,6 @@
 -- What a call is given and leaves: settings, state, claims and the lent buffers; and its answer as the paper's number and values.
 use Rattle.rules.specs.Base.{List, [], _∷_, ℕ, length}
-use Rattle.rules.specs.Types.{Entry, Settings, Record, State, Claims, Refusal, Answer, Done, Refused, ReadAnswer, Found, Deleted, NeverWritten, ReadRefused, MaintainAnswer, Moved, Stopped, CountsAnswer, Counted, CountsRefused, Held, Mapped, Unmapped, Loaded, At, DeletedAt, Never, LoadAnswer, Loads, LoadRefused, GreaterAnswer, Before, GreaterRefused, CompareAnswer, Swapped, Differs, CompareRefused}
+use Rattle.rules.specs.Types.{Entry, Settings, Record, State, Claims, Refusal, Answer, Done, Refused, ReadAnswer, Found, Deleted, NeverWritten, ReadRefused, MaintainAnswer, Moved, Stopped, RewriteAnswer, Rewrote, RewriteRefused, CountsAnswer, Counted, CountsRefused, Held, Mapped, Unmapped, Loaded, At, DeletedAt, Never, LoadAnswer, Loads, LoadRefused, GreaterAnswer, Before, GreaterRefused, CompareAnswer, Swapped, Differs, CompareRefused}
 use Rattle.rules.specs.Refusal.{numberOf}
 use Rattle.rules.specs.Settings.{slotsIn}
 use Rattle.rules.specs.Layout.{Table, usedEntries}
@@ -80,6 +80,11 @@ readGiven (ReadRefused r) = refused r
 abbrev pub maintainGiven : MaintainAnswer → Given
 maintainGiven (Moved n) = accepted (n ∷ [])
 maintainGiven (Stopped r generation n) = record { number = numberOf r; values = generation ∷ n ∷ [] }
+
+-- request P7: "It answers ids moved, or the number alone."
+abbrev pub rewriteGiven : RewriteAnswer → Given
+rewriteGiven (Rewrote n) = accepted (n ∷ [])
+rewriteGiven (RewriteRefused r) = refused r
 
 -- "Files, bytes, present, live"
 abbrev pub countsGiven : CountsAnswer → Given

@@ -82,7 +82,7 @@ pub struct Claims {
     pub d: u64,
 }
 
-// "Refusal numbers", 1 to 21 in order.
+// "Refusal numbers", 1 to 21 in order, and document 02's 22.
 pub enum Refusal {
     Limits,
     BatchBytes,
@@ -105,6 +105,7 @@ pub enum Refusal {
     EqualLocation,
     Location,
     Claim,
+    Generation,
 }
 
 // The answer of a call that gives nothing but its success: write, claim, release, prune, reopen, the table's store.
@@ -125,6 +126,12 @@ pub enum ReadAnswer {
 pub enum MaintainAnswer {
     Moved(u64),
     Stopped(Refusal, u64, u64),
+}
+
+// Request P7: "It answers ids moved, or the number alone."
+pub enum RewriteAnswer {
+    Rewrote(u64),
+    RewriteRefused(Refusal),
 }
 
 #[repr(C)]

@@ -33,6 +33,8 @@ shapes =
     numbers 1 ∷
     numbersAndBytes 1 ∷
     numbers 0 ∷
+    numbers 3 ∷
+    numbers 0 ∷
     numbers 0 ∷
     numbers 0 ∷
     numbers 0 ∷
@@ -71,6 +73,8 @@ tagged key.Release = refl
 tagged key.Prune = refl
 tagged key.Read = refl
 tagged key.Through = refl
+tagged key.Plan = refl
+tagged key.Rewrite = refl
 tagged key.Maintain = refl
 tagged key.Counts = refl
 tagged key.Unsynced = refl

@@ -61,6 +61,10 @@ callNames =
     called (114 ∷ 101 ∷ 97 ∷ 100 ∷ []) key.Read ∷
     -- through
     called (116 ∷ 104 ∷ 114 ∷ 111 ∷ 117 ∷ 103 ∷ 104 ∷ []) key.Through ∷
+    -- plan
+    called (112 ∷ 108 ∷ 97 ∷ 110 ∷ []) key.Plan ∷
+    -- rewrite
+    called (114 ∷ 101 ∷ 119 ∷ 114 ∷ 105 ∷ 116 ∷ 101 ∷ []) key.Rewrite ∷
     -- maintain
     called (109 ∷ 97 ∷ 105 ∷ 110 ∷ 116 ∷ 97 ∷ 105 ∷ 110 ∷ []) key.Maintain ∷
     -- counts

@@ -36,6 +36,8 @@ pub enum Keyword {
     Prune,
     Read,
     Through,
+    Plan,
+    Rewrite,
     Maintain,
     Counts,
     Unsynced,
@@ -95,7 +97,7 @@ pub fn shape_of(keyword: Keyword) -> Shape
             numbers: 2,
             bytes: false,
         },
-        Keyword::Entry | Keyword::Cas => Shape {
+        Keyword::Entry | Keyword::Rewrite | Keyword::Cas => Shape {
             numbers: 3,
             bytes: false,
         },

@@ -52,7 +52,9 @@ fn call(word: &[u8], other: Keyword) -> Keyword
     let unsynced = named(word, b"unsynced", Keyword::Unsynced, sync);
     let counts = named(word, b"counts", Keyword::Counts, unsynced);
     let maintain = named(word, b"maintain", Keyword::Maintain, counts);
-    let through = named(word, b"through", Keyword::Through, maintain);
+    let rewrite = named(word, b"rewrite", Keyword::Rewrite, maintain);
+    let plan = named(word, b"plan", Keyword::Plan, rewrite);
+    let through = named(word, b"through", Keyword::Through, plan);
     let read = named(word, b"read", Keyword::Read, through);
     let prune = named(word, b"prune", Keyword::Prune, read);
     let release = named(word, b"release", Keyword::Release, prune);

@@ -7,7 +7,7 @@ pub use Rattle.rules.specs.declared.FileMap.{FileMap}
 pub use Rattle.rules.specs.declared.State.{State}
 pub use Rattle.rules.specs.declared.Claims.{Claims}
 pub use Rattle.rules.specs.declared.Refusal.{Refusal}
-pub use Rattle.rules.specs.declared.Refusal.the-variants.{Limits, BatchBytes, ObjectSize, SlotRoom, NoEmptySlot, TableRoom, PositionsSpent, LabelBytes, TrailerShort, Checksum, EntryCount, EntryPosition, PresentCount, Overlap, NotRising, CutShort, OtherId, NotThere, EqualLocation, Location, Claim}
+pub use Rattle.rules.specs.declared.Refusal.the-variants.{Limits, BatchBytes, ObjectSize, SlotRoom, NoEmptySlot, TableRoom, PositionsSpent, LabelBytes, TrailerShort, Checksum, EntryCount, EntryPosition, PresentCount, Overlap, NotRising, CutShort, OtherId, NotThere, EqualLocation, Location, Claim, Generation}
 pub use Rattle.rules.specs.declared.Answer.{Answer}
 pub use Rattle.rules.specs.declared.Answer.the-variants.{Done, Refused}
 pub use Rattle.rules.specs.declared.ReadAnswer.{ReadAnswer}

@@ -34,7 +34,8 @@ use Rattle.rules.specs.FileMap.{isEmpty, noFiles, slotsWhere, emptySlots, leads
 use Rattle.rules.specs.Install.{roomTests, positionTests}
 use Rattle.rules.specs.Label.{labelBytes, fiveIn, labelIn, outOfBounds}
 use Rattle.rules.specs.Layout.{tableIds, tableLocations, alternating, lengthsInRange, formFrom, inForm, usedIn, usedEntries, laidOut}
-use Rattle.rules.specs.Maintenance.{worthIt, cutOff, joining, splitFrom, filesOf, isCandidate, group, movedTests, deleteTests, deletesOf, fileTests, objectsFound, deletesFound, found, groupTests, rewriteGroup, groupsFrom, courseOf, maintainCall}
+use Rattle.rules.specs.Maintenance.{worthIt, cutOff, joining, splitFrom, filesOf, isCandidate, group, movedTests, deleteTests, deletesOf, fileTests, objectsFound, deletesFound, found, groupTests, rewriteGroup}
+use Rattle.rules.specs.TwoCalls.{markOf, countOf, rewriteTests, generationRewritten, rewriteOf, rewriteCall, jobFrom, jobOf, nightlyCall}
 use Rattle.rules.specs.Ops.{objectsOf, entriesOf, fileBytes, joined, settled}
 use Rattle.rules.specs.Reopen.{filesIn, overlapping, notRising, latest, latestFrom, tableOf, reopenTests, mappedInto, recordsFrom, nextAfter, opened, reopenCall, givenUp}
 use Rattle.rules.specs.Settings.{inRanges, heapInRange, sameSettings}
@@ -114,11 +115,12 @@ foreign-clean = record { bytes = all-bytes (foreign .heap) refl; reopens = reope
     at (suc zero) f h = absurd (not-empty h)
     at (suc (suc k)) f h = absurd (not-empty h)
 
--- what ids 3, 4, 5 and 6 read as, and that maintenance stops with 3 and a write with 7
+-- what ids 3, 4, 5 and 6 read as, and that a rewrite of its generation is refused with 3, the nightly job too, and a write with 7
 pub foreign-answers :
     (got (reopenCall foreign .world) 3 ∷ got (reopenCall foreign .world) 4 ∷ got (reopenCall foreign .world) 5 ∷ got (reopenCall foreign .world) 6 ∷ []
     ≡ bytes (0x42 ∷ 0x43 ∷ []) ∷ deleted ∷ bytes (0x44 ∷ []) ∷ never ∷ [])
-    × (maintainCall (reopenCall foreign .world) .answer ≡ maintainGiven (Stopped ObjectSize 3 0))
+    × (rewriteCall (reopenCall foreign .world) 3 3 (markOf (reopenCall foreign .world)) (countOf (reopenCall foreign .world)) .answer ≡ refused ObjectSize)
+    × (nightlyCall (reopenCall foreign .world) 3 .answer ≡ maintainGiven (Stopped ObjectSize 3 0))
     × (writeCall (reopenCall foreign .world) (0x03 ∷ 0x00 ∷ []) .answer ≡ refused PositionsSpent)
-unfolding any zeros keep each sum greatest padded operationAt batchFrom batchIn anyTooLarge outOfRange notTheStates badRecord badFrom conditionOne isEmpty noFiles slotsWhere emptySlots leads leadFrom fileFor fileCount roomTests positionTests labelBytes fiveIn labelIn outOfBounds tableIds tableLocations alternating lengthsInRange formFrom inForm usedIn usedEntries laidOut worthIt cutOff joining splitFrom filesOf objectBytes storedAt objectsOf entriesOf fileBytes joined settled decide filesIn overlapping notRising latest latestFrom tableOf reopenTests mappedInto recordsFrom nextAfter opened reopenCall inRanges heapInRange sameSettings slotTests viewIn viewsIn lookup insert insertAll listed trailerBytes trailerTests entriesFrom entriesIn misplaced tooManyIds writeTests writeCall leBytes leValue groupsOf readGroups numberIn shiftBit shifts crcFrom crc32 objectSum maskedOf digitsIn isClaimed isCandidate group movedTests deleteTests deletesOf fileTests objectsFound deletesFound found groupTests rewriteGroup groupsFrom courseOf maintainCall objectsFrom objectsIn badChecksum objectTests readOf slotBytes givenUp
-foreign-answers = (refl, refl, refl)
+unfolding any zeros keep each sum greatest padded operationAt batchFrom batchIn anyTooLarge outOfRange notTheStates badRecord badFrom conditionOne isEmpty noFiles slotsWhere emptySlots leads leadFrom fileFor fileCount roomTests positionTests labelBytes fiveIn labelIn outOfBounds tableIds tableLocations alternating lengthsInRange formFrom inForm usedIn usedEntries laidOut worthIt cutOff joining splitFrom filesOf objectBytes storedAt objectsOf entriesOf fileBytes joined settled decide filesIn overlapping notRising latest latestFrom tableOf reopenTests mappedInto recordsFrom nextAfter opened reopenCall inRanges heapInRange sameSettings slotTests viewIn viewsIn lookup insert insertAll listed trailerBytes trailerTests entriesFrom entriesIn misplaced tooManyIds writeTests writeCall leBytes leValue groupsOf readGroups numberIn shiftBit shifts crcFrom crc32 objectSum maskedOf digitsIn isClaimed isCandidate group movedTests deleteTests deletesOf fileTests objectsFound deletesFound found groupTests rewriteGroup rewriteTests generationRewritten rewriteOf jobFrom jobOf nightlyCall objectsFrom objectsIn badChecksum objectTests readOf slotBytes givenUp
+foreign-answers = (refl, refl, refl, refl)

@@ -27,13 +27,13 @@ unfolding shapeOf
 returns c = (sym (ap shapeOf (c .enum-told .given .1)), omega arith)
 
 returns-2 : tie.Need-returns-2
-returns-2 c = (shape-told 3 (4 ∷ 12 ∷ 13 ∷ 15 ∷ 21 ∷ 23 ∷ []) (numbers 1) (c .before .args .keyword) (refl, (refl, (refl, (refl, (refl, (refl, (refl, tt))))))) (c .match .keys2), omega arith)
+returns-2 c = (shape-told 3 (4 ∷ 12 ∷ 13 ∷ 15 ∷ 23 ∷ 25 ∷ []) (numbers 1) (c .before .args .keyword) (refl, (refl, (refl, (refl, (refl, (refl, (refl, tt))))))) (c .match .keys2), omega arith)
 
 returns-3 : tie.Need-returns-3
-returns-3 c = (shape-told 24 (26 ∷ 29 ∷ []) (numbers 2) (c .before .args .keyword) (refl, (refl, (refl, tt))) (c .match .keys3), omega arith)
+returns-3 c = (shape-told 26 (28 ∷ 31 ∷ []) (numbers 2) (c .before .args .keyword) (refl, (refl, (refl, tt))) (c .match .keys3), omega arith)
 
 returns-4 : tie.Need-returns-4
-returns-4 c = (shape-told 6 (25 ∷ []) (numbers 3) (c .before .args .keyword) (refl, (refl, tt)) (c .match .keys4), omega arith)
+returns-4 c = (shape-told 6 (18 ∷ 27 ∷ []) (numbers 3) (c .before .args .keyword) (refl, (refl, (refl, tt))) (c .match .keys4), omega arith)
 
 returns-5 : tie.Need-returns-5
 unfolding shapeOf
@@ -55,7 +55,7 @@ unfolding shapeOf
 returns-9 c = (sym (ap shapeOf (c .enum-told5 .given .1)), omega arith)
 
 returns-10 : tie.Need-returns-10
-returns-10 c = (shape-told 0 (1 ∷ 10 ∷ 14 ∷ 17 ∷ 18 ∷ 19 ∷ 20 ∷ 22 ∷ 27 ∷ 28 ∷ 30 ∷ []) (numbers 0) (c .before .args .keyword) (refl, (refl, (refl, (refl, (refl, (refl, (refl, (refl, (refl, (refl, (refl, (refl, tt)))))))))))) (c .match .keys10), omega arith)
+returns-10 c = (shape-told 0 (1 ∷ 10 ∷ 14 ∷ 17 ∷ 19 ∷ 20 ∷ 21 ∷ 22 ∷ 24 ∷ 29 ∷ 30 ∷ 32 ∷ []) (numbers 0) (c .before .args .keyword) (refl, (refl, (refl, (refl, (refl, (refl, (refl, (refl, (refl, (refl, (refl, (refl, (refl, tt))))))))))))) (c .match .keys10), omega arith)
 
 pub shape-of-spec : {M : Type 1} → statement M
 shape-of-spec =

@@ -1,10 +1,10 @@
 use mathlib.Core.Path.{refl, sym, ap, _∙_}
-use mathlib.Core.List.{_++_}
+use mathlib.Core.List.{List, _++_}
 use Prim.Native.Nat.{_*_, zero-le}
 use lib.ListN.{take}
 use Rattle.rules.specs.declared.Record.{Record}
 use Rattle.file_map.proofs.RecordTurns.{mapped-length}
-use Rattle.as_numbers.specs.StateWords.{recordsFrom}
+use Rattle.as_numbers.specs.StateWords.{recordsFrom, stateIn}
 use Rattle.as_numbers.proofs.StateWordTurns.{read-next, read-end}
 use Prim.Native.Nat.{_+_, _≤_, _-_}
 use mathlib.Core.Path.{_≡_}
@@ -62,10 +62,11 @@ loop-again c =
     )
 
 returns : tie.Need-returns Inv-loop μ-loop
+unfolding stateIn
 returns c =
     let l = c .before .loop in
     let ws = c .before .before .before .before .args .words .now in
-    sym (read-end (l .files .records) ws (l .k) (omega arith) (omega arith) (l .inv .1)) ∙ l .inv .2
+    ap (λ (rs : List Record). record { records = rs }) (sym (read-end (l .files .records) ws (l .k) (omega arith) (omega arith) (l .inv .1)) ∙ l .inv .2)
 
 pub files-in-spec : {M : Type 1} → statement M
 files-in-spec =

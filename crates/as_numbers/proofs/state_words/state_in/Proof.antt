@@ -1,4 +1,6 @@
 use Rattle.as_numbers.specs.StateWords.{stateIn}
+use mathlib.Core.Path.{ap}
+use Rattle.rules.specs.declared.FileMap.{FileMap}
 use borrow.Author.Needs.{needs}
 use Rattle.as_numbers.proofs.state_words.state_in.Statement.{statement}
 use Rattle.as_numbers.proofs.state_words.state_in.Tie as tie
@@ -25,7 +27,7 @@ returns : tie.Need-returns
 unfolding stateIn
 returns c =
     let w = c .before .before .before .before in
-    rw (← w .before .settings-in .ensures, ← w .files-in .ensures) (c .state-of .ensures)
+    rw (← w .before .settings-in .ensures, ← ap (λ (m : FileMap). m .records) (w .files-in .ensures)) (c .state-of .ensures)
 
 pub state-in-spec : {M : Type 1} → statement M
 state-in-spec =

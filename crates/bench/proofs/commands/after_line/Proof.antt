@@ -12,6 +12,9 @@ order-of-requires c κs = search needs
 report-words-requires : tie.Need-report-words-requires
 report-words-requires c κs = search needs
 
+plan-words-requires : tie.Need-plan-words-requires
+plan-words-requires c κs = search needs
+
 sub-after-order : tie.Need-sub-after-order
 sub-after-order c = search needs
 
@@ -31,7 +34,10 @@ written-requires : tie.Need-written-requires
 written-requires c κs = search needs
 
 same-length : tie.Need-same-length
-same-length c = search needs
+same-length c =
+    let w = c .before .before .before .before .before .before .before .before .before .before in
+    let o = w .before .before .before .before .before .before .before .before .before .before .before .before in
+    o .order-of .kept .1 .0
 
 same-length-2 : tie.Need-same-length-2
 same-length-2 c = search needs
@@ -41,8 +47,8 @@ same-length-3 c = search needs
 
 returns : tie.Need-returns
 returns c =
-    let w = c .before .before .before .before .before .before .before .before .before in
-    let o = w .before .before .before .before .before .before .before .before .before .before in
+    let w = c .before .before .before .before .before .before .before .before .before .before in
+    let o = w .before .before .before .before .before .before .before .before .before .before .before .before in
     let a = o .before .before .before .before .before .before .args in
     let asked = o .order-of .ensures in
     (ap (λ (x : Outcome). x .desk) (w .after-order .ensures .0) ∙ ran-order (length (a .decoded .now)) (a .line .now) (a .decoded .now) _ _ _ (asked .0) (asked .1 .0), asked .1 .0)
@@ -53,6 +59,7 @@ after-line-spec =
     (tie.spec
     order-of-requires
     report-words-requires
+    plan-words-requires
     sub-after-order
     part-after-order-start
     part-after-order-end

@@ -81,9 +81,23 @@ slice-aggregate-named-13 c = search needs
 named-requires-13 : tie.Need-named-requires-13
 named-requires-13 c κs = search needs
 
+slice-aggregate-named-14 : tie.Need-slice-aggregate-named-14
+slice-aggregate-named-14 c = search needs
+
+named-requires-14 : tie.Need-named-requires-14
+named-requires-14 c κs = search needs
+
+slice-aggregate-named-15 : tie.Need-slice-aggregate-named-15
+slice-aggregate-named-15 c = search needs
+
+named-requires-15 : tie.Need-named-requires-15
+named-requires-15 c κs = search needs
+
 returns : tie.Need-returns
 returns c =
-    let n12 = c .before .before in
+    let n14 = c .before .before in
+    let n13 = n14 .before .before in
+    let n12 = n13 .before .before in
     let n11 = n12 .before .before in
     let n10 = n11 .before .before in
     let n9 = n10 .before .before in
@@ -95,7 +109,7 @@ returns c =
     let n3 = n4 .before .before in
     let n2 = n3 .before .before in
     let n1 = n2 .before .before in
-    name-before _ _ _ _ _ _ (c .named13 .ensures) (name-before _ _ _ _ _ _ (n12 .named12 .ensures) (name-before _ _ _ _ _ _ (n11 .named11 .ensures) (name-before _ _ _ _ _ _ (n10 .named10 .ensures) (name-before _ _ _ _ _ _ (n9 .named9 .ensures) (name-before _ _ _ _ _ _ (n8 .named8 .ensures) (name-before _ _ _ _ _ _ (n7 .named7 .ensures) (name-before _ _ _ _ _ _ (n6 .named6 .ensures) (name-before _ _ _ _ _ _ (n5 .named5 .ensures) (name-before _ _ _ _ _ _ (n4 .named4 .ensures) (name-before _ _ _ _ _ _ (n3 .named3 .ensures) (name-before _ _ _ _ _ _ (n2 .named2 .ensures) (name-before _ _ _ _ _ _ (n1 .named .ensures) (name-end _ _)))))))))))))
+    name-before _ _ _ _ _ _ (c .named15 .ensures) (name-before _ _ _ _ _ _ (n14 .named14 .ensures) (name-before _ _ _ _ _ _ (n13 .named13 .ensures) (name-before _ _ _ _ _ _ (n12 .named12 .ensures) (name-before _ _ _ _ _ _ (n11 .named11 .ensures) (name-before _ _ _ _ _ _ (n10 .named10 .ensures) (name-before _ _ _ _ _ _ (n9 .named9 .ensures) (name-before _ _ _ _ _ _ (n8 .named8 .ensures) (name-before _ _ _ _ _ _ (n7 .named7 .ensures) (name-before _ _ _ _ _ _ (n6 .named6 .ensures) (name-before _ _ _ _ _ _ (n5 .named5 .ensures) (name-before _ _ _ _ _ _ (n4 .named4 .ensures) (name-before _ _ _ _ _ _ (n3 .named3 .ensures) (name-before _ _ _ _ _ _ (n2 .named2 .ensures) (name-before _ _ _ _ _ _ (n1 .named .ensures) (name-end _ _)))))))))))))))
 
 pub call-spec : {M : Type 1} → statement M
 call-spec =
@@ -127,4 +141,8 @@ call-spec =
     named-requires-12
     slice-aggregate-named-13
     named-requires-13
+    slice-aggregate-named-14
+    named-requires-14
+    slice-aggregate-named-15
+    named-requires-15
     returns)

@@ -1,0 +1,6 @@
+pub mod Empties
+pub mod Orders
+pub mod Splits
+pub mod Fitting
+pub mod Decisions
+pub mod Sizes

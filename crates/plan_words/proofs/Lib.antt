@@ -1,0 +1,2 @@
+pub mod GroupTurns
+pub mod Placing
