@@ -1,20 +1,19 @@
--- The call that rewrites one generation: its answer, and what it and its notes come to.
+-- The call that rewrites one generation: its answer, and what it comes to.
 use mathlib.Core.Path.{_≡_, refl, sym, ap, _∙_, subst}
 use mathlib.Core.Logic.{_⊎_, inl, inr}
 use Prim.Native.Nat.{_≤_, _<_}
 use native.Mathlib.Omega.{arith}
-use borrow.Author.Tests.{lt-leb, lt-ltb, le-ltb}
-use Rattle.rules.specs.Base.{Bool, true, false, List, [], ℕ, not, _&&_, within, leb, length}
+use borrow.Author.Tests.{lt-leb}
+use Rattle.rules.specs.Base.{Bool, true, false, [], ℕ, not, _&&_, within, leb}
 use Rattle.rules.specs.declared.Answer.{Answer}
 use Rattle.rules.specs.declared.Answer.the-variants.{Done, Refused}
 use Rattle.rules.specs.declared.RewriteAnswer.{RewriteAnswer}
 use Rattle.rules.specs.declared.RewriteAnswer.the-variants.{Rewrote, RewriteRefused}
 use Rattle.rules.specs.declared.Refusal.the-variants.{Limits, Generation}
 use Rattle.rules.specs.Refusal.{decide-first, decide-next, after-refused}
-use Rattle.rules.specs.Maintenance.{Course, group, rewriteGroup}
+use Rattle.rules.specs.Maintenance.{Course}
 use Rattle.rules.specs.TwoCalls.{refusedNoting, rewriteTests, generationRewritten, rewriteOf, rewriteAnswered, rewriteCall}
-use Rattle.rules.specs.World.{World, recordsOf, After, rewriteGiven, leaving}
-use Rattle.gc_candidates.specs.Plan.{planOf, planned, group-planned}
+use Rattle.rules.specs.World.{World, After, rewriteGiven, leaving}
 use Rattle.gc_course.specs.Own.{OwnStop, own-generation}
 use Rattle.rules.specs.TwoCallsLaws.{rewrite-opens}
 use Rattle.gc_rewrite.specs.Courses.{courseGiven}
@@ -72,19 +71,3 @@ answered-own generation answer moved v w mark count q =
     go : (a : Answer) → OwnStop (courseGiven generation a moved v .stop) → rewriteGiven (answeredOf a moved) .number ≡ 1 → ⊥
     go Done o e = omega arith
     go (Refused r) o e = omega arith
-
--- ---- a generation's group, by the plan that mark and count give
-module _ (w : World) (generation mark count : ℕ) (plan : List ℕ) (p : plan ≡ planOf (w .settings) (w .claims) mark count (recordsOf w)) (low : 0 < generation) where
-  same : group w generation mark count ≡ planned plan generation
-  same = group-planned w generation mark count low ∙ ap (λ (ns : List ℕ). planned ns generation) (sym p)
-
-  -- "a generation that yields no group succeeds with count 0"
-  pub generation-left : length (planned plan generation) < w .settings .«min_compaction_files» → courseGiven generation Done 0 w ≡ generationRewritten w generation mark count
-  unfolding generationRewritten
-  generation-left h = rw (same, lt-ltb (length (planned plan generation)) (w .settings .«min_compaction_files») h) refl
-
-  -- any other is rewritten
-  pub generation-rewritten : w .settings .«min_compaction_files» ≤ length (planned plan generation)
-      → rewriteGroup generation (planned plan generation) 0 w ≡ generationRewritten w generation mark count
-  unfolding generationRewritten
-  generation-rewritten h = rw (same, le-ltb (length (planned plan generation)) (w .settings .«min_compaction_files») h) refl

@@ -1,19 +1,17 @@
--- The contracts of rewrite and nightly, by value and on the state's words, admit one result only.
+-- The contract of rewrite, by value and on the state's words, admits one result only.
 use mathlib.Core.Path.{_≡_, sym, ap, ap₂, _∙_}
 use Rattle.rules.specs.Base.{List, ℕ, length}
 use Rattle.rules.specs.declared.Settings.{Settings}
 use Rattle.rules.specs.declared.State.{State}
 use Rattle.rules.specs.declared.Claims.{Claims}
-use Rattle.rules.specs.declared.MaintainAnswer.{MaintainAnswer}
 use Rattle.rules.specs.declared.RewriteAnswer.{RewriteAnswer}
 use Rattle.rules.specs.Answers as answers
 use Rattle.rules.specs.Layout.{Table}
-use Rattle.rules.specs.TwoCalls.{roomOf, notesLeft, rewriteCall, nightlyCall}
-use Rattle.rules.specs.World.{World, Given, After, world, leaving, maintainGiven, rewriteGiven}
+use Rattle.rules.specs.TwoCalls.{roomOf, notesLeft, rewriteCall}
+use Rattle.rules.specs.World.{World, Given, After, world, leaving, rewriteGiven}
 use Rattle.as_numbers.specs.StateWords.{stateIn}
 use Rattle.as_numbers.specs.StateLaws.{state-one}
 use Rattle.gc_course.specs.declared.Request.{Request}
-use Rattle.gc.specs.declared.Maintained.{Maintained}
 use Rattle.gc.specs.declared.Rewritten.{Rewritten}
 
 -- the buffers that are lent: heap and table, places and pieces
@@ -48,12 +46,8 @@ Leaves a call answer state l =
 abbrev pub Rewrites : Asked → Request → Rewritten → Lent → Type 0
 Rewrites a q r l = Leaves a (rewriteCall (worldOf a) (notesRoom a) (q .generation) (q .mark) (q .count)) (rewriteGiven (r .answer)) (r .state) l
 
--- what the contract of nightly says
-abbrev pub Nightly : Asked → Maintained → Lent → Type 0
-Nightly a r l = Leaves a (nightlyCall (worldOf a) (notesRoom a)) (maintainGiven (r .answer)) (r .state) l
-
 -- answers, states and buffers by one definition are equal
-leaves-one : (a : Asked) (call : After) (x y : Given) (s t : State) (l m : Lent) → Leaves a call x s l → Leaves a call y t m → (x ≡ y) × (s ≡ t) × (l ≡ m)
+pub leaves-one : (a : Asked) (call : After) (x y : Given) (s t : State) (l m : Lent) → Leaves a call x s l → Leaves a call y t m → (x ≡ y) × (s ≡ t) × (l ≡ m)
 leaves-one a call x y s t l m p q =
     let same = p .0 ∙ sym (q .0) in
     let given : x ≡ y = ap (λ (z : After). z .answer) same in
@@ -69,19 +63,9 @@ rewrite-one a q x y l m d e =
     let w = leaves-one a _ _ _ _ _ _ _ d e in
     (ap₂ (λ (z : RewriteAnswer) (t : State). record { answer = z; state = t }) (answers.rewrite-one (x .answer) (y .answer) (w .0)) (w .1), w .2)
 
--- any two that the contract of nightly admits
-pub nightly-one : (a : Asked) (x y : Maintained) (l m : Lent) → Nightly a x l → Nightly a y m → (x ≡ y) × (l ≡ m)
-nightly-one a x y l m d e =
-    let w = leaves-one a _ _ _ _ _ _ _ d e in
-    (ap₂ (λ (z : MaintainAnswer) (t : State). record { answer = z; state = t }) (answers.maintain-one (x .answer) (y .answer) (w .0)) (w .1), w .2)
-
 -- what the contract of rewrite_in says of an answer, the words after it and the buffers
 abbrev pub RewritesIn : Asked → Request → RewriteAnswer → List ℕ → Lent → Type 0
 RewritesIn a q x ws l = Leaves a (rewriteCall (worldOf a) (notesRoom a) (q .generation) (q .mark) (q .count)) (rewriteGiven x) (stateIn ws) l
-
--- what the contract of nightly_in says
-abbrev pub NightlyIn : Asked → MaintainAnswer → List ℕ → Lent → Type 0
-NightlyIn a x ws l = Leaves a (nightlyCall (worldOf a) (notesRoom a)) (maintainGiven x) (stateIn ws) l
 
 -- any two answers, words and buffers that the contract of rewrite_in admits are equal
 pub rewrite-in-one : (a : Asked) (q : Request) (x y : RewriteAnswer) (ws vs : List ℕ) (l m : Lent) → length ws ≡ 1801 → length vs ≡ 1801
@@ -89,10 +73,3 @@ pub rewrite-in-one : (a : Asked) (q : Request) (x y : RewriteAnswer) (ws vs : Li
 rewrite-in-one a q x y ws vs l m p r d e =
     let w = leaves-one a _ _ _ _ _ _ _ d e in
     (answers.rewrite-one x y (w .0), state-one ws vs p r (w .1), w .2)
-
--- any two that the contract of nightly_in admits
-pub nightly-in-one : (a : Asked) (x y : MaintainAnswer) (ws vs : List ℕ) (l m : Lent) → length ws ≡ 1801 → length vs ≡ 1801
-    → NightlyIn a x ws l → NightlyIn a y vs m → (x ≡ y) × (ws ≡ vs) × (l ≡ m)
-nightly-in-one a x y ws vs l m p r d e =
-    let w = leaves-one a _ _ _ _ _ _ _ d e in
-    (answers.maintain-one x y (w .0), state-one ws vs p r (w .1), w .2)

@@ -8,6 +8,7 @@ use gc_decision::empty_slots;
 use rules::Claims;
 use rules::RECORDS;
 use rules::Settings;
+use rules::State;
 ghost use mathlib.Core.Path.{_≡_};
 ghost use lib.ListN.{length};
 ghost use Rattle.rules.specs.SettingsLaws.{InRanges, HeapInRange};
@@ -76,4 +77,11 @@ pub fn empties(settings: Settings, state: &[u64; 1801], heap: &[u8], frees: &mut
 {
     let files = files_in(state);
     empty_slots(settings, files, heap, frees)
+}
+
+// The state that its words hold, for a caller that is not told how many there are after a call.
+pub fn state_held(words: &[u64; 1801]) -> State
+    ensures { λ s. ⌜ s ≡ stateIn (now (words .entry)) ⌝ }
+{
+    state_in(words)
 }

@@ -48,8 +48,8 @@ use Rattle.gc_plan.specs.declared.Planned.{Planned}
 use Rattle.gc_plan.proofs.plan.Reads as plan
 use Rattle.gc.specs.declared.Rewritten.{Rewritten}
 use Rattle.gc.proofs.rewrite.Reads as rewrite
-use Rattle.gc.specs.declared.Maintained.{Maintained}
-use Rattle.gc.proofs.nightly.Reads as nightly
+use Rattle.gc_nightly.specs.declared.Maintained.{Maintained}
+use Rattle.gc_nightly.proofs.nightly.Reads as nightly
 use Rattle.prune.specs.declared.PruneAnswer.{PruneAnswer}
 use Rattle.prune.proofs.prune.Reads as prune
 use Rattle.checker.specs.declared.CheckAnswer.{CheckAnswer}

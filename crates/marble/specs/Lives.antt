@@ -42,7 +42,7 @@ use Rattle.recovery.specs.declared.Reopened.{Reopened}
 use Rattle.writepath.specs.declared.Written.{Written}
 use Rattle.gc_course.specs.declared.Request.{Request}
 use Rattle.gc.specs.declared.Rewritten.{Rewritten}
-use Rattle.gc.specs.declared.Maintained.{Maintained}
+use Rattle.gc_nightly.specs.declared.Maintained.{Maintained}
 use Rattle.marble.specs.Results.{Notes, roomIn, Result, wrote, planned, rewrote, maintained, pruned, claimed, released, reopened, answered, read, answeredThrough, readThrough, counted, unsyncedCounted, synced, checked, left, Admitted, hearing, Event, gave, cut, Happens, next, lives, AllHappen, begun, Lived, reached, since}
 
 -- the bytes that the last operation on an id leaves

@@ -27,7 +27,7 @@ use Rattle.gc_plan.specs.declared.Planned.{Planned}
 use Rattle.gc_plan.specs.Plans.{planGiven}
 use Rattle.gc_plan.specs.Unique.{plan-tells}
 use Rattle.gc.specs.declared.Rewritten.{Rewritten}
-use Rattle.gc.specs.declared.Maintained.{Maintained}
+use Rattle.gc_nightly.specs.declared.Maintained.{Maintained}
 use Rattle.marble.specs.Results.{Notes, roomIn, Result, planned, rewrote, maintained, left, Admitted, gave, Lived, reached}
 use Rattle.marble.specs.Lives.{callsOf, results-called, life-sound}
 

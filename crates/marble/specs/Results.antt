@@ -24,8 +24,9 @@ use Rattle.gc_course.specs.declared.Request.{Request}
 use Rattle.gc_plan.specs.declared.Planned.{Planned}
 use Rattle.gc_plan.specs.Unique.{Plans}
 use Rattle.gc.specs.declared.Rewritten.{Rewritten}
-use Rattle.gc.specs.declared.Maintained.{Maintained}
-use Rattle.gc.specs.Unique.{Lent, Asked, Rewrites, Nightly}
+use Rattle.gc_nightly.specs.declared.Maintained.{Maintained}
+use Rattle.gc.specs.Unique.{Lent, Asked, Rewrites}
+use Rattle.gc_nightly.specs.Unique.{Nightly}
 use Rattle.prune.specs.declared.PruneAnswer.{PruneAnswer}
 use Rattle.prune.specs.CallLaws.{Prunes}
 use Rattle.through.specs.declared.ThroughAnswer.{ThroughAnswer}

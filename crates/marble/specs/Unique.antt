@@ -25,7 +25,8 @@ pub use Rattle.writepath.specs.Unique.{write-one}
 pub use Rattle.readpath.specs.ReadLaws.{read-one, part-one}
 pub use Rattle.through.specs.ThroughLaws.{through-one, through-part-one}
 pub use Rattle.gc_plan.specs.Unique.{plan-one}
-pub use Rattle.gc.specs.Unique.{rewrite-one, nightly-one}
+pub use Rattle.gc.specs.Unique.{rewrite-one}
+pub use Rattle.gc_nightly.specs.Unique.{nightly-one}
 pub use Rattle.prune.specs.CallLaws.{prune-one}
 pub use Rattle.marks_in_place.specs.Unique.{one-count, one-sync}
 pub use Rattle.salvage.specs.Answers.{salvage-one}

@@ -32,14 +32,14 @@ pub use claims::release;
 pub mod in_place;
 
 // Request P7, "Maintenance in two calls": one plans, the other rewrites one named generation; and the nightly job over these and prune.
-pub use gc::Maintained;
 pub use gc::Rewritten;
-pub use gc::nightly;
-pub use gc::nightly_in;
 pub use gc::rewrite;
 pub use gc::rewrite_in;
 pub use gc_course::Halt;
 pub use gc_course::Request;
+pub use gc_nightly::Maintained;
+pub use gc_nightly::nightly;
+pub use gc_nightly::nightly_in;
 pub use gc_plan::PlanValues;
 pub use gc_plan::Planned;
 pub use gc_plan::plan;

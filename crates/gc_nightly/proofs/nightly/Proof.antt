@@ -1,6 +1,6 @@
 use borrow.Author.Needs.{needs}
-use Rattle.gc.proofs.nightly.Statement.{statement}
-use Rattle.gc.proofs.nightly.Tie as tie
+use Rattle.gc_nightly.proofs.nightly.Statement.{statement}
+use Rattle.gc_nightly.proofs.nightly.Tie as tie
 
 slice-aggregate-put-state : tie.Need-slice-aggregate-put-state
 slice-aggregate-put-state c = search needs

@@ -10,9 +10,9 @@ use Rattle.as_numbers.specs.StateWords.{stateIn}
 use Rattle.limits.specs.Settled.{passed-bounded}
 use Rattle.gc_candidates.specs.Plan.{plan-files, plan-length}
 use Rattle.gc_group.specs.Source.{ready}
-use Rattle.gc.specs.Rewrites.{generation-left, generation-rewritten}
-use Rattle.gc.proofs.rewrite_generation.Statement.{statement}
-use Rattle.gc.proofs.rewrite_generation.Tie as tie
+use Rattle.gc_generation.specs.Generations.{generation-left, generation-rewritten}
+use Rattle.gc_generation.proofs.rewrite_generation.Statement.{statement}
+use Rattle.gc_generation.proofs.rewrite_generation.Tie as tie
 
 candidates-in-requires : tie.Need-candidates-in-requires
 candidates-in-requires c κs =

@@ -3,8 +3,8 @@ use borrow.Author.Needs.{needs}
 use Rattle.rules.specs.declared.MaintainAnswer.{MaintainAnswer}
 use Rattle.rules.specs.World.{World, world, maintainGiven, leaving}
 use Rattle.gc_course.specs.RunLaws.{finish-run}
-use Rattle.gc.proofs.finish.Statement.{statement}
-use Rattle.gc.proofs.finish.Tie as tie
+use Rattle.gc_nightly.proofs.finish.Statement.{statement}
+use Rattle.gc_nightly.proofs.finish.Tie as tie
 
 state-in-requires : tie.Need-state-in-requires
 state-in-requires c κs = search needs

@@ -6,9 +6,9 @@ use borrow.Author.Needs.{needs}
 use lib.ListN.{length}
 use Rattle.as_numbers.specs.StateWords.{stateIn}
 use Rattle.limits.specs.Settled.{passed-bounded}
-use Rattle.gc.proofs.Midway.{Midway, midway-start, midway-halted, midway-step, midway-end}
-use Rattle.gc.proofs.rewrites.Statement.{statement}
-use Rattle.gc.proofs.rewrites.Tie as tie
+use Rattle.gc_nightly.proofs.Midway.{Midway, midway-start, midway-halted, midway-step, midway-end}
+use Rattle.gc_nightly.proofs.rewrites.Statement.{statement}
+use Rattle.gc_nightly.proofs.rewrites.Tie as tie
 
 abbrev Inv-loop : tie.InvT-loop
 Inv-loop settings state₀ claims heap₀ table₀ places₀ pieces₀ mark count run₀ generation₀ state heap table places pieces run generation =

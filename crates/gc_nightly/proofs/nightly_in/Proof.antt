@@ -14,8 +14,8 @@ use Rattle.as_numbers.specs.StateWords.{stateIn}
 use Rattle.prune.specs.Labels.{passed-labels}
 use Rattle.gc_notes.specs.Notes.{long-enough, notes-cleared}
 use Rattle.gc_course.specs.RunLaws.{ended-own, nightly-refused, nightly-accepted}
-use Rattle.gc.proofs.nightly_in.Statement.{statement}
-use Rattle.gc.proofs.nightly_in.Tie as tie
+use Rattle.gc_nightly.proofs.nightly_in.Statement.{statement}
+use Rattle.gc_nightly.proofs.nightly_in.Tie as tie
 
 -- the world that the job is given
 abbrev given : tie.Start → World
