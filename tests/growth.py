@@ -1,13 +1,14 @@
 #!/usr/bin/env python3
 """How long the calls of the C library take, and how that grows: growth.py [--table]. tests/c/times.c measures, linked with the archive that is
-compiled here with no proof: processor time of one call, the least of five or more, at each row's sizes; beside it, of a write and a reopening, the same
-work in plain C. Two kinds of figures have a limit:
+compiled here with no proof: processor time of one call, the least of five or more, at each row's sizes; beside it the same work in plain C
+(tests/c/plain.h), which must answer and leave the same. Two kinds of figures have a limit:
 - at twice the size: how many times as long the call takes, worked out from each step to the next size, also where that is tenfold; the greatest;
 - beside rising ids: a write of ids in another order, at its largest size, by one of the same ids rising.
 How many times as long as plain C a call takes is printed and not judged: it is another figure on another processor.
 Fails where a figure is over its limit and NOT_YET has not named it, or where one that NOT_YET names is half as much again as its figure there; as
-others may use the machine, only after that row was measured twice more, the least taken of all. One that NOT_YET names and that is clearly within its limit is told. With --table every figure is
-printed, as a table in Markdown, and nothing is judged: ARCHITECTURE, "What a call costs", has it."""
+others may use the machine, only after that row was measured twice more, the least taken of all. One that NOT_YET names and that is clearly
+within its limit is told. With --table every figure is printed, as a table in Markdown, and nothing is judged: ARCHITECTURE, "What a call costs",
+has it."""
 import math
 import os
 import subprocess
@@ -66,8 +67,7 @@ def measured(*numbers):
         row = rows.setdefault(name, Row(unit))
         row.sizes.append(int(size))
         row.times.append(float(time))
-        if plain:
-            row.plain.append(float(plain))
+        row.plain.append(float(plain))
     return rows
 
 
@@ -125,7 +125,7 @@ def in_words(times):
 
 
 def factors(numbers):
-    return ' / '.join(f'{number:.1f}' if number < 10 else f'{number:,.0f}' for number in numbers) or '–'
+    return ' / '.join(f'{number:.1f}' if number < 10 else f'{number:,.0f}' for number in numbers)
 
 
 def table():
