@@ -174,6 +174,13 @@ static void descending_puts(uint64_t ids) {
     files(ids, 1800, DESCENDING, 1);
 }
 
+/* each id in two files, and no more room in the table than for the ids */
+static void put_twice(uint64_t ids) {
+    fresh(65536, ids);
+    files(ids, 1800, DESCENDING, 1);
+    files(ids, 1800, DESCENDING, 1);
+}
+
 static void check(uint64_t ids) {
     uint64_t n = marble_check(settings, heap, heap_len, table, words, NULL, 0, &answer.word[0]);
     (void)ids;
@@ -371,6 +378,7 @@ static const row rows[] = {
     {"maintenance, table of 65,536", "ids", deleted_from, maintenance, 1, 1, {10000, 20000, 40000}, maintain_plainly},
     {"check, ids ascend from file to file", "ids", ascending_puts, check, 200, 0, {10000, 20000, 40000}, check_plainly},
     {"check, later files have lower ids", "ids", descending_puts, check, 200, 0, {10000, 20000, 40000}, check_plainly},
+    {"check, each id twice, later files have lower ids, table full", "ids", put_twice, check, 200, 0, {10000, 20000, 40000}, check_plainly},
     {"salvage", "ids", ascending_puts, salvage, 200, 0, {10000, 20000, 40000}, salvage_plainly},
     {"read of 64 bytes, full table", "table entries", full_table, read, 1000, 0, {1024, 32768, 65536}, read_plainly},
     {"claim and release, full table", "table entries", full_table, claim_and_release, 1000, 0, {1024, 32768, 65536}, claim_and_release_plainly},
