@@ -1,12 +1,13 @@
 -- The walk over the operations that count: what of them is still to come.
 use mathlib.Core.Path.{_≡_}
 use mathlib.Core.List.{List, [], _∷_}
-use Prim.Native.Nat.{ℕ, suc, _+_, _-_, _≤_}
+use mathlib.Core.Logic.{_⊎_}
+use Prim.Native.Nat.{ℕ, suc, _+_, _-_, _≤_, _<_}
 use lib.Dec.{eqb}
-use lib.ListN.{length, drop}
+use lib.ListN.{length, drop, getD}
 use Rattle.numbers.specs.Choice.{pick}
 use Rattle.rules.specs.Batch.{Parsed, parsed, malformed, operationAt}
-use Rattle.rules.specs.Layout.{Table, tableLocations}
+use Rattle.rules.specs.Layout.{Table, tableLocations, capacityOf}
 use Rattle.rules.specs.Ops.{Op, settled}
 use Rattle.batch.specs.Reading.{opIn, opsFrom, opsIn}
 use Rattle.batch.specs.Order.{fromId}
@@ -41,9 +42,16 @@ left s order (InOrder at) = opsFrom s at
 left s order All = byId s 0
 left s order (Listed k passed) = listedFrom s passed (drop k (tableLocations order))
 
--- where a walk begins: all that count are still to come, whatever is in the order
-abbrev pub Begins : List ℕ → Cursor → Type 0
-Begins s cursor = (order : Table) → left s order cursor ≡ settled (opsIn s)
+-- from here on no step changes the order: ids ascend, or its last place is not used, and the walk ends before it
+abbrev pub Keeps : Table → Cursor → Type 0
+Keeps order (InOrder at) = Unit {0}
+Keeps order All = ⊥
+Keeps order (Listed k passed) = (k < capacityOf order) × (getD (tableLocations order) (capacityOf order - 1) 0 ≡ 0)
+
+-- where each walk begins: all that count are still to come, and so they are behind a walk
+pub record Begins (s : List ℕ) (order : Table) (cursor : Cursor) : Type 0 where
+  pub all : left s order cursor ≡ settled (opsIn s)
+  pub again : (cursor ≡ All) ⊎ Keeps order cursor
 
 -- a step: the next operation, then what is left
 abbrev pub stepIn : List ℕ → Table → Step → List Op
@@ -54,3 +62,8 @@ stepIn s order End = []
 abbrev pub StepInside : List ℕ → Step → Type 0
 StepInside s (Next o cursor) = o .start + o .len ≤ length s
 StepInside s End = Unit {0}
+
+-- the order is as it was, and stays so
+abbrev pub Kept : Table → Table → Step → Type 0
+Kept order after (Next o cursor) = (after ≡ order) × Keeps after cursor
+Kept order after End = after ≡ order

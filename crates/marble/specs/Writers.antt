@@ -15,6 +15,7 @@ use Rattle.rules.specs.Stores.{Store, made}
 use Rattle.rules.specs.World.{World}
 use Rattle.stores.specs.Runs.{Made, made-then, made-none}
 use Rattle.batch.specs.Reading.{opsIn}
+use Rattle.batch.specs.declared.Cursor.{Cursor}
 use Rattle.batch_file.proofs.«write_file».Reads as batchFile
 use Rattle.gc_files.specs.Places.{filedOps}
 use Rattle.gc_writer.specs.declared.PieceFile.{PieceFile}
@@ -30,10 +31,10 @@ use Rattle.marble.specs.Lives.{life-survives}
 
 -- ---- the three contracts: of the run of its job each makes the first k stores
 -- `batch_file::write_file`: a batch's file
-pub write-file-contract : (κs : Lfts 2) (heap batch : Lent) (start : ℕ) (new : Label) (count total k rest : ℕ) (heap′ : Lent)
-    → batchFile.Learnt κs (heap, (start, (batch, (new, (count, (total, (k, tt))))))) rest (heap′, (start, (batch, (new, (count, (total, (k, tt)))))))
+pub write-file-contract : (κs : Lfts 3) (heap order batch : Lent) (start : ℕ) (begin : Cursor) (new : Label) (k rest : ℕ) (heap′ order′ : Lent)
+    → batchFile.Learnt κs (heap, (start, (order, (batch, (begin, (new, (k, tt))))))) rest (heap′, (start, (order′, (batch, (begin, (new, (k, tt)))))))
     ≡ Made k (jobRun (file start new (settled (opsIn (now batch))))) (now heap) (now heap′) rest
-write-file-contract κs heap batch start new count total k rest heap′ = refl
+write-file-contract κs heap order batch start begin new k rest heap′ order′ = refl
 
 -- `gc_writer::write_piece`: a file that maintenance rewrites, its operations where their objects stand in the heap
 pub write-piece-contract : (κs : Lfts 4) (heap table places pieces : Lent) (f : PieceFile) (new : Label) (k rest : ℕ) (heap′ : Lent)
