@@ -127,7 +127,7 @@ extern "C" {
 /* ---- stack: bytes below the caller that each call was never seen to pass in the tests (tests/c fails where one does). Measured on x86-64,
    not proved; what interrupts take comes on top. */
 #define MARBLE_STACK_REOPEN 59392
-#define MARBLE_STACK_WRITE 70656
+#define MARBLE_STACK_WRITE 62464
 #define MARBLE_STACK_READ 18432
 #define MARBLE_STACK_READ_THROUGH 18432
 #define MARBLE_STACK_CLAIM 15360

@@ -80,7 +80,7 @@ fn put_objects(
     count: u64,
     left: u64,
 ) -> Objects
-    requires { ⌜ (length (now order) ≡ 2048)
+    requires { ⌜ (length (now order) ≡ 1024)
         × Begins (now batch) (now order) begin
         × (count ≡ length (settled (opsIn (now batch))))
         × (length (objectsOf (settled (opsIn (now batch)))) ≤ length (now file))
@@ -118,7 +118,7 @@ fn put_entries(
     begin: Cursor,
     left: u64,
 ) -> u64
-    requires { ⌜ (length (now order) ≡ 2048)
+    requires { ⌜ (length (now order) ≡ 1024)
         × Begins (now batch) (now order) begin
         × (at + 16 * length (settled (opsIn (now batch))) ≤ length (now file))
         × (length (objectsOf (settled (opsIn (now batch)))) < 2 ^ 62) ⌝ }
@@ -152,7 +152,7 @@ fn put_trailer(
     count: u64,
     left: u64,
 ) -> u64
-    requires { ⌜ (length (now order) ≡ 2048)
+    requires { ⌜ (length (now order) ≡ 1024)
         × Begins (now batch) (now order) begin
         × (checksum ≡ crc32 (listed (entriesOf 0 (settled (opsIn (now batch))))))
         × (count ≡ length (settled (opsIn (now batch))))
@@ -175,7 +175,7 @@ fn put_file(
     total: u64,
     left: u64,
 ) -> u64
-    requires { ⌜ (length (now order) ≡ 2048) × Begins (now batch) (now order) begin ⌝ }
+    requires { ⌜ (length (now order) ≡ 1024) × Begins (now batch) (now order) begin ⌝ }
     requires { ⌜ Sized (now batch) count total ⌝ }
     requires { ⌜ length (fileBytes (settled (opsIn (now batch)))) ≤ length (now file) ⌝ }
     ensures { λ r. ⌜ Made left (storesOf 0 (fileBytes (settled (opsIn (now (batch .entry)))))) (now (file .entry)) (now (file .exit)) r ⌝ }
@@ -203,7 +203,7 @@ pub fn write_file(
     new: Label,
     k: u64,
 ) -> u64
-    requires { ⌜ (length (now order) ≡ 2048) × Begins (now batch) (now order) begin ⌝ }
+    requires { ⌜ (length (now order) ≡ 1024) × Begins (now batch) (now order) begin ⌝ }
     requires { ⌜ Sized (now batch) (new .«present_objects») (new .«trailer_offset») ⌝ }
     requires { ⌜ start + (64 + length (fileBytes (settled (opsIn (now batch))))) ≤ length (now heap) ⌝ }
     ensures { λ r. ⌜ Made k (fileStores start (labelBytes new) (fileBytes (settled (opsIn (now (batch .entry))))))

@@ -43,7 +43,7 @@ pub enum Sizing {
 
 // Refusal 4, and what 5 to 7 are asked by, in one walk: an operation more is held against what those before it leave of the slot.
 fn sizes(table: &[u64], order: &mut [u64], batch: &[u8], begin: Cursor, slot_bytes: u64) -> Sizing
-    requires { ⌜ Formed (now table) × (length (now order) ≡ 2048) × Begins (now batch) (now order) begin ⌝ }
+    requires { ⌜ Formed (now table) × (length (now order) ≡ 1024) × Begins (now batch) (now order) begin ⌝ }
     ensures sizes { λ r. ⌜ r ≡ sizesOf «slot_bytes» (usedEntries (now (table .entry))) (settled (opsIn (now (batch .entry)))) ⌝ }
     ensures again { λ _. ⌜ Begins (now (batch .entry)) (now (order .exit)) begin ⌝ }
 {
@@ -90,7 +90,7 @@ fn room(
     begin: Cursor,
 ) -> Decision
     requires { ⌜ Parsed settings (stateOf rest files) (now heap) (now table) (now batch) ⌝ }
-    requires { ⌜ (length (now order) ≡ 2048) × Begins (now batch) (now order) begin ⌝ }
+    requires { ⌜ (length (now order) ≡ 1024) × Begins (now batch) (now order) begin ⌝ }
     ensures decides { λ r. ⌜ ((c : Claims) → r ≡ decisionOf
         (world settings (stateOf rest files) c (now (heap .entry)) (now (table .entry)))
         (now (batch .entry))) ⌝ }
@@ -126,7 +126,7 @@ pub fn decided(
     batch: &[u8],
     begin: Cursor,
 ) -> Decision
-    requires { ⌜ (length (now order) ≡ 2048) × Begins (now batch) (now order) begin ⌝ }
+    requires { ⌜ (length (now order) ≡ 1024) × Begins (now batch) (now order) begin ⌝ }
     ensures decides { λ r. ⌜ ((c : Claims) → r ≡ decisionOf
         (world settings state c (now (heap .entry)) (now (table .entry)))
         (now (batch .entry))) ⌝ }

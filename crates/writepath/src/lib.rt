@@ -48,7 +48,7 @@ fn put_file(
     begin: Cursor,
     new: Label,
 )
-    requires { ⌜ (length (now order) ≡ 2048) × Begins (now batch) (now order) begin ⌝ }
+    requires { ⌜ (length (now order) ≡ 1024) × Begins (now batch) (now order) begin ⌝ }
     requires { ⌜ Sized (now batch) (new .«present_objects») (new .«trailer_offset») ⌝ }
     requires { ⌜ start + (64 + length (fileBytes (settled (opsIn (now batch))))) ≤ length (now heap) ⌝ }
     ensures { λ _. ⌜ now (heap .exit)
@@ -76,7 +76,7 @@ fn add_file(
     begin: Cursor,
     file: NewFile,
 ) -> State
-    requires { ⌜ (length (now order) ≡ 2048) × Begins (now batch) (now order) begin ⌝ }
+    requires { ⌜ (length (now order) ≡ 1024) × Begins (now batch) (now order) begin ⌝ }
     requires { ⌜ Filed settings state (now heap) (now table) (now batch) (file .slot) (file .count) (file .total) ⌝ }
     ensures { λ r. ⌜ ((c : Claims) → world settings r c (now (heap .exit)) (now (table .exit))
         ≡ installed (2 ^ 62) 0 (world settings state c (now (heap .entry)) (now (table .entry)))
@@ -110,7 +110,7 @@ pub fn write(
         ≡ writeCall (world settings state c (now (heap .entry)) (now (table .entry)))
         (now (batch .entry))) ⌝ }
 {
-    let mut order = [0u64; batch::ORDER_WORDS];
+    let mut order = [0u64; batch::ORDER_PLACES];
     let begin = batch::start(&mut order, batch);
     match write_decision::decided(settings, state, heap, table, &mut order, batch, begin) {
         Decision::Refused(r) => Written {

@@ -13,7 +13,7 @@ use Rattle.batch_file.proofs.put_entries.Tie as tie
 
 abbrev Inv-loop : tie.InvT-loop
 Inv-loop file₀ at order₀ batch left₀ rest₀ place₀ position₀ cursor₀ file order rest place position cursor =
-    (length order ≡ 2048) × Putting entriesFrom left₀ at (settled (opsIn batch)) file₀ rest place position (left batch order cursor) file
+    (length order ≡ 1024) × Putting entriesFrom left₀ at (settled (opsIn batch)) file₀ rest place position (left batch order cursor) file
 
 abbrev μ-loop : tie.MeasureT-loop
 μ-loop file₀ at order₀ batch left₀ rest₀ place₀ position₀ cursor₀ file order rest place position cursor = length (left batch order cursor)

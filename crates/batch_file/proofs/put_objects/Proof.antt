@@ -14,7 +14,7 @@ use Rattle.batch_file.proofs.put_objects.Tie as tie
 abbrev Inv-loop : tie.InvT-loop
 Inv-loop file₀ order₀ batch count left₀ register₀ rest₀ position₀ cursor₀ file order register rest position cursor =
     Underway batch cursor₀ order cursor
-    × (length order ≡ 2048)
+    × (length order ≡ 1024)
     × Summing (settled (opsIn batch)) (left batch order cursor) register position
     × Putting objectsFrom left₀ 0 (settled (opsIn batch)) file₀ rest position position (left batch order cursor) file
 

@@ -21,7 +21,7 @@ use Rattle.write_decision.proofs.sizes.Tie as tie
 abbrev Inv-loop : tie.InvT-loop
 Inv-loop table order₀ batch slot-bytes count₀ total₀ new₀ cursor₀ order count total new cursor =
     Underway batch cursor₀ order cursor
-    × (length order ≡ 2048)
+    × (length order ≡ 1024)
     × (count + length (left batch order cursor) ≡ length (settled (opsIn batch)))
     × (total + length (objectsOf (left batch order cursor)) ≡ length (objectsOf (settled (opsIn batch))))
     × (new + newIds (usedEntries table) (idsOf (left batch order cursor)) ≡ newIds (usedEntries table) (idsOf (settled (opsIn batch))))
