@@ -31,8 +31,6 @@ NOT_YET = {
     ('write, held ids in any order, table of 1,024', TWICE): 3.7,
     ('write, held ids falling, table of 1,024', TWICE): 3.6,
     ('write, held ids falling, table of 1,024', RISING): 5.1,
-    ('check, ids ascend from file to file', TWICE): 2.9,
-    ('check, later files have lower ids', TWICE): 3.7,
 }
 
 
