@@ -33,17 +33,17 @@ at-once (suc k) (b ∷ s) r h fit =
     ∙ sym (shifts-then 8 (8 * k) (bitXor x (v * 2 ^ 8)))
     ∙ ap₂ shifts eight-more (byte-beside r b v (h 0))
 
--- eight bytes of a list
-pub eight-turn : (s : List ℕ) (i x : ℕ) → Bytes s → i + 8 ≤ length s
-    → crcFrom (shifts 64 (bitXor x (leValue (take 8 (drop i s))))) (drop (i + 8) s) ≡ crcFrom x (drop i s)
-eight-turn s i x h fit =
+-- k bytes of a list
+pub bytes-turn : (k : ℕ) (s : List ℕ) (i x : ℕ) → Bytes s → i + k ≤ length s
+    → crcFrom (shifts (8 * k) (bitXor x (leValue (take k (drop i s))))) (drop (i + k) s) ≡ crcFrom x (drop i s)
+bytes-turn k s i x h fit =
     let next = drop i s in
     let bytes : Bytes next = λ j. rw (getD-drop i s j 0) (h (i + j)) in
-    let long : 8 ≤ length next = omega (arith, length-drop i s) in
-    ap (λ (y : ℕ). crcFrom y (drop (i + 8) s)) (sym (at-once 8 next x bytes long))
-    ∙ ap (crcFrom (crcFrom x (take 8 next))) (sym (drop-drop 8 i s))
-    ∙ sym (crc-append x (take 8 next) (drop 8 next))
-    ∙ ap (crcFrom x) (take-append-drop 8 next)
+    let long : k ≤ length next = omega (arith, length-drop i s) in
+    ap (λ (y : ℕ). crcFrom y (drop (i + k) s)) (sym (at-once k next x bytes long))
+    ∙ ap (crcFrom (crcFrom x (take k next))) (sym (drop-drop k i s))
+    ∙ sym (crc-append x (take k next) (drop k next))
+    ∙ ap (crcFrom x) (take-append-drop k next)
 
 -- eight bytes of a number
 pub eight-number : (r v : ℕ) → v < 2 ^ 64 → shifts 64 (bitXor r v) ≡ crcFrom r (leBytes 8 v)

@@ -12,7 +12,7 @@ mod table;
 const START: u32 = 0xffff_ffff;
 
 // Four bytes out: what a table says of each half byte, and what stands above them.
-fn four(w: u64) -> u32
+fn out(w: u64) -> u32
     ensures { λ x. ⌜ x ≡ shifts 32 w ⌝ }
 {
     table::shifts_32(w)
@@ -26,11 +26,18 @@ fn four(w: u64) -> u32
         ^ ((w >> 32) as u32)
 }
 
+// The register after four bytes, which say v, and what stands above them.
+fn four(r: u32, v: u64) -> u32
+    ensures { λ x. ⌜ x ≡ shifts 32 (bitXor r v) ⌝ }
+{
+    out((r as u64) ^ v)
+}
+
 // The register after eight bytes, which say v.
 fn eight(r: u32, v: u64) -> u32
     ensures { λ x. ⌜ x ≡ shifts 64 (bitXor r v) ⌝ }
 {
-    four(four((r as u64) ^ v) as u64)
+    out(four(r, v) as u64)
 }
 
 // The register after one byte.
@@ -50,6 +57,10 @@ pub fn feed(r: u32, s: &[u8]) -> u32
     while 8 <= s.len() - i {
         x = eight(x, little_endian::get(&s[i..], 8));
         i += 8;
+    }
+    if 4 <= s.len() - i {
+        x = four(x, little_endian::get(&s[i..], 4));
+        i += 4;
     }
     while i < s.len() {
         x = one(x, s[i]);

@@ -9,16 +9,16 @@ use Rattle.checksum.proofs.eight.Tie as tie
 four-requires : tie.Need-four-requires
 four-requires c κs = search needs
 
-cast-four : tie.Need-cast-four
-cast-four c = search needs
+cast-out : tie.Need-cast-out
+cast-out c = search needs
 
-four-requires-2 : tie.Need-four-requires-2
-four-requires-2 c κs = search needs
+out-requires : tie.Need-out-requires
+out-requires c κs = search needs
 
 returns : tie.Need-returns
 returns c =
     let a = c .before .before .args in
-    c .four2 .ensures ∙ ap (shifts 32) (c .before .four .ensures) ∙ sym (shifts-then 32 32 (bitXor (a .r) (a .v)))
+    c .out .ensures ∙ ap (shifts 32) (c .before .four .ensures) ∙ sym (shifts-then 32 32 (bitXor (a .r) (a .v)))
 
 pub eight-spec : {M : Type 1} → statement M
-eight-spec = tie.close (tie.spec four-requires cast-four four-requires-2 returns)
+eight-spec = tie.close (tie.spec four-requires cast-out out-requires returns)

@@ -3,8 +3,8 @@ use Prim.Native.Nat.{ℕ, _/_, _^_}
 use lib.Bits.{bitXor}
 use borrow.Author.Needs.{needs}
 use Rattle.checksum.proofs.Linear.{halves-out}
-use Rattle.checksum.proofs.four.Statement.{statement}
-use Rattle.checksum.proofs.four.Tie as tie
+use Rattle.checksum.proofs.out.Statement.{statement}
+use Rattle.checksum.proofs.out.Tie as tie
 
 shifts-32-requires : tie.Need-shifts-32-requires
 shifts-32-requires c κs = search needs
@@ -49,8 +49,8 @@ returns c =
     let eight = ap₂ bitXor (ap₂ bitXor six (c8 .shifts-8 .ensures)) (c .shifts-4 .ensures) in
     ap (λ (x : ℕ). bitXor x (w / 2 ^ 32)) eight ∙ halves-out 7 w
 
-pub four-spec : {M : Type 1} → statement M
-four-spec =
+pub out-spec : {M : Type 1} → statement M
+out-spec =
     tie.close
     (tie.spec
     shifts-32-requires
