@@ -5,9 +5,8 @@ use Prim.Native.Nat.{_≤_, _<_}
 use native.Mathlib.Omega.{arith}
 use borrow.Author.Tests.{eq-eqb, ne-eqb}
 use lib.ListN.{length-append}
-use lib.Seq.{getD-drop}
 use Rattle.numbers.specs.LittleEndian.{leBytes, le-length}
-use Rattle.rules.specs.Base.{true, false, List, _++_, ℕ, _+_, _*_, _^_, length, getD, drop, eqb, pick}
+use Rattle.rules.specs.Base.{true, false, List, _++_, ℕ, _+_, _-_, _*_, _^_, length, getD, eqb, pick}
 use Rattle.rules.specs.BaseLaws.{same?}
 use Rattle.rules.specs.Ops.{objectsOf, fileBytes}
 use Rattle.rules.specs.OpsLaws.{file-length}
@@ -15,42 +14,46 @@ use Rattle.rules.specs.Stores.{storesOf}
 use Rattle.stores.specs.Runs.{Made}
 use Rattle.batch.specs.declared.Operation.{Operation}
 use Rattle.batch.specs.Sizes.{sizeIn}
-use Rattle.gc_files.specs.Places.{lengthAt, movingAt, filedOps, Whole}
-use Rattle.gc_writer.specs.Elsewhere.{Elsewhere, Off, Apart, apart-elsewhere, made-elsewhere, among-stores, filed-elsewhere}
-use Rattle.gc_writer.specs.Walk.{filedFrom, Walking, Turned}
+use Rattle.gc_files.specs.Places.{lengthAt, movingAt, Whole}
+use Rattle.gc_chains.specs.Chains.{chainOps, Leads, Chained}
+use Rattle.gc_writer.specs.Elsewhere.{Elsewhere, Off, Apart, apart-elsewhere, made-elsewhere, among-stores, chain-elsewhere}
+use Rattle.gc_writer.specs.Walk.{Walking, Turned}
 
 -- n bytes of the heap from `at` on, off every object that is moved
-pub record Free (at n : ℕ) (heap ids places pieces : List ℕ) : Type 0 where
+pub record Free (at n : ℕ) (heap ids places links : List ℕ) : Type 0 where
   pub wide : length ids ≤ length places
-  pub numbered : length ids ≤ length pieces
+  pub linked : length ids ≤ length links
+  pub chained : Chained (length ids) places links
   pub apart : Apart at n heap places
   pub inside : at + n ≤ length heap
 
 -- the slot of a piece: its file and its label fit, and no object that is moved lies in it
-pub record Writing (start size : ℕ) (heap ids places pieces : List ℕ) (piece count total : ℕ) : Type 0 where
+pub record Writing (start size : ℕ) (heap ids places links : List ℕ) (first count total : ℕ) : Type 0 where
   pub wide : length ids ≤ length places
-  pub numbered : length ids ≤ length pieces
+  pub linked : length ids ≤ length links
+  pub chained : Chained (length ids) places links
   pub apart : Apart start size heap places
-  pub entries : count ≡ length (filedOps piece heap ids places pieces)
-  pub objects : total ≡ length (objectsOf (filedOps piece heap ids places pieces))
+  pub leads : Leads (length ids) places 0 first
+  pub entries : count ≡ length (chainOps first heap ids places links)
+  pub objects : total ≡ length (objectsOf (chainOps first heap ids places links))
   pub inside : start + size ≤ length heap
-  pub room : 64 + length (fileBytes (filedOps piece heap ids places pieces)) ≤ size
+  pub room : 64 + length (fileBytes (chainOps first heap ids places links)) ≤ size
   pub small : size ≤ 2 ^ 20
 
 -- ---- the bytes are free still
-module _ {at n : ℕ} {heap ids places pieces : List ℕ} (free : Free at n heap ids places pieces) where
-  pub free-walking : Walking heap ids places pieces
-  free-walking = record { wide = free .wide; numbered = free .numbered; standing = λ i h. free .apart i h .0 }
+module _ {at n : ℕ} {heap ids places links : List ℕ} (free : Free at n heap ids places links) where
+  pub free-walking : Walking heap ids places links
+  free-walking = record { wide = free .wide; linked = free .linked; chained = free .chained; standing = λ i h. free .apart i h .0 }
 
   -- after stores among them
-  pub free-elsewhere : {after : List ℕ} → Elsewhere at n heap after → Free at n after ids places pieces
+  pub free-elsewhere : {after : List ℕ} → Elsewhere at n heap after → Free at n after ids places links
   free-elsewhere e =
-      record { wide = free .wide; numbered = free .numbered; apart = apart-elsewhere e places (free .apart); inside = omega (arith, e .long, free .inside) }
+      record { wide = free .wide; linked = free .linked; chained = free .chained; apart = apart-elsewhere e places (free .apart); inside = omega (arith, e .long, free .inside) }
 
   -- and a part of them is
-  pub free-part : (to m : ℕ) → at ≤ to → to + m ≤ at + n → Free to m heap ids places pieces
+  pub free-part : (to m : ℕ) → at ≤ to → to + m ≤ at + n → Free to m heap ids places links
   free-part to m low high =
-      record { wide = free .wide; numbered = free .numbered; apart = λ i h. (free .apart i h .0, go i (free .apart i h .1)); inside = omega (arith, free .inside) }
+      record { wide = free .wide; linked = free .linked; chained = free .chained; apart = λ i h. (free .apart i h .0, go i (free .apart i h .1)); inside = omega (arith, free .inside) }
     where
       go : (i : ℕ) → Off at n heap (getD places i 0) → Off to m heap (getD places i 0)
       go i (inl h) = inl (omega arith)
@@ -58,11 +61,11 @@ module _ {at n : ℕ} {heap ids places pieces : List ℕ} (free : Free at n heap
 
   -- stores among them leave the bytes free, and the operations that are left
   pub free-put : (to : ℕ) (bytes : List ℕ) {k left : ℕ} {after : List ℕ} → at ≤ to → to + length bytes ≤ at + n → Made k (storesOf to bytes) heap after left
-      → Free at n after ids places pieces × ((piece i : ℕ) → filedFrom piece after ids places pieces i ≡ filedFrom piece heap ids places pieces i)
+      → Free at n after ids places links × ((first : ℕ) → chainOps first after ids places links ≡ chainOps first heap ids places links)
   free-put to bytes low high put =
       let away = made-elsewhere at n (among-stores at n to bytes low high) put in (
         free-elsewhere away,
-        λ piece i. filed-elsewhere away piece (drop i ids) (drop i places) (drop i pieces) (λ j. rw (getD-drop i places j 0) (free .apart (i + j))),
+        λ first. chain-elsewhere away first ids places links (free .apart),
       )
 
 -- an object goes to free bytes, off its body
@@ -83,10 +86,10 @@ moving-off at n heap id place to some apart low high = go (same? place 1) high
     go (inl one) fit = rw (eq-eqb place 1 one) (inr (omega arith))
     go (inr other) fit = let there = rw (ne-eqb place 1 other) at fit in rw (ne-eqb place 1 other) (off (apart (omega (arith, other)) .1) there)
 
-pub turned-off : {at n : ℕ} {heap ids places pieces : List ℕ} {piece i : ℕ} {o : Operation} {size next : ℕ} → Free at n heap ids places pieces
-    → Turned piece heap ids places pieces i o size next → (to : ℕ) → at ≤ to → to + sizeIn o ≤ at + n → (to + sizeIn o ≤ o .start) ⊎ (o .start + o .len ≤ to)
+pub turned-off : {at n : ℕ} {heap ids places links : List ℕ} {i : ℕ} {o : Operation} {size next : ℕ} → Free at n heap ids places links
+    → Turned heap ids places links i o size next → (to : ℕ) → at ≤ to → to + sizeIn o ≤ at + n → (to + sizeIn o ≤ o .start) ⊎ (o .start + o .len ≤ to)
 turned-off {at} {n} {heap} {ids} {places} {i = i} free t to low high =
-    rw (t .is) (moving-off at n heap (getD ids i 0) (getD places i 0) to (t .some) (free .apart i) low (rw (t .is) at high))
+    rw (t .is) (moving-off at n heap (getD ids (i - 1) 0) (getD places (i - 1) 0) to (t .some) (free .apart (i - 1)) low (rw (t .is) at high))
 
 -- ---- writers that leave what is moved
 -- the head of a trailer
@@ -97,17 +100,17 @@ head-elsewhere at n sum count room made =
     let twelve : length head ≡ 12 = simp (length-append, le-length) in
     made-elsewhere at n (among-stores at n at head (omega arith) (omega (arith, twelve))) made
 
-module _ {start size : ℕ} {heap ids places pieces : List ℕ} {piece count total : ℕ} (w : Writing start size heap ids places pieces piece count total) where
+module _ {start size : ℕ} {heap ids places links : List ℕ} {first count total : ℕ} (w : Writing start size heap ids places links first count total) where
   -- the slot is free
-  pub writing-free : Free start size heap ids places pieces
-  writing-free = record { wide = w .wide; numbered = w .numbered; apart = w .apart; inside = w .inside }
+  pub writing-free : Free start size heap ids places links
+  writing-free = record { wide = w .wide; linked = w .linked; chained = w .chained; apart = w .apart; inside = w .inside }
 
   -- label, objects and trailer fit
   pub writing-room : 64 + (total + (12 + 16 * count)) ≤ size
-  writing-room = omega (arith, w .room, w .entries, w .objects, file-length (filedOps piece heap ids places pieces))
+  writing-room = omega (arith, w .room, w .entries, w .objects, file-length (chainOps first heap ids places links))
 
   -- the objects
-  pub objects-elsewhere : {k left : ℕ} {after : List ℕ} → Made k (storesOf (start + 64) (objectsOf (filedOps piece heap ids places pieces))) heap after left
+  pub objects-elsewhere : {k left : ℕ} {after : List ℕ} → Made k (storesOf (start + 64) (objectsOf (chainOps first heap ids places links))) heap after left
       → Elsewhere start size heap after
   objects-elsewhere made =
       made-elsewhere start size (among-stores start size (start + 64) _ (omega arith) (omega (arith, w .objects, writing-room))) made
