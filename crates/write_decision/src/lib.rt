@@ -6,6 +6,8 @@ use limits::Rest;
 use limits::bad_files;
 use limits::refused_apart;
 use limits::rest_of;
+use location_table::find_near;
+use location_table::number_of;
 use new_file::spent;
 use new_file::too_large;
 use rules::Answer;
@@ -13,6 +15,7 @@ use rules::FileMap;
 use rules::Refusal;
 use rules::Settings;
 use rules::State;
+use table_merge::new_at;
 ghost use mathlib.Core.Path.{_≡_};
 ghost use Prim.Native.Nat.{_+_, _<_, _^_};
 ghost use lib.ListN.{length};
@@ -53,6 +56,7 @@ fn sizes(table: &[u64], order: &mut [u64], batch: &[u8], begin: Cursor, slot_byt
     let mut count: u64 = 0;
     let mut total: u64 = 0;
     let mut new: u64 = 0;
+    let mut near: usize = 0;
     let mut cursor = begin;
     loop {
         let Step::Next(o, after) = batch::next(order, batch, cursor) else {
@@ -62,7 +66,9 @@ fn sizes(table: &[u64], order: &mut [u64], batch: &[u8], begin: Cursor, slot_byt
         if too_large(slot_bytes - total, size, count + 1) {
             return Sizing::TooLarge;
         }
-        new += table_merge::is_new(table, o.id);
+        let place = find_near(table, o.id, near);
+        new += new_at(place);
+        near = number_of(place);
         total += size;
         count += 1;
         cursor = after;

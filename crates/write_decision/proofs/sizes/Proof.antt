@@ -8,18 +8,19 @@ use lib.ListN.{length}
 use Rattle.rules.specs.Layout.{usedEntries}
 use Rattle.rules.specs.Table.{lookup}
 use Rattle.rules.specs.Ops.{Op, objectsOf, settled}
+use Rattle.location_table.specs.LayoutLaws.{used-rising}
 use Rattle.batch.specs.Reading.{opsIn}
 use Rattle.batch.specs.Walk.{left}
 use Rattle.batch.specs.WalkLaws.{stepped, stepped-end, Underway, walk-start, walk-next, walk-end}
 use Rattle.batch.specs.SizeLaws.{total-next, total-end}
-use Rattle.table_merge.specs.NewIds.{newIds, new-next, new-end, new-one}
+use Rattle.table_merge.specs.NewIds.{newAt, isNew, newIds, new-at, new-next, new-end, new-one}
 use Rattle.write_decision.specs.NewIds.{idsOf}
 use Rattle.write_decision.specs.SizeLaws.{sizes-fit, sizes-large}
 use Rattle.write_decision.proofs.sizes.Statement.{statement}
 use Rattle.write_decision.proofs.sizes.Tie as tie
 
 abbrev Inv-loop : tie.InvT-loop
-Inv-loop table order₀ batch slot-bytes count₀ total₀ new₀ cursor₀ order count total new cursor =
+Inv-loop table order₀ batch slot-bytes count₀ total₀ new₀ near₀ cursor₀ order count total new near cursor =
     Underway batch cursor₀ order cursor
     × (length order ≡ 1024)
     × (count + length (left batch order cursor) ≡ length (settled (opsIn batch)))
@@ -29,7 +30,7 @@ Inv-loop table order₀ batch slot-bytes count₀ total₀ new₀ cursor₀ orde
     × (76 + total + 16 * count ≤ slot-bytes)
 
 abbrev μ-loop : tie.MeasureT-loop
-μ-loop table order₀ batch slot-bytes count₀ total₀ new₀ cursor₀ order count total new cursor = length (left batch order cursor)
+μ-loop table order₀ batch slot-bytes count₀ total₀ new₀ near₀ cursor₀ order count total new near cursor = length (left batch order cursor)
 
 -- ---- the call, as each place has it
 abbrev begun : tie.At-loop Inv-loop μ-loop → tie.Start Inv-loop μ-loop
@@ -129,31 +130,46 @@ returns-3 c =
     ltb-true _ _ (sym (q .too-large2 .ensures) ∙ c .if2 .taken) in
     (sizes-large _ _ (settled (opsIn (a .batch .now))) (omega arith), walk-next (turn o .loop .inv .0) (n .next .ensures .1 .1) (o .o .given .1) .begins)
 
-is-new-requires : tie.Need-is-new-requires Inv-loop μ-loop
-is-new-requires c κs = search needs
+find-near-requires : tie.Need-find-near-requires Inv-loop μ-loop
+find-near-requires c κs = search needs
+
+new-at-requires : tie.Need-new-at-requires Inv-loop μ-loop
+new-at-requires c κs = search needs
+
+-- what a turn adds
+added : (c : tie.After-new-at Inv-loop μ-loop) → let o = taken (c .before .before .before) in
+    c .new-at .result ≡ isNew (usedEntries (begun (turn o) .args .table .now)) (o .o .given .0 .0 .id)
+added c =
+    let o = taken (c .before .before .before) in
+    let start = begun (turn o) in
+    let b = start .args .table .now in
+    c .new-at .ensures ∙ ap newAt (c .before .find-near .ensures) ∙ new-at (usedEntries b) (used-rising b (start .pre .0)) (o .o .given .0 .0 .id)
 
 add-new : tie.Need-add-new Inv-loop μ-loop
 add-new c =
-    let o = taken (c .before .before) in
+    let o = taken (c .before .before .before) in
     let t = usedEntries (begun (turn o) .args .table .now) in
-    let room = fits (c .before) in
-    omega (arith, c .is-new .ensures, new-one (lookup t (o .o .given .0 .0 .id)), turn o .loop .inv .5, begun (turn o) .good)
+    let room = fits (c .before .before) in
+    omega (arith, added c, new-one (lookup t (o .o .given .0 .0 .id)), turn o .loop .inv .5, begun (turn o) .good)
+
+number-of-requires : tie.Need-number-of-requires Inv-loop μ-loop
+number-of-requires c κs = search needs
 
 add-total : tie.Need-add-total Inv-loop μ-loop
-add-total c = let room = fits (c .before) in omega arith
+add-total c = let room = fits (c .before .before .before) in omega arith
 
 add-count : tie.Need-add-count Inv-loop μ-loop
 add-count c = search needs
 
 loop-less : tie.Need-loop-less Inv-loop μ-loop
 loop-less c =
-    let o = taken (c .before .before) in
+    let o = taken (c .before .before .before .before) in
     let e = stepped _ (called o .next .ensures .0) (called o .next .ensures .1 .0) (o .o .given .1) in
     omega (arith, ap length (e .next))
 
 loop-again : tie.Need-loop-again Inv-loop μ-loop
 loop-again c =
-    let q = c .before .before in
+    let q = c .before .before .before .before in
     let o = taken q in
     let n = called o in
     let l = turn o in
@@ -162,12 +178,12 @@ loop-again c =
     let one = ap length (e .next) in
     let more = total-next e in
     let size = q .before .size-of .ensures in
-    let room = fits (c .before) in
+    let room = fits (c .before .before .before) in
     let t = usedEntries (a .table .now) in
     let id = o .o .given .0 .0 .id in
     let ids = ap (λ (os : List Op). newIds t (idsOf os)) (e .next) in
     let next = new-next t id (idsOf (left (a .batch .now) (n .next .last .0) (o .o .given .0 .1 .0))) in
-    let new = c .is-new .ensures in
+    let new = added (c .before) in
     let most = new-one (lookup t id) in (
       walk-next (l .loop .inv .0) (n .next .ensures .1 .1) (o .o .given .1),
       omega arith,
@@ -198,8 +214,10 @@ sizes-spec =
     too-large-requires-2
     same-length-2
     returns-3
-    is-new-requires
+    find-near-requires
+    new-at-requires
     add-new
+    number-of-requires
     add-total
     add-count
     loop-less
