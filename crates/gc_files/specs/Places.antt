@@ -3,6 +3,7 @@ use mathlib.Core.Path.{_≡_}
 use Prim.Native.Nat.{_≤_, _<_}
 use Rattle.numbers.specs.LittleEndian.{leValue}
 use Rattle.rules.specs.Base.{true, false, List, [], _∷_, ℕ, _+_, _-_, _*_, _^_, length, getD, take, drop, eqb, pick}
+use Rattle.rules.specs.Object.{objectBytes}
 use Rattle.rules.specs.Ops.{Op, sizeOf, shardFor}
 use Rattle.rules.specs.declared.Held.the-variants.{Mapped}
 use Rattle.rules.specs.declared.Loaded.{Loaded}
@@ -55,6 +56,14 @@ pub record InSlot (size : ℕ) (heap : List ℕ) (k place : ℕ) : Type 0 where
 -- each object lies in the heap
 abbrev pub Standing : List ℕ → List ℕ → Type 0
 Standing heap places = (k : ℕ) → 1 < getD places k 0 → Whole heap (getD places k 0)
+
+-- the bytes of an object stand there, header and body
+unfoldable pub Stands : List ℕ → ℕ → ℕ → Type 0
+Stands heap id place = take (20 + lengthAt heap place) (drop place heap) ≡ objectBytes id (take (lengthAt heap place) (drop (place + 20) heap))
+
+-- each object's, with the id of its entry
+abbrev pub AllStand : List ℕ → List ℕ → List ℕ → Type 0
+AllStand heap ids places = (k : ℕ) → 1 < getD places k 0 → Stands heap (getD ids k 0) (getD places k 0)
 
 -- ---- the split of placed operations
 -- one entry joins its shard, if it is placed

@@ -23,23 +23,24 @@ use Rattle.rules.specs.World.{World, world}
 use Rattle.stores.specs.Runs.{Made}
 use Rattle.limits.specs.Settled.{passed-formed}
 use Rattle.install.specs.Standing.{Addable}
-use Rattle.gc_files.specs.Places.{Whole, InSlot}
+use Rattle.gc_files.specs.Places.{Whole, AllStand, InSlot}
 use Rattle.gc_chains.specs.Chains.{chainOps, Leads, Chained}
 use Rattle.gc_chains.specs.ChainLaws.{chain-few}
-use Rattle.gc_writer.specs.Elsewhere.{Elsewhere, Apart, file-elsewhere, chain-elsewhere, slots-off, slots-elsewhere}
+use Rattle.gc_writer.specs.Elsewhere.{Elsewhere, Apart, file-elsewhere, all-stand-elsewhere, chain-elsewhere, slots-off, slots-elsewhere}
 use Rattle.gc_writer.specs.Walk.{Walking}
 use Rattle.gc_writer.specs.Writing.{Writing}
 use Rattle.gc_install.specs.IdLaws.{idsIn, There, stored-fits}
 use Rattle.gc_install.specs.ChainedLaws.{chain-there, chain-fit}
 use Rattle.gc_install.specs.Rewriting.{Rewritten, passed-installed}
 
--- refusal 1 does not hold; places are of used entries, and each object that is to be moved stands in a slot that has a file
+-- refusal 1 does not hold; places are of used entries, and each object that is to be moved stands, its bytes its own, in a slot that has a file
 pub record Placing (s : Settings) (t : State) (heap : List ℕ) (table : Table) (places links : List ℕ) : Type 0 where
   pub limits : Passed s (length heap) table t
   pub wide : length (tableIds table) ≤ length places
   pub linked : length (tableIds table) ≤ length links
   pub chained : Chained (length (tableIds table)) places links
   pub used : (i : ℕ) → 0 < getD places i 0 → i < length (usedEntries table)
+  pub stand : AllStand heap (tableIds table) places
   pub kept : (i : ℕ) → 1 < getD places i 0 → Whole heap (getD places i 0)
       × ((k : ℕ) × (isEmpty (recordAt (t .files .records) k) ≡ false) × InSlot (s .«slot_bytes») heap k (getD places i 0))
 
@@ -92,6 +93,7 @@ module _ (s : Settings) (t : State) (heap : List ℕ) (table : Table) (places li
       linked = p .linked;
       chained = p .chained;
       apart = rw is apart;
+      stand = p .stand;
       leads = leads;
       entries = entries;
       objects = objects;
@@ -153,6 +155,7 @@ module _ (s : Settings) (t : State) (heap : List ℕ) (table : Table) (places li
             linked = rw same (p .linked);
             chained = rw same (p .chained);
             used = λ i h. omega (arith, after .used, p .used i h);
+            stand = rw same (all-stand-elsewhere elsewhere (tableIds table) places apart (p .stand));
             kept = λ i h.
                 let w = p .kept i h in
                 let slot = lowestEmpty (slotsIn s (length heap)) (t .files .records) in

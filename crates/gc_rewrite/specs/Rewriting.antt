@@ -166,7 +166,8 @@ module _ (s : Settings) (t : State) (heap table plan : List ℕ) (generation : �
               linked = l .wide;
               chained = l .chained;
               used = d .placed .1 .0;
-              kept = λ i some. let k = d .placed .1 .1 .1 i some in (k .0, (k .1 .0, d .filled (k .1 .0) (k .1 .1), k .1 .3));
+              stand = d .placed .1 .1 .1 .1;
+              kept = λ i some. let k = d .placed .1 .1 .1 .0 i some in (k .0, (k .1 .0, d .filled (k .1 .0) (k .1 .1), k .1 .3));
             };
             fitting = subst (Fitting (s .«slot_bytes») (emptyIn s (t .files) heap) (t .«next_position»)) chains fitting;
             firsts = l .firsts;

@@ -1,38 +1,42 @@
 -- What the writers of a piece ask for.
-use mathlib.Core.Path.{_≡_}
+use mathlib.Core.Path.{_≡_, ap, _∙_}
+use mathlib.Core.Bool.{true≢false}
 use mathlib.Core.Logic.{_⊎_, inl, inr}
 use Prim.Native.Nat.{_≤_, _<_}
 use native.Mathlib.Omega.{arith}
 use borrow.Author.Tests.{eq-eqb, ne-eqb}
 use lib.ListN.{length-append}
 use Rattle.numbers.specs.LittleEndian.{leBytes, le-length}
-use Rattle.rules.specs.Base.{true, false, List, _++_, ℕ, _+_, _-_, _*_, _^_, length, getD, eqb, pick}
+use Rattle.rules.specs.Base.{true, false, List, _++_, ℕ, _+_, _-_, _*_, _^_, length, getD, take, drop, eqb, pick}
 use Rattle.rules.specs.BaseLaws.{same?}
+use Rattle.rules.specs.Object.{objectBytes}
 use Rattle.rules.specs.Ops.{objectsOf, fileBytes}
 use Rattle.rules.specs.OpsLaws.{file-length}
 use Rattle.rules.specs.Stores.{storesOf}
 use Rattle.stores.specs.Runs.{Made}
 use Rattle.batch.specs.declared.Operation.{Operation}
 use Rattle.batch.specs.Sizes.{sizeIn}
-use Rattle.gc_files.specs.Places.{lengthAt, movingAt, Whole}
+use Rattle.gc_files.specs.Places.{lengthAt, movingAt, Whole, Stands, AllStand}
 use Rattle.gc_chains.specs.Chains.{chainOps, Leads, Chained}
-use Rattle.gc_writer.specs.Elsewhere.{Elsewhere, Off, Apart, apart-elsewhere, made-elsewhere, among-stores, chain-elsewhere}
+use Rattle.gc_writer.specs.Elsewhere.{Elsewhere, Off, Apart, apart-elsewhere, all-stand-elsewhere, made-elsewhere, among-stores, chain-elsewhere}
 use Rattle.gc_writer.specs.Walk.{Walking, Turned}
 
--- n bytes of the heap from `at` on, off every object that is moved
+-- n bytes of the heap from `at` on, off every object that is moved; the bytes of each are its own
 pub record Free (at n : ℕ) (heap ids places links : List ℕ) : Type 0 where
   pub wide : length ids ≤ length places
   pub linked : length ids ≤ length links
   pub chained : Chained (length ids) places links
   pub apart : Apart at n heap places
+  pub stand : AllStand heap ids places
   pub inside : at + n ≤ length heap
 
--- the slot of a piece: its file and its label fit, and no object that is moved lies in it
+-- the slot of a piece: its file and its label fit, and no object that is moved lies in it; the bytes of each are its own
 pub record Writing (start size : ℕ) (heap ids places links : List ℕ) (first count total : ℕ) : Type 0 where
   pub wide : length ids ≤ length places
   pub linked : length ids ≤ length links
   pub chained : Chained (length ids) places links
   pub apart : Apart start size heap places
+  pub stand : AllStand heap ids places
   pub leads : Leads (length ids) places 0 first
   pub entries : count ≡ length (chainOps first heap ids places links)
   pub objects : total ≡ length (objectsOf (chainOps first heap ids places links))
@@ -47,13 +51,25 @@ module _ {at n : ℕ} {heap ids places links : List ℕ} (free : Free at n heap 
 
   -- after stores among them
   pub free-elsewhere : {after : List ℕ} → Elsewhere at n heap after → Free at n after ids places links
-  free-elsewhere e =
-      record { wide = free .wide; linked = free .linked; chained = free .chained; apart = apart-elsewhere e places (free .apart); inside = omega (arith, e .long, free .inside) }
+  free-elsewhere e = record {
+    wide = free .wide;
+    linked = free .linked;
+    chained = free .chained;
+    apart = apart-elsewhere e places (free .apart);
+    stand = all-stand-elsewhere e ids places (free .apart) (free .stand);
+    inside = omega (arith, e .long, free .inside);
+  }
 
   -- and a part of them is
   pub free-part : (to m : ℕ) → at ≤ to → to + m ≤ at + n → Free to m heap ids places links
-  free-part to m low high =
-      record { wide = free .wide; linked = free .linked; chained = free .chained; apart = λ i h. (free .apart i h .0, go i (free .apart i h .1)); inside = omega (arith, free .inside) }
+  free-part to m low high = record {
+    wide = free .wide;
+    linked = free .linked;
+    chained = free .chained;
+    apart = λ i h. (free .apart i h .0, go i (free .apart i h .1));
+    stand = free .stand;
+    inside = omega (arith, free .inside);
+  }
     where
       go : (i : ℕ) → Off at n heap (getD places i 0) → Off to m heap (getD places i 0)
       go i (inl h) = inl (omega arith)
@@ -91,6 +107,32 @@ pub turned-off : {at n : ℕ} {heap ids places links : List ℕ} {i : ℕ} {o : 
 turned-off {at} {n} {heap} {ids} {places} {i = i} free t to low high =
     rw (t .is) (moving-off at n heap (getD ids (i - 1) 0) (getD places (i - 1) 0) to (t .some) (free .apart (i - 1)) low (rw (t .is) at high))
 
+-- an object can be moved as it stands: its header lies before its body, and the bytes of both are its own
+pub record Movable (heap : List ℕ) (o : Operation) : Type 0 where
+  pub header : 20 ≤ o .start
+  pub bytes : take (20 + o .len) (drop (o .start - 20) heap) ≡ objectBytes (o .id) (take (o .len) (drop (o .start) heap))
+
+-- that of a place where it stands
+moving-movable : (heap : List ℕ) (id place : ℕ) → 0 < place → (1 < place → Stands heap id place) → movingAt heap id place .delete ≡ false
+    → Movable heap (movingAt heap id place)
+unfolding movingAt Stands
+moving-movable heap id place some stands = go (same? place 1)
+  where
+    o : Operation
+    o = pick (eqb place 1) (record { id = id; delete = true; start = 0; len = 0 }) (record { id = id; delete = false; start = place + 20; len = lengthAt heap place })
+
+    go : (place ≡ 1) ⊎ (place ≡ 1 → ⊥) → o .delete ≡ false → Movable heap o
+    go (inl one) kept = absurd (true≢false (rw (eq-eqb place 1 one) at kept))
+    go (inr other) kept =
+        let back : place + 20 - 20 ≡ place = omega arith in
+        rw (ne-eqb place 1 other)
+        (record { header = omega arith; bytes = ap (λ (p : ℕ). take (20 + lengthAt heap place) (drop p heap)) back ∙ stands (omega (arith, other)) })
+
+pub turned-movable : {at n : ℕ} {heap ids places links : List ℕ} {i : ℕ} {o : Operation} {size next : ℕ} → Free at n heap ids places links
+    → Turned heap ids places links i o size next → o .delete ≡ false → Movable heap o
+turned-movable {heap = heap} {ids} {places} {i = i} free t kept =
+    rw (t .is) (moving-movable heap (getD ids (i - 1) 0) (getD places (i - 1) 0) (t .some) (free .stand (i - 1)) (rw (t .is) at kept))
+
 -- ---- writers that leave what is moved
 -- the head of a trailer
 pub head-elsewhere : (at n sum count : ℕ) {k left : ℕ} {heap after : List ℕ} → 12 ≤ n → Made k (storesOf at (leBytes 4 sum ++ leBytes 8 count)) heap after left
@@ -103,7 +145,7 @@ head-elsewhere at n sum count room made =
 module _ {start size : ℕ} {heap ids places links : List ℕ} {first count total : ℕ} (w : Writing start size heap ids places links first count total) where
   -- the slot is free
   pub writing-free : Free start size heap ids places links
-  writing-free = record { wide = w .wide; linked = w .linked; chained = w .chained; apart = w .apart; inside = w .inside }
+  writing-free = record { wide = w .wide; linked = w .linked; chained = w .chained; apart = w .apart; stand = w .stand; inside = w .inside }
 
   -- label, objects and trailer fit
   pub writing-room : 64 + (total + (12 + 16 * count)) ≤ size

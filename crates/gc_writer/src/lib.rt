@@ -7,6 +7,7 @@ use gc_files::places::moving_at;
 use location_table::id_at;
 use rules::LABEL_BYTES;
 use rules::Label;
+use rules::OBJECT_HEADER;
 use rules::TRAILER_ENTRY;
 use rules::TRAILER_HEAD;
 use trailer::write;
@@ -15,7 +16,7 @@ ghost use mathlib.Core.Path.{_≡_};
 ghost use Prim.Native.Nat.{_+_, _*_, _≤_, _<_, _^_};
 ghost use lib.ListN.{length};
 ghost use Rattle.checksum.specs.Checksum.{crc32};
-ghost use Rattle.rules.specs.Base.{each};
+ghost use Rattle.rules.specs.Base.{false, each};
 ghost use Rattle.rules.specs.Ops.{contentBytes, objectsOf, entriesOf, fileBytes};
 ghost use Rattle.rules.specs.Label.{labelBytes};
 ghost use Rattle.rules.specs.Layout.{tableIds};
@@ -26,7 +27,7 @@ ghost use Rattle.batch.specs.Reading.{opIn};
 ghost use Rattle.batch.specs.Sizes.{sizeIn};
 ghost use Rattle.gc_chains.specs.Chains.{Leads};
 ghost use Rattle.gc_writer.specs.Walk.{Walking, Turned, pieceOps};
-ghost use Rattle.gc_writer.specs.Writing.{Free, Writing};
+ghost use Rattle.gc_writer.specs.Writing.{Free, Movable, Writing};
 
 // How many entries a piece has, and T, its object bytes.
 pub struct Sizes {
@@ -84,18 +85,25 @@ pub fn sized(heap: &[u8], table: &[u64], places: &[u32], links: &[u32], first: u
     }
 }
 
-// An operation's object, its body a piece of the heap itself. "Deletes have no object bytes."
+// An operation's object, copied as it stands in the heap: its checksum was found right. "Deletes have no object bytes."
 fn put_content(heap: &mut [u8], at: usize, o: Operation, left: u64) -> u64
     requires { ⌜ (at + sizeIn o ≤ length (now heap))
         × (o .start + o .len ≤ length (now heap))
         × ((at + sizeIn o ≤ o .start) ⊎ (o .start + o .len ≤ at)) ⌝ }
+    requires { ⌜ (o .delete ≡ false → Movable (now heap) o) ⌝ }
     ensures { λ r. ⌜ Made left (storesOf at (contentBytes (o .id) (opIn (now (heap .entry)) o .content)))
         (now (heap .entry)) (now (heap .exit)) r ⌝ }
 {
     if o.delete {
         return left;
     }
-    slot_writer::move_object(heap, at, o.id, o.start, o.len, left)
+    stores::move_bytes(
+        heap,
+        at,
+        o.start - OBJECT_HEADER,
+        OBJECT_HEADER + o.len,
+        left,
+    )
 }
 
 // What is left behind the objects: stores, and the trailer's checksum.

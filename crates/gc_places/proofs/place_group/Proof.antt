@@ -42,11 +42,12 @@ cleared : (c : tie.After-enum-told) → let a = c .before .before .before .befor
     Checked (a .group .settings .«max_object_size») (a .group .settings .«slot_bytes») (a .heap .now) (a .m .records) (a .plan .now) (a .group .generation) (a .table .now) (length (a .marks .now))
 cleared c =
     let group = c .before .before .before .before .before in
-    let start = group .before .before .before .before .before .before .before .before in
+    let known = group .before .before .before .before .before .before .before in
+    let start = known .before in
     let a = start .args in
     let asked = start .pre in
     group-checked (a .group .settings) (a .heap .now) (a .m .records) (a .plan .now) (a .group .generation) (a .table .now) (length (a .marks .now)) (asked .0) (asked .1 .0)
-    (sym (group .mark-group .ensures .0) ∙ c .enum-told .given .1) (asked .1 .1 .0) (asked .1 .1 .1 .0)
+    (sym (group .mark-group .ensures .0) ∙ c .enum-told .given .1) (asked .1 .1 .0) (asked .1 .1 .1 .0) (λ i. known .shared-slice-known .given i .fits)
 
 slice-aggregate-place-all : tie.Need-slice-aggregate-place-all
 slice-aggregate-place-all c = search needs

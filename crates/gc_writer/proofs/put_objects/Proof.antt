@@ -12,7 +12,7 @@ use Rattle.batch_file.specs.Summing.{Summing, summing-start, summing-next, summ
 use Rattle.rules.specs.Layout.{tableIds}
 use Rattle.gc_chains.specs.Chains.{chainOps, Leads}
 use Rattle.gc_writer.specs.Walk.{ahead, walk-end}
-use Rattle.gc_writer.specs.Writing.{Free, free-walking, free-put, turned-off}
+use Rattle.gc_writer.specs.Writing.{Free, free-walking, free-put, turned-off, turned-movable}
 use Rattle.gc_writer.proofs.put_objects.Statement.{statement}
 use Rattle.gc_writer.proofs.put_objects.Tie as tie
 
@@ -61,7 +61,7 @@ put-content-requires c κs =
     let turn = t .turn-at .ensures in
     let free = l .inv .1 in
     let fits = object-fits (l .inv .3) (turn .step) in
-    (omega (arith, fits, free .inside), turn .step .inside, turned-off free turn (l .to) (l .inv .3 .low) fits)
+    ((omega (arith, fits, free .inside), turn .step .inside, turned-off free turn (l .to) (l .inv .3 .low) fits), turned-movable free turn)
 
 add-to : tie.Need-add-to Inv-loop μ-loop
 add-to c =
