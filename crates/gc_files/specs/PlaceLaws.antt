@@ -40,10 +40,6 @@ module _ (target slotSize : ℕ) (heap xs ps : List ℕ) (i : ℕ) where
       go true = refl
       go false = refl
 
-  pub along-tally-end : length xs ≤ i → (t : Tally) → tallyFrom target slotSize (placedOps heap (drop i xs) (drop i ps)) t ≡ t
-  unfolding placedOps tallyFrom
-  along-tally-end h t = rw (left-none xs i h) refl
-
   pub along-pieces : i < length xs → i < length ps → (gs : List ℕ) → i < length gs → (t : Tally)
       → take i gs ++ piecesAlong target slotSize heap (drop i xs) (drop i ps) (drop i gs) t
       ≡ take (i + 1) (set gs i (entryPiece target slotSize heap (getD xs i 0) (getD ps i 0) (getD gs i 0) t))
@@ -58,9 +54,20 @@ module _ (target slotSize : ℕ) (heap xs ps : List ℕ) (i : ℕ) where
       rw (first, rest, left-next xs i 0 h, left-next ps i 0 g, left-next gs i 0 k)
       (sym (append-assoc (take i gs) (v ∷ []) (piecesAlong target slotSize heap (drop (i + 1) xs) (drop (i + 1) ps) (drop (i + 1) gs) next)))
 
-  pub along-pieces-end : length xs ≤ i → (gs : List ℕ) (t : Tally) → piecesAlong target slotSize heap (drop i xs) (drop i ps) (drop i gs) t ≡ drop i gs
-  unfolding piecesAlong
-  along-pieces-end h gs t = rw (left-none xs i h) refl
+-- entries of which none is moved
+pub placed-none : (heap xs ps : List ℕ) → ((k : ℕ) → getD ps k 0 ≡ 0) → placedOps heap xs ps ≡ []
+unfolding placedOps
+placed-none heap [] ps z = refl
+placed-none heap (x ∷ xs) [] z = refl
+placed-none heap (x ∷ xs) (p ∷ ps) z = rw (eq-eqb p 0 (z 0)) (placed-none heap xs ps (λ k. z (suc k)))
+
+pub pieces-none : (target slotSize : ℕ) (heap xs ps gs : List ℕ) (t : Tally) → ((k : ℕ) → getD ps k 0 ≡ 0) → piecesAlong target slotSize heap xs ps gs t ≡ gs
+unfolding piecesAlong entryPiece entryTaken
+pieces-none target slotSize heap [] ps gs t z = refl
+pieces-none target slotSize heap (x ∷ xs) [] gs t z = refl
+pieces-none target slotSize heap (x ∷ xs) (p ∷ ps) [] t z = refl
+pieces-none target slotSize heap (x ∷ xs) (p ∷ ps) (g ∷ gs) t z =
+    rw (eq-eqb p 0 (z 0)) (ap (λ (rest : List ℕ). g ∷ rest) (pieces-none target slotSize heap xs ps gs t (λ k. z (suc k))))
 
 -- each entry has its piece
 pub along-length : (target slotSize : ℕ) (heap xs ps gs : List ℕ) (t : Tally) → length (piecesAlong target slotSize heap xs ps gs t) ≡ length gs

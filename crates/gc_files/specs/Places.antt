@@ -8,6 +8,7 @@ use Rattle.rules.specs.Ops.{Op, sizeOf, shardFor}
 use Rattle.rules.specs.declared.Held.the-variants.{Mapped}
 use Rattle.rules.specs.declared.Loaded.{Loaded}
 use Rattle.rules.specs.declared.Loaded.the-variants.{At, DeletedAt, Never}
+use Rattle.rules.specs.Layout.{Table, usedEntries}
 use Rattle.rules.specs.Table.{loadedOf}
 use Rattle.disk_location.specs.Locations.{positionOf}
 use Rattle.batch.specs.declared.Operation.{Operation}
@@ -83,6 +84,10 @@ piecesAlong target slotSize heap (x ∷ xs) [] gs t = gs
 piecesAlong target slotSize heap (x ∷ xs) (p ∷ ps) [] t = []
 piecesAlong target slotSize heap (x ∷ xs) (p ∷ ps) (g ∷ gs) t =
     entryPiece target slotSize heap x p g t ∷ piecesAlong target slotSize heap xs ps gs (entryTaken target slotSize heap x p t)
+
+-- only used entries of the table are moved
+abbrev pub OfUsed : Table → List ℕ → Type 0
+OfUsed table places = (i : ℕ) → 0 < getD places i 0 → i < length (usedEntries table)
 
 -- what the split of the table's entries asks for
 pub record Splitting (heap xs ps gs : List ℕ) (entries : ℕ) : Type 0 where

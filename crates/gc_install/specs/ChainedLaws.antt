@@ -11,7 +11,7 @@ use Rattle.rules.specs.OpsLaws.{IdsFit}
 use Rattle.rules.specs.FileMapLaws.{Among}
 use Rattle.rules.specs.Layout.{Table, tableIds, tableLocations, usedIn, usedEntries}
 use Rattle.batch.specs.declared.Operation.{Operation}
-use Rattle.gc_files.specs.Places.{lengthAt, movingAt}
+use Rattle.gc_files.specs.Places.{lengthAt, movingAt, OfUsed}
 use Rattle.gc_chains.specs.Chains.{chainOps}
 use Rattle.gc_chains.specs.ChainLaws.{chain-each}
 use Rattle.gc_install.specs.IdLaws.{idsIn, There}
@@ -45,10 +45,6 @@ used-among (x ∷ is) (l ∷ ls) i h = go (eqb l 0) i h (used-among is ls)
     go true i h ih = absurd (omega arith)
     go false zero h ih = inl refl
     go false (suc i) h ih = inr (ih i (omega arith))
-
--- places are of used entries alone
-abbrev pub OfUsed : Table → List ℕ → Type 0
-OfUsed b places = (i : ℕ) → 0 < getD places i 0 → i < length (usedEntries b)
 
 -- so each operation is on an id of the table
 pub chain-there : (first : ℕ) (heap : List ℕ) (b : Table) (places links : List ℕ) → OfUsed b places

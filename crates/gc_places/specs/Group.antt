@@ -13,7 +13,7 @@ use Rattle.gc_candidates.specs.Plan.{planned}
 use Rattle.gc_group.specs.Source.{source, Ready}
 use Rattle.gc_group.specs.Checks.{groupChecks}
 use Rattle.gc_group.specs.Marks.{foundAt}
-use Rattle.gc_files.specs.Places.{placedOps, Whole, Standing, AllStand, InSlot}
+use Rattle.gc_files.specs.Places.{placedOps, Whole, Standing, AllStand, OfUsed, InSlot}
 
 -- what is known of a group whose checks are clear, its files and its table, where there are n marks
 pub record Checked (limit size : ℕ) (heap : List ℕ) (records : List Record) (plan : List ℕ) (generation : ℕ) (table : Table) (n : ℕ) : Type 0 where
@@ -24,10 +24,6 @@ pub record Checked (limit size : ℕ) (heap : List ℕ) (records : List Record) 
   pub formed : Formed table
   pub wide : length (tableIds table) ≤ n
   pub bytes : Bytes heap
-
--- only used entries of the table are moved
-abbrev pub OfUsed : Table → List ℕ → Type 0
-OfUsed table places = (i : ℕ) → 0 < getD places i 0 → i < length (usedEntries table)
 
 -- an object lies whole in a slot of the group, behind its label
 abbrev pub Kept : ℕ → List ℕ → List ℕ → ℕ → ℕ → Type 0

@@ -43,9 +43,9 @@ use Rattle.gc_group.specs.Checks.{groupChecks}
 use Rattle.gc_group.specs.Marks.{foundAt, idsOf, marked, marksFrom, marksOf, loadedContent, contentAt, markedOps}
 use Rattle.gc_group.specs.MarkLaws.{marked-length, marked-settled, from-past}
 use Rattle.gc_group.specs.MovedLaws.{Moves, marks-backed, marked-here, marked-next, marked-end}
-use Rattle.gc_files.specs.Places.{lengthAt, opAt, placedOps, InSlot, Standing, Stands, AllStand, placeFor, placesFor, InFile, Placeable, Placeables}
+use Rattle.gc_files.specs.Places.{lengthAt, opAt, placedOps, InSlot, Standing, Stands, AllStand, OfUsed, placeFor, placesFor, InFile, Placeable, Placeables}
 use Rattle.gc_files.specs.MarkedLaws.{object-there, object-part-stands, place-delete, place-object}
-use Rattle.gc_places.specs.Group.{Checked, OfUsed, Kept, InGroup}
+use Rattle.gc_places.specs.Group.{Checked, Kept, InGroup}
 
 -- settings in their ranges have slots of a fitting size
 pub group-checked : (s : Settings) (heap : List ℕ) (records : List Record) (plan : List ℕ) (generation : ℕ) (table : Table) (n : ℕ) → InRanges s
