@@ -44,6 +44,7 @@ use Rattle.gc_group.specs.Marks.{foundAt, idsOf, marked, marksFrom, marksOf, lo
 use Rattle.gc_group.specs.MarkLaws.{marked-length, marked-settled, from-past}
 use Rattle.gc_group.specs.MovedLaws.{Moves, marks-backed, marked-here, marked-next, marked-end}
 use Rattle.gc_files.specs.Places.{lengthAt, opAt, placedOps, InSlot, Standing, Stands, AllStand, OfUsed, placeFor, placesFor, InFile, Placeable, Placeables}
+use Rattle.gc_files.specs.PlaceLaws.{placed-none}
 use Rattle.gc_files.specs.MarkedLaws.{object-there, object-part-stands, place-delete, place-object}
 use Rattle.gc_places.specs.Group.{Checked, Kept, InGroup}
 
@@ -120,13 +121,6 @@ marks-behind s n slots i h =
     ∙ getD-drop t (replicate n 0) j 0 ∙ replicate-at {A = ℕ} n (t + j) 0
 
 -- ---- a turn over the entries that are placed
--- nothing stands at no place
-placed-none : (heap xs ps : List ℕ) → ((i : ℕ) → getD ps i 0 ≡ 0) → placedOps heap xs ps ≡ []
-unfolding placedOps
-placed-none heap [] ps z = refl
-placed-none heap (x ∷ xs) [] z = refl
-placed-none heap (x ∷ xs) (p ∷ ps) z = rw (eq-eqb p 0 (z 0)) (placed-none heap xs ps (λ i. z (suc i)))
-
 module _ (heap xs ps : List ℕ) (i : ℕ) (h : i < length xs) (g : i < length ps) where
   placed-here : 0 < getD ps i 0 → placedOps heap (drop i xs) (drop i ps) ≡ opAt heap (getD xs i 0) (getD ps i 0) ∷ placedOps heap (drop (i + 1) xs) (drop (i + 1) ps)
   unfolding placedOps

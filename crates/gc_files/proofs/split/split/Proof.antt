@@ -1,4 +1,4 @@
-use mathlib.Core.Path.{_≡_, refl, sym, _∙_}
+use mathlib.Core.Path.{_≡_, refl}
 use Rattle.rules.specs.Layout.{tableIds}
 use Rattle.rules.specs.LayoutLaws.{ids-count, used-length}
 use Rattle.gc_split.specs.Tally.{tally}
