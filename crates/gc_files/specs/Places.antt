@@ -85,7 +85,7 @@ piecesAlong target slotSize heap (x ∷ xs) (p ∷ ps) [] t = []
 piecesAlong target slotSize heap (x ∷ xs) (p ∷ ps) (g ∷ gs) t =
     entryPiece target slotSize heap x p g t ∷ piecesAlong target slotSize heap xs ps gs (entryTaken target slotSize heap x p t)
 
--- only used entries of the table are moved
+-- only used entries of the table are moved, or marked
 abbrev pub OfUsed : Table → List ℕ → Type 0
 OfUsed table places = (i : ℕ) → 0 < getD places i 0 → i < length (usedEntries table)
 

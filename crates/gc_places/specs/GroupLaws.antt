@@ -120,6 +120,14 @@ marks-behind s n slots i h =
     ap (λ (k : ℕ). getD ms k 0) (sym at) ∙ sym (getD-drop t ms j 0) ∙ ap (λ (l : List ℕ). getD l j 0) (from-past s slots (replicate n 0))
     ∙ getD-drop t (replicate n 0) j 0 ∙ replicate-at {A = ℕ} n (t + j) 0
 
+-- so only used entries are marked
+pub marks-used : (s : Source) (n : ℕ) (slots : List ℕ) (i : ℕ) → 0 < getD (marksOf s n slots) i 0 → i < length (s .table)
+marks-used s n slots i some = go (either-way i (length (s .table)))
+  where
+    go : (i < length (s .table)) ⊎ (length (s .table) ≤ i) → i < length (s .table)
+    go (inl h) = h
+    go (inr past) = absurd (omega (arith, marks-behind s n slots i past))
+
 -- ---- a turn over the entries that are placed
 module _ (heap xs ps : List ℕ) (i : ℕ) (h : i < length xs) (g : i < length ps) where
   placed-here : 0 < getD ps i 0 → placedOps heap (drop i xs) (drop i ps) ≡ opAt heap (getD xs i 0) (getD ps i 0) ∷ placedOps heap (drop (i + 1) xs) (drop (i + 1) ps)

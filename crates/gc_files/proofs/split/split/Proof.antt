@@ -7,8 +7,7 @@ use Prim.Native.Nat.{ℕ, _≤_, _<_, _-_}
 use native.Mathlib.Omega.{arith}
 use borrow.Author.Needs.{needs}
 use lib.ListN.{length, getD}
-use mathlib.Core.Logic.{⊎-elim}
-use Rattle.rules.specs.BaseLaws.{zero-or-more}
+use Rattle.gc_files.specs.PlaceLaws.{none-behind}
 use Rattle.gc_files.proofs.split.split.Statement.{statement}
 use Rattle.gc_files.proofs.split.split.Tie as tie
 
@@ -105,7 +104,7 @@ returns c =
     let along = at .loop .inv .1 in
     let asked = start .pre .0 in
     let still : (k : ℕ) → at .loop .i ≤ k → getD (start .args .places .now) k 0 ≡ 0 =
-    λ k h. ⊎-elim (λ z. z) (λ some. absurd (omega (arith, start .pre .1 .0 .1 k some, at .before .used .ensures))) (zero-or-more (getD (start .args .places .now) k 0)) in
+    λ k h. none-behind (start .args .table .now) (start .args .places .now) (start .pre .1 .0 .1) k (omega (arith, at .before .used .ensures)) in
     along-end (start .args .settings .«target_file_size») (start .args .settings .«slot_bytes») (start .args .heap .now) (tableIds (start .args .table .now)) (start .args .places .now) (start .args .pieces .now) _ _ (at .loop .pieces) (at .loop .i) still along
 
 pub split-spec : {M : Type 1} → statement M
