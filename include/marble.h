@@ -126,21 +126,21 @@ extern "C" {
 
 /* ---- stack: bytes below the caller that each call was never seen to pass in the tests (tests/c fails where one does). Measured on x86-64,
    not proved; what interrupts take comes on top. */
-#define MARBLE_STACK_REOPEN 59392
-#define MARBLE_STACK_WRITE 54272
-#define MARBLE_STACK_READ 18432
-#define MARBLE_STACK_READ_THROUGH 18432
+#define MARBLE_STACK_REOPEN 58368
+#define MARBLE_STACK_WRITE 48128
+#define MARBLE_STACK_READ 17408
+#define MARBLE_STACK_READ_THROUGH 17408
 #define MARBLE_STACK_CLAIM 15360
 #define MARBLE_STACK_RELEASE 15360
 #define MARBLE_STACK_PRUNE 29696
-#define MARBLE_STACK_PLAN 54272
-#define MARBLE_STACK_REWRITE 64512
-#define MARBLE_STACK_NIGHTLY 93184
+#define MARBLE_STACK_PLAN 53248
+#define MARBLE_STACK_REWRITE 63488
+#define MARBLE_STACK_NIGHTLY 92160
 #define MARBLE_STACK_COUNTS 29696
 #define MARBLE_STACK_UNSYNCED 128
 #define MARBLE_STACK_SYNC 128
-#define MARBLE_STACK_CHECK 32768
-#define MARBLE_STACK_SALVAGE 8192
+#define MARBLE_STACK_CHECK 31744
+#define MARBLE_STACK_SALVAGE 7168
 #define MARBLE_STACK_TABLE 128 /* each of the four table calls */
 
 /* ---- answers: success, and the refusal numbers */

@@ -1,13 +1,12 @@
 #!/usr/bin/env python3
 """How long the calls of the C library take, and how that grows: growth.py [--table]. tests/c/times.c measures, linked with the archive that is
-compiled here with no proof: processor time of one call, the least of five or more, at each row's sizes; beside it, of a write and a reopening, the same
-work in plain C. Two kinds of figures have a limit:
+compiled here with no proof: processor time of one call, the least of five or more, at each row's sizes; beside it the same work in plain C
+(tests/c/plain.h), which must answer and leave the same. Two kinds of figures have a limit:
 - at twice the size: how many times as long the call takes, worked out from each step to the next size, also where that is tenfold; the greatest;
 - beside rising ids: a write of ids in another order, at its largest size, by one of the same ids rising.
 How many times as long as plain C a call takes is printed and not judged: it is another figure on another processor.
-Fails where a figure is over its limit and NOT_YET has not named it, or where one that NOT_YET names is half as much again as its figure there; as
-others may use the machine, only after that row was measured twice more, the least taken of all. One that NOT_YET names and that is clearly within its limit is told. With --table every figure is
-printed, as a table in Markdown, and nothing is judged: ARCHITECTURE, "What a call costs", has it."""
+Fails where a figure is over its limit; as others may use the machine, only after that row was measured four times more, the least taken of all. With
+--table every figure is printed, as a table in Markdown, and nothing is judged: ARCHITECTURE, "What a call costs", has it."""
 import math
 import os
 import subprocess
@@ -20,19 +19,9 @@ from port import console_command  # noqa: E402
 ARCHIVE, PROGRAM = (os.path.join(os.path.dirname(HERE), 'target', 'tests', name) for name in ('libmarble_c.a', 'times'))
 TWICE, RISING = 'at twice the size', 'beside rising ids'
 LIMIT = {TWICE: 3, RISING: 5}
-# what is named in NOT_YET is told where it is under this part of its limit, and fails where it is over so many times its figure there
-CLEARLY, WORSE = 2.5 / 3, 1.5
-TRIES = 3
+TRIES = 5
 IN_ORDER = 'write, held ids rising, table of 1,024'
 OTHER_ORDERS = ('write, held ids in any order, table of 1,024', 'write, held ids falling, table of 1,024')
-# over its limit today, or so close to it that noise could decide; with what was measured
-NOT_YET = {
-    ('write, held ids in any order, table of 1,024', TWICE): 3.7,
-    ('write, held ids falling, table of 1,024', TWICE): 3.6,
-    ('write, held ids falling, table of 1,024', RISING): 5.1,
-    ('check, ids ascend from file to file', TWICE): 2.9,
-    ('check, later files have lower ids', TWICE): 3.7,
-}
 
 
 class Row:
@@ -66,8 +55,7 @@ def measured(*numbers):
         row = rows.setdefault(name, Row(unit))
         row.sizes.append(int(size))
         row.times.append(float(time))
-        if plain:
-            row.plain.append(float(plain))
+        row.plain.append(float(plain))
     return rows
 
 
@@ -80,26 +68,14 @@ def figures(name, rows):
     return found
 
 
-def complaint(name, kind, figure):
-    """what is wrong with a figure, or nothing"""
-    most, known = LIMIT[kind], NOT_YET.get((name, kind))
-    if known is None and figure > most:
-        return f'growth: {name}: {kind} {figure:.1f}, over its limit of {most}'
-    if known is not None and figure > WORSE * known:
-        return f'growth: {name}: {kind} {figure:.1f}, where NOT_YET has {known}'
-    return None
-
-
 def complaints(name, rows):
-    said = (complaint(name, kind, figure) for kind, figure in figures(name, rows).items())
-    return [words for words in said if words]
+    """what is wrong with the figures of a row"""
+    found = figures(name, rows).items()
+    return [f'growth: {name}: {kind} {figure:.1f}, over its limit of {LIMIT[kind]}' for kind, figure in found if figure > LIMIT[kind]]
 
 
 def judged():
     rows = measured()
-    unknown = [f'{name}: {kind}' for name, kind in NOT_YET if name not in rows or kind not in figures(name, rows)]
-    if unknown:
-        sys.exit(f'growth: NOT_YET names what is not measured: {unknown}')
     numbers = {name: number for number, name in enumerate(rows)}
     wrong = []
     for name in rows:
@@ -110,12 +86,7 @@ def judged():
         wrong += complaints(name, rows)
     if wrong:
         sys.exit('\n'.join(wrong))
-    for name, kind in NOT_YET:
-        figure = figures(name, rows)[kind]
-        if figure < CLEARLY * LIMIT[kind]:
-            print(f'growth: {name}: {kind} {figure:.1f} here, within its limit of {LIMIT[kind]}: does NOT_YET still need it?')
-    count = sum(len(figures(name, rows)) for name in rows)
-    print(f'growth: {len(rows)} rows: {count - len(NOT_YET)} figures within their limits, {len(NOT_YET)} not yet')
+    print(f'growth: {len(rows)} rows, {sum(len(figures(name, rows)) for name in rows)} figures within their limits')
 
 
 def in_words(times):
@@ -125,7 +96,7 @@ def in_words(times):
 
 
 def factors(numbers):
-    return ' / '.join(f'{number:.1f}' if number < 10 else f'{number:,.0f}' for number in numbers) or '–'
+    return ' / '.join(f'{number:.1f}' if number < 10 else f'{number:,.0f}' for number in numbers)
 
 
 def table():

@@ -98,7 +98,7 @@ static void room(void) {
     expect("no room", n == MARBLE_OK && found == 3, 1);
 }
 
-/* every slot in use, an id each; copies of the labels: three, and one for each slot */
+/* every slot in use, an id each; copies of the labels: five, and one for each slot */
 static void many(void) {
     uint8_t bytes[21];
     const uint8_t a = 'a';

@@ -1,12 +1,15 @@
 /* How long the calls take at several sizes: times [NUMBER ..], the rows of these numbers from 0 on, or all where none is given. A line for each
-   size of a row, by tabs: name, what the size counts, size, nanoseconds of one call, and of the same work in plain C where it is here too.
+   size of a row, by tabs: name, what the size counts, size, nanoseconds of one call, and of the same work in plain C (plain.h).
    Processor time, the least of five samples or, until they took 12 ms, of more: one call first, then as many as take a millisecond, where calls
-   can follow each other without the store put back as it was. Every call must be accepted, and plain C must leave the same store.
-   tests/growth.py builds it and judges what it prints. */
+   can follow each other without the store put back as it was. Every call must be accepted, and plain C must answer the same and leave the same
+   store. tests/growth.py builds it and judges what it prints. */
 #include "marble.h"
 
 int printf(const char *, ...);
-void *memcpy(void *, const void *, size_t);
+/* the build is freestanding, where these would be functions like any other; a host's compiler knows them */
+#define memcpy __builtin_memcpy
+#define memmove __builtin_memmove
+#define memset __builtin_memset
 int memcmp(const void *, const void *, size_t);
 unsigned long long strtoull(const char *, char **, int);
 void qsort(void *, size_t, size_t, int (*)(const void *, const void *));
@@ -25,12 +28,19 @@ int clock_gettime(int, struct timespec *);
 #define SLOT_MOST 131072
 #define BODY_MOST 65000
 static uint8_t heap[MARBLE_SLOTS_MAX * SLOT_MOST], heap_was[sizeof heap], batch[1 << 20], body[BODY_MOST];
-static uint64_t table[MARBLE_TABLE_WORDS(MARBLE_TABLE_MAX)], table_was[MARBLE_TABLE_WORDS(MARBLE_TABLE_MAX)];
+static uint64_t table[MARBLE_TABLE_WORDS(MARBLE_TABLE_MAX)], table_was[sizeof table / 8];
 static marble_state state, state_was;
 static marble_claims claims;
 static uint32_t places[MARBLE_NOTES(MARBLE_TABLE_MAX)], pieces[MARBLE_NOTES(MARBLE_TABLE_MAX)];
 static marble_settings settings;
 static size_t heap_len, words, batch_len;
+/* what the last call answered */
+static union {
+    uint64_t word[4];
+    marble_piece piece;
+    marble_totals totals;
+    marble_stop stop;
+} answer;
 
 static void accepted(const char *call, uint64_t number) {
     if (number == MARBLE_OK) return;
@@ -164,19 +174,27 @@ static void descending_puts(uint64_t ids) {
     files(ids, 1800, DESCENDING, 1);
 }
 
-static void check(uint64_t ids) {
-    uint64_t faults, n = marble_check(settings, heap, heap_len, table, words, NULL, 0, &faults);
-    (void)ids;
-    accepted("check", n);
-    same("faults", faults, 0);
+/* each id in two files, and no more room in the table than for the ids */
+static void put_twice(uint64_t ids) {
+    fresh(65536, ids);
+    files(ids, 1800, DESCENDING, 1);
+    files(ids, 1800, DESCENDING, 1);
 }
 
+static void check(uint64_t ids) {
+    uint64_t n = marble_check(settings, heap, heap_len, table, words, NULL, 0, &answer.word[0]);
+    (void)ids;
+    accepted("check", n);
+    same("faults", answer.word[0], 0);
+}
+
+static marble_loss report[MARBLE_SLOTS_MAX];
+
 static void salvage(uint64_t ids) {
-    static marble_loss report[MARBLE_SLOTS_MAX];
-    uint64_t lost, n = marble_salvage(settings, heap, heap_len, table, words, report, &lost);
+    uint64_t n = marble_salvage(settings, heap, heap_len, table, words, report, &answer.word[0]);
     (void)ids;
     accepted("salvage", n);
-    same("slots given up", lost, 0);
+    same("slots given up", answer.word[0], 0);
 }
 
 /* a table of 65,536; files of 250 objects of one byte, one of them deleted since */
@@ -198,10 +216,9 @@ static void deleted_from(uint64_t ids) {
 
 static void maintenance(uint64_t ids) {
     const size_t notes = words / 2;
-    marble_stop stop;
-    uint64_t n = marble_nightly(settings, &state, &claims, heap, heap_len, table, words, places, notes, pieces, notes, &stop);
+    uint64_t n = marble_nightly(settings, &state, &claims, heap, heap_len, table, words, places, notes, pieces, notes, &answer.stop);
     accepted("nightly job", n);
-    same("ids moved", stop.moved, ids - ids / 250);
+    same("ids moved", answer.stop.moved, ids - ids / 250);
 }
 
 /* a full table, the ids deleted; then the greatest put again, of so many bytes */
@@ -215,9 +232,10 @@ static void full(uint64_t entries, size_t bytes) {
 static void full_table(uint64_t entries) { full(entries, 64); }
 
 static void read(uint64_t id) {
-    uint64_t kind, offset, size, n = marble_read(settings, &state, heap, heap_len, table, words, id, &kind, &offset, &size);
+    marble_piece *p = &answer.piece;
+    uint64_t n = marble_read(settings, &state, heap, heap_len, table, words, id, &p->kind, &p->offset, &p->size);
     accepted("read", n);
-    same("kind read", kind, MARBLE_OBJECT);
+    same("kind read", p->kind, MARBLE_OBJECT);
 }
 
 static void large_object(uint64_t bytes) { full(1024, bytes); }
@@ -231,6 +249,7 @@ static void claim_and_release(uint64_t entries) {
     uint64_t n = marble_claim(settings, &state, &claims, heap, heap_len, table, words, 0);
     (void)entries;
     accepted("claim", n);
+    answer.word[0] = claims.word[0];
     n = marble_release(settings, &state, &claims, heap, heap_len, table, words, 0);
     accepted("release", n);
 }
@@ -242,16 +261,15 @@ static void prune(uint64_t entries) {
 }
 
 static void counts(uint64_t entries) {
-    marble_totals totals;
-    uint64_t n = marble_counts(settings, &state, heap, heap_len, table, words, &totals);
+    uint64_t n = marble_counts(settings, &state, heap, heap_len, table, words, &answer.totals);
     accepted("counts", n);
-    same("live", totals.live, entries);
+    same("live", answer.totals.live, entries);
 }
 
 static void load(uint64_t entries) {
-    uint64_t kind, location, n = marble_load(table, words, entries / 2, &kind, &location);
+    uint64_t n = marble_load(table, words, entries / 2, &answer.word[0], &answer.word[1]);
     accepted("load", n);
-    same("kind loaded", kind, MARBLE_DELETED);
+    same("kind loaded", answer.word[0], MARBLE_DELETED);
 }
 
 /* 100 places unused, and 100 ids below all held ones */
@@ -268,280 +286,73 @@ static void store(uint64_t entries) {
 }
 
 static void read_through(uint64_t operations) {
-    marble_piece piece;
-    uint64_t n = marble_read_through(settings, &state, heap, heap_len, table, words, batch, batch_len, operations, &piece);
+    uint64_t n = marble_read_through(settings, &state, heap, heap_len, table, words, batch, batch_len, operations, &answer.piece);
     accepted("read through a batch", n);
-    same("of the batch", piece.of_batch, 1);
+    same("of the batch", answer.piece.of_batch, 1);
 }
 
-/* ---- a yardstick: write and reopen once more, in plain C, by sorting and merging. 0 is accepted, 1 refused, for any reason of 1 to 15 but the
-   ranges of the settings; a trailer whose ids do not rise is refused too, as no call writes one. */
-#define BATCH_BIT (1ull << 62)
-#define MANY (sizeof batch / 2)
-typedef struct entry {
-    uint64_t id, at, raw, slot; /* at orders those of one id: the place in the batch, or the masked position */
-    const uint8_t *bytes;
-    uint64_t len;
-} entry;
-static entry entries[MANY];
-static uint32_t checksums[256];
+/* ---- the same in plain C */
+#include "plain.h"
 
-static void checksums_made(void) {
-    for (uint32_t k = 0; k < 256; k++) {
-        uint32_t c = k;
-        for (int bit = 0; bit < 8; bit++) c = c & 1 ? c >> 1 ^ 0xEDB88320 : c >> 1;
-        checksums[k] = c;
-    }
-}
-
-static uint32_t summed(uint32_t c, const uint8_t *bytes, uint64_t len) {
-    for (; len; len--) c = checksums[(c ^ *bytes++) & 255] ^ c >> 8;
-    return c;
-}
-
-static uint64_t number_at(const uint8_t *from) {
-    uint64_t n;
-    memcpy(&n, from, 8);
-    return n;
-}
-
-/* a number in groups before end; where it stops, or NULL */
-static const uint8_t *grouped(const uint8_t *from, const uint8_t *end, uint64_t *n) {
-    *n = 0;
-    for (int shift = 0; from < end && shift < 64; shift += 7) {
-        const uint8_t b = *from++;
-        if (shift == 63 && b > 1) return NULL;
-        *n |= (uint64_t)(b & 127) << shift;
-        if (b < 128) return b || !shift ? from : NULL;
-    }
-    return NULL;
-}
-
-static int by_id(const void *left, const void *right) {
-    const entry *a = left, *b = right;
-    if (a->id != b->id) return a->id < b->id ? -1 : 1;
-    return a->at < b->at ? -1 : a->at > b->at;
-}
-
-/* sorted where they do not rise; the last of each id is left */
-static uint64_t last_of_each(uint64_t count) {
-    uint64_t kept = 0;
-    for (uint64_t k = 1; k < count; k++) {
-        if (entries[k - 1].id < entries[k].id) continue;
-        qsort(entries, count, sizeof entries[0], by_id);
-        break;
-    }
-    for (uint64_t k = 0; k < count; k++) {
-        if (k + 1 == count || entries[k].id != entries[k + 1].id) entries[kept++] = entries[k];
-    }
-    return kept;
-}
-
-static int in_range(const marble_record *r) {
-    const uint64_t masked = r->lsn & ~BATCH_BIT;
-    return masked && r->lsn >> 63 == 0 && masked + r->trailer_offset < BATCH_BIT && r->trailer_offset <= r->file_size &&
-           r->file_size <= settings.slot_bytes - MARBLE_LABEL_BYTES && r->generation <= 255;
-}
-
-/* 1; how many entries of the table are used */
-static int in_form(uint64_t *used) {
-    uint64_t k = 0;
-    if (memcmp(&settings, &state.settings, sizeof settings) || state.heap_len != heap_len || state.table_len != words / 2) return 0;
-    for (; k < words / 2 && MARBLE_TABLE_LOCATION(table, k); k++) {
-        if (k && MARBLE_TABLE_ID(table, k - 1) >= MARBLE_TABLE_ID(table, k)) return 0;
-    }
-    for (*used = k; k < words / 2; k++) {
-        if (MARBLE_TABLE_ID(table, k) | MARBLE_TABLE_LOCATION(table, k)) return 0;
-    }
-    for (k = 0; k < MARBLE_SLOTS_MAX; k++) {
-        const marble_record *r = &state.records[k];
-        if (r->lsn && (k >= heap_len / settings.slot_bytes || !in_range(r) || r->present_objects > r->file_size || r->live > words / 2 || r->synced > 1)) return 0;
-    }
-    return state.next_position != 0;
-}
-
-/* 2 and 3; how many operations, each an entry, whose raw is its delete mark */
-static int decoded(uint64_t *count) {
-    const uint8_t *at = batch, *end = batch + batch_len;
-    for (*count = 0; at < end; ++*count) {
-        entry *e = &entries[*count];
-        e->at = *count;
-        e->len = 0;
-        if (!(at = grouped(at, end, &e->id)) || at == end || *at > 1) return 0;
-        e->raw = !*at;
-        if (*at++ == 1 && (!(at = grouped(at, end, &e->len)) || e->len > (uint64_t)(end - at) || e->len >= settings.max_object_size)) return 0;
-        e->bytes = at;
-        at += e->len;
-    }
-    return 1;
-}
-
-/* a file's bytes and then its label; each entry has its absolute raw location then */
-static void file_made(uint8_t *label, const marble_record *file) {
-    uint8_t *objects = label + MARBLE_LABEL_BYTES, *trailer = objects + file->trailer_offset;
-    uint64_t offset = 0;
-    memcpy(trailer + 4, &file->present_objects, 8);
-    for (uint64_t k = 0; k < file->present_objects; k++) {
-        entry *e = &entries[k];
-        const uint64_t raw = 2 * offset + e->raw;
-        memcpy(trailer + 12 + 16 * k, &e->id, 8);
-        memcpy(trailer + 20 + 16 * k, &raw, 8);
-        if (e->raw == 0) {
-            uint8_t *object = objects + offset;
-            memcpy(object + 4, &e->id, 8);
-            memcpy(object + 12, &e->len, 8);
-            memcpy(object + 20, e->bytes, e->len);
-            const uint32_t sum = ~summed(summed(summed(~0u, object + 12, 8), object + 4, 8), object + 20, e->len);
-            memcpy(object, &sum, 4);
-            offset += 20 + e->len;
-        }
-        e->raw = raw + 2 * file->lsn;
-    }
-    const uint32_t sum = ~summed(~0u, trailer + 4, file->file_size - file->trailer_offset - 4);
-    memcpy(trailer, &sum, 4);
-    size_t len = marble_groups(label, file->lsn);
-    len += marble_groups(label + len, file->trailer_offset);
-    len += marble_groups(label + len, file->file_size);
-    len += marble_groups(label + len, file->present_objects);
-    len += marble_groups(label + len, file->generation);
-    for (; len < MARBLE_LABEL_BYTES; len++) label[len] = 0;
-}
-
-/* the slots that have a file, ascending by lsn under a mask; how many */
-static uint64_t ordered(uint64_t *slots, uint64_t mask) {
-    uint64_t count = 0;
-    for (uint64_t f = 0; f < MARBLE_SLOTS_MAX; f++) {
-        const uint64_t lsn = state.records[f].lsn & mask;
-        uint64_t k = count;
-        if (!state.records[f].lsn) continue;
-        for (; k && (state.records[slots[k - 1]].lsn & mask) > lsn; k--) slots[k] = slots[k - 1];
-        slots[k] = f;
-        count++;
-    }
-    return count;
-}
-
-/* the file at or below a location loses one live */
-static void replaced(uint64_t raw, const uint64_t *slots, uint64_t count) {
-    uint64_t low = 0, high = count;
-    while (low < high) {
-        const uint64_t middle = (low + high) / 2;
-        if (state.records[slots[middle]].lsn <= MARBLE_LOCATION_POSITION(raw)) low = middle + 1;
-        else high = middle;
-    }
-    if (low && state.records[slots[low - 1]].live) state.records[slots[low - 1]].live--;
-}
-
-/* entries into a table with so many used, of which so many will be, from the back */
-static void merged(uint64_t count, uint64_t used, uint64_t to) {
-    uint64_t slots[MARBLE_SLOTS_MAX];
-    const uint64_t files_held = ordered(slots, UINT64_MAX);
-    for (; count; count--) {
-        const entry *e = &entries[count - 1];
-        for (; used && MARBLE_TABLE_ID(table, used - 1) > e->id; used--) memcpy(&table[2 * --to], &table[2 * used - 2], 16);
-        if (used && MARBLE_TABLE_ID(table, used - 1) == e->id) replaced(MARBLE_TABLE_LOCATION(table, --used), slots, files_held);
-        to--;
-        MARBLE_TABLE_ID(table, to) = e->id;
-        MARBLE_TABLE_LOCATION(table, to) = e->raw;
-    }
-}
-
-static int plain_write(void) {
-    const uint64_t slots = heap_len / settings.slot_bytes;
-    uint64_t used, count, will_be, slot = 0;
-    marble_record file = {0};
-    if (!in_form(&used) || !decoded(&count)) return 1;
-    if (!count) return 0;
-    count = last_of_each(count);
-    will_be = used;
-    for (uint64_t k = 0, t = 0; k < count; k++) {
-        if (!entries[k].raw) file.trailer_offset += 20 + entries[k].len;
-        while (t < used && MARBLE_TABLE_ID(table, t) < entries[k].id) t++;
-        will_be += t == used || MARBLE_TABLE_ID(table, t) != entries[k].id;
-    }
-    file.file_size = file.trailer_offset + 12 + 16 * count;
-    file.lsn = state.next_position | BATCH_BIT;
-    file.present_objects = file.live = count;
-    while (slot < slots && state.records[slot].lsn) slot++;
-    if (MARBLE_LABEL_BYTES + file.file_size > settings.slot_bytes || slot == slots || will_be > words / 2) return 1;
-    if (state.next_position + file.trailer_offset + 1 > BATCH_BIT) return 1;
-    file_made(heap + slot * settings.slot_bytes, &file);
-    merged(count, used, will_be);
-    state.records[slot] = file;
-    state.next_position += file.trailer_offset + 1;
-    return 0;
-}
-
-/* 8 to 13 of a slot that is not empty, its record with the mark set, and its entries behind the count */
-static int recorded(uint64_t slot, uint64_t *count) {
-    const uint8_t *label = heap + slot * settings.slot_bytes, *end = label + MARBLE_LABEL_BYTES, *at = label;
-    marble_record *r = &state.records[slot];
-    uint64_t *const numbers[] = {&r->lsn, &r->trailer_offset, &r->file_size, &r->present_objects, &r->generation};
-    uint32_t sum;
-    for (int k = 0; k < 5; k++) {
-        if (!(at = grouped(at, end, numbers[k]))) return 0;
-    }
-    for (; at < end; at++) {
-        if (*at) return 0;
-    }
-    if (!in_range(r) || r->file_size - r->trailer_offset < 20) return 0;
-    r->synced = 1;
-    const uint8_t *trailer = end + r->trailer_offset;
-    const uint64_t len = r->file_size - r->trailer_offset, listed = number_at(trailer + 4);
-    memcpy(&sum, trailer, 4);
-    if (sum != (uint32_t)~summed(~0u, trailer + 4, len - 4) || listed > (len - 12) / 16) return 0;
-    if (listed != r->present_objects || *count + listed > MANY) return 0;
-    for (uint64_t k = 0; k < listed; k++) {
-        entry *e = &entries[(*count)++];
-        const uint64_t raw = number_at(trailer + 20 + 16 * k);
-        e->id = number_at(trailer + 12 + 16 * k);
-        if ((raw >> 1) + (raw & 1 ? 0 : 20) > r->trailer_offset || (k && e[-1].id >= e->id)) return 0;
-        e->at = (r->lsn & ~BATCH_BIT) + (raw >> 1);
-        e->raw = raw + 2 * r->lsn;
-        e->slot = slot;
-    }
-    return 1;
-}
-
-static int plain_reopen(void) {
-    uint64_t slots[MARBLE_SLOTS_MAX], count = 0, end = 0, longest = 0;
-    for (uint64_t k = 0; k < MARBLE_SLOTS_MAX; k++) state.records[k] = (marble_record){0};
-    for (uint64_t slot = 0; slot < heap_len / settings.slot_bytes; slot++) {
-        if (heap[slot * settings.slot_bytes] && !recorded(slot, &count)) return 1;
-    }
-    const uint64_t files_found = ordered(slots, ~BATCH_BIT);
-    state.next_position = 1;
-    for (uint64_t k = 0; k < files_found; k++) {
-        const marble_record *r = &state.records[slots[k]];
-        const uint64_t masked = r->lsn & ~BATCH_BIT;
-        if (k && masked <= end) return 1;
-        end = masked + r->trailer_offset;
-        if (r->file_size > longest) longest = r->file_size;
-        state.next_position = masked + longest + 1;
-    }
-    count = last_of_each(count);
-    if (count > words / 2) return 1;
-    for (uint64_t k = 0; k < words / 2; k++) {
-        MARBLE_TABLE_ID(table, k) = k < count ? entries[k].id : 0;
-        MARBLE_TABLE_LOCATION(table, k) = k < count ? entries[k].raw : 0;
-        if (k < count) state.records[entries[k].slot].live++;
-    }
-    state.settings = settings;
-    state.heap_len = heap_len;
-    state.table_len = words / 2;
-    claims = (marble_claims){{0, 0, 0, 0}};
-    return 0;
-}
+static void plainly_accepted(uint64_t number) { accepted("call in plain C", number); }
 
 static void write_plainly(uint64_t operations) {
     (void)operations;
-    accepted("write in plain C", (uint64_t)plain_write());
+    plainly_accepted(plain_write());
 }
 
 static void reopen_plainly(uint64_t ids) {
     (void)ids;
-    accepted("reopening in plain C", (uint64_t)plain_reopen());
+    plainly_accepted(plain_reopen());
 }
+
+static void maintain_plainly(uint64_t ids) {
+    (void)ids;
+    plainly_accepted(plain_nightly(&answer.stop));
+}
+
+static void check_plainly(uint64_t ids) {
+    (void)ids;
+    plainly_accepted(plain_check(NULL, 0, &answer.word[0]));
+}
+
+static void salvage_plainly(uint64_t ids) {
+    (void)ids;
+    plainly_accepted(plain_salvage(report, &answer.word[0]));
+}
+
+static void read_plainly(uint64_t id) { plainly_accepted(plain_read(id, &answer.piece)); }
+
+static void large_read_plainly(uint64_t bytes) {
+    (void)bytes;
+    read_plainly(1024);
+}
+
+static void claim_and_release_plainly(uint64_t entries) {
+    (void)entries;
+    plainly_accepted(plain_claim(0, 1));
+    answer.word[0] = claims.word[0];
+    plainly_accepted(plain_claim(0, 0));
+}
+
+static void prune_plainly(uint64_t entries) {
+    (void)entries;
+    plainly_accepted(plain_prune());
+}
+
+static void count_plainly(uint64_t entries) {
+    (void)entries;
+    plainly_accepted(plain_counts(&answer.totals));
+}
+
+static void load_plainly(uint64_t entries) { plainly_accepted(plain_load(entries / 2, &answer.word[0], &answer.word[1])); }
+
+static void store_plainly(uint64_t entries) {
+    (void)entries;
+    plainly_accepted(plain_store(MARBLE_TABLE_ID(table, 0) - 1, 2));
+}
+
+static void read_through_plainly(uint64_t operations) { plainly_accepted(plain_read_through(operations, &answer.piece)); }
 
 /* ---- the table of rows */
 typedef struct row {
@@ -550,7 +361,7 @@ typedef struct row {
     uint64_t calls; /* so many at most before the store is put back as it was prepared */
     int heap;       /* the heap too */
     uint64_t sizes[6];
-    void (*plain)(uint64_t size); /* the yardstick, where there is one */
+    void (*plain)(uint64_t size);
 } row;
 
 static const row rows[] = {
@@ -564,18 +375,19 @@ static const row rows[] = {
     {"reopening, later files have lower ids", "ids", descending, reopening, 200, 0, {1000, 10000, 20000, 40000}, reopen_plainly},
     {"reopening, 100 ids to a file", "ids", many_files, reopening, 200, 0, {6400, 12800, 25600}, reopen_plainly},
     {"reopening of 1,000 ids", "table entries", wide, reopening, 200, 0, {1024, 32768, 65536}, reopen_plainly},
-    {"maintenance, table of 65,536", "ids", deleted_from, maintenance, 1, 1, {10000, 20000, 40000}, NULL},
-    {"check, ids ascend from file to file", "ids", ascending_puts, check, 200, 0, {10000, 20000, 40000}, NULL},
-    {"check, later files have lower ids", "ids", descending_puts, check, 200, 0, {10000, 20000, 40000}, NULL},
-    {"salvage", "ids", ascending_puts, salvage, 200, 0, {10000, 20000, 40000}, NULL},
-    {"read of 64 bytes, full table", "table entries", full_table, read, 1000, 0, {1024, 32768, 65536}, NULL},
-    {"claim and release, full table", "table entries", full_table, claim_and_release, 1000, 0, {1024, 32768, 65536}, NULL},
-    {"prune, full table", "table entries", full_table, prune, 1000, 0, {1024, 32768, 65536}, NULL},
-    {"counts, full table", "table entries", full_table, counts, 1000, 0, {1024, 32768, 65536}, NULL},
-    {"load, full table", "table entries", full_table, load, 10000, 0, {1024, 32768, 65536}, NULL},
-    {"store of a new id below all, full table", "table entries", nearly_full, store, STORES, 0, {1024, 32768, 65536}, NULL},
-    {"read, table of 1,024", "bytes", large_object, large_read, 1000, 0, {64, 16250, 32500, 65000}, NULL},
-    {"read through a batch, table of 1,024", "operations", held_rising, read_through, 1000, 0, {10, 100, 500, 1000}, NULL},
+    {"maintenance, table of 65,536", "ids", deleted_from, maintenance, 1, 1, {10000, 20000, 40000}, maintain_plainly},
+    {"check, ids ascend from file to file", "ids", ascending_puts, check, 200, 0, {10000, 20000, 40000}, check_plainly},
+    {"check, later files have lower ids", "ids", descending_puts, check, 200, 0, {10000, 20000, 40000}, check_plainly},
+    {"check, each id twice, later files have lower ids, table full", "ids", put_twice, check, 200, 0, {10000, 20000, 40000}, check_plainly},
+    {"salvage", "ids", ascending_puts, salvage, 200, 0, {10000, 20000, 40000}, salvage_plainly},
+    {"read of 64 bytes, full table", "table entries", full_table, read, 1000, 0, {1024, 32768, 65536}, read_plainly},
+    {"claim and release, full table", "table entries", full_table, claim_and_release, 1000, 0, {1024, 32768, 65536}, claim_and_release_plainly},
+    {"prune, full table", "table entries", full_table, prune, 1000, 0, {1024, 32768, 65536}, prune_plainly},
+    {"counts, full table", "table entries", full_table, counts, 1000, 0, {1024, 32768, 65536}, count_plainly},
+    {"load, full table", "table entries", full_table, load, 10000, 0, {1024, 32768, 65536}, load_plainly},
+    {"store of a new id below all, full table", "table entries", nearly_full, store, STORES, 0, {1024, 32768, 65536}, store_plainly},
+    {"read, table of 1,024", "bytes", large_object, large_read, 1000, 0, {64, 16250, 32500, 65000}, large_read_plainly},
+    {"read through a batch, table of 1,024", "operations", held_rising, read_through, 1000, 0, {10, 100, 500, 1000}, read_through_plainly},
 };
 #define ROWS (sizeof rows / sizeof rows[0])
 
@@ -620,23 +432,35 @@ static void blank(size_t first) {
     }
 }
 
-/* the yardstick leaves state, table and the first slots as the call does */
-static void agreed(const row *r, uint64_t size) {
-    static marble_state state_then;
-    static uint64_t table_then[MARBLE_TABLE_WORDS(MARBLE_TABLE_MAX)];
-    const size_t first = 16 * settings.slot_bytes;
+/* the first slots, or all where the heap is put back */
+static size_t compared(const row *r) { return r->heap ? heap_len : 16 * settings.slot_bytes; }
+
+/* the store as prepared, and one call from it on */
+static void one_call(const row *r, void (*call)(uint64_t), uint64_t size) {
     put_back(r);
-    if (r->plain == write_plainly) blank(first);
-    r->call(size);
+    if (r->call == write) blank(compared(r));
+    memset(&answer, 0, sizeof answer);
+    call(size);
+}
+
+/* plain C answers as the call does and leaves state, claims, table and these slots as it does */
+static void agreed(const row *r, uint64_t size) {
+    static uint8_t heap_then[sizeof heap];
+    static uint64_t table_then[sizeof table / 8];
+    static marble_state state_then;
+    one_call(r, r->call, size);
+    const marble_claims claims_then = claims;
+    uint64_t answer_then[4];
+    memcpy(answer_then, &answer, sizeof answer);
     memcpy(&state_then, &state, sizeof state);
     memcpy(table_then, table, 8 * words);
-    memcpy(heap_was, heap, first);
-    put_back(r);
-    if (r->plain == write_plainly) blank(first);
-    r->plain(size);
+    memcpy(heap_then, heap, compared(r));
+    one_call(r, r->plain, size);
+    same("another answer in plain C", memcmp(answer_then, &answer, sizeof answer) != 0, 0);
+    same("other claims in plain C", memcmp(&claims_then, &claims, sizeof claims) != 0, 0);
     same("another state in plain C", memcmp(&state_then, &state, sizeof state) != 0, 0);
     same("another table in plain C", memcmp(table_then, table, 8 * words) != 0, 0);
-    same("another heap in plain C", memcmp(heap_was, heap, first) != 0, 0);
+    same("another heap in plain C", memcmp(heap_then, heap, compared(r)) != 0, 0);
 }
 
 static void told(const row *r) {
@@ -646,12 +470,9 @@ static void told(const row *r) {
         memcpy(&state_was, &state, sizeof state);
         memcpy(table_was, table, 8 * words);
         if (r->heap) memcpy(heap_was, heap, heap_len);
-        printf("%s\t%s\t%llu\t%.0f\t", r->name, r->unit, (unsigned long long)size, least(r, r->call, size));
-        if (r->plain) {
-            agreed(r, size);
-            printf("%.0f", least(r, r->plain, size));
-        }
-        printf("\n");
+        const double ours = least(r, r->call, size);
+        agreed(r, size);
+        printf("%s\t%s\t%llu\t%.0f\t%.0f\n", r->name, r->unit, (unsigned long long)size, ours, least(r, r->plain, size));
     }
 }
 

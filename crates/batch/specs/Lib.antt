@@ -3,8 +3,8 @@ pub mod Behind
 pub mod ReadingLaws
 pub mod Order
 pub mod OrderLaws
+pub mod Listing
 pub mod Walk
 pub mod WalkLaws
-pub mod Listing
 pub mod Sizes
 pub mod SizeLaws

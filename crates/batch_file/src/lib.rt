@@ -72,22 +72,30 @@ struct Objects {
 
 // The object bytes, ids ascending. "checksum 4, over all that follows it": the count and the entries, which stand behind it, so that it is
 // taken here.
-fn put_objects(file: &mut [u8], batch: &[u8], begin: Cursor, count: u64, left: u64) -> Objects
-    requires { ⌜ Begins (now batch) begin
+fn put_objects(
+    file: &mut [u8],
+    order: &mut [u64],
+    batch: &[u8],
+    begin: Cursor,
+    count: u64,
+    left: u64,
+) -> Objects
+    requires { ⌜ (length (now order) ≡ 1024)
+        × Begins (now batch) (now order) begin
         × (count ≡ length (settled (opsIn (now batch))))
         × (length (objectsOf (settled (opsIn (now batch)))) ≤ length (now file))
         × (length (objectsOf (settled (opsIn (now batch)))) < 2 ^ 62) ⌝ }
     ensures made { λ r. ⌜ Made left (storesOf 0 (objectsOf (settled (opsIn (now (batch .entry))))))
         (now (file .entry)) (now (file .exit)) (r .left) ⌝ }
     ensures summed { λ r. ⌜ r .checksum ≡ crc32 (listed (entriesOf 0 (settled (opsIn (now (batch .entry)))))) ⌝ }
+    ensures again { λ _. ⌜ Begins (now (batch .entry)) (now (order .exit)) begin ⌝ }
 {
     let mut register = write::sum_count(count);
     let mut rest = left;
     let mut position: u64 = 0;
-    let mut order = [0u64; batch::ORDER_WORDS];
     let mut cursor = begin;
     loop {
-        let Step::Next(o, after) = batch::next(&mut order, batch, cursor) else {
+        let Step::Next(o, after) = batch::next(order, batch, cursor) else {
             return Objects {
                 left: rest,
                 checksum: write::sum_end(register),
@@ -102,8 +110,16 @@ fn put_objects(file: &mut [u8], batch: &[u8], begin: Cursor, count: u64, left: u
 }
 
 // The entries, from `at` on.
-fn put_entries(file: &mut [u8], at: usize, batch: &[u8], begin: Cursor, left: u64) -> u64
-    requires { ⌜ Begins (now batch) begin
+fn put_entries(
+    file: &mut [u8],
+    at: usize,
+    order: &mut [u64],
+    batch: &[u8],
+    begin: Cursor,
+    left: u64,
+) -> u64
+    requires { ⌜ (length (now order) ≡ 1024)
+        × Begins (now batch) (now order) begin
         × (at + 16 * length (settled (opsIn (now batch))) ≤ length (now file))
         × (length (objectsOf (settled (opsIn (now batch)))) < 2 ^ 62) ⌝ }
     ensures { λ r. ⌜ Made left (storesOf at (each entryBytes (entriesOf 0 (settled (opsIn (now (batch .entry)))))))
@@ -112,10 +128,9 @@ fn put_entries(file: &mut [u8], at: usize, batch: &[u8], begin: Cursor, left: u6
     let mut rest = left;
     let mut place = at;
     let mut position: u64 = 0;
-    let mut order = [0u64; batch::ORDER_WORDS];
     let mut cursor = begin;
     loop {
-        let Step::Next(o, after) = batch::next(&mut order, batch, cursor) else {
+        let Step::Next(o, after) = batch::next(order, batch, cursor) else {
             return rest;
         };
         let e = entry_of(o, position);
@@ -130,13 +145,15 @@ fn put_entries(file: &mut [u8], at: usize, batch: &[u8], begin: Cursor, left: u6
 fn put_trailer(
     file: &mut [u8],
     at: usize,
+    order: &mut [u64],
     batch: &[u8],
     begin: Cursor,
     checksum: u32,
     count: u64,
     left: u64,
 ) -> u64
-    requires { ⌜ Begins (now batch) begin
+    requires { ⌜ (length (now order) ≡ 1024)
+        × Begins (now batch) (now order) begin
         × (checksum ≡ crc32 (listed (entriesOf 0 (settled (opsIn (now batch))))))
         × (count ≡ length (settled (opsIn (now batch))))
         × (at + (12 + 16 * count) ≤ length (now file))
@@ -145,20 +162,29 @@ fn put_trailer(
         (now (file .entry)) (now (file .exit)) r ⌝ }
 {
     let rest = write::put_head(file, at, checksum, count, left);
-    put_entries(file, at + TRAILER_HEAD, batch, begin, rest)
+    put_entries(file, at + TRAILER_HEAD, order, batch, begin, rest)
 }
 
 // The whole file, in the heap's part behind its slot's label: the objects, then the trailer.
-fn put_file(file: &mut [u8], batch: &[u8], count: u64, total: u64, left: u64) -> u64
+fn put_file(
+    file: &mut [u8],
+    order: &mut [u64],
+    batch: &[u8],
+    begin: Cursor,
+    count: u64,
+    total: u64,
+    left: u64,
+) -> u64
+    requires { ⌜ (length (now order) ≡ 1024) × Begins (now batch) (now order) begin ⌝ }
     requires { ⌜ Sized (now batch) count total ⌝ }
     requires { ⌜ length (fileBytes (settled (opsIn (now batch)))) ≤ length (now file) ⌝ }
     ensures { λ r. ⌜ Made left (storesOf 0 (fileBytes (settled (opsIn (now (batch .entry)))))) (now (file .entry)) (now (file .exit)) r ⌝ }
 {
-    let begin = batch::start(batch);
-    let objects = put_objects(file, batch, begin, count, left);
+    let objects = put_objects(file, order, batch, begin, count, left);
     put_trailer(
         file,
         total as usize,
+        order,
         batch,
         begin,
         objects.checksum,
@@ -167,22 +193,33 @@ fn put_file(file: &mut [u8], batch: &[u8], count: u64, total: u64, left: u64) ->
     )
 }
 
-// A file and its label into the slot that begins at `start`, in the order of the file's run.
+// A file and its label, which says its count of entries and T, into the slot that begins at `start`, in the order of the file's run.
 pub fn write_file(
     heap: &mut [u8],
     start: usize,
+    order: &mut [u64],
     batch: &[u8],
+    begin: Cursor,
     new: Label,
-    count: u64,
-    total: u64,
     k: u64,
 ) -> u64
-    requires { ⌜ Sized (now batch) count total ⌝ }
+    requires { ⌜ (length (now order) ≡ 1024) × Begins (now batch) (now order) begin ⌝ }
+    requires { ⌜ Sized (now batch) (new .«present_objects») (new .«trailer_offset») ⌝ }
     requires { ⌜ start + (64 + length (fileBytes (settled (opsIn (now batch))))) ≤ length (now heap) ⌝ }
     ensures { λ r. ⌜ Made k (fileStores start (labelBytes new) (fileBytes (settled (opsIn (now (batch .entry))))))
         (now (heap .entry)) (now (heap .exit)) r ⌝ }
 {
     let behind_label = start + LABEL_BYTES;
-    let rest = put_file(&mut heap[behind_label..], batch, count, total, k);
+    let count = new.present_objects;
+    let total = new.trailer_offset;
+    let rest = put_file(
+        &mut heap[behind_label..],
+        order,
+        batch,
+        begin,
+        count,
+        total,
+        k,
+    );
     slot_writer::label::put(heap, start, new, rest)
 }

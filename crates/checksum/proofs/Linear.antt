@@ -1,12 +1,11 @@
--- The shift register is linear: what stands above the low byte passes through eight shifts. The table's step rests on it.
+-- The shift register is linear: each half byte goes out by itself, and what stands above comes down. The tables' steps rest on it.
 use mathlib.Core.Path.{_≡_, refl, sym, ap, ap₂, _∙_}
-use mathlib.Core.Bool.{Bool, true, false}
 use Prim.Native.Nat.{ℕ, zero, suc, _+_, _*_, _/_, _%_, _^_, _<_}
 use native.Mathlib.Omega.{arith}
-use native.Mathlib.Nat.{mod-lt, pow-suc, mul-assoc, mul-one, div-eq-of-lt}
-use lib.Pow.{split}
+use native.Mathlib.Nat.{mod-lt, pow-suc, mul-assoc, mul-one, zero-add, suc-add}
+use lib.Pow.{split, pow-pos, shr-shr}
 use lib.Arith.{bin-ind}
-use lib.Bits.{bitXor, differ, xor-step, xor-zero-l, xor-zero-r, xor-comm, xor-shr, xor-shifted}
+use lib.Bits.{bitXor, differ, xor-step, xor-zero-l, xor-comm, xor-shr, xor-shifted}
 use lib.Dec.{eqb, lit<}
 use Rattle.checksum.specs.Checksum.{minus, poly, shiftBit, shifts}
 
@@ -39,7 +38,7 @@ odd-xor a b = rw (xor-step a b) (low (bitXor (a / 2) (b / 2)) (differ-lt (a % 2)
     low q h = omega arith
 
 -- `xor` is associative
-xor-assoc : (a b c : ℕ) → bitXor (bitXor a b) c ≡ bitXor a (bitXor b c)
+pub xor-assoc : (a b c : ℕ) → bitXor (bitXor a b) c ≡ bitXor a (bitXor b c)
 xor-assoc a = bin-ind (λ (n : ℕ). (b c : ℕ) → bitXor (bitXor n b) c ≡ bitXor n (bitXor b c))
     (λ b c. rw (xor-zero-l b, xor-zero-l (bitXor b c)) refl)
     (λ n ih b c.
@@ -52,39 +51,84 @@ xor-assoc a = bin-ind (λ (n : ℕ). (b c : ℕ) → bitXor (bitXor n b) c ≡ b
     ∙ sym (xor-step n (bitXor b c)))
     a
 
-differ-zero : (x : ℕ) → differ x 0 ≡ x
-differ-zero zero = refl
-differ-zero (suc x) = refl
+-- what two tests take off, and both together
+minus-xor : (p q a b : ℕ) → p < 2 → q < 2 → minus (eqb (differ p q) 1) (bitXor a b) ≡ bitXor (minus (eqb p 1) a) (minus (eqb q 1) b)
+minus-xor zero zero a b h k = refl
+minus-xor zero (suc zero) a b h k = xor-assoc a b poly
+minus-xor (suc zero) zero a b h k = xor-assoc a b poly ∙ ap (bitXor a) (xor-comm b poly) ∙ sym (xor-assoc a poly b)
+minus-xor (suc zero) (suc zero) a b h k =
+    let none : bitXor poly (bitXor b poly) ≡ b = ap (bitXor poly) (xor-comm b poly) ∙ sym (xor-assoc poly poly b) ∙ xor-zero-l b in
+    sym (xor-assoc a poly (bitXor b poly) ∙ ap (bitXor a) none)
+minus-xor zero (suc (suc q)) a b h k = absurd (omega arith)
+minus-xor (suc zero) (suc (suc q)) a b h k = absurd (omega arith)
+minus-xor (suc (suc p)) q a b h k = absurd (omega arith)
 
--- one shift: what stands above the lowest bit passes through
-shift-even : (a y : ℕ) → shiftBit (bitXor a (y * 2)) ≡ bitXor (shiftBit a) y
+-- a shift of two registers together is that of each
+shift-xor : (a b : ℕ) → shiftBit (bitXor a b) ≡ bitXor (shiftBit a) (shiftBit b)
 unfolding shiftBit
-shift-even a y =
-    let even : y * 2 % 2 ≡ 0 = omega arith in
-    let halved : y * 2 / 2 ≡ y = omega arith in
-    let same : bitXor a (y * 2) % 2 ≡ a % 2 = odd-xor a (y * 2) ∙ ap (differ (a % 2)) even ∙ differ-zero (a % 2) in
-    let rest : bitXor a (y * 2) / 2 ≡ bitXor (a / 2) y = half-xor a (y * 2) ∙ ap (bitXor (a / 2)) halved in
-    ap₂ (λ (p q : ℕ). minus (eqb p 1) q) same rest ∙ go (eqb (a % 2) 1)
-  where
-    go : (p : Bool) → minus p (bitXor (a / 2) y) ≡ bitXor (minus p (a / 2)) y
-    go true = xor-assoc (a / 2) y poly ∙ ap (bitXor (a / 2)) (xor-comm y poly) ∙ sym (xor-assoc (a / 2) poly y)
-    go false = refl
+shift-xor a b =
+    ap₂ (λ (p q : ℕ). minus (eqb p 1) q) (odd-xor a b) (half-xor a b)
+    ∙ minus-xor (a % 2) (b % 2) (a / 2) (b / 2) (mod-lt a (lit< tt)) (mod-lt b (lit< tt))
 
 -- the same of k shifts
-shifts-high : (k a y : ℕ) → shifts k (bitXor a (y * 2 ^ k)) ≡ bitXor (shifts k a) y
+pub shifts-xor : (k a b : ℕ) → shifts k (bitXor a b) ≡ bitXor (shifts k a) (shifts k b)
 unfolding shifts
-shifts-high zero a y = ap (bitXor a) (mul-one y)
-shifts-high (suc k) a y =
-    let double : y * 2 ^ suc k ≡ y * 2 ^ k * 2 = ap (λ (p : ℕ). y * p) (pow-suc 2 k) ∙ sym (mul-assoc y (2 ^ k) 2) in
-    ap (λ (x : ℕ). shifts k (shiftBit (bitXor a x))) double
-    ∙ ap (shifts k) (shift-even a (y * 2 ^ k))
-    ∙ shifts-high k (shiftBit a) y
+shifts-xor zero a b = refl
+shifts-xor (suc k) a b = ap (shifts k) (shift-xor a b) ∙ shifts-xor k (shiftBit a) (shiftBit b)
 
--- a byte at once: the table's entry for the low byte, and the rest of the register shifted down
-pub table-step : (r b : ℕ) → b < 256 → bitXor (shifts 8 (bitXor r b % 256)) (r / 256) ≡ shifts 8 (bitXor r b)
-table-step r b h =
-    let x = bitXor r b in
-    let high : x / 256 ≡ r / 256 = xor-shr r b 8 ∙ ap (bitXor (r / 256)) (div-eq-of-lt h) ∙ xor-zero-r (r / 256) in
-    let apart : x ≡ bitXor (x % 256) (x / 256 * 256) =
-    sym (split x 8) ∙ sym (xor-shifted (x / 256) 8 (x % 256) (mod-lt x (lit< tt))) ∙ xor-comm (x / 256 * 256) (x % 256) in
-    sym (ap (shifts 8) apart ∙ shifts-high 8 (x % 256) (x / 256) ∙ ap (bitXor (shifts 8 (x % 256))) high)
+-- shifts and then shifts
+pub shifts-then : (j k a : ℕ) → shifts (j + k) a ≡ shifts k (shifts j a)
+unfolding shifts
+shifts-then zero k a = ap (λ (n : ℕ). shifts n a) (zero-add k)
+shifts-then (suc j) k a = ap (λ (n : ℕ). shifts n a) (suc-add j k) ∙ shifts-then j k (shiftBit a)
+
+-- what stands above the bits that go out comes down
+shift-even : (y : ℕ) → shiftBit (y * 2) ≡ y
+unfolding shiftBit
+shift-even y =
+    let even : y * 2 % 2 ≡ 0 = omega arith in
+    let halved : y * 2 / 2 ≡ y = omega arith in
+    rw (even, halved) refl
+
+pub shifts-down : (k y : ℕ) → shifts k (y * 2 ^ k) ≡ y
+unfolding shifts
+shifts-down zero y = mul-one y
+shifts-down (suc k) y =
+    let double : y * 2 ^ suc k ≡ y * 2 ^ k * 2 = ap (λ (p : ℕ). y * p) (pow-suc 2 k) ∙ sym (mul-assoc y (2 ^ k) 2) in
+    ap (λ (x : ℕ). shifts k (shiftBit x)) double ∙ ap (shifts k) (shift-even (y * 2 ^ k)) ∙ shifts-down k y
+
+-- the lowest j bits go out, and what stands above them comes down
+part-out : (j k w : ℕ) → shifts (j + k) w ≡ bitXor (shifts (j + k) (w % 2 ^ j)) (shifts k (w / 2 ^ j))
+part-out j k w =
+    let low = w % 2 ^ j in
+    let high = w / 2 ^ j * 2 ^ j in
+    let apart : w ≡ bitXor low high = sym (split w j) ∙ sym (xor-shifted (w / 2 ^ j) j low (mod-lt w (pow-pos j))) ∙ xor-comm high low in
+    ap (shifts (j + k)) apart
+    ∙ shifts-xor (j + k) low high
+    ∙ ap (bitXor (shifts (j + k) low)) (shifts-then j k high ∙ ap (shifts k) (shifts-down j (w / 2 ^ j)))
+
+-- the next half byte of w, from bit i on, beside what those before it made
+half-out : (x w i k : ℕ) → bitXor x (shifts (4 + k) (w / 2 ^ i)) ≡ bitXor (bitXor x (shifts (4 + k) (w / 2 ^ i % 16))) (shifts k (w / 2 ^ (i + 4)))
+half-out x w i k =
+    let half = shifts (4 + k) (w / 2 ^ i % 16) in
+    ap (bitXor x) (part-out 4 k (w / 2 ^ i))
+    ∙ sym (xor-assoc x half (shifts k (w / 2 ^ i / 16)))
+    ∙ ap (λ (q : ℕ). bitXor (bitXor x half) (shifts k q)) (shr-shr w i 4)
+
+-- x and the n next half bytes of w, from bit i on, each as it goes out, and what stands above them
+abbrev pub halves : ℕ → ℕ → ℕ → ℕ → ℕ
+halves zero x w i = bitXor x (w / 2 ^ i)
+halves (suc n) x w i = halves n (bitXor x (shifts (4 + 4 * n) (w / 2 ^ i % 16))) w (i + 4)
+
+halves-on : (n x w i : ℕ) → halves n x w i ≡ bitXor x (shifts (4 * n) (w / 2 ^ i))
+unfolding shifts
+halves-on zero x w i = refl
+halves-on (suc n) x w i =
+    let four-more : 4 + 4 * n ≡ 4 * suc n = omega arith in
+    halves-on n (bitXor x (shifts (4 + 4 * n) (w / 2 ^ i % 16))) w (i + 4)
+    ∙ sym (half-out x w i (4 * n))
+    ∙ ap (λ (m : ℕ). bitXor x (shifts m (w / 2 ^ i))) four-more
+
+-- all bits out, by half bytes: a table's entry for each
+pub halves-out : (n w : ℕ) → halves n (shifts (4 + 4 * n) (w % 16)) w 4 ≡ shifts (4 + 4 * n) w
+halves-out n w = halves-on n (shifts (4 + 4 * n) (w % 16)) w 4 ∙ sym (part-out 4 (4 * n) w)

@@ -2,10 +2,10 @@
 use mathlib.Core.Path.{_≡_, refl, ap, _∙_}
 use mathlib.Core.List.{List, [], _∷_, _++_}
 use mathlib.Core.Bool.{Bool, true, false}
-use Prim.Native.Nat.{ℕ, zero, suc, _+_, _-_, _*_, _/_, _%_, _^_, _<_}
+use Prim.Native.Nat.{ℕ, zero, suc, _+_, _-_, _*_, _/_, _%_, _^_}
 use lib.Bits.{bitXor}
 use lib.Dec.{eqb}
-use lib.ListN.{length, getD}
+use lib.ListN.{length}
 use Rattle.numbers.specs.LittleEndian.{leBytes}
 
 -- x^32 + x^26 + x^23 + x^22 + x^16 + x^12 + x^11 + x^10 + x^8 + x^7 + x^5 + x^4 + x^2 + x + 1, low bit first
@@ -37,10 +37,6 @@ crc32 bs = 2 ^ 32 - 1 - crcFrom (2 ^ 32 - 1) bs
 -- "over length, id, body in that order"
 unfoldable pub objectSum : ℕ → List ℕ → ℕ
 objectSum id body = crc32 ((leBytes 8 (length body) ++ leBytes 8 id) ++ body)
-
--- a table for the byte step: entry n is what eight shifts make of n
-pub record IsTable (t : List ℕ) : Type 0 where
-  pub entry : (n : ℕ) → n < 256 → getD t n 0 ≡ shifts 8 n
 
 -- k bits in the other order
 unfoldable pub mirrored : ℕ → ℕ → ℕ

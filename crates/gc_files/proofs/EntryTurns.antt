@@ -3,17 +3,18 @@ use mathlib.Core.Path.{_≡_, refl, sym, ap, _∙_}
 use Prim.Native.Nat.{_≤_, _<_}
 use native.Mathlib.Omega.{arith}
 use lib.ListN.{length-set, take-append-drop}
+use lib.Seq.{getD-drop}
 use Rattle.rules.specs.Base.{List, _++_, ℕ, _+_, length, getD, set, take, drop, eqb, pick}
 use Rattle.rules.specs.BaseLaws.{zero-or-more}
 use mathlib.Core.Logic.{_⊎_, inl, inr}
 use borrow.Author.Tests.{eq-eqb, ne-eqb}
-use Rattle.rules.specs.Ops.{sizeOf, shardFor}
+use Rattle.rules.specs.Ops.{Op, sizeOf, shardFor}
 use Rattle.batch.specs.SizeLaws.{size-bound}
 use Rattle.gc_split.specs.Tally.{Tally, entering, taking, tallyFrom, Within}
 use Rattle.gc_split.specs.BoundLaws.{cut-within, take-within}
 use Rattle.gc_split.specs.PieceLaws.{take-cuts}
 use Rattle.gc_files.specs.Places.{movingAt, opAt, placedOps, Whole, entryTaken, entryPiece, piecesAlong}
-use Rattle.gc_files.specs.PlaceLaws.{moving-told, along-tally, along-tally-end, along-pieces, along-pieces-end}
+use Rattle.gc_files.specs.PlaceLaws.{moving-told, along-tally, along-pieces, placed-none, pieces-none}
 
 -- an entry more at most
 taken-within : (target slotSize : ℕ) (heap : List ℕ) (id place : ℕ) (t : Tally) → (1 < place → Whole heap place) → Within t → t .totals .entries < 65536
@@ -75,9 +76,13 @@ along-turn target slotSize heap xs ps old start t t′ gs gs′ i h g k whole ro
       cuts = ap (λ (u : Tally). length (u .cuts)) e ∙ taken .2 ∙ along .cuts;
     }
 
-pub along-end : (target slotSize : ℕ) (heap xs ps old : List ℕ) (start t : Tally) (gs : List ℕ) (i : ℕ) → length xs ≤ i → Along target slotSize heap xs ps old start t gs i
+-- no entry from i on is moved
+pub along-end : (target slotSize : ℕ) (heap xs ps old : List ℕ) (start t : Tally) (gs : List ℕ) (i : ℕ) → ((k : ℕ) → i ≤ k → getD ps k 0 ≡ 0)
+    → Along target slotSize heap xs ps old start t gs i
     → (t ≡ tallyFrom target slotSize (placedOps heap xs ps) start) × (gs ≡ piecesAlong target slotSize heap xs ps old start)
-along-end target slotSize heap xs ps old start t gs i h along = (
-  sym (along-tally-end target slotSize heap xs ps i h t) ∙ along .tallied,
-  sym (take-append-drop i gs) ∙ ap (λ (rest : List ℕ). take i gs ++ rest) (sym (along-pieces-end target slotSize heap xs ps i h gs t)) ∙ along .numbered,
-)
+unfolding tallyFrom
+along-end target slotSize heap xs ps old start t gs i z along =
+    let none : (k : ℕ) → getD (drop i ps) k 0 ≡ 0 = λ k. getD-drop i ps k 0 ∙ z (i + k) (omega arith) in (
+      sym (ap (λ (ops : List Op). tallyFrom target slotSize ops t) (placed-none heap (drop i xs) (drop i ps) none)) ∙ along .tallied,
+      sym (take-append-drop i gs) ∙ ap (λ (rest : List ℕ). take i gs ++ rest) (sym (pieces-none target slotSize heap (drop i xs) (drop i ps) (drop i gs) t none)) ∙ along .numbered,
+    )

@@ -29,6 +29,7 @@ pub record ObjectThere (part heap : List ℕ) (at p : ℕ) : Type 0 where
   pub size : lengthAt heap (at + p) ≡ storedAt p (drop p part) .size
   pub body : take (lengthAt heap (at + p)) (drop (at + p + 20) heap) ≡ storedAt p (drop p part) .body
   pub inside : at + p + (20 + lengthAt heap (at + p)) ≤ length heap
+  pub bytes : take (20 + lengthAt heap (at + p)) (drop (at + p) heap) ≡ take (20 + lengthAt heap (at + p)) (drop p part)
 
 pub object-there : (part rest heap : List ℕ) (at p : ℕ) → part ++ rest ≡ drop at heap → 20 + storedAt p (drop p part) .size ≤ storedAt p (drop p part) .room
     → ObjectThere part heap at p
@@ -46,6 +47,7 @@ object-there part rest heap at p e room =
       size = size;
       body = ap (λ (k : ℕ). take k (drop (at + p + 20) heap)) size ∙ body;
       inside = omega (arith, size, ap length e, length-append part rest, length-drop at heap);
+      bytes = sym (part-piece part rest heap at p (20 + lengthAt heap (at + p)) e (omega (arith, size)));
     }
 
 -- a front of a front

@@ -6,20 +6,22 @@ use Prim.Native.Nat.{_≤_, _<_}
 use native.Mathlib.Numerals.{add-one}
 use native.Mathlib.Omega.{arith}
 use borrow.Author.Tests.{eq-eqb, ne-eqb}
-use lib.Seq.{take-suc-set, drop-set-lt}
+use lib.Seq.{take-suc-set, drop-set-lt, set-getD}
+use Rattle.numbers.specs.Parts.{putAt, put-step, put-none}
 use Rattle.rules.specs.Base.{Bool, true, false, List, [], _∷_, _++_, ℕ, _+_, _^_, length, getD, set, take, drop, eqb, pick, suc}
-use Rattle.rules.specs.TurnLaws.{left-next, left-none}
+use Rattle.rules.specs.TurnLaws.{left-next}
 use Rattle.rules.specs.declared.Held.the-variants.{Mapped}
 use Rattle.rules.specs.Table.{loadedOf}
 use Rattle.rules.specs.Ops.{put, delete, Op, sizeOf, shardFor}
 use Rattle.gc_split.specs.Tally.{Tally, taking, tallyFrom, pieceIn, piecesFrom, inPiece}
 use Rattle.disk_location.specs.Locations.{shardOf}
-use Rattle.rules.specs.BaseLaws.{same?}
+use Rattle.rules.specs.BaseLaws.{same?, zero-or-more}
+use Rattle.rules.specs.Layout.{usedEntries}
 use Rattle.batch.specs.declared.Operation.{Operation}
 use Rattle.batch.specs.ReadingLaws.{piece-length}
 use Rattle.batch.specs.Sizes.{sizeIn}
 use Rattle.batch.specs.SizeLaws.{size-is, size-bound}
-use Rattle.gc_files.specs.Places.{lengthAt, movingAt, Whole, placeFor, placesFor, opAt, placedOps, filedOps, entryTaken, entryPiece, piecesAlong}
+use Rattle.gc_files.specs.Places.{lengthAt, movingAt, Whole, OfUsed, placeFor, placesFor, opAt, placedOps, filedOps, entryTaken, entryPiece, piecesAlong}
 
 -- ---- a turn over all entries, and the end
 module _ (target slotSize : ℕ) (heap xs ps : List ℕ) (i : ℕ) where
@@ -40,10 +42,6 @@ module _ (target slotSize : ℕ) (heap xs ps : List ℕ) (i : ℕ) where
       go true = refl
       go false = refl
 
-  pub along-tally-end : length xs ≤ i → (t : Tally) → tallyFrom target slotSize (placedOps heap (drop i xs) (drop i ps)) t ≡ t
-  unfolding placedOps tallyFrom
-  along-tally-end h t = rw (left-none xs i h) refl
-
   pub along-pieces : i < length xs → i < length ps → (gs : List ℕ) → i < length gs → (t : Tally)
       → take i gs ++ piecesAlong target slotSize heap (drop i xs) (drop i ps) (drop i gs) t
       ≡ take (i + 1) (set gs i (entryPiece target slotSize heap (getD xs i 0) (getD ps i 0) (getD gs i 0) t))
@@ -58,9 +56,28 @@ module _ (target slotSize : ℕ) (heap xs ps : List ℕ) (i : ℕ) where
       rw (first, rest, left-next xs i 0 h, left-next ps i 0 g, left-next gs i 0 k)
       (sym (append-assoc (take i gs) (v ∷ []) (piecesAlong target slotSize heap (drop (i + 1) xs) (drop (i + 1) ps) (drop (i + 1) gs) next)))
 
-  pub along-pieces-end : length xs ≤ i → (gs : List ℕ) (t : Tally) → piecesAlong target slotSize heap (drop i xs) (drop i ps) (drop i gs) t ≡ drop i gs
-  unfolding piecesAlong
-  along-pieces-end h gs t = rw (left-none xs i h) refl
+-- behind the used entries none is moved, or marked
+pub none-behind : (table places : List ℕ) → OfUsed table places → (k : ℕ) → length (usedEntries table) ≤ k → getD places k 0 ≡ 0
+none-behind table places u k h = go (zero-or-more (getD places k 0))
+  where
+    go : (getD places k 0 ≡ 0) ⊎ (0 < getD places k 0) → getD places k 0 ≡ 0
+    go (inl z) = z
+    go (inr some) = absurd (omega (arith, u k some))
+
+-- entries of which none is moved
+pub placed-none : (heap xs ps : List ℕ) → ((k : ℕ) → getD ps k 0 ≡ 0) → placedOps heap xs ps ≡ []
+unfolding placedOps
+placed-none heap [] ps z = refl
+placed-none heap (x ∷ xs) [] z = refl
+placed-none heap (x ∷ xs) (p ∷ ps) z = rw (eq-eqb p 0 (z 0)) (placed-none heap xs ps (λ k. z (suc k)))
+
+pub pieces-none : (target slotSize : ℕ) (heap xs ps gs : List ℕ) (t : Tally) → ((k : ℕ) → getD ps k 0 ≡ 0) → piecesAlong target slotSize heap xs ps gs t ≡ gs
+unfolding piecesAlong entryPiece entryTaken
+pieces-none target slotSize heap [] ps gs t z = refl
+pieces-none target slotSize heap (x ∷ xs) [] gs t z = refl
+pieces-none target slotSize heap (x ∷ xs) (p ∷ ps) [] t z = refl
+pieces-none target slotSize heap (x ∷ xs) (p ∷ ps) (g ∷ gs) t z =
+    rw (eq-eqb p 0 (z 0)) (ap (λ (rest : List ℕ). g ∷ rest) (pieces-none target slotSize heap xs ps gs t (λ k. z (suc k))))
 
 -- each entry has its piece
 pub along-length : (target slotSize : ℕ) (heap xs ps gs : List ℕ) (t : Tally) → length (piecesAlong target slotSize heap xs ps gs t) ≡ length gs
@@ -157,6 +174,15 @@ module _ (size : ℕ) (lsns ls ms : List ℕ) (i : ℕ) where
   unfolding placesFor
   places-next h g = ap₂ (placesFor size lsns) (left-next ls i 0 h) (left-next ms i 0 g)
 
-  pub places-end : length ls ≤ i → placesFor size lsns (drop i ls) (drop i ms) ≡ []
-  unfolding placesFor
-  places-end h = ap (λ (xs : List ℕ). placesFor size lsns xs (drop i ms)) (left-none ls i h)
+-- where none is marked, places that are none stay so
+pub places-none : (size : ℕ) (lsns ls ms s : List ℕ) (i : ℕ) → ((k : ℕ) → getD ms k 0 ≡ 0) → ((k : ℕ) → i ≤ k → getD s k 0 ≡ 0) → i + length ls ≤ length s
+    → putAt s i (placesFor size lsns ls ms) ≡ s
+unfolding placesFor placeFor
+places-none size lsns [] ms s i m p h = put-none s i
+places-none size lsns (l ∷ ls) [] s i m p h = put-none s i
+places-none size lsns (l ∷ ls) (n ∷ ms) s i m p h =
+    let same : set s i 0 ≡ s = ap (set s i) (sym (p i (omega arith))) ∙ set-getD s i 0 in
+    rw (eq-eqb n 0 (m 0))
+    (sym (put-step s i 0 (placesFor size lsns ls ms) (omega arith))
+    ∙ ap (λ (r : List ℕ). putAt r (i + 1) (placesFor size lsns ls ms)) same
+    ∙ places-none size lsns ls ms s (i + 1) (λ k. m (suc k)) (λ k q. p k (omega arith)) (omega arith))

@@ -3,10 +3,12 @@ use mathlib.Core.Path.{_≡_}
 use Prim.Native.Nat.{_≤_, _<_}
 use Rattle.numbers.specs.LittleEndian.{leValue}
 use Rattle.rules.specs.Base.{true, false, List, [], _∷_, ℕ, _+_, _-_, _*_, _^_, length, getD, take, drop, eqb, pick}
+use Rattle.rules.specs.Object.{objectBytes}
 use Rattle.rules.specs.Ops.{Op, sizeOf, shardFor}
 use Rattle.rules.specs.declared.Held.the-variants.{Mapped}
 use Rattle.rules.specs.declared.Loaded.{Loaded}
 use Rattle.rules.specs.declared.Loaded.the-variants.{At, DeletedAt, Never}
+use Rattle.rules.specs.Layout.{Table, usedEntries}
 use Rattle.rules.specs.Table.{loadedOf}
 use Rattle.disk_location.specs.Locations.{positionOf}
 use Rattle.batch.specs.declared.Operation.{Operation}
@@ -56,6 +58,14 @@ pub record InSlot (size : ℕ) (heap : List ℕ) (k place : ℕ) : Type 0 where
 abbrev pub Standing : List ℕ → List ℕ → Type 0
 Standing heap places = (k : ℕ) → 1 < getD places k 0 → Whole heap (getD places k 0)
 
+-- the bytes of an object stand there, header and body
+unfoldable pub Stands : List ℕ → ℕ → ℕ → Type 0
+Stands heap id place = take (20 + lengthAt heap place) (drop place heap) ≡ objectBytes id (take (lengthAt heap place) (drop (place + 20) heap))
+
+-- each object's, with the id of its entry
+abbrev pub AllStand : List ℕ → List ℕ → List ℕ → Type 0
+AllStand heap ids places = (k : ℕ) → 1 < getD places k 0 → Stands heap (getD ids k 0) (getD places k 0)
+
 -- ---- the split of placed operations
 -- one entry joins its shard, if it is placed
 unfoldable pub entryTaken : ℕ → ℕ → List ℕ → ℕ → ℕ → Tally → Tally
@@ -74,6 +84,10 @@ piecesAlong target slotSize heap (x ∷ xs) [] gs t = gs
 piecesAlong target slotSize heap (x ∷ xs) (p ∷ ps) [] t = []
 piecesAlong target slotSize heap (x ∷ xs) (p ∷ ps) (g ∷ gs) t =
     entryPiece target slotSize heap x p g t ∷ piecesAlong target slotSize heap xs ps gs (entryTaken target slotSize heap x p t)
+
+-- only used entries of the table are moved, or marked
+abbrev pub OfUsed : Table → List ℕ → Type 0
+OfUsed table places = (i : ℕ) → 0 < getD places i 0 → i < length (usedEntries table)
 
 -- what the split of the table's entries asks for
 pub record Splitting (heap xs ps gs : List ℕ) (entries : ℕ) : Type 0 where

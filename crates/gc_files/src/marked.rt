@@ -1,13 +1,14 @@
 use disk_location::DiskLocation;
-use location_table::capacity;
 use location_table::loaded_at;
+use location_table::used;
 use rules::LABEL_BYTES;
 use rules::Loaded;
 ghost use mathlib.Core.Path.{_≡_};
 ghost use Prim.Native.Nat.{_^_, _≤_};
 ghost use Rattle.numbers.specs.Parts.{front};
 ghost use Rattle.rules.specs.Layout.{tableLocations};
-ghost use Rattle.gc_files.specs.Places.{placeFor, placesFor, Placeable, Placeables};
+ghost use Rattle.location_table.specs.Tables.{Formed};
+ghost use Rattle.gc_files.specs.Places.{OfUsed, placeFor, placesFor, Placeable, Placeables};
 
 // Where the operation of an entry stands, by what load tells of it: 0 where it is not marked, 1 for a delete, else its object
 // in the slot of its mark.
@@ -30,15 +31,16 @@ fn place_of(loaded: Loaded, mark: u32, lsns: &[u64], slot_bytes: u64) -> u32
     }
 }
 
-// Of every entry of the table.
+// Of every used entry of the table: behind them none is marked, and no place is noted.
 pub fn place_all(table: &[u64], marks: &[u32], lsns: &[u64], slot_bytes: u64, places: &mut [u32])
     requires { ⌜ «slot_bytes» ≤ 2 ^ 20 ⌝ }
     requires { ⌜ Placeables (now lsns) (tableLocations (now table)) (now marks) (now places) ⌝ }
+    requires { ⌜ Formed (now table) × OfUsed (now table) (now marks) × OfUsed (now table) (now places) ⌝ }
     ensures { λ _. ⌜ now (places .exit) ≡ front
         (placesFor «slot_bytes» (now (lsns .entry)) (tableLocations (now (table .entry))) (now (marks .entry)))
         (now (places .entry)) ⌝ }
 {
-    let n = capacity(table);
+    let n = used(table);
     let mut i: usize = 0;
     while i < n {
         let loaded = loaded_at(table, i);

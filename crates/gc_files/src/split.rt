@@ -2,15 +2,16 @@ use crate::places::moving_at;
 use crate::places::shard_of;
 use batch::size_of;
 use gc_split::Totals;
-use location_table::capacity;
 use location_table::id_at;
+use location_table::used;
 use rules::Settings;
 ghost use mathlib.Core.Path.{_≡_};
 ghost use Prim.Native.Nat.{_<_};
 ghost use lib.ListN.{length, getD, set};
 ghost use Rattle.rules.specs.Layout.{tableIds};
+ghost use Rattle.location_table.specs.Tables.{Formed};
 ghost use Rattle.gc_split.specs.Tally.{tally, tallyFrom, Within};
-ghost use Rattle.gc_files.specs.Places.{Whole, Splitting, placedOps, entryTaken, entryPiece, piecesAlong};
+ghost use Rattle.gc_files.specs.Places.{Whole, OfUsed, Splitting, placedOps, entryTaken, entryPiece, piecesAlong};
 
 // An entry of the table: where it stands, its id, and the place of its operation.
 struct Placed {
@@ -53,7 +54,7 @@ fn split_entry(
     t
 }
 
-// Every entry of the table, ids ascending.
+// Every used entry of the table, ids ascending: none is moved behind them.
 pub fn split(
     heap: &[u8],
     table: &[u64],
@@ -65,6 +66,7 @@ pub fn split(
     settings: Settings,
 ) -> Totals
     requires { ⌜ Splitting (now heap) (tableIds (now table)) (now places) (now pieces) (totals .entries) ⌝ }
+    requires { ⌜ Formed (now table) × OfUsed (now table) (now places) ⌝ }
     requires { ⌜ Within (tally (now shards) (now cuts) totals) ⌝ }
     ensures tallies { λ r. ⌜ tally (now (shards .exit)) (now (cuts .exit)) r
         ≡ tallyFrom (settings .«target_file_size») (settings .«slot_bytes»)
@@ -75,7 +77,7 @@ pub fn split(
         (tally (now (shards .entry)) (now (cuts .entry)) totals) ⌝ }
 {
     let mut t = totals;
-    let n = capacity(table);
+    let n = used(table);
     let mut i: usize = 0;
     while i < n {
         let e = Placed {

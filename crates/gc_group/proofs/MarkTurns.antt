@@ -1,18 +1,15 @@
 -- One turn of each loop over marks, objects and entries.
-use mathlib.Core.Path.{_≡_, sym, ap, _∙_, subst}
+use mathlib.Core.Path.{_≡_, sym, ap, _∙_}
 use Prim.Native.Nat.{_≤_, _<_}
 use native.Mathlib.Omega.{arith}
-use lib.ListN.{length-drop}
 use Rattle.rules.specs.Base.{false, List, ℕ, _+_, length, getD, drop, each}
-use Rattle.rules.specs.BaseLaws.{All}
 use Rattle.rules.specs.TurnLaws.{each-next, each-end}
 use Rattle.rules.specs.declared.Entry.{Entry}
 use Rattle.disk_location.specs.Locations.{rawOf}
 use Rattle.rules.specs.Object.{Stored, storedAt}
 use Rattle.rules.specs.Table.{noEntry}
 use Rattle.stored_object.specs.declared.Header.{Header}
-use Rattle.stored_object.specs.Objects.{objectsAt, objects-next, objects-end, Walked, CutOff}
-use Rattle.gc_group.specs.Clear.{Inside}
+use Rattle.stored_object.specs.Objects.{objectsAt, objects-next, objects-end, Walked}
 use Rattle.gc_group.specs.Marks.{current, objectId, deleteId, marked}
 use Rattle.gc_group.specs.MarkLaws.{mark-append, mark-none}
 
@@ -38,31 +35,6 @@ module _ (mark lsn : ℕ) (table : List Entry) (objects : List ℕ) (position : 
       ∙ mark-append mark (objectId lsn table o) (each (objectId lsn table) (objectsAt objects (position + (20 + o .size)))) table ms
       ∙ ap (λ (n : ℕ). left (position + (20 + n)) (marked mark (objectId lsn table o) table ms)) (sym size)
       ∙ ap (λ (n : ℕ). left (position + (20 + h .size)) (marked mark (current table n (rawOf (lsn + position) false)) table ms)) (sym id)
-
--- objects that lie within
-module _ (objects : List ℕ) (position : ℕ) (all : All Inside (objectsAt objects position)) where
-  first : position < length objects → let o = storedAt position (drop position objects) in Inside o × All Inside (objectsAt objects (position + (20 + o .size)))
-  first h = subst (All Inside) (objects-next objects position h) all
-
-  -- no header is cut
-  pub none-cut : CutOff objects position → ⊥
-  unfolding storedAt
-  none-cut w =
-      let n = length-drop position objects in
-      let a = w .short in
-      let b = w .begins in
-      let i = first b .0 in
-      omega (arith, i)
-
-  pub within-next : (h : Header) → Walked objects position h → (position + (20 + h .size) ≤ length objects) × All Inside (objectsAt objects (position + (20 + h .size)))
-  unfolding storedAt
-  within-next h w =
-      let n = length-drop position objects in
-      let a = w .inside in
-      let begins : position < length objects = omega arith in
-      let size = ap (λ (x : Header). x .size) (w .header) in
-      let i = first begins in
-      (omega (arith, i .0, size), subst (λ (m : ℕ). All Inside (objectsAt objects (position + (20 + m)))) (sym size) (i .1))
 
 -- ---- the entries from k on
 module _ (mark lsn : ℕ) (table : List Entry) (es : List Entry) (k : ℕ) (ms : List ℕ) where

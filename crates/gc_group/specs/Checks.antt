@@ -7,7 +7,7 @@ use native.Mathlib.Omega.{arith}
 use borrow.Author.Tests.{lt-ltb, le-ltb, le-leb, lt-leb, leb-false, ltb-false}
 use lib.ListN.{length-drop}
 use Rattle.numbers.specs.GroupLaws.{either-way}
-use Rattle.rules.specs.Base.{List, [], _∷_, _++_, ℕ, _+_, _^_, length, drop, pick, keep, each}
+use Rattle.rules.specs.Base.{List, [], _∷_, _++_, ℕ, _+_, _^_, length, getD, drop, pick, keep, each}
 use Rattle.rules.specs.declared.Entry.{Entry}
 use Rattle.rules.specs.declared.Label.{Label}
 use Rattle.rules.specs.declared.Refusal.{Refusal}
@@ -18,7 +18,15 @@ use Rattle.disk_location.specs.declared.Located.{Located}
 use Rattle.disk_location.specs.Locations.{positionOf, deleteOf, told, locatedAt}
 use Rattle.disk_location.specs.LocationLaws.{located-large, located-at}
 use Rattle.rules.specs.Refusal.{Test, decide, NoneHolds, clear-when, decide-none, decide-early, decide-late}
-use Rattle.rules.specs.Table.{load, neverWritten}
+use Rattle.rules.specs.declared.Held.{Held}
+use Rattle.rules.specs.declared.Loaded.{Loaded}
+use Rattle.rules.specs.Table.{load, loadedOf, neverWritten, noEntry}
+use Rattle.rules.specs.TableLaws.{Rising}
+use Rattle.location_table.specs.declared.Place.{Place}
+use Rattle.location_table.specs.declared.Place.the-variants.{Found, Gap}
+use Rattle.location_table.specs.Places.{place}
+use Rattle.location_table.specs.EntryLaws.{found-tells, gap-tells}
+use Rattle.location_table.specs.LoadLaws.{either-kind}
 use Rattle.stored_object.specs.declared.Header.{Header}
 use Rattle.stored_object.specs.Objects.{objectsAt, objects-next, objects-end, Walked, CutOff, header-size, header-id, header-room, header-begins, header-fits}
 use Rattle.rules.specs.Trailer.{trailerTests, entriesIn}
@@ -29,6 +37,21 @@ use Rattle.rules.specs.Ops.{Op}
 use Rattle.rules.specs.World.{World}
 use Rattle.rules.specs.Maintenance.{movedTests, deleteTests, deletesOf, fileTests, groupTests}
 use Rattle.gc_group.specs.Source.{Source, sourceIn, fileAt, bytesAt}
+
+-- "id unmapped", by the place of the id
+abbrev pub neverAt : Place → Bool
+neverAt (Found k) = false
+neverAt (Gap k) = true
+
+pub never-at : (es : List Entry) → Rising 0 es → (x : ℕ) → neverAt (place es x) ≡ neverWritten (load es x)
+never-at es r x = go (place es x) refl
+  where
+    n : Entry
+    n = record { id = x; location = 0 }
+
+    go : (p : Place) → place es x ≡ p → neverAt p ≡ neverWritten (load es x)
+    go (Found k) e = sym (ap (λ (h : Held). neverWritten (loadedOf h)) (found-tells es r n k e .lookup-is) ∙ either-kind (λ (l : Loaded). neverWritten l ≡ false) (getD es k noEntry .location) refl refl)
+    go (Gap k) e = sym (ap (λ (h : Held). neverWritten (loadedOf h)) (gap-tells es r n k e .lookup-is))
 
 -- one entry of a trailer: "delete entries: sum too great (20), id unmapped (18)"
 unfoldable pub entryTests : ℕ → List Entry → Entry → List Test

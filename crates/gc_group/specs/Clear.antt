@@ -13,7 +13,7 @@ use Rattle.rules.specs.declared.Refusal.{Refusal}
 use Rattle.rules.specs.declared.Answer.the-variants.{Done, Refused}
 use Rattle.disk_location.specs.Locations.{positionOf, deleteOf}
 use Rattle.rules.specs.Refusal.{Test, decide, NoneHolds, clear-when, decide-early, decide-late, done-or-refused}
-use Rattle.rules.specs.Object.{Stored, objectsIn}
+use Rattle.rules.specs.Object.{objectsIn}
 use Rattle.rules.specs.Trailer.{countIn, trailerTests, entriesIn}
 use Rattle.rules.specs.SlotFile.{objectPart, trailerPart}
 use Rattle.rules.specs.Maintenance.{movedTests, deleteTests, fileTests}
@@ -34,18 +34,13 @@ unfolding each
 clear-each f [] e = tt
 clear-each f (x ∷ xs) e = let w = clear-both (f x) (each f xs) e in (w .0, clear-each f xs (w .1))
 
--- the object lies within T
-abbrev pub Inside : Stored → Type 0
-Inside o = 20 + o .size ≤ o .room
-
 -- a delete's sum is not too great
 abbrev pub SumFits : ℕ → Entry → Type 0
 SumFits lsn e = deleteOf (e .location) ≡ true → positionOf (e .location) + lsn < 2 ^ 63
 
--- what the walks over a file rely on
+-- what the walk over a file's delete entries relies on
 pub record Clear (r : Label) (slot : List ℕ) : Type 0 where
   pub entries : 12 + 16 * countIn (trailerPart r slot) ≤ length (trailerPart r slot)
-  pub objects : All Inside (objectsIn (objectPart r slot))
   pub deletes : All (SumFits (r .lsn)) (entriesIn (trailerPart r slot))
 
 entry-clear : (lsn : ℕ) (table : List Entry) (e : Entry) → decide (entryTests lsn table e) ≡ Done → SumFits lsn e
@@ -67,7 +62,6 @@ module _ (limit : ℕ) (table : List Entry) (r : Label) (slot : List ℕ) (e : d
   pub file-clear : Clear r slot
   file-clear = record {
     entries = clear-fits (trailerPart r slot) (parts .0);
-    objects = all-map (Whole limit table) Inside (objectsIn (objectPart r slot)) (λ o w. w .room) file-whole;
     deletes = all-map _ (SumFits (r .lsn)) (entriesIn (trailerPart r slot)) (λ d h. entry-clear (r .lsn) table d h)
         (clear-each (entryTests (r .lsn) table) (entriesIn (trailerPart r slot)) (clear-both (each (movedTests limit table) (objectsIn (objectPart r slot))) _ (parts .1) .1));
   }

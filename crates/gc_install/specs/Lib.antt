@@ -1,5 +1,5 @@
 pub mod IdLaws
 pub mod RecordLaws
-pub mod FiledLaws
+pub mod ChainedLaws
 pub mod Rewriting
 pub mod Placing

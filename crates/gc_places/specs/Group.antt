@@ -1,6 +1,7 @@
 -- Where everything that a group found stands: a place for each entry of the table that is moved.
 use mathlib.Core.Path.{_≡_}
 use Prim.Native.Nat.{_≤_, _<_}
+use Rattle.numbers.specs.LittleEndian.{Bytes}
 use Rattle.rules.specs.Base.{List, ℕ, _^_, length, getD, each}
 use Rattle.rules.specs.declared.Record.{Record}
 use Rattle.rules.specs.declared.Answer.the-variants.{Done}
@@ -12,7 +13,7 @@ use Rattle.gc_candidates.specs.Plan.{planned}
 use Rattle.gc_group.specs.Source.{source, Ready}
 use Rattle.gc_group.specs.Checks.{groupChecks}
 use Rattle.gc_group.specs.Marks.{foundAt}
-use Rattle.gc_files.specs.Places.{placedOps, Whole, Standing, InSlot}
+use Rattle.gc_files.specs.Places.{placedOps, Whole, Standing, AllStand, OfUsed, InSlot}
 
 -- what is known of a group whose checks are clear, its files and its table, where there are n marks
 pub record Checked (limit size : ℕ) (heap : List ℕ) (records : List Record) (plan : List ℕ) (generation : ℕ) (table : Table) (n : ℕ) : Type 0 where
@@ -22,10 +23,7 @@ pub record Checked (limit size : ℕ) (heap : List ℕ) (records : List Record) 
   pub clear : decide (groupChecks limit (source size heap records (usedEntries table)) (planned plan generation)) ≡ Done
   pub formed : Formed table
   pub wide : length (tableIds table) ≤ n
-
--- only used entries of the table are moved
-abbrev pub OfUsed : Table → List ℕ → Type 0
-OfUsed table places = (i : ℕ) → 0 < getD places i 0 → i < length (usedEntries table)
+  pub bytes : Bytes heap
 
 -- an object lies whole in a slot of the group, behind its label
 abbrev pub Kept : ℕ → List ℕ → List ℕ → ℕ → ℕ → Type 0
@@ -35,8 +33,9 @@ Kept size heap plan generation place = Whole heap place × ((k : ℕ) × (getD p
 abbrev pub InGroup : ℕ → List ℕ → List ℕ → ℕ → List ℕ → Type 0
 InGroup size heap plan generation places = (i : ℕ) → 1 < getD places i 0 → Kept size heap plan generation (getD places i 0)
 
--- the places of a group: they have all that it found, of used entries alone, and each object lies whole in a slot of the group
+-- the places of a group: they have all that it found, of used entries alone, and each object lies whole in a slot of the group, its bytes as they
+-- are written for its entry's id
 abbrev pub GroupPlaced : ℕ → List ℕ → List Record → List ℕ → ℕ → Table → List ℕ → Type 0
 GroupPlaced size heap records plan generation table places =
     (placedOps heap (tableIds table) places ≡ settled (each (foundAt (source size heap records (usedEntries table))) (planned plan generation)))
-    × (OfUsed table places × (Standing heap places × InGroup size heap plan generation places))
+    × (OfUsed table places × (Standing heap places × (InGroup size heap plan generation places × AllStand heap (tableIds table) places)))

@@ -5,12 +5,13 @@ use Prim.Native.Nat.{_≤_, _<_}
 use native.Mathlib.Nat.{le-of-suc-le-suc, not-suc-le-zero}
 use native.Mathlib.Omega.{arith}
 use lib.ListN.{length-drop, List·getD-map, List·getD-eq-default, length-replicate}
-use lib.Seq.{getD-drop}
+use lib.Seq.{getD-drop, length-take-le, take-at}
 use borrow.Author.Tests.{eq-eqb, ne-eqb}
 use Rattle.numbers.specs.GroupLaws.{either-way}
+use Rattle.numbers.specs.LittleEndian.{Bytes}
 use Rattle.numbers.specs.Parts.{front, front-length}
 use Rattle.disk_location.specs.Locations.{positionOf}
-use Rattle.rules.specs.Base.{List, [], _∷_, _++_, ℕ, zero, suc, _+_, _-_, _*_, _^_, length, getD, drop, replicate, each}
+use Rattle.rules.specs.Base.{false, List, [], _∷_, _++_, ℕ, zero, suc, _+_, _-_, _*_, _^_, length, getD, take, drop, replicate, each}
 use Rattle.rules.specs.TurnLaws.{left-next}
 use Rattle.rules.specs.declared.Entry.{Entry}
 use Rattle.rules.specs.declared.Label.{Label}
@@ -22,7 +23,8 @@ use Rattle.rules.specs.declared.Loaded.{Loaded}
 use Rattle.rules.specs.declared.Loaded.the-variants.{At, DeletedAt}
 use Rattle.rules.specs.Refusal.{decide}
 use Rattle.rules.specs.SettingsLaws.{InRanges}
-use Rattle.rules.specs.Object.{storedAt}
+use Rattle.rules.specs.Object.{objectBytes, storedAt, badChecksum}
+use Rattle.rules.specs.ObjectLaws.{object-length, stored-room}
 use Rattle.rules.specs.SlotFile.{slotBytes, objectPart}
 use Rattle.rules.specs.FileMap.{emptyRecord, recordAt}
 use Rattle.rules.specs.Ops.{Content, put, delete, Op, settled}
@@ -30,6 +32,7 @@ use Rattle.rules.specs.BaseLaws.{replicate-at}
 use Rattle.rules.specs.Table.{loadedOf, noEntry}
 use Rattle.rules.specs.Layout.{Table, tableIds, tableLocations, usedEntries}
 use Rattle.rules.specs.LayoutLaws.{ids-count, locations-count, used-length}
+use Rattle.stored_object.specs.Begins.{part-bytes, reads-begins}
 use Rattle.location_table.specs.Tables.{Formed}
 use Rattle.location_table.specs.LayoutLaws.{used-id, used-location, used-rising}
 use Rattle.location_table.specs.LoadLaws.{either-kind}
@@ -40,17 +43,18 @@ use Rattle.gc_group.specs.Checks.{groupChecks}
 use Rattle.gc_group.specs.Marks.{foundAt, idsOf, marked, marksFrom, marksOf, loadedContent, contentAt, markedOps}
 use Rattle.gc_group.specs.MarkLaws.{marked-length, marked-settled, from-past}
 use Rattle.gc_group.specs.MovedLaws.{Moves, marks-backed, marked-here, marked-next, marked-end}
-use Rattle.gc_files.specs.Places.{opAt, placedOps, InSlot, Standing, placeFor, placesFor, InFile, Placeable, Placeables}
+use Rattle.gc_files.specs.Places.{lengthAt, opAt, placedOps, InSlot, Standing, Stands, AllStand, OfUsed, placeFor, placesFor, InFile, Placeable, Placeables}
+use Rattle.gc_files.specs.PlaceLaws.{placed-none}
 use Rattle.gc_files.specs.MarkedLaws.{object-there, object-part-stands, place-delete, place-object}
-use Rattle.gc_places.specs.Group.{Checked, OfUsed, Kept, InGroup}
+use Rattle.gc_places.specs.Group.{Checked, Kept, InGroup}
 
 -- settings in their ranges have slots of a fitting size
 pub group-checked : (s : Settings) (heap : List ℕ) (records : List Record) (plan : List ℕ) (generation : ℕ) (table : Table) (n : ℕ) → InRanges s
     → Ready (s .«slot_bytes») (length heap) records plan generation
     → decide (groupChecks (s .«max_object_size») (source (s .«slot_bytes») heap records (usedEntries table)) (planned plan generation)) ≡ Done
-    → Formed table → length (tableIds table) ≤ n → Checked (s .«max_object_size») (s .«slot_bytes») heap records plan generation table n
-group-checked s heap records plan generation table n ranges ready clear formed wide =
-    record { low = omega (arith, ranges .slot-low); high = ranges .slot-high; ready = ready; clear = clear; formed = formed; wide = wide }
+    → Formed table → length (tableIds table) ≤ n → Bytes heap → Checked (s .«max_object_size») (s .«slot_bytes») heap records plan generation table n
+group-checked s heap records plan generation table n ranges ready clear formed wide bytes =
+    record { low = omega (arith, ranges .slot-low); high = ranges .slot-high; ready = ready; clear = clear; formed = formed; wide = wide; bytes = bytes }
 
 -- ---- places one by one
 -- as many as locations
@@ -116,14 +120,15 @@ marks-behind s n slots i h =
     ap (λ (k : ℕ). getD ms k 0) (sym at) ∙ sym (getD-drop t ms j 0) ∙ ap (λ (l : List ℕ). getD l j 0) (from-past s slots (replicate n 0))
     ∙ getD-drop t (replicate n 0) j 0 ∙ replicate-at {A = ℕ} n (t + j) 0
 
--- ---- a turn over the entries that are placed
--- nothing stands at no place
-placed-none : (heap xs ps : List ℕ) → ((i : ℕ) → getD ps i 0 ≡ 0) → placedOps heap xs ps ≡ []
-unfolding placedOps
-placed-none heap [] ps z = refl
-placed-none heap (x ∷ xs) [] z = refl
-placed-none heap (x ∷ xs) (p ∷ ps) z = rw (eq-eqb p 0 (z 0)) (placed-none heap xs ps (λ i. z (suc i)))
+-- so only used entries are marked
+pub marks-used : (s : Source) (n : ℕ) (slots : List ℕ) (i : ℕ) → 0 < getD (marksOf s n slots) i 0 → i < length (s .table)
+marks-used s n slots i some = go (either-way i (length (s .table)))
+  where
+    go : (i < length (s .table)) ⊎ (length (s .table) ≤ i) → i < length (s .table)
+    go (inl h) = h
+    go (inr past) = absurd (omega (arith, marks-behind s n slots i past))
 
+-- ---- a turn over the entries that are placed
 module _ (heap xs ps : List ℕ) (i : ℕ) (h : i < length xs) (g : i < length ps) where
   placed-here : 0 < getD ps i 0 → placedOps heap (drop i xs) (drop i ps) ≡ opAt heap (getD xs i 0) (getD ps i 0) ∷ placedOps heap (drop (i + 1) xs) (drop (i + 1) ps)
   unfolding placedOps
@@ -156,6 +161,25 @@ object-lies size heap r k p low high whole offset room =
       short = omega (arith, room, long, left);
       inside = record { behind = omega arith; inside = omega (arith, there .size, room, long, left) };
     }
+
+-- one whose checksum and id are right: its bytes are its own
+object-stands : (size : ℕ) (heap : List ℕ) (r : Label) (k p id : ℕ) → 64 ≤ size → k * size + size ≤ length heap → Bytes heap
+    → let o = storedAt p (drop p (objectPart r (slotBytes size heap k))) in
+    20 + o .size ≤ o .room → badChecksum o ≡ false → o .id ≡ id → Stands heap id (k * size + 64 + p)
+unfolding Stands
+object-stands size heap r k p id low whole bytes room sum same =
+    let at = k * size + 64 in
+    let part = objectPart r (slotBytes size heap k) in
+    let stands = object-part-stands r size heap k low whole in
+    let there = object-there part (stands .0) heap at p (stands .1) room in
+    let size′ = lengthAt heap (at + p) in
+    let body = take size′ (drop (at + p + 20) heap) in
+    let front : take (length part) (drop at heap) ≡ part = ap (take (length part)) (sym (stands .1)) ∙ take-at part (stands .0) (length part) refl in
+    let known : Bytes (drop p part) = subst (λ (x : List ℕ). Bytes (drop p x)) front (part-bytes at (length part) p heap bytes) in
+    let begins = reads-begins p (drop p part) id body known
+    (record { room = omega (arith, room, stored-room p (drop p part)); checksum = sum; its-id = same; its-body = sym (there .body) }) in
+    let long : length body ≡ size′ = length-take-le size′ (drop (at + p + 20) heap) (omega (arith, there .inside, length-drop (at + p + 20) heap)) in
+    there .bytes ∙ ap (take (20 + size′)) (begins .is) ∙ take-at (objectBytes id body) (begins .rest) (20 + size′) (object-length id body ∙ ap (λ (n : ℕ). 20 + n) long)
 
 module _ (limit size : ℕ) (heap : List ℕ) (records : List Record) (plan : List ℕ) (generation : ℕ) (table : Table) (n : ℕ) where
   -- the group's source, the table's ids and locations, the lsns of its files, its slots, and its marks
@@ -200,6 +224,7 @@ module _ (limit size : ℕ) (heap : List ℕ) (records : List Record) (plan : Li
     slot : k < 256
     file : InFile (getD lsns k 0) o
     kept : 1 < place o k → Kept size heap plan generation (place o k)
+    stands : 1 < place o k → Stands heap (getD is i 0) (place o k)
 
   module _ (a : Checked limit size heap records plan generation table n) where
     fits : length (usedEntries table) ≤ n
@@ -219,6 +244,7 @@ module _ (limit size : ℕ) (heap : List ℕ) (records : List Record) (plan : Li
           slot = few;
           file = tt;
           kept = λ more. absurd (omega (arith, is-one));
+          stands = λ more. absurd (omega (arith, is-one));
         }
 
     -- an object
@@ -235,6 +261,9 @@ module _ (limit size : ℕ) (heap : List ℕ) (records : List Record) (plan : Li
         let part = objectPart r (slotBytes size heap k) in
         let room : 20 + storedAt p (drop p part) .size ≤ storedAt p (drop p part) .room =
         subst (λ (m : ℕ). 20 + storedAt m (drop m part) .size ≤ storedAt m (drop m part) .room) same (moves .whole .room) in
+        let sum : badChecksum (storedAt p (drop p part)) ≡ false = subst (λ (m : ℕ). badChecksum (storedAt m (drop m part)) ≡ false) same (moves .whole .sum) in
+        let its-id : storedAt p (drop p part) .id ≡ getD is i 0 =
+        subst (λ (m : ℕ). storedAt m (drop m part) .id ≡ entryAt i .id) same (moves .same) ∙ sym (used-id table i h) in
         let whole = a .ready .standing k chosen in
         let lies = object-lies size heap r k p (a .low) (a .high) whole (omega (arith, a .ready .files k .offset, a .ready .files k .inside)) room in
         let next : suc k ≡ k + 1 = omega arith in
@@ -250,6 +279,7 @@ module _ (limit size : ℕ) (heap : List ℕ) (records : List Record) (plan : Li
           slot = few;
           file = (omega (arith, lsn, ap positionOf at, moves .low), lies .high);
           kept = λ more. (stands .1, (k, chosen, few, subst (InSlot size heap k) (sym is-at) (lies .inside)));
+          stands = λ more. subst (Stands heap (getD is i 0)) (sym is-at) (object-stands size heap r k p (getD is i 0) (a .low) whole (a .bytes) room sum its-id);
         }
 
     -- every mark is of a slot where the entry stands
@@ -316,14 +346,22 @@ module _ (limit size : ℕ) (heap : List ℕ) (records : List Record) (plan : Li
       marked-place : (i k : ℕ) → i < length (usedEntries table) → getD marks i 0 ≡ k → getD places i 0 ≡ placeFor size lsns (loaded i) k
       marked-place i k h e = place-at i (omega (arith, used-length table, ids-count table)) ∙ ap (placeFor size lsns (loaded i)) e
 
-      pub places-kept : InGroup size heap plan generation places
-      places-kept i more = go (places-used i (omega arith)) (getD marks i 0) refl
+      -- what holds of every place where an entry stands holds of each that is an object's
+      of-stood : (P : ℕ → ℕ → Type 0) → ((i k : ℕ) → Stood i k (loaded i) → 1 < place (loaded i) k → P (getD is i 0) (place (loaded i) k))
+          → (i : ℕ) → 1 < getD places i 0 → P (getD is i 0) (getD places i 0)
+      of-stood P f i more = go (places-used i (omega arith)) (getD marks i 0) refl
         where
-          go : i < length (usedEntries table) → (k : ℕ) → getD marks i 0 ≡ k → Kept size heap plan generation (getD places i 0)
+          go : i < length (usedEntries table) → (k : ℕ) → getD marks i 0 ≡ k → P (getD is i 0) (getD places i 0)
           go h zero e = absurd (omega (arith, marked-place i 0 h e, place-none size lsns (loaded i)))
           go h (suc k) e =
               let at = marked-place i (suc k) h e in
-              subst (Kept size heap plan generation) (sym at) (stood i k h e .kept (omega (arith, at)))
+              subst (P (getD is i 0)) (sym at) (f i k (stood i k h e) (omega (arith, at)))
+
+      pub places-kept : InGroup size heap plan generation places
+      places-kept = of-stood (λ (id p : ℕ). Kept size heap plan generation p) (λ i k s. s .kept)
+
+      pub places-stand : AllStand heap is places
+      places-stand = of-stood (Stands heap) (λ i k s. s .stands)
 
       pub places-standing : Standing heap places
       places-standing i more = places-kept i more .0
@@ -377,9 +415,9 @@ module _ (limit size : ℕ) (heap : List ℕ) (records : List Record) (plan : Li
 
     -- ---- what is known of the places, once they are put into a list of zeros
     abbrev Told : List ℕ → Type 0
-    Told ps = (placedOps heap is ps ≡ settled (each (foundAt from) slots)) × (OfUsed table ps × (Standing heap ps × InGroup size heap plan generation ps))
+    Told ps = (placedOps heap is ps ≡ settled (each (foundAt from) slots)) × (OfUsed table ps × (Standing heap ps × (InGroup size heap plan generation ps × AllStand heap is ps)))
 
     pub places-told : (old ps : List ℕ) → length is ≤ length old → old ≡ replicate (length old) 0 → ps ≡ front (placesFor size lsns ls marks) old → Told ps
     places-told old ps room zeros e =
         let m = length old in
-        subst Told (sym (e ∙ ap (front (placesFor size lsns ls marks)) zeros)) (placed-found m room, (places-used m room, (places-standing m room, places-kept m room)))
+        subst Told (sym (e ∙ ap (front (placesFor size lsns ls marks)) zeros)) (placed-found m room, (places-used m room, (places-standing m room, (places-kept m room, places-stand m room))))

@@ -11,7 +11,7 @@ use Rattle.rules.specs.declared.Claims.{Claims}
 use Rattle.rules.specs.Claims.{noClaims}
 use Rattle.rules.specs.Settings.{slotsIn}
 use Rattle.rules.specs.Ops.{Op, fileBytes}
-use Rattle.rules.specs.Layout.{tableIds}
+use Rattle.rules.specs.Layout.{tableIds, usedEntries}
 use Rattle.rules.specs.FileMap.{isEmpty, recordAt, lowestEmpty}
 use Rattle.rules.specs.Condition1Laws.{Passed}
 use Rattle.rules.specs.Install.{installed, installedAll}
@@ -19,18 +19,22 @@ use Rattle.rules.specs.World.{World, world, recordsOf}
 use Rattle.rules.specs.InstallLaws.{installed-lsn}
 use Rattle.rules.specs.LabelLaws.{lsn-some}
 use Rattle.rules.specs.FileMapLaws.{not-empty}
-use Rattle.gc_files.specs.Places.{filedOps}
+use Rattle.gc_chains.specs.Chains.{chainOps, firstIn, chainsIn, Leads, Linkable, Linked}
 use Rattle.gc_install.specs.Placing.{Placing}
 use Rattle.gc_decision.specs.Empties.{emptiesIn, emptyIn, Listed, listed-at}
-use Rattle.gc_decision.specs.Orders.{Words}
-use Rattle.gc_decision.specs.Splits.{filesIn}
 use Rattle.gc_decision.specs.Fitting.{Fitting, span, first-fits, first-room, first-positions, fitting-rest}
 
--- what adding the files with these numbers asks for
-pub record Puttable (s : Settings) (t : State) (heap table places pieces order : List ℕ) : Type 0 where
-  pub placing : Placing s t heap table places pieces
-  pub fitting : Fitting (s .«slot_bytes») (emptyIn s (t .files) heap) (t .«next_position») (filesIn heap (tableIds table) places pieces order)
-  pub small : Words order
+-- what adding the files with these words asks for
+pub record Puttable (s : Settings) (t : State) (heap table places links words : List ℕ) : Type 0 where
+  pub placing : Placing s t heap table places links
+  pub fitting : Fitting (s .«slot_bytes») (emptyIn s (t .files) heap) (t .«next_position») (chainsIn heap (tableIds table) places links words)
+  pub firsts : (j : ℕ) → j < length words → Leads (length (tableIds table)) places 0 (firstIn (getD words j 0))
+
+-- the same before their entries are chained, of the files with these numbers
+pub record Chainable (s : Settings) (t : State) (heap table places pieces order : List ℕ) : Type 0 where
+  pub limits : Passed s (length heap) table t
+  pub linkable : Linkable (tableIds table) places pieces order (length (usedEntries table))
+  pub puttable : (links words : List ℕ) → Linked (tableIds table) places pieces order links words → Puttable s t heap table places links words
 
 -- a slot that had a file has one
 abbrev pub Kept : State → State → Type 0
@@ -43,51 +47,51 @@ pub record PutAll (s : Settings) (generation : ℕ) (t : State) (heap table : Li
   pub kept : Kept t r
 
 -- one of them was added
-pub record Added (s : Settings) (generation : ℕ) (places pieces : List ℕ) (t : State) (heap table : List ℕ) (q : ℕ) (r : State) (heap′ table′ : List ℕ) : Type 0 where
-  pub worlds : (c : Claims) → world s r c heap′ table′ ≡ installed 0 generation (world s t c heap table) (filedOps q heap (tableIds table) places pieces)
-  pub placing : Placing s r heap′ table′ places pieces
-  pub filed : (p : ℕ) → filedOps p heap′ (tableIds table′) places pieces ≡ filedOps p heap (tableIds table) places pieces
+pub record Added (s : Settings) (generation : ℕ) (places links : List ℕ) (t : State) (heap table : List ℕ) (q : ℕ) (r : State) (heap′ table′ : List ℕ) : Type 0 where
+  pub worlds : (c : Claims) → world s r c heap′ table′ ≡ installed 0 generation (world s t c heap table) (chainOps q heap (tableIds table) places links)
+  pub placing : Placing s r heap′ table′ places links
+  pub filed : (p : ℕ) → chainOps p heap′ (tableIds table′) places links ≡ chainOps p heap (tableIds table) places links
   pub slot : ℕ
   pub frees : emptiesIn s (t .files) heap ≡ slot ∷ emptiesIn s (r .files) heap′
-  pub next : r .«next_position» ≡ t .«next_position» + span (filedOps q heap (tableIds table) places pieces)
+  pub next : r .«next_position» ≡ t .«next_position» + span (chainOps q heap (tableIds table) places links)
   pub sameHeap : length heap′ ≡ length heap
   pub sameIds : tableIds table′ ≡ tableIds table
 
 -- ---- file by file
-module _ (s : Settings) (generation : ℕ) (places pieces order : List ℕ) (t : State) (heap table : List ℕ) where
+module _ (s : Settings) (generation : ℕ) (places links words : List ℕ) (t : State) (heap table : List ℕ) where
   -- the files from f on are still to be added
   pub record Put (f : ℕ) (r : State) (heap′ table′ : List ℕ) : Type 0 where
-    pub low : f ≤ length order
-    pub placing : Placing s r heap′ table′ places pieces
-    pub filed : (q : ℕ) → filedOps q heap′ (tableIds table′) places pieces ≡ filedOps q heap (tableIds table) places pieces
-    pub fitting : Fitting (s .«slot_bytes») (emptyIn s (r .files) heap′) (r .«next_position») (filesIn heap (tableIds table) places pieces (drop f order))
-    pub left : (c : Claims) → installedAll 0 generation (world s r c heap′ table′) (filesIn heap (tableIds table) places pieces (drop f order))
-        ≡ installedAll 0 generation (world s t c heap table) (filesIn heap (tableIds table) places pieces order)
+    pub low : f ≤ length words
+    pub placing : Placing s r heap′ table′ places links
+    pub filed : (q : ℕ) → chainOps q heap′ (tableIds table′) places links ≡ chainOps q heap (tableIds table) places links
+    pub fitting : Fitting (s .«slot_bytes») (emptyIn s (r .files) heap′) (r .«next_position») (chainsIn heap (tableIds table) places links (drop f words))
+    pub left : (c : Claims) → installedAll 0 generation (world s r c heap′ table′) (chainsIn heap (tableIds table) places links (drop f words))
+        ≡ installedAll 0 generation (world s t c heap table) (chainsIn heap (tableIds table) places links words)
     pub frees : emptiesIn s (r .files) heap′ ≡ drop f (emptiesIn s (t .files) heap)
     pub kept : Kept t r
     pub sameHeap : length heap′ ≡ length heap
     pub sameIds : tableIds table′ ≡ tableIds table
 
   -- before the first
-  pub put-start : Puttable s t heap table places pieces order → Put 0 t heap table
+  pub put-start : Puttable s t heap table places links words → Put 0 t heap table
   put-start w = record { low = omega arith; placing = w .placing; filed = λ q. refl; fitting = w .fitting; left = λ c. refl; frees = refl; kept = λ k some. some; sameHeap = refl; sameIds = refl }
 
-  module _ (f : ℕ) (r : State) (heap′ table′ : List ℕ) (w : Put f r heap′ table′) (h : f < length order) (p : ℕ) (is : p ≡ getD order f 0) where
+  module _ (f : ℕ) (r : State) (heap′ table′ : List ℕ) (w : Put f r heap′ table′) (h : f < length words) (p : ℕ) (is : p ≡ firstIn (getD words f 0)) where
     -- the files behind it
     rest : List (List Op)
-    rest = filesIn heap (tableIds table) places pieces (drop (f + 1) order)
+    rest = chainsIn heap (tableIds table) places links (drop (f + 1) words)
 
-    -- the file with the number p comes first
-    step : filesIn heap (tableIds table) places pieces (drop f order) ≡ filedOps p heap (tableIds table) places pieces ∷ rest
+    -- the file with the first entry p comes first
+    step : chainsIn heap (tableIds table) places links (drop f words) ≡ chainOps p heap (tableIds table) places links ∷ rest
     unfolding rest
-    step = ap (filesIn heap (tableIds table) places pieces) (left-next order f 0 h) ∙ ap (λ (q : ℕ). filedOps q heap (tableIds table) places pieces ∷ rest) (sym is)
+    step = ap (chainsIn heap (tableIds table) places links) (left-next words f 0 h) ∙ ap (λ (q : ℕ). chainOps q heap (tableIds table) places links ∷ rest) (sym is)
 
     -- all of them fit
-    fits : Fitting (s .«slot_bytes») (emptyIn s (r .files) heap′) (r .«next_position») (filedOps p heap (tableIds table) places pieces ∷ rest)
+    fits : Fitting (s .«slot_bytes») (emptyIn s (r .files) heap′) (r .«next_position») (chainOps p heap (tableIds table) places links ∷ rest)
     fits = subst (Fitting (s .«slot_bytes») (emptyIn s (r .files) heap′) (r .«next_position»)) step (w .fitting)
 
     -- what it asks for
-    pub put-asks : let ops = filedOps p heap′ (tableIds table′) places pieces in
+    pub put-asks : let ops = chainOps p heap′ (tableIds table′) places links in
         (64 + length (fileBytes ops) ≤ s .«slot_bytes») × (0 < emptyIn s (r .files) heap′) × (r .«next_position» + span ops ≤ 2 ^ 62)
     put-asks = rw (w .filed p) (first-fits _ _ _ _ _ fits, first-room _ _ _ _ _ fits, first-positions _ _ _ _ _ fits)
 
@@ -106,7 +110,7 @@ module _ (s : Settings) (generation : ℕ) (places pieces order : List ℕ) (t :
         (omega (arith, n .0, l .room), listed-at (emptiesIn s (t .files) heap) frees l f (n .0) ∙ sym (ap (λ (ks : List ℕ). getD ks 0 (slotsIn s (length heap′))) (n .1)))
 
     -- and what is left after it
-    pub put-turn : (q : State) (heap″ table″ : List ℕ) → Added s generation places pieces r heap′ table′ p q heap″ table″
+    pub put-turn : (q : State) (heap″ table″ : List ℕ) → Added s generation places links r heap′ table′ p q heap″ table″
         → Put (f + 1) q heap″ table″
     unfolding installedAll rest
     put-turn q heap″ table″ a = record {
@@ -121,22 +125,22 @@ module _ (s : Settings) (generation : ℕ) (places pieces order : List ℕ) (t :
       frees = ap (drop 1) (sym (a .frees) ∙ next-free .1);
       kept = λ k some.
           ap (λ (v : World). isEmpty (recordAt (recordsOf v) k)) (a .worlds noClaims)
-          ∙ not-empty (recordAt (recordsOf (installed 0 generation (world s r noClaims heap′ table′) (filedOps p heap′ (tableIds table′) places pieces))) k)
-          (installed-lsn 0 generation (world s r noClaims heap′ table′) (filedOps p heap′ (tableIds table′) places pieces) (w .placing .limits .next) k
+          ∙ not-empty (recordAt (recordsOf (installed 0 generation (world s r noClaims heap′ table′) (chainOps p heap′ (tableIds table′) places links))) k)
+          (installed-lsn 0 generation (world s r noClaims heap′ table′) (chainOps p heap′ (tableIds table′) places links) (w .placing .limits .next) k
           (lsn-some (s .«slot_bytes») (recordAt (r .files .records) k .label) (w .placing .limits .records k (w .kept k some) .bounds)));
       sameHeap = a .sameHeap ∙ w .sameHeap;
       sameIds = a .sameIds ∙ w .sameIds;
     }
       where
-        same : filedOps p heap′ (tableIds table′) places pieces ≡ filedOps p heap (tableIds table) places pieces
+        same : chainOps p heap′ (tableIds table′) places links ≡ chainOps p heap (tableIds table) places links
         same = w .filed p
 
   -- none is left
-  pub put-end : (f : ℕ) (r : State) (heap′ table′ : List ℕ) → Put f r heap′ table′ → length order ≤ f
-      → PutAll s generation t heap table (filesIn heap (tableIds table) places pieces order) r heap′ table′
+  pub put-end : (f : ℕ) (r : State) (heap′ table′ : List ℕ) → Put f r heap′ table′ → length words ≤ f
+      → PutAll s generation t heap table (chainsIn heap (tableIds table) places links words) r heap′ table′
   unfolding installedAll
   put-end f r heap′ table′ w past = record {
-    worlds = λ c. ap (λ (o : List ℕ). installedAll 0 generation (world s r c heap′ table′) (filesIn heap (tableIds table) places pieces o)) (sym (left-none order f past)) ∙ w .left c;
+    worlds = λ c. ap (λ (o : List ℕ). installedAll 0 generation (world s r c heap′ table′) (chainsIn heap (tableIds table) places links o)) (sym (left-none words f past)) ∙ w .left c;
     limits = w .placing .limits;
     kept = w .kept;
   }

@@ -1,4 +1,4 @@
--- A group decided, then rewritten: what each step asks for and leaves.
+-- A group decided, chained, then rewritten: what each step asks for and leaves.
 use mathlib.Core.Path.{_≡_, sym, ap, ap₂, _∙_, subst}
 use Prim.Native.Nat.{_≤_}
 use native.Mathlib.Nat.{zero-add}
@@ -14,7 +14,7 @@ use Rattle.rules.specs.Refusal.{Test, decide}
 use Rattle.rules.specs.Settings.{slotsIn}
 use Rattle.rules.specs.Ops.{Op}
 use Rattle.rules.specs.Layout.{tableIds, usedEntries}
-use Rattle.rules.specs.LayoutLaws.{ids-count}
+use Rattle.rules.specs.LayoutLaws.{ids-count, used-length}
 use Rattle.rules.specs.FileMap.{isEmpty, recordAt}
 use Rattle.rules.specs.FileMapLaws.{empty-most}
 use Rattle.rules.specs.Condition1Laws.{Passed}
@@ -27,8 +27,11 @@ use Rattle.gc_group.specs.Source.{Source, source}
 use Rattle.gc_split.specs.declared.Totals.{Totals}
 use Rattle.gc_split.specs.Tally.{Tally, tallyOf, closedOf, orderOf, totalsFor}
 use Rattle.gc_split.specs.TotalLaws.{split-totals}
+use Rattle.gc_split.specs.Distinct.{distinct-at}
+use Rattle.gc_split.specs.PieceLaws.{order-distinct}
 use Rattle.gc_split.specs.OrderLaws.{fragments-among, files-counted}
 use Rattle.gc_files.specs.Places.{placedOps}
+use Rattle.gc_chains.specs.Chains.{Linkable, Linked}
 use Rattle.gc_places.specs.Group.{GroupPlaced}
 use Rattle.gc_decision.specs.Empties.{emptyIn}
 use Rattle.gc_decision.specs.Orders.{placed-count, order-small}
@@ -36,7 +39,7 @@ use Rattle.gc_decision.specs.Splits.{filesIn, SplitUp}
 use Rattle.gc_decision.specs.Fitting.{Fitting}
 use Rattle.gc_decision.specs.Decisions.{decisionTests, decision-group, decision-fits}
 use Rattle.gc_rewrite.specs.Courses.{courseGiven}
-use Rattle.gc_rewrite.specs.Putting.{Puttable, PutAll, Kept}
+use Rattle.gc_rewrite.specs.Putting.{Puttable, Chainable, PutAll, Kept}
 
 -- every slot of the group has a file
 abbrev pub Filled : State → List ℕ → ℕ → Type 0
@@ -109,9 +112,13 @@ module _ (s : Settings) (t : State) (heap table plan : List ℕ) (generation : �
             d .limits .limits .heap .most,
           )
 
+      -- nor more that were cut
+      cut-few : whole .totals .files ≤ 256
+      cut-few = omega (arith, most, fragments-among (s .«slot_bytes») whole)
+
       -- they are the pieces, in order
       filed : filesOf (s .«target_file_size») ops ≡ filesIn heap (tableIds table) places pieces (orderOf whole)
-      filed = d .split .files (omega (arith, most, fragments-among (s .«slot_bytes») whole))
+      filed = d .split .files cut-few
 
       -- the ids moved
       entries-are : total .entries ≡ length ops
@@ -126,20 +133,6 @@ module _ (s : Settings) (t : State) (heap table plan : List ℕ) (generation : �
       same-order : take (total .files) order ≡ orderOf whole
       same-order = d .split .ordered decided-files
 
-      -- what adding the files asks for
-      pub decided-puttable : Puttable s t heap table places pieces (take (total .files) order)
-      decided-puttable = rw same-order (record {
-        placing = record {
-          limits = d .limits;
-          wide = d .wide;
-          numbered = d .numbered;
-          used = d .placed .1 .0;
-          kept = λ i some. let k = d .placed .1 .1 .1 i some in (k .0, (k .1 .0, d .filled (k .1 .0) (k .1 .1), k .1 .3));
-        };
-        fitting = subst (Fitting (s .«slot_bytes») (emptyIn s (t .files) heap) (t .«next_position»)) filed fitting;
-        small = order-small whole (d .split .bounds);
-      })
-
       -- the group as its definition rewrites it
       rewritten : (c : Claims) → let w = world s t c heap table in
           courseGiven generation Done (length ops) (installedAll 0 generation w (filesOf (s .«target_file_size») ops)) ≡ rewriteGroup generation (planned plan generation) 0 w
@@ -149,6 +142,40 @@ module _ (s : Settings) (t : State) (heap table plan : List ℕ) (generation : �
           ap (λ (os : List Op). courseGiven generation Done (length os) (installedAll 0 generation w (filesOf (s .«target_file_size») os))) (d .placed .0)
           ∙ ap (λ (n : ℕ). courseGiven generation Done n (installedAll 0 generation w (filesOf (s .«target_file_size») (found w (planned plan generation))))) (sym (zero-add (length (found w (planned plan generation)))))
           ∙ sym (group-added generation (planned plan generation) 0 w (tests-are c Done (d .clear)))
+
+      -- what chaining their entries asks for
+      decided-linkable : Linkable (tableIds table) places pieces (take (total .files) order) (length (usedEntries table))
+      decided-linkable = rw same-order (record {
+        wide = d .wide;
+        numbered = d .numbered;
+        few = omega (arith, ids-count table, d .limits .limits .table .most);
+        low = omega (arith, ids-count table, used-length table);
+        last = d .placed .1 .0;
+        small = order-small whole (d .split .bounds);
+        distinct = distinct-at (orderOf whole) (order-distinct (s .«target_file_size») (s .«slot_bytes») ops cut-few (d .split .bounds .within .countShards));
+      })
+
+      -- what adding them asks for, once they are chained
+      decided-chained : (links words : List ℕ) → Linked (tableIds table) places pieces (take (total .files) order) links words → Puttable s t heap table places links words
+      decided-chained links words l =
+          let chains = filed ∙ ap (filesIn heap (tableIds table) places pieces) (sym same-order) ∙ sym (l .files heap) in
+          record {
+            placing = record {
+              limits = d .limits;
+              wide = d .wide;
+              linked = l .wide;
+              chained = l .chained;
+              used = d .placed .1 .0;
+              stand = d .placed .1 .1 .1 .1;
+              kept = λ i some. let k = d .placed .1 .1 .1 .0 i some in (k .0, (k .1 .0, d .filled (k .1 .0) (k .1 .1), k .1 .3));
+            };
+            fitting = subst (Fitting (s .«slot_bytes») (emptyIn s (t .files) heap) (t .«next_position»)) chains fitting;
+            firsts = l .firsts;
+          }
+
+      -- and before
+      pub decided-chainable : Chainable s t heap table places pieces (take (total .files) order)
+      decided-chainable = record { limits = d .limits; linkable = decided-linkable; puttable = decided-chained }
 
       -- and what it leaves
       pub decided-rewritten : (r : State) (heap′ table′ : List ℕ)

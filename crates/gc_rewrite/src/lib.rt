@@ -1,8 +1,10 @@
-// One group of maintenance rewritten (`src/gc.rs`): decided first, then each of its files is added.
+// One group of maintenance rewritten (`src/gc.rs`): decided first, then the entries of its files are chained and each file is added.
 
 use as_numbers::state_words::files_in;
 use as_numbers::state_words::put_state;
 use as_numbers::state_words::state_in;
+use gc_chains::FIRSTS;
+use gc_chains::link;
 use gc_decision::Decision;
 use gc_decision::Room;
 use gc_decision::decide_group;
@@ -28,8 +30,9 @@ ghost use Rattle.gc_candidates.specs.Plan.{planned};
 ghost use Rattle.gc_group.specs.Source.{Ready};
 ghost use Rattle.gc_decision.specs.Empties.{Listed, emptiesIn, emptyIn};
 ghost use Rattle.gc_decision.specs.Splits.{filesIn};
+ghost use Rattle.gc_chains.specs.Chains.{chainsIn};
 ghost use Rattle.gc_rewrite.specs.Courses.{courseGiven};
-ghost use Rattle.gc_rewrite.specs.Putting.{Puttable, PutAll, Kept};
+ghost use Rattle.gc_rewrite.specs.Putting.{Puttable, Chainable, PutAll, Kept};
 ghost use Rattle.gc_rewrite.specs.Rewriting.{Filled, groupDecision, Decided};
 
 // A group's answer and the ids moved.
@@ -38,7 +41,7 @@ pub struct Course {
     pub moved: u64,
 }
 
-// The files of a group with these numbers, in order, each written and added. The lowest empty slot of each is the next of
+// The files of a group with these words, in order, each written and added. The lowest empty slot of each is the next of
 // a list.
 fn put_files(
     group: Group,
@@ -46,47 +49,47 @@ fn put_files(
     heap: &mut [u8],
     table: &mut [u64],
     places: &[u32],
-    pieces: &[u32],
-    order: &[u64],
+    links: &[u32],
+    words: &[u64],
     frees: &[u64],
 ) -> State
-    requires { ⌜ Puttable (group .settings) state (now heap) (now table) (now places) (now pieces) (now order) ⌝ }
+    requires { ⌜ Puttable (group .settings) state (now heap) (now table) (now places) (now links) (now words) ⌝ }
     requires { ⌜ group .generation ≤ 255 ⌝ }
     requires { ⌜ Listed (emptiesIn (group .settings) (state .files) (now heap)) (now frees) ⌝ }
     ensures { λ r. ⌜ PutAll (group .settings) (group .generation)
         state (now (heap .entry)) (now (table .entry))
-        (filesIn (now (heap .entry)) (tableIds (now (table .entry))) (now (places .entry)) (now (pieces .entry)) (now (order .entry)))
+        (chainsIn (now (heap .entry)) (tableIds (now (table .entry))) (now (places .entry)) (now (links .entry)) (now (words .entry)))
         r (now (heap .exit)) (now (table .exit)) ⌝ }
 {
     let mut after = state;
     let mut file: usize = 0;
-    while file < order.len() {
-        let piece = order[file] as u32;
+    while file < words.len() {
+        let first = (words[file] / FIRSTS) as u32;
         let slot = frees[file] as usize;
         let new = NewFile {
-            piece: piece,
+            first: first,
             generation: group.generation,
             slot: slot,
         };
         let settings = group.settings;
-        after = add_piece(settings, after, heap, table, places, pieces, new);
+        after = add_piece(settings, after, heap, table, places, links, new);
         file += 1;
     }
     after
 }
 
-// The same on the state's words.
+// The same on the state's words, for the files with these numbers: their entries are chained first, in the room of the notes.
 fn put_in(
     group: Group,
     state: &mut [u64; 1801],
     heap: &mut [u8],
     table: &mut [u64],
     places: &[u32],
-    pieces: &[u32],
-    order: &[u64],
+    pieces: &mut [u32],
+    order: &mut [u64],
     frees: &[u64],
 )
-    requires { ⌜ Puttable (group .settings) (stateIn (now state)) (now heap) (now table) (now places) (now pieces) (now order) ⌝ }
+    requires { ⌜ Chainable (group .settings) (stateIn (now state)) (now heap) (now table) (now places) (now pieces) (now order) ⌝ }
     requires { ⌜ group .generation ≤ 255 ⌝ }
     requires { ⌜ Listed (emptiesIn (group .settings) (stateIn (now state) .files) (now heap)) (now frees) ⌝ }
     ensures { λ _. ⌜ PutAll (group .settings) (group .generation)
@@ -94,6 +97,7 @@ fn put_in(
         (filesIn (now (heap .entry)) (tableIds (now (table .entry))) (now (places .entry)) (now (pieces .entry)) (now (order .entry)))
         (stateIn (now (state .exit))) (now (heap .exit)) (now (table .exit)) ⌝ }
 {
+    link(table, places, pieces, order);
     let was = state_in(state);
     let after = put_files(group, was, heap, table, places, pieces, order, frees);
     put_state(state, after);
@@ -173,7 +177,7 @@ pub fn rewrite_group(
         Answer::Done => {}
     }
     let total = decision.total;
-    let order = decision.order;
+    let mut order = decision.order;
     let n = total.files as usize;
     put_in(
         group,
@@ -182,7 +186,7 @@ pub fn rewrite_group(
         table,
         places,
         pieces,
-        &order[..n],
+        &mut order[..n],
         &frees,
     );
     Course {

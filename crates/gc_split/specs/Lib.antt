@@ -3,4 +3,5 @@ pub mod ShardLaws
 pub mod TotalLaws
 pub mod BoundLaws
 pub mod PieceLaws
+pub mod Distinct
 pub mod OrderLaws

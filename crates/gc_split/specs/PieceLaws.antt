@@ -9,12 +9,13 @@ use native.Mathlib.Omega.{arith}
 use borrow.Author.Tests.{eq-eqb, ne-eqb}
 use lib.ListN.{length-set, length-replicate, getD-replicate}
 use lib.Seq.{set-out, getD-set-same, getD-set-other, take-suc-set}
-use Rattle.rules.specs.Base.{Bool, true, false, List, [], _∷_, _++_, map, ℕ, suc, _+_, _/_, _%_, length, getD, set, replicate, take, ltb, eqb, pick, keep}
+use Rattle.rules.specs.Base.{Bool, true, false, List, [], _∷_, _++_, map, ℕ, suc, _+_, _-_, _/_, _%_, length, getD, set, replicate, take, ltb, eqb, pick, keep}
 use Rattle.rules.specs.BaseLaws.{All, all-map, same?, all-append}
 use Rattle.rules.specs.Ops.{Op, sizeOf, shardFor}
 use Rattle.rules.specs.OpsLaws.{shard-most}
 use Rattle.rules.specs.Maintenance.{Shard, noEntries, Split, cutOff, joining, splitFrom, hasEntries, filesOf}
 use Rattle.numbers.specs.GroupLaws.{either-way}
+use Rattle.gc_split.specs.Distinct.{Distinct, distinct-both}
 use Rattle.gc_split.specs.TotalLaws.{shardCount, Told, size-at, either-has, cut-told, join-told, split-told, empty-told}
 use Rattle.gc_split.specs.Tally.{Tally, pieceNo, closing, cutting, entering, taking, tallyFrom, tallyOf, emptyTally, restOf, restsFrom, orderOf, piecesFrom, piecesOf, pieceIn, inPiece}
 
@@ -29,6 +30,7 @@ record Pieces (has : ℕ → List Op) (s : Split) (t : Tally) : Type 0 where
   fragments : s .fragments ≡ map has (take (t .totals .files) (t .cuts))
   fresh : (q : ℕ) → getD (t .rounds) (q % 65) 0 < q / 65 → has q ≡ []
   past : All (λ (q : ℕ). q / 65 < getD (t .rounds) (q % 65) 0) (take (t .totals .files) (t .cuts))
+  distinct : Distinct (take (t .totals .files) (t .cuts))
   long : (length (s .shards) ≡ 65) × (length (t .rounds) ≡ 65)
 
 -- ---- a cut
@@ -76,6 +78,10 @@ cut-made has slotSize n s t low room p = record {
       (all-append (λ (q : ℕ). q / 65 < getD rounds (q % 65) 0) (take files (t .cuts)) (piece ∷ [])
       (all-map _ _ (take files (t .cuts)) (λ q before. omega (arith, rounds-rise (t .rounds) n (q % 65))) (p .past))
       (here, tt));
+  distinct =
+      rw cuts
+      (distinct-both (take files (t .cuts)) (piece ∷ []) (p .distinct) (tt, tt)
+      (all-map _ _ (take files (t .cuts)) (λ q before. (λ e. omega (arith, rw (e, piece-shard n round low, piece-round n round low) at before), tt)) (p .past)));
   long = (length-set (s .shards) n noEntries ∙ p .long .0, length-set (t .rounds) n (round + 1) ∙ p .long .1);
 }
   where
@@ -127,6 +133,7 @@ join-made has n o s t low p = record {
   fragments = p .fragments ∙ map-on has (with-op has piece o) (take (t .totals .files) (t .cuts)) (all-map _ _ (take (t .totals .files) (t .cuts)) old (p .past));
   fresh = λ q later. with-other has piece o q (λ e. newer q later e) ∙ p .fresh q later;
   past = p .past;
+  distinct = p .distinct;
   long = (length-set (s .shards) n _ ∙ p .long .0, p .long .1);
 }
   where
@@ -255,6 +262,7 @@ empty-made = record {
   fragments = refl;
   fresh = λ q later. refl;
   past = tt;
+  distinct = tt;
   long = (length-replicate 65 noEntries, length-replicate {A = ℕ} 65 0);
 }
 
@@ -272,3 +280,59 @@ split-files target slotSize ops room =
     let rests = rests-made has 0 (split .shards) (t .rounds) same (λ k small. rw (zero-add k) (made .shards k (omega (arith, made .long .0)))) in
     ap₂ (λ (xs ys : List (List Op)). xs ++ ys) (rests ∙ ap (λ (cs : List ℕ). map has (restsFrom 0 cs (t .rounds))) (sym (told .counts))) (made .fragments)
     ∙ sym (map-append has (restsFrom 0 (t .counts) (t .rounds)) (take (t .totals .files) (t .cuts)))
+
+-- ---- no two files have one number
+-- what is left of the shards from n on is of these shards, in their present rounds
+rests-present : (n : ℕ) (cs rs : List ℕ) → n + length cs ≤ 65 → All (λ (q : ℕ). (n ≤ q % 65) × (q / 65 ≡ getD rs (q % 65 - n) 0)) (restsFrom n cs rs)
+unfolding restsFrom restOf
+rests-present n [] rs h = tt
+rests-present n (c ∷ cs) [] h = tt
+rests-present n (c ∷ cs) (r ∷ rs) h = go (eqb c 0) (all-map _ _ (restsFrom (suc n) cs rs) later (rests-present (suc n) cs rs (omega arith)))
+  where
+    Present : ℕ → Type 0
+    Present q = (n ≤ q % 65) × (q / 65 ≡ getD (r ∷ rs) (q % 65 - n) 0)
+
+    later : (q : ℕ) → (suc n ≤ q % 65) × (q / 65 ≡ getD rs (q % 65 - suc n) 0) → Present q
+    later q w =
+        let on : q % 65 - n ≡ suc (q % 65 - suc n) = omega (arith, w .0) in
+        (omega (arith, w .0), w .1 ∙ ap (λ (k : ℕ). getD (r ∷ rs) k 0) (sym on))
+
+    here : Present (pieceNo n r)
+    here =
+        let none : pieceNo n r % 65 - n ≡ 0 = omega arith in
+        (omega arith, piece-round n r (omega arith) ∙ ap (λ (k : ℕ). getD (r ∷ rs) k 0) (sym none))
+
+    go : (b : Bool) → All Present (restsFrom (suc n) cs rs) → All Present (pick b [] (pieceNo n r ∷ []) ++ restsFrom (suc n) cs rs)
+    go true a = a
+    go false a = (here, a)
+
+rests-distinct : (n : ℕ) (cs rs : List ℕ) → n + length cs ≤ 65 → Distinct (restsFrom n cs rs)
+unfolding restsFrom restOf
+rests-distinct n [] rs h = tt
+rests-distinct n (c ∷ cs) [] h = tt
+rests-distinct n (c ∷ cs) (r ∷ rs) h = go (eqb c 0) (rests-present (suc n) cs rs (omega arith)) (rests-distinct (suc n) cs rs (omega arith))
+  where
+    rest : List ℕ
+    rest = restsFrom (suc n) cs rs
+
+    go : (b : Bool) → All (λ (q : ℕ). (suc n ≤ q % 65) × (q / 65 ≡ getD rs (q % 65 - suc n) 0)) rest → Distinct rest → Distinct (pick b [] (pieceNo n r ∷ []) ++ rest)
+    go true a d = d
+    go false a d = (all-map _ _ rest (λ q w e. omega (arith, w .0, piece-shard n r (omega arith), e)) a, d)
+
+-- where no more than 256 fragments were cut: a shard's present round is none of those that were cut
+pub order-distinct : (target slotSize : ℕ) (ops : List Op) → let t = tallyOf target slotSize ops in t .totals .files ≤ 256 → length (t .counts) ≡ 65 → Distinct (orderOf t)
+unfolding tallyOf orderOf
+order-distinct target slotSize ops room shards =
+    let t = tallyFrom target slotSize ops emptyTally in
+    let made = split-made (λ (q : ℕ). []) target slotSize 0 ops _ _ (empty-told slotSize) empty-made (omega (arith, length-replicate {A = ℕ} 256 0)) in
+    let cuts = take (t .totals .files) (t .cuts) in
+    let few : 0 + length (t .counts) ≤ 65 = omega (arith, shards) in
+    distinct-both (restsFrom 0 (t .counts) (t .rounds)) cuts (rests-distinct 0 (t .counts) (t .rounds) few) (made .distinct)
+    (all-map _ _ (restsFrom 0 (t .counts) (t .rounds))
+    (λ x present. all-map _ _ cuts (λ y before e. older (t .rounds) x y (present .1) before e) (made .past))
+    (rests-present 0 (t .counts) (t .rounds) few))
+  where
+    older : (rs : List ℕ) (x y : ℕ) → x / 65 ≡ getD rs (x % 65 - 0) 0 → y / 65 < getD rs (y % 65) 0 → x ≡ y → ⊥
+    older rs x y present before e =
+        let none : x % 65 - 0 ≡ x % 65 = omega arith in
+        omega (arith, rw (← e) at before, present ∙ ap (λ (k : ℕ). getD rs k 0) none)

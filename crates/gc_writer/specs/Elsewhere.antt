@@ -1,5 +1,5 @@
 -- What is written into a slot leaves all that stands elsewhere.
-use mathlib.Core.Path.{_≡_, refl, sym, ap, ap₂, _∙_}
+use mathlib.Core.Path.{_≡_, refl, sym, ap, _∙_}
 use mathlib.Core.Logic.{_⊎_, inl, inr, ⊎-elim}
 use Prim.Native.Nat.{_≤_, _<_}
 use native.Mathlib.Nat.{mul-le-mul}
@@ -8,16 +8,19 @@ use borrow.Author.Tests.{eq-eqb, ne-eqb}
 use lib.ListN.{length-set, length-drop}
 use lib.Seq.{take-set-le, drop-set-lt, take-take, drop-drop, length-take-le}
 use Rattle.numbers.specs.LittleEndian.{leValue}
-use Rattle.rules.specs.Base.{Bool, List, [], _∷_, _++_, ℕ, suc, _+_, _-_, _*_, length, getD, take, drop, set, eqb, pick}
+use Rattle.rules.specs.Base.{List, [], _∷_, _++_, ℕ, suc, _+_, _-_, _*_, length, getD, take, drop, set}
 use Rattle.rules.specs.BaseLaws.{All, order, same?, all-append, all-take}
 use Rattle.rules.specs.PartLaws.{drop-take}
 use Rattle.rules.specs.Label.{labelBytes}
-use Rattle.rules.specs.Ops.{Op, put}
+use Rattle.rules.specs.Object.{objectBytes}
+use Rattle.rules.specs.Ops.{put}
 use Rattle.rules.specs.Stores.{Store, made, storesOf, fileStores}
 use Rattle.rules.specs.declared.Label.{Label}
 use Rattle.rules.specs.LabelLaws.{label-length}
 use Rattle.stores.specs.Runs.{Made}
-use Rattle.gc_files.specs.Places.{lengthAt, movingAt, opAt, filedOps, Whole, InSlot}
+use Rattle.gc_files.specs.Places.{lengthAt, movingAt, opAt, Whole, Stands, AllStand, InSlot}
+use Rattle.gc_chains.specs.Chains.{chainOps}
+use Rattle.gc_chains.specs.ChainLaws.{chain-same}
 
 -- the bytes before `start` and those from `start + size` on are the same
 pub record Elsewhere (start size : ℕ) (heap after : List ℕ) : Type 0 where
@@ -124,6 +127,25 @@ module _ {start size : ℕ} {heap after : List ℕ} (e : Elsewhere start size he
       let w = apart i h in
       (whole-elsewhere (getD places i 0) (w .0) (w .1), off-elsewhere (getD places i 0) (w .0) (w .1))
 
+  -- an object's body
+  body-elsewhere : (place : ℕ) → Whole heap place → Off start size heap place
+      → take (lengthAt after place) (drop (place + 20) after) ≡ take (lengthAt heap place) (drop (place + 20) heap)
+  body-elsewhere place whole off =
+      let inside = whole .inside in
+      ap (λ (n : ℕ). take n (drop (place + 20) after)) (length-elsewhere place whole off)
+      ∙ bytes-elsewhere (place + 20) (lengthAt heap place) (omega arith) (⊎-elim (λ h. inl (omega arith)) (λ h. inr (omega arith)) off)
+
+  -- its bytes still stand there
+  pub stands-elsewhere : (id place : ℕ) → Whole heap place → Off start size heap place → Stands heap id place → Stands after id place
+  unfolding Stands
+  stands-elsewhere id place whole off stands =
+      let inside = whole .inside in
+      ap (λ (n : ℕ). take (20 + n) (drop place after)) (length-elsewhere place whole off)
+      ∙ bytes-elsewhere place (20 + lengthAt heap place) (omega arith) off ∙ stands ∙ ap (objectBytes id) (sym (body-elsewhere place whole off))
+
+  pub all-stand-elsewhere : (ids places : List ℕ) → Apart start size heap places → AllStand heap ids places → AllStand after ids places
+  all-stand-elsewhere ids places apart stand i h = stands-elsewhere (getD ids i 0) (getD places i 0) (apart i h .0) (apart i h .1) (stand i h)
+
   -- the operation at a place
   op-elsewhere : (id place : ℕ) → 0 < place → (1 < place → Whole heap place × Off start size heap place) → opAt after id place ≡ opAt heap id place
   unfolding movingAt
@@ -133,28 +155,11 @@ module _ {start size : ℕ} {heap after : List ℕ} (e : Elsewhere start size he
       go (inl one) = rw (eq-eqb place 1 one) refl
       go (inr other) =
           let w = apart (omega (arith, other)) in
-          let inside = w .0 .inside in
-          let size′ = length-elsewhere place (w .0) (w .1) in
-          let body = bytes-elsewhere (place + 20) (lengthAt heap place) (omega arith) (⊎-elim (λ h. inl (omega arith)) (λ h. inr (omega arith)) (w .1)) in
-          rw (ne-eqb place 1 other)
-          (ap (λ (b : List ℕ). record { id = id; content = put b }) (ap (λ (n : ℕ). take n (drop (place + 20) after)) size′ ∙ body))
+          rw (ne-eqb place 1 other) (ap (λ (b : List ℕ). record { id = id; content = put b }) (body-elsewhere place (w .0) (w .1)))
 
-  -- the operations of every piece
-  pub filed-elsewhere : (piece : ℕ) (ids places pieces : List ℕ) → Apart start size heap places
-      → filedOps piece after ids places pieces ≡ filedOps piece heap ids places pieces
-  unfolding filedOps
-  filed-elsewhere piece [] ps gs apart = refl
-  filed-elsewhere piece (x ∷ xs) [] gs apart = refl
-  filed-elsewhere piece (x ∷ xs) (p ∷ ps) [] apart = refl
-  filed-elsewhere piece (x ∷ xs) (p ∷ ps) (g ∷ gs) apart = go (same? p 0) (filed-elsewhere piece xs ps gs (λ i. apart (suc i)))
-    where
-      taken : Bool → Op → List Op → List Op
-      taken b op rest = pick b rest (pick (eqb g piece) (op ∷ rest) rest)
-
-      go : (p ≡ 0) ⊎ (p ≡ 0 → ⊥) → filedOps piece after xs ps gs ≡ filedOps piece heap xs ps gs
-          → taken (eqb p 0) (opAt after x p) (filedOps piece after xs ps gs) ≡ taken (eqb p 0) (opAt heap x p) (filedOps piece heap xs ps gs)
-      go (inl none) rest = rw (eq-eqb p 0 none) rest
-      go (inr some) rest = ap₂ (taken (eqb p 0)) (op-elsewhere x p (omega (arith, some)) (apart 0)) rest
+  -- the operations of every chain
+  pub chain-elsewhere : (first : ℕ) (ids places links : List ℕ) → Apart start size heap places → chainOps first after ids places links ≡ chainOps first heap ids places links
+  chain-elsewhere first ids places links apart = chain-same heap after first 1 ids places links (λ x i some. op-elsewhere x (getD places i 0) some (apart i))
 
 -- an object that lies in another slot is off
 pub slots-off : (size : ℕ) (heap : List ℕ) (j k place : ℕ) → (j ≡ k → ⊥) → InSlot size heap j place → Off (k * size) size heap place

@@ -1,113 +1,80 @@
--- The walk over the entries of one piece.
-use mathlib.Core.Path.{_≡_, refl, sym, ap, _∙_}
-use mathlib.Core.Bool.{false≢true}
+-- The walk along the entries of one piece.
+use mathlib.Core.Path.{_≡_, ap, _∙_}
 use mathlib.Core.Logic.{_⊎_, inl, inr}
 use Prim.Native.Nat.{_≤_, _<_}
 use native.Mathlib.Omega.{arith}
-use borrow.Author.Tests.{eq-eqb}
+use borrow.Author.Tests.{eq-eqb, ne-eqb}
 use denote.Ref.{RefT, now}
-use Rattle.rules.specs.Base.{Bool, true, false, List, [], _∷_, ℕ, _+_, _^_, length, getD, drop, eqb, pick}
+use Rattle.rules.specs.Base.{List, [], ℕ, suc, _-_, _^_, length, getD, eqb, pick}
 use Rattle.rules.specs.BaseLaws.{zero-or-more}
-use Rattle.rules.specs.TurnLaws.{left-next, left-none}
 use Rattle.rules.specs.Layout.{tableIds}
 use Rattle.rules.specs.Ops.{Op}
 use Rattle.batch.specs.Sizes.{sizeIn}
 use Rattle.batch.specs.WalkLaws.{Stepped}
 use Rattle.batch.specs.declared.Operation.{Operation}
-use Rattle.gc_files.specs.Places.{movingAt, opAt, filedOps, Standing}
+use Rattle.gc_files.specs.Places.{movingAt, Standing}
 use Rattle.gc_files.specs.PlaceLaws.{moving-told}
+use Rattle.gc_chains.specs.Chains.{chainOps, Leads, Chained}
+use Rattle.gc_chains.specs.ChainLaws.{chain-none, chain-step}
 
--- the operations of a piece, as heap, table, places and pieces hold them that a function is lent
-abbrev pub pieceOps : ℕ → (heap table places pieces : RefT (List ℕ)) → List Op
-pieceOps piece heap table places pieces = filedOps piece (now heap) (tableIds (now table)) (now places) (now pieces)
+-- the operations of the piece with this first entry, as heap, table, places and links hold them that a function is lent
+abbrev pub pieceOps : ℕ → (heap table places links : RefT (List ℕ)) → List Op
+pieceOps first heap table places links = chainOps first (now heap) (tableIds (now table)) (now places) (now links)
 
--- the operations of a piece from entry i on
-abbrev pub filedFrom : ℕ → List ℕ → List ℕ → List ℕ → List ℕ → ℕ → List Op
-filedFrom piece heap ids places pieces i = filedOps piece heap (drop i ids) (drop i places) (drop i pieces)
-
--- whether an entry is moved, and in this piece
-unfoldable pub filedHere : ℕ → ℕ → ℕ → Bool
-filedHere piece place number = pick (eqb place 0) false (eqb number piece)
-
--- the first entry of a piece from `from` on, or none; what is not in the piece is passed over, whatever the heap is
-pub record Next (piece : ℕ) (ids places pieces : List ℕ) (from i : ℕ) : Type 0 where
-  pub on : from ≤ i
-  pub here : i < length ids → filedHere piece (getD places i 0) (getD pieces i 0) ≡ true
-  pub same : (heap : List ℕ) → filedFrom piece heap ids places pieces i ≡ filedFrom piece heap ids places pieces from
-
--- what every walk asks for: a place and a number for each entry, each object in the heap
-pub record Walking (heap ids places pieces : List ℕ) : Type 0 where
+-- what every walk asks for: a place and a link for each entry, each object in the heap, each link leads on
+pub record Walking (heap ids places links : List ℕ) : Type 0 where
   pub wide : length ids ≤ length places
-  pub numbered : length ids ≤ length pieces
+  pub linked : length ids ≤ length links
   pub standing : Standing heap places
+  pub chained : Chained (length ids) places links
 
--- ---- a turn of the walk, and its end
-pub filed-moved : (piece place number : ℕ) → filedHere piece place number ≡ true → 0 < place
-unfolding filedHere
-filed-moved piece place number e = go (zero-or-more place)
-  where
-    go : (place ≡ 0) ⊎ (0 < place) → 0 < place
-    go (inl none) = absurd (false≢true (ap (λ (b : Bool). pick b false (eqb number piece)) (sym (eq-eqb place 0 none)) ∙ e))
-    go (inr some) = some
+-- how many of n entries there are from entry i on
+unfoldable pub ahead : ℕ → ℕ → ℕ
+ahead n i = pick (eqb i 0) 0 (suc n - i)
 
-module _ (piece : ℕ) (heap ids places pieces : List ℕ) (i : ℕ) where
-  filed-turn : i < length ids → i < length places → i < length pieces
-      → filedFrom piece heap ids places pieces i
-      ≡ pick (filedHere piece (getD places i 0) (getD pieces i 0))
-      (opAt heap (getD ids i 0) (getD places i 0) ∷ filedFrom piece heap ids places pieces (i + 1))
-      (filedFrom piece heap ids places pieces (i + 1))
-  unfolding filedOps filedHere
-  filed-turn h g k = rw (left-next ids i 0 h, left-next places i 0 g, left-next pieces i 0 k) (go (eqb (getD places i 0) 0))
-    where
-      rest : List Op
-      rest = filedFrom piece heap ids places pieces (i + 1)
-
-      ops : List Op
-      ops = opAt heap (getD ids i 0) (getD places i 0) ∷ rest
-
-      go : (b : Bool) → pick b rest (pick (eqb (getD pieces i 0) piece) ops rest) ≡ pick (pick b false (eqb (getD pieces i 0) piece)) ops rest
-      go true = refl
-      go false = refl
-
-  -- entry i is in the piece
-  filed-here : i < length ids → i < length places → i < length pieces → filedHere piece (getD places i 0) (getD pieces i 0) ≡ true
-      → filedFrom piece heap ids places pieces i ≡ opAt heap (getD ids i 0) (getD places i 0) ∷ filedFrom piece heap ids places pieces (i + 1)
-  filed-here h g k e = filed-turn h g k ∙ rw e refl
-
-  -- it is not
-  pub filed-next : i < length ids → i < length places → i < length pieces → filedHere piece (getD places i 0) (getD pieces i 0) ≡ false
-      → filedFrom piece heap ids places pieces (i + 1) ≡ filedFrom piece heap ids places pieces i
-  filed-next h g k e = sym (filed-turn h g k ∙ rw e refl)
-
-  pub filed-end : length ids ≤ i → filedFrom piece heap ids places pieces i ≡ []
-  unfolding filedOps
-  filed-end h = rw (left-none ids i h) refl
-
--- a turn of the walk: the operation of entry i, which is of the piece, the size of its object, and the entry at which the walk goes on
-pub record Turned (piece : ℕ) (heap ids places pieces : List ℕ) (i : ℕ) (o : Operation) (size next : ℕ) : Type 0 where
-  pub some : 0 < getD places i 0
-  pub is : o ≡ movingAt heap (getD ids i 0) (getD places i 0)
+-- a turn of the walk: the operation of entry i, the size of its object, and the entry at which the walk goes on
+pub record Turned (heap ids places links : List ℕ) (i : ℕ) (o : Operation) (size next : ℕ) : Type 0 where
+  pub some : 0 < getD places (i - 1) 0
+  pub is : o ≡ movingAt heap (getD ids (i - 1) 0) (getD places (i - 1) 0)
   pub short : o .len < 2 ^ 20
   pub long : size ≡ sizeIn o
-  pub step : Stepped heap (filedFrom piece heap ids places pieces i) o (filedFrom piece heap ids places pieces next)
-  pub on : i < next
-  pub here : next < length ids → filedHere piece (getD places next 0) (getD pieces next 0) ≡ true
+  pub step : Stepped heap (chainOps i heap ids places links) o (chainOps next heap ids places links)
+  pub less : ahead (length ids) next < ahead (length ids) i
+  pub leads : Leads (length ids) places 0 next
+
+-- fewer are left behind the next one
+ahead-less : (n i next : ℕ) → 0 < i → i ≤ n → (0 < next → i < next) → ahead n next < ahead n i
+unfolding ahead
+ahead-less n i next some low on = rw (ne-eqb i 0 (λ e. omega arith)) (go (zero-or-more next))
+  where
+    go : (next ≡ 0) ⊎ (0 < next) → pick (eqb next 0) 0 (suc n - next) < suc n - i
+    go (inl none) = rw (eq-eqb next 0 none) (omega arith)
+    go (inr more) = rw (ne-eqb next 0 (λ e. omega arith)) (omega (arith, on more))
 
 -- what a turn tells
-pub turned : {piece : ℕ} {heap ids places pieces : List ℕ} {i : ℕ} {o : Operation} {size next : ℕ} → Walking heap ids places pieces → i < length ids
-    → filedHere piece (getD places i 0) (getD pieces i 0) ≡ true → o ≡ movingAt heap (getD ids i 0) (getD places i 0) → size ≡ sizeIn o
-    → Next piece ids places pieces (i + 1) next → Turned piece heap ids places pieces i o size next
-turned {piece} {heap} {ids} {places} {pieces} {i} walk h e is long n =
+pub turned : {heap ids places links : List ℕ} {i : ℕ} {o : Operation} {size next : ℕ} → Walking heap ids places links → 0 < i → Leads (length ids) places 0 i
+    → o ≡ movingAt heap (getD ids (i - 1) 0) (getD places (i - 1) 0) → size ≡ sizeIn o → next ≡ getD links (i - 1) 0 → Turned heap ids places links i o size next
+turned {heap} {ids} {places} {links} {i} {next = next} walk more lead is long n =
     let wide = walk .wide in
-    let numbered = walk .numbered in
-    let some = filed-moved piece (getD places i 0) (getD pieces i 0) e in
-    let told = moving-told heap (getD ids i 0) (getD places i 0) some (walk .standing i) in
+    let linked = walk .linked in
+    let low = lead .low more in
+    let some = lead .moved more in
+    let here : i ≡ suc (i - 1) = omega arith in
+    let on = walk .chained (i - 1) (omega arith) some in
+    let told = moving-told heap (getD ids (i - 1) 0) (getD places (i - 1) 0) some (walk .standing (i - 1)) in
     record {
       some = some;
       is = is;
       short = rw is (told .short);
       long = long;
-      step = rw (is, n .same heap) (record { next = filed-here piece heap ids places pieces i h (omega arith) (omega arith) e; inside = told .inside });
-      on = omega (arith, n .on);
-      here = n .here;
+      step = rw (is, n) (record {
+        next = ap (λ (k : ℕ). chainOps k heap ids places links) here ∙ chain-step heap ids places links (i - 1) (omega arith) (omega arith) (omega arith) some on;
+        inside = told .inside;
+      });
+      less = ahead-less (length ids) i next more low (λ z. omega (arith, on .on (rw n at z), n));
+      leads = rw n (record { on = λ z. z; low = on .low; moved = on .moved });
     }
+
+-- and its end: no entry is left
+pub walk-end : (heap ids places links : List ℕ) (i : ℕ) → i ≡ 0 → chainOps i heap ids places links ≡ []
+walk-end heap ids places links i e = rw e (chain-none 0 heap ids places links)

@@ -1,4 +1,9 @@
 // Adding a file that stands in the heap: table, live counts, record and next position. Write and maintenance share it.
+use location_table::Place;
+use location_table::find_near;
+use location_table::load_found;
+use location_table::number_of;
+use location_table::store_found;
 use ordered_files::ORDER;
 use ordered_files::file_among;
 use ordered_files::put_if;
@@ -17,10 +22,11 @@ ghost use Prim.Native.Nat.{_+_, _*_, _^_, _≤_, _<_};
 ghost use lib.ListN.{length, set};
 ghost use Rattle.disk_location.specs.Locations.{positionOf};
 ghost use Rattle.rules.specs.Trailer.{absolute, countIn, entriesIn};
-ghost use Rattle.rules.specs.Table.{load, insertAll, full};
+ghost use Rattle.rules.specs.Table.{insertAll, full};
 ghost use Rattle.rules.specs.TableCalls.{withStored};
 ghost use Rattle.rules.specs.Layout.{usedEntries, capacityOf};
 ghost use Rattle.rules.specs.World.{stateWith};
+ghost use Rattle.location_table.specs.Places.{place};
 ghost use Rattle.location_table.specs.Tables.{Formed};
 ghost use Rattle.file_lists.specs.Lists.{lsnAt, lessAt, withLives};
 ghost use Rattle.ordered_files.specs.Order.{StandsFor};
@@ -40,16 +46,12 @@ fn lose_at(lsns: &[u64], order: &[u64], ordered: bool, lives: &mut [u64], locati
     file_lists::less_at(lives, slot);
 }
 
-// The file of the location that the table has for the id.
-fn lose_one(lsns: &[u64], order: &[u64], ordered: bool, lives: &mut [u64], table: &[u64], id: u64)
-    requires { ⌜ Formed (now table)
-        × (length (now lsns) ≤ length (now lives))
-        × StandsFor (now lsns) (now order) ordered ⌝ }
-    ensures { λ _. ⌜ now (lives .exit) ≡ lessAt
-        (slotHolding (now (lsns .entry)) (load (usedEntries (now (table .entry))) id))
-        (now (lives .entry)) ⌝ }
+// The file of what is loaded of an id.
+fn lose_one(lsns: &[u64], order: &[u64], ordered: bool, lives: &mut [u64], loaded: Loaded)
+    requires { ⌜ (length (now lsns) ≤ length (now lives)) × StandsFor (now lsns) (now order) ordered ⌝ }
+    ensures { λ _. ⌜ now (lives .exit) ≡ lessAt (slotHolding (now (lsns .entry)) loaded) (now (lives .entry)) ⌝ }
 {
-    match location_table::load(table, id) {
+    match loaded {
         Loaded::At(location) => lose_at(lsns, order, ordered, lives, location),
         Loaded::DeletedAt(location) => lose_at(lsns, order, ordered, lives, location),
         Loaded::Never => {}
@@ -75,10 +77,14 @@ fn lose_all(
         (now (lives .entry)) ⌝ }
 {
     let n = trailer::count(trailer);
+    let mut near: usize = 0;
     let mut k: u64 = 0;
     while k < n {
         let e = trailer::entry(trailer, k);
-        lose_one(lsns, order, ordered, lives, table, e.id);
+        let place = find_near(table, e.id, near);
+        let loaded = load_found(table, place, e.id);
+        lose_one(lsns, order, ordered, lives, loaded);
+        near = number_of(place);
         k += 1;
     }
 }
@@ -100,9 +106,10 @@ fn lose(lsns: &[u64], lives: &mut [u64], table: &[u64], trailer: &[u8])
     lose_all(lsns, &order, many, lives, table, trailer);
 }
 
-// "Each id takes its new location", for one entry.
-fn store_one(table: &mut [u64], e: Entry, lsn: u64)
+// "Each id takes its new location", for one entry, at its id's place.
+fn store_one(table: &mut [u64], at: Place, e: Entry, lsn: u64)
     requires { ⌜ Formed (now table)
+        × (at ≡ place (usedEntries (now table)) (e .id))
         × (positionOf (e .location) + lsn < 2 ^ 63)
         × (0 < lsn)
         × (full (usedEntries (now table)) (capacityOf (now table)) (e .id) ≡ false) ⌝ }
@@ -110,7 +117,7 @@ fn store_one(table: &mut [u64], e: Entry, lsn: u64)
         ≡ withStored (now (table .entry)) (e .id) (absolute lsn e .location) ⌝ }
 {
     let placed = absolute(e, lsn);
-    location_table::store_in(table, e.id, placed.location);
+    store_found(table, at, e.id, placed.location);
 }
 
 // "Each id takes its new location", one by one.
@@ -124,10 +131,13 @@ fn one_by_one(table: &mut [u64], trailer: &[u8], lsn: u64)
     ensures { λ _. ⌜ now (table .exit) ≡ withTaken (now (table .entry)) lsn (entriesIn (now (trailer .entry))) ⌝ }
 {
     let n = trailer::count(trailer);
+    let mut near: usize = 0;
     let mut k: u64 = 0;
     while k < n {
         let e = trailer::entry(trailer, k);
-        store_one(table, e, lsn);
+        let place = find_near(table, e.id, near);
+        store_one(table, place, e, lsn);
+        near = number_of(place);
         k += 1;
     }
 }

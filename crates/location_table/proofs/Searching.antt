@@ -66,11 +66,14 @@ module _ (t : Table) (x : ℕ) where
         let q = zero-unused t formed k z in
         sym (place-gap (usedEntries t) k x (b .less) (b .within) (λ u. absurd (lt-irrefl 0 (omega arith))))
 
-    pub found-here : (k : ℕ) → Below t x k → (getD (tableLocations t) k 0 ≡ 0 → ⊥) → x ≡ getD (tableIds t) k 0 → Found k ≡ place (usedEntries t) x
-    found-here k b z h =
+    -- a used entry of the id is its place, however it was met
+    pub found-here : (k : ℕ) → (getD (tableLocations t) k 0 ≡ 0 → ⊥) → x ≡ getD (tableIds t) k 0 → Found k ≡ place (usedEntries t) x
+    found-here k z h =
         let u = not-zero-used t formed k z in
         let e = used-id t k u in
-        sym (place-found (usedEntries t) k x (b .less) u (omega arith))
+        let before : (j : ℕ) → j < k → getD (usedEntries t) j noEntry .id < x =
+        λ j l. let r = rising-lt 0 (usedEntries t) (used-rising t formed) j k l u in omega arith in
+        sym (place-found (usedEntries t) k x before u (omega arith))
 
     -- where the ends of a halving meet at an entry that is another
     pub gap-met : (k : ℕ) → Below t x k → NotBelow t x k → (getD (tableLocations t) k 0 ≡ 0 → ⊥) → (x ≡ getD (tableIds t) k 0 → ⊥) → Gap k ≡ place (usedEntries t) x

@@ -13,3 +13,8 @@ later (Gap k) = Gap (suc k)
 unfoldable pub place : List Entry → ℕ → Place
 place [] x = Gap 0
 place (e ∷ es) x = pick (ltb (e .id) x) (later (place es x)) (pick (eqb (e .id) x) (Found 0) (Gap 0))
+
+-- its number, whether the id stands there or would
+abbrev pub numberOf : Place → ℕ
+numberOf (Found k) = k
+numberOf (Gap k) = k

@@ -15,8 +15,9 @@ use Rattle.rules.specs.Stores.{Store, made}
 use Rattle.rules.specs.World.{World}
 use Rattle.stores.specs.Runs.{Made, made-then, made-none}
 use Rattle.batch.specs.Reading.{opsIn}
+use Rattle.batch.specs.declared.Cursor.{Cursor}
 use Rattle.batch_file.proofs.«write_file».Reads as batchFile
-use Rattle.gc_files.specs.Places.{filedOps}
+use Rattle.gc_chains.specs.Chains.{chainOps}
 use Rattle.gc_writer.specs.declared.PieceFile.{PieceFile}
 use Rattle.gc_writer.proofs.«write_piece».Reads as piece
 use Rattle.prune.proofs.«prune_stores».Reads as labels
@@ -30,16 +31,16 @@ use Rattle.marble.specs.Lives.{life-survives}
 
 -- ---- the three contracts: of the run of its job each makes the first k stores
 -- `batch_file::write_file`: a batch's file
-pub write-file-contract : (κs : Lfts 2) (heap batch : Lent) (start : ℕ) (new : Label) (count total k rest : ℕ) (heap′ : Lent)
-    → batchFile.Learnt κs (heap, (start, (batch, (new, (count, (total, (k, tt))))))) rest (heap′, (start, (batch, (new, (count, (total, (k, tt)))))))
+pub write-file-contract : (κs : Lfts 3) (heap order batch : Lent) (start : ℕ) (begin : Cursor) (new : Label) (k rest : ℕ) (heap′ order′ : Lent)
+    → batchFile.Learnt κs (heap, (start, (order, (batch, (begin, (new, (k, tt))))))) rest (heap′, (start, (order′, (batch, (begin, (new, (k, tt)))))))
     ≡ Made k (jobRun (file start new (settled (opsIn (now batch))))) (now heap) (now heap′) rest
-write-file-contract κs heap batch start new count total k rest heap′ = refl
+write-file-contract κs heap order batch start begin new k rest heap′ order′ = refl
 
 -- `gc_writer::write_piece`: a file that maintenance rewrites, its operations where their objects stand in the heap
-pub write-piece-contract : (κs : Lfts 4) (heap table places pieces : Lent) (f : PieceFile) (new : Label) (k rest : ℕ) (heap′ : Lent)
-    → piece.Learnt κs (heap, (table, (places, (pieces, (f, (new, (k, tt))))))) rest (heap′, (table, (places, (pieces, (f, (new, (k, tt)))))))
-    ≡ Made k (jobRun (file (f .start) new (filedOps (f .piece) (now heap) (tableIds (now table)) (now places) (now pieces)))) (now heap) (now heap′) rest
-write-piece-contract κs heap table places pieces f new k rest heap′ = refl
+pub write-piece-contract : (κs : Lfts 4) (heap table places links : Lent) (f : PieceFile) (new : Label) (k rest : ℕ) (heap′ : Lent)
+    → piece.Learnt κs (heap, (table, (places, (links, (f, (new, (k, tt))))))) rest (heap′, (table, (places, (links, (f, (new, (k, tt)))))))
+    ≡ Made k (jobRun (file (f .start) new (chainOps (f .first) (now heap) (tableIds (now table)) (now places) (now links)))) (now heap) (now heap′) rest
+write-piece-contract κs heap table places links f new k rest heap′ = refl
 
 -- `prune::prune_stores`, where it is due: it gives the records in the place of what is left
 pub prune-stores-contract : (κs : Lfts 1) (heap : Lent) (size : ℕ) (claims : Claims) (files : FileMap) (k : ℕ) (after : FileMap) (heap′ : Lent)

@@ -1,3 +1,4 @@
 pub mod LittleEndianTurns
 pub mod GroupTurns
+pub mod GroupReading
 pub mod Lent

@@ -37,11 +37,11 @@ pub groups-more : (k n : ℕ) → 128 ≤ n → groupsOf (suc k) n ≡ (n % 128 
 unfolding groupsOf
 groups-more k n h = rw (le-ltb n 128 h)
 
-read-last : (k b : ℕ) (bs : List ℕ) → b < 128 → readGroups (suc k) (b ∷ bs) ≡ said b 1
+pub read-last : (k b : ℕ) (bs : List ℕ) → b < 128 → readGroups (suc k) (b ∷ bs) ≡ said b 1
 unfolding readGroups
 read-last k b bs h = rw (lt-ltb b 128 h)
 
-read-more : (k b : ℕ) (bs : List ℕ) → 128 ≤ b → readGroups (suc k) (b ∷ bs) ≡ before b (readGroups k bs)
+pub read-more : (k b : ℕ) (bs : List ℕ) → 128 ≤ b → readGroups (suc k) (b ∷ bs) ≡ before b (readGroups k bs)
 unfolding readGroups
 read-more k b bs h = rw (le-ltb b 128 h)
 

@@ -3,4 +3,3 @@ pub mod LittleEndian
 pub mod Parts
 pub mod Groups
 pub mod GroupLaws
-pub mod GroupSteps

@@ -5,53 +5,34 @@ ghost use Prim.Native.Nat.{_≤_};
 ghost use lib.ListN.{length};
 ghost use Rattle.numbers.specs.Parts.{front};
 ghost use Rattle.numbers.specs.Groups.{groupsOf, numberIn};
-ghost use Rattle.numbers.specs.GroupSteps.{joinedOf};
 use crate::Number;
 
-// What the groups behind the first may say, so that all fit 64 bits: 2^57.
-const REST: u64 = 1 << 57;
-
-// A group with its top bit set, before what the groups behind it say.
-fn joined(b: u8, rest: Number) -> Number
-    requires { ⌜ 128 ≤ b ⌝ }
-    ensures { λ r. ⌜ r ≡ joinedOf b rest ⌝ }
-{
-    match rest {
-        Number::Said(v, next) => {
-            if v == 0 {
-                return Number::Malformed;
-            }
-            if v < REST {
-                return Number::Said((v << 7) + (b - 128) as u64, next);
-            }
-            Number::Malformed
-        }
-        Number::Malformed => Number::Malformed,
-    }
-}
-
-// The number in s at `at`, in at most `left` groups.
-fn groups(s: &[u8], at: usize, left: usize) -> Number
-    ensures { λ r. ⌜ r ≡ numberIn left (now (s .entry)) at ⌝ }
-{
-    if left == 0 {
-        return Number::Malformed;
-    }
-    if s.len() <= at {
-        return Number::Malformed;
-    }
-    let b = s[at];
-    if b < 128 {
-        return Number::Said(b as u64, at + 1);
-    }
-    joined(b, groups(s, at + 1, left - 1))
-}
-
-// The number that stands in s at `at`, with the position after it.
+// The number that stands in s at `at`, with the position after it. The groups so far say v; the next one counts from bit `shift` on.
 pub fn decode(s: &[u8], at: usize) -> Number
     ensures { λ r. ⌜ r ≡ numberIn 10 (now (s .entry)) at ⌝ }
 {
-    groups(s, at, 10)
+    let mut v: u64 = 0;
+    let mut shift: u64 = 0;
+    let mut i = at;
+    while i < s.len() {
+        let b = s[i];
+        if shift == 63 {
+            if b == 1 {
+                return Number::Said(v + (1 << 63), i + 1);
+            }
+            return Number::Malformed;
+        }
+        if b < 128 {
+            if b == 0 && 0 < shift {
+                return Number::Malformed;
+            }
+            return Number::Said(v + ((b as u64) << shift), i + 1);
+        }
+        v += ((b - 128) as u64) << shift;
+        shift += 7;
+        i += 1;
+    }
+    Number::Malformed
 }
 
 // Writes x at the front of s, and answers how many bytes it took.

@@ -23,8 +23,8 @@ use Rattle.rules.specs.Condition1.{refused1}
 use Rattle.rules.specs.Condition1Laws.{passed}
 use Rattle.rules.specs.Read.{objectTests, objectIn, readObject, readFile, readLoaded, readOf, readCall}
 use Rattle.rules.specs.World.{World, recordsOf, mappings, unchanged}
-use Rattle.pinned.specs.Parts.{part-bytes}
-use Rattle.pinned.specs.Object.{Reads, Begins, object-exactly}
+use Rattle.stored_object.specs.Begins.{Reads, Begins, part-bytes}
+use Rattle.pinned.specs.Object.{object-exactly}
 
 -- where an id is, if it is mapped
 abbrev pub heldIn : World → ℕ → Held

@@ -8,7 +8,7 @@ use native.Mathlib.Omega.{arith}
 use lib.ListN.{length-append, length-drop}
 use lib.Seq.{drop-drop, drop-at, take-at}
 use borrow.Author.Tests.{ltb-false, le-ltb, eqb-true, eq-eqb, not-false}
-use Rattle.rules.specs.Base.{not, List, _∷_, _++_, ℕ, zero, suc, _+_, _-_, _*_, _^_, length, take, drop, eqb, each}
+use Rattle.rules.specs.Base.{not, List, _∷_, _++_, ℕ, zero, suc, _+_, _*_, _^_, length, take, drop, eqb, each}
 use Rattle.theory.specs.Types.{Entry}
 use Rattle.numbers.specs.LittleEndian.{Bytes, leBytes, leValue, le-length, le-round}
 use Rattle.checksum.specs.Checksum.{crc32}
@@ -17,7 +17,7 @@ use Rattle.rules.specs.PartLaws.{field}
 use Rattle.rules.specs.ObjectLaws.{crc-below}
 use Rattle.rules.specs.Trailer.{entryBytes, listed, countIn, trailerTests, entriesFrom, entriesIn}
 use Rattle.rules.specs.TrailerLaws.{Fits, entries-length, entries-next, entries-back}
-use Rattle.pinned.specs.Parts.{number-bytes, cut}
+use Rattle.stored_object.specs.Begins.{number-bytes, cut}
 
 -- none of 9, 10, 11 holds, and these are the entries
 pub record Reads (trailer : List ℕ) (es : List Entry) : Type 0 where

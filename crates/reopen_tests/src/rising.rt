@@ -17,7 +17,7 @@ ghost use Rattle.reopen_tests.specs.Ascending.{ascending, repeats, fileF
 ghost use Rattle.reopen_tests.specs.Shown.{Shown, Surveyed};
 
 // Every id is above the one before it, as in the files that this port writes.
-fn ascending(trailer: &[u8]) -> bool
+pub fn ascending(trailer: &[u8]) -> bool
     requires { ⌜ 12 + 16 * countIn (now trailer) ≤ length (now trailer) ⌝ }
     ensures { λ b. ⌜ b ≡ ascending (entriesIn (now (trailer .entry))) ⌝ }
 {

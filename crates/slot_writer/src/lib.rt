@@ -6,9 +6,8 @@ pub mod label;
 use rules::LENGTH_AT;
 use rules::OBJECT_HEADER;
 ghost use mathlib.Core.List.{_++_};
-ghost use mathlib.Core.Logic.{_⊎_};
 ghost use Prim.Native.Nat.{_+_, _≤_};
-ghost use lib.ListN.{length, take, drop};
+ghost use lib.ListN.{length};
 ghost use Rattle.numbers.specs.LittleEndian.{leBytes};
 ghost use Rattle.rules.specs.Object.{objectBytes};
 ghost use Rattle.rules.specs.Stores.{storesOf};
@@ -33,16 +32,4 @@ pub fn put_object(heap: &mut [u8], at: usize, id: u64, body: &[u8], left: u64) -
     let sum = checksum::object_sum(id, body);
     let behind = put_header(heap, at, sum, id, body.len() as u64, left);
     stores::put_bytes(heap, at + OBJECT_HEADER, body, behind)
-}
-
-// An object whose body is a piece of the heap itself, apart from where it goes.
-pub fn move_object(heap: &mut [u8], at: usize, id: u64, from: usize, size: usize, left: u64) -> u64
-    requires { ⌜ (at + (20 + size) ≤ length (now heap)) × (from + size ≤ length (now heap)) × ((at + 20 ≤ from) ⊎ (from + size ≤ at)) ⌝ }
-    ensures { λ r. ⌜ Made left (storesOf at (objectBytes id (take size (drop from (now (heap .entry))))))
-        (now (heap .entry)) (now (heap .exit)) r ⌝ }
-{
-    let end = from + size;
-    let sum = checksum::object_sum(id, &heap[from..end]);
-    let behind = put_header(heap, at, sum, id, size as u64, left);
-    stores::move_bytes(heap, at + OBJECT_HEADER, from, size, behind)
 }

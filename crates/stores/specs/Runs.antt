@@ -1,7 +1,7 @@
 -- "the first k stores of such a run, for any k given"
 use mathlib.Core.Path.{_≡_, refl, sym, ap, ap₂, _∙_}
 use mathlib.Core.List.{List, [], _∷_, _++_}
-use mathlib.Core.Logic.{_⊎_, inl, inr, ⊎-elim}
+use mathlib.Core.Logic.{_⊎_, ⊎-elim}
 use Prim.Native.Nat.{ℕ, zero, suc, _+_, _-_, _≤_, _<_}
 use native.Mathlib.Omega.{arith}
 use native.Mathlib.Nat.{add-zero, sub-zero, suc-sub-suc}
@@ -69,7 +69,7 @@ pub made-behind : (at mid : ℕ) (xs ys : List ℕ) {k m n : ℕ} {heap next las
     → Made k (storesOf at xs) heap next m → Made m (storesOf mid ys) next last n → Made k (storesOf at (xs ++ ys)) heap last n
 made-behind at mid xs ys e a b = rw (stores-append at xs ys, e) (made-then a b)
 
--- ---- what lies apart stays: bytes that end before a store, or begin behind it
+-- bytes that end before a store, or begin behind it, stay
 pub set-apart : (heap : List ℕ) (at from n b : ℕ) → (at < from) ⊎ (from + n ≤ at) → take n (drop from (set heap at b)) ≡ take n (drop from heap)
 set-apart heap at from n b =
     ⊎-elim
@@ -77,17 +77,3 @@ set-apart heap at from n b =
     (λ h. let on : at ≡ from + (at - from) = omega arith in
     ap (λ (k : ℕ). take n (drop from (set heap k b))) on ∙ ap (take n) (drop-set-add from heap (at - from) b)
     ∙ take-set-le n (drop from heap) (at - from) b (omega arith))
-
-run-apart : (from n at : ℕ) (bs heap : List ℕ) → (at + length bs ≤ from) ⊎ (from + n ≤ at)
-    → take n (drop from (made (storesOf at bs) heap)) ≡ take n (drop from heap)
-unfolding made storesOf
-run-apart from n at [] heap h = refl
-run-apart from n at (b ∷ bs) heap h =
-    run-apart from n (suc at) bs (set heap at b) (⊎-elim (λ e. inl (omega arith)) (λ e. inr (omega arith)) h)
-    ∙ set-apart heap at from n b (⊎-elim (λ e. inl (omega arith)) (λ e. inr (omega arith)) h)
-
-pub made-apart : (from n at : ℕ) (bs : List ℕ) {k left : ℕ} {heap after : List ℕ} → (at + length bs ≤ from) ⊎ (from + n ≤ at)
-    → Made k (storesOf at bs) heap after left → take n (drop from after) ≡ take n (drop from heap)
-made-apart from n at bs {k} {left} {heap} {after} h m =
-    ap (λ (x : List ℕ). take n (drop from x)) (m .heap ∙ ap (λ (run : List Store). made run heap) (stores-take k at bs))
-    ∙ run-apart from n at (take k bs) heap (⊎-elim (λ e. inl (omega (arith, length-take k bs))) (λ e. inr e) h)

@@ -26,9 +26,9 @@ use Rattle.rules.specs.Write.{newFiles, tooManyIds, writeTests}
 use Rattle.rules.specs.World.{World, recordsOf, slotsOf, mappings}
 use Rattle.batch.specs.Reading.{opsIn}
 use Rattle.batch.specs.ReadingLaws.{ops-of}
-use Rattle.batch.specs.Sizes.{sizesOf}
-use Rattle.batch.specs.SizeLaws.{fits-told, large-told}
-use Rattle.batch.specs.declared.Room.the-variants.{Fits, TooLarge}
+use Rattle.write_decision.specs.Sizes.{sizesOf}
+use Rattle.write_decision.specs.SizeLaws.{Told, large-told}
+use Rattle.write_decision.specs.declared.Sizing.the-variants.{TooLarge}
 use Rattle.write_decision.specs.Decisions.{filed, decisionOf, batchTests, decision-refused, decision-done}
 use Rattle.write_decision.specs.declared.Decision.the-variants.{Refused, Nothing, File}
 
@@ -135,21 +135,17 @@ module _ (w : World) (bytes : List ℕ) where
           sym (n .1) ∙ done (late ∙ ap (λ (os : List Op). decide (lateTests w os)) (n .0) ∙ late-none w)
 
       -- 4
-      pub decision-4 : sizesOf (w .settings .«slot_bytes») (settled (opsIn bytes)) ≡ TooLarge → Refused SlotRoom ≡ decisionOf w bytes
+      pub decision-4 : sizesOf (w .settings .«slot_bytes») (mappings w) (settled (opsIn bytes)) ≡ TooLarge → Refused SlotRoom ≡ decisionOf w bytes
       decision-4 e =
-          let over = large-told _ (settled (opsIn bytes)) e in
+          let over = large-told _ (mappings w) (settled (opsIn bytes)) e in
           let low = passed (w .settings) _ (w .table) (w .state) first .limits .settings .slot-low in
           let some = large-some (settled (opsIn bytes)) (omega arith) in
           given SlotRoom (late ∙ late-some w (settled (opsIn bytes)) some ∙ decide-first _ SlotRoom _ (lt-ltb _ _ over))
 
-      module _ (count total : ℕ) (fit : sizesOf (w .settings .«slot_bytes») (settled (opsIn bytes)) ≡ Fits count total) (some : 0 < count) where
-        -- what the sizes tell
-        told : (64 + length (fileBytes (settled (opsIn bytes))) ≤ w .settings .«slot_bytes») × (count ≡ length (settled (opsIn bytes))) × (total ≡ length (objectsOf (settled (opsIn bytes))))
-        told = fits-told _ (settled (opsIn bytes)) count total fit
-
+      module _ (count total new : ℕ) (told : Told (w .settings .«slot_bytes») (mappings w) (settled (opsIn bytes)) count total new) (some : 0 < count) where
         -- 4 does not hold: 5 to 7 are left
         behind-4 : decide (writeTests w bytes) ≡ decide (drop 1 (fileTests w (settled (opsIn bytes))))
-        behind-4 = late ∙ late-some w (settled (opsIn bytes)) (omega (arith, told .1)) ∙ decide-next _ SlotRoom _ (le-ltb _ _ (told .0))
+        behind-4 = late ∙ late-some w (settled (opsIn bytes)) (omega (arith, told .entries)) ∙ decide-next _ SlotRoom _ (le-ltb _ _ (told .fits))
 
         -- 5
         pub decision-5 : slotsOf w ≤ newSlot w → Refused NoEmptySlot ≡ decisionOf w bytes
@@ -169,7 +165,7 @@ module _ (w : World) (bytes : List ℕ) where
             behind-6 : decide (writeTests w bytes) ≡ decide (ltb (2 ^ 62) (w .state .«next_position» + (total + 1)) gives PositionsSpent ∷ [])
             behind-6 =
                 behind-5 ∙ decide-next _ TableRoom _ room
-                ∙ ap (λ (n : ℕ). decide (ltb (2 ^ 62) (w .state .«next_position» + (n + 1)) gives PositionsSpent ∷ [])) (sym (told .2))
+                ∙ ap (λ (n : ℕ). decide (ltb (2 ^ 62) (w .state .«next_position» + (n + 1)) gives PositionsSpent ∷ [])) (sym (told .objects))
 
             -- 7
             pub decision-7 : ltb (2 ^ 62) (w .state .«next_position» + (total + 1)) ≡ true → Refused PositionsSpent ≡ decisionOf w bytes
@@ -178,6 +174,6 @@ module _ (w : World) (bytes : List ℕ) where
             -- none of them
             pub decision-file : ltb (2 ^ 62) (w .state .«next_position» + (total + 1)) ≡ false → File (newSlot w) count total ≡ decisionOf w bytes
             decision-file e =
-                ap₂ (File (newSlot w)) (told .1) (told .2)
-                ∙ sym (filed-some (newSlot w) (settled (opsIn bytes)) (omega (arith, told .1)))
+                ap₂ (File (newSlot w)) (told .entries) (told .objects)
+                ∙ sym (filed-some (newSlot w) (settled (opsIn bytes)) (omega (arith, told .entries)))
                 ∙ done (behind-6 ∙ decide-next _ PositionsSpent _ e ∙ decide-none)

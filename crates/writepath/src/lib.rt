@@ -1,5 +1,6 @@
 // Write (`src/writepath.rs`): the whole batch is decided first; nothing is stored before.
 
+use batch::Cursor;
 use install::StoredFile;
 use rules::Answer;
 use rules::Label;
@@ -18,6 +19,7 @@ ghost use Rattle.rules.specs.Write.{writeCall};
 ghost use Rattle.rules.specs.World.{world, leaving, answerGiven};
 ghost use Rattle.file_map.specs.Records.{labelled};
 ghost use Rattle.batch.specs.Reading.{opsIn};
+ghost use Rattle.batch.specs.Walk.{Begins};
 ghost use Rattle.batch_file.specs.Steps.{Sized};
 ghost use Rattle.writepath.specs.Filing.{Filed};
 
@@ -38,14 +40,22 @@ fn new_label(base: u64, count: u64, total: u64) -> Label
 }
 
 // The whole run of the file: it is no longer than the heap.
-fn put_file(heap: &mut [u8], start: usize, batch: &[u8], new: Label, count: u64, total: u64)
-    requires { ⌜ Sized (now batch) count total ⌝ }
+fn put_file(
+    heap: &mut [u8],
+    start: usize,
+    order: &mut [u64],
+    batch: &[u8],
+    begin: Cursor,
+    new: Label,
+)
+    requires { ⌜ (length (now order) ≡ 1024) × Begins (now batch) (now order) begin ⌝ }
+    requires { ⌜ Sized (now batch) (new .«present_objects») (new .«trailer_offset») ⌝ }
     requires { ⌜ start + (64 + length (fileBytes (settled (opsIn (now batch))))) ≤ length (now heap) ⌝ }
     ensures { λ _. ⌜ now (heap .exit)
         ≡ made (fileStores start (labelBytes new) (fileBytes (settled (opsIn (now (batch .entry)))))) (now (heap .entry)) ⌝ }
 {
     let k = heap.len() as u64;
-    batch_file::write_file(heap, start, batch, new, count, total, k);
+    batch_file::write_file(heap, start, order, batch, begin, new, k);
 }
 
 // A batch's file to be: its slot, its count of entries and T.
@@ -61,9 +71,12 @@ fn add_file(
     state: State,
     heap: &mut [u8],
     table: &mut [u64],
+    order: &mut [u64],
     batch: &[u8],
+    begin: Cursor,
     file: NewFile,
 ) -> State
+    requires { ⌜ (length (now order) ≡ 1024) × Begins (now batch) (now order) begin ⌝ }
     requires { ⌜ Filed settings state (now heap) (now table) (now batch) (file .slot) (file .count) (file .total) ⌝ }
     ensures { λ r. ⌜ ((c : Claims) → world settings r c (now (heap .exit)) (now (table .exit))
         ≡ installed (2 ^ 62) 0 (world settings state c (now (heap .entry)) (now (table .entry)))
@@ -71,7 +84,7 @@ fn add_file(
 {
     let new = new_label(state.next_position, file.count, file.total);
     let start = file.slot * settings.slot_bytes as usize;
-    put_file(heap, start, batch, new, file.count, file.total);
+    put_file(heap, start, order, batch, begin, new);
     let files = state.files;
     let lsns = file_map::lsns(files);
     let mut lives = file_map::lives(files);
@@ -97,7 +110,9 @@ pub fn write(
         ≡ writeCall (world settings state c (now (heap .entry)) (now (table .entry)))
         (now (batch .entry))) ⌝ }
 {
-    match write_decision::decided(settings, state, heap, table, batch) {
+    let mut order = [0u64; batch::ORDER_PLACES];
+    let begin = batch::start(&mut order, batch);
+    match write_decision::decided(settings, state, heap, table, &mut order, batch, begin) {
         Decision::Refused(r) => Written {
             answer: Answer::Refused(r),
             state: state,
@@ -112,7 +127,7 @@ pub fn write(
                 count: count,
                 total: total,
             };
-            let after = add_file(settings, state, heap, table, batch, file);
+            let after = add_file(settings, state, heap, table, &mut order, batch, begin, file);
             Written {
                 answer: Answer::Done,
                 state: after,

@@ -15,12 +15,15 @@ put-entries-requires c κs = search needs
 same-length : tie.Need-same-length
 same-length c = search needs
 
+same-length-2 : tie.Need-same-length-2
+same-length-2 c = search needs
+
 returns : tie.Need-returns
 returns c =
-    let second = c .before .before in
-    let first = second .before .before .before .before in
-    let start = first .before .before .before .before in
-    trailer-of (start .args .at) _ (start .pre .2) (start .pre .1) (first .put-head .ensures) (second .put-entries .ensures)
+    let second = c .before .before .before .before in
+    let first = second .before .before .before .before .before in
+    let start = first .before .before .before .before .before in
+    trailer-of (start .args .at) _ (start .pre .3) (start .pre .2) (first .put-head .ensures) (second .put-entries .ensures)
 
 pub put-trailer-spec : {M : Type 1} → statement M
 put-trailer-spec =
@@ -30,4 +33,5 @@ put-trailer-spec =
     add-put-entries
     put-entries-requires
     same-length
+    same-length-2
     returns)

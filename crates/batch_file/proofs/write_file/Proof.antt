@@ -30,15 +30,18 @@ put-requires c κs = search needs
 same-length : tie.Need-same-length
 same-length c = search needs
 
+same-length-2 : tie.Need-same-length-2
+same-length-2 c = search needs
+
 returns : tie.Need-returns
 returns c =
     let second = c .before .before in
-    let first = second .before .before .before .before in
-    let start = first .before .before .before .before in
+    let first = second .before .before .before .before .before .before in
+    let start = first .before .before .before .before .before .before in
     let a = start .args in
     let file = fileBytes (settled (opsIn (a .batch .now))) in
     file-then-label (a .start) (labelBytes (a .new)) file
-    (lent-made _ _ file (a .start + 64) _ _ (omega (arith, start .pre .1)) (first .put-file .ensures))
+    (lent-made _ _ file (a .start + 64) _ _ (omega (arith, start .pre .1 .1)) (first .put-file .ensures))
     (second .put .ensures)
 
 pub write-file-spec : {M : Type 1} → statement M
@@ -52,4 +55,5 @@ write-file-spec =
     put-file-requires
     put-requires
     same-length
+    same-length-2
     returns)

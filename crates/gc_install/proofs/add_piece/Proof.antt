@@ -5,7 +5,7 @@ use Rattle.rules.specs.Claims.{noClaims}
 use Rattle.rules.specs.Layout.{tableIds}
 use Rattle.rules.specs.LayoutLaws.{ids-count}
 use Rattle.location_table.specs.LayoutLaws.{id-word}
-use Rattle.gc_files.specs.Places.{filedOps}
+use Rattle.gc_chains.specs.Chains.{chainOps}
 use Rattle.gc_install.specs.Placing.{Fits, placing-walking, piece-writing, piece-addable, piece-left}
 use Rattle.gc_install.proofs.add_piece.Statement.{statement}
 use Rattle.gc_install.proofs.add_piece.Tie as tie
@@ -15,7 +15,7 @@ sized-requires c κs =
     let start = c .before .before .before .before .before .before in
     let a = start .args in
     let p = start .pre .0 in
-    (placing-walking (a .settings) (a .state) (a .heap .now) (a .table .now) (a .places .now) (a .pieces .now) p, omega (arith, p .limits .limits .table .most, ids-count (a .table .now)))
+    (placing-walking (a .settings) (a .state) (a .heap .now) (a .table .now) (a .places .now) (a .links .now) p, (start .pre .1 .0, omega (arith, p .limits .limits .table .most, ids-count (a .table .now))))
 
 add-at-requires : tie.Need-add-at-requires
 add-at-requires c κs =
@@ -24,11 +24,11 @@ add-at-requires c κs =
     let start = known .before .before in
     let a = start .args in
     let p = start .pre .0 in
-    let f : Fits (a .settings) (a .state) (a .heap .now) (filedOps (a .file .piece) (a .heap .now) (tableIds (a .table .now)) (a .places .now) (a .pieces .now)) (a .file .generation) =
-    record { young = start .pre .1 .0; room = start .pre .1 .1 .0; free = start .pre .1 .1 .1 .0 .0; last = start .pre .1 .1 .1 .1 } in
+    let f : Fits (a .settings) (a .state) (a .heap .now) (chainOps (a .file .first) (a .heap .now) (tableIds (a .table .now)) (a .places .now) (a .links .now)) (a .file .generation) =
+    record { young = start .pre .1 .1 .0; room = start .pre .1 .1 .1 .0; free = start .pre .1 .1 .1 .1 .0 .0; last = start .pre .1 .1 .1 .1 .1 } in
     let e = z .sized .ensures in (
-      piece-addable (a .settings) (a .state) (a .heap .now) (a .table .now) (a .places .now) (a .pieces .now) p (a .file .piece) (a .file .generation) f _ _ _ (start .pre .1 .1 .1 .0 .1) (e .0) (e .1) (λ i low. rw (← id-word (a .table .now) i (omega (arith, low, ids-count (a .table .now)))) (known .slice-known2 .given (2 * i) .fits)),
-      piece-writing (a .settings) (a .state) (a .heap .now) (a .table .now) (a .places .now) (a .pieces .now) p (a .file .piece) (a .file .generation) f _ _ _ (start .pre .1 .1 .1 .0 .1) (e .0) (e .1),
+      piece-addable (a .settings) (a .state) (a .heap .now) (a .table .now) (a .places .now) (a .links .now) p (a .file .first) (a .file .generation) f _ _ _ (start .pre .1 .1 .1 .1 .0 .1) (e .0) (e .1) (λ i low. rw (← id-word (a .table .now) i (omega (arith, low, ids-count (a .table .now)))) (known .slice-known2 .given (2 * i) .fits)),
+      piece-writing (a .settings) (a .state) (a .heap .now) (a .table .now) (a .places .now) (a .links .now) p (a .file .first) (a .file .generation) f _ _ _ (start .pre .1 .1 .1 .1 .0 .1) (e .0) (e .1) (start .pre .1 .0),
     )
 
 same-length : tie.Need-same-length
@@ -44,10 +44,10 @@ returns c =
     let start = z .before .before .before .before .before .before .before in
     let a = start .args in
     let p = start .pre .0 in
-    let f : Fits (a .settings) (a .state) (a .heap .now) (filedOps (a .file .piece) (a .heap .now) (tableIds (a .table .now)) (a .places .now) (a .pieces .now)) (a .file .generation) =
-    record { young = start .pre .1 .0; room = start .pre .1 .1 .0; free = start .pre .1 .1 .1 .0 .0; last = start .pre .1 .1 .1 .1 } in
-    let left = piece-left (a .settings) (a .state) (a .heap .now) (a .table .now) (a .places .now) (a .pieces .now) p (a .file .piece) (a .file .generation) f _ _ _ (d .add-at .ensures noClaims) in
-    (d .add-at .ensures, (left .placing, (left .same, (left .filed, (rw (start .pre .1 .1 .1 .0 .1) (left .frees), left .next)))))
+    let f : Fits (a .settings) (a .state) (a .heap .now) (chainOps (a .file .first) (a .heap .now) (tableIds (a .table .now)) (a .places .now) (a .links .now)) (a .file .generation) =
+    record { young = start .pre .1 .1 .0; room = start .pre .1 .1 .1 .0; free = start .pre .1 .1 .1 .1 .0 .0; last = start .pre .1 .1 .1 .1 .1 } in
+    let left = piece-left (a .settings) (a .state) (a .heap .now) (a .table .now) (a .places .now) (a .links .now) p (a .file .first) (a .file .generation) f _ _ _ (d .add-at .ensures noClaims) in
+    (d .add-at .ensures, (left .placing, (left .same, (left .filed, (rw (start .pre .1 .1 .1 .1 .0 .1) (left .frees), left .next)))))
 
 pub add-piece-spec : {M : Type 1} → statement M
 add-piece-spec =

@@ -3,7 +3,7 @@ use borrow.Author.Needs.{needs}
 use Rattle.rules.specs.Ops.{fileBytes}
 use Rattle.batch_file.specs.Whole.{file-whole}
 use Rattle.rules.specs.Layout.{tableIds}
-use Rattle.gc_files.specs.Places.{filedOps}
+use Rattle.gc_chains.specs.Chains.{chainOps}
 use Rattle.gc_install.proofs.put_piece.Statement.{statement}
 use Rattle.gc_install.proofs.put_piece.Tie as tie
 
@@ -18,7 +18,7 @@ returns c =
     let w = c .before .before in
     let start = w .before .before .before .before .before .before in
     let a = start .args in
-    file-whole (a .file .start) (a .new) (fileBytes (filedOps (a .file .piece) (a .heap .now) (tableIds (a .table .now)) (a .places .now) (a .pieces .now))) (omega (arith, start .pre .room, start .pre .inside)) (w .write-piece .ensures)
+    file-whole (a .file .start) (a .new) (fileBytes (chainOps (a .file .first) (a .heap .now) (tableIds (a .table .now)) (a .places .now) (a .links .now))) (omega (arith, start .pre .room, start .pre .inside)) (w .write-piece .ensures)
 
 pub put-piece-spec : {M : Type 1} → statement M
 put-piece-spec = tie.close (tie.spec write-piece-requires same-length returns)

@@ -1,16 +1,19 @@
-use mathlib.Core.Path.{_≡_, sym, ap, ap₂, _∙_}
+use mathlib.Core.Path.{_≡_, sym, ap, ap₂, _∙_, subst}
 use mathlib.Core.List.{List}
-use Prim.Native.Nat.{ℕ}
+use Prim.Native.Nat.{ℕ, _<_}
 use native.Mathlib.Omega.{arith}
-use lib.ListN.{length, length-map}
+use lib.ListN.{length, getD, length-map}
 use borrow.Author.Needs.{needs}
 use Rattle.numbers.specs.Parts.{front}
 use Rattle.rules.specs.declared.Record.{Record}
-use Rattle.rules.specs.Layout.{tableLocations}
+use Rattle.rules.specs.BaseLaws.{replicate-at}
+use Rattle.rules.specs.Layout.{tableLocations, usedEntries}
 use Rattle.file_map.proofs.RecordTurns.{mapped-length}
+use Rattle.gc_candidates.specs.Plan.{planned}
+use Rattle.gc_group.specs.Source.{source}
 use Rattle.gc_files.specs.Places.{placesFor}
 use Rattle.gc_places.specs.Group.{Checked}
-use Rattle.gc_places.specs.GroupLaws.{group-checked, placeables, places-told}
+use Rattle.gc_places.specs.GroupLaws.{group-checked, marks-used, placeables, places-told}
 use Rattle.gc_places.proofs.place_group.Statement.{statement}
 use Rattle.gc_places.proofs.place_group.Tie as tie
 
@@ -42,11 +45,12 @@ cleared : (c : tie.After-enum-told) → let a = c .before .before .before .befor
     Checked (a .group .settings .«max_object_size») (a .group .settings .«slot_bytes») (a .heap .now) (a .m .records) (a .plan .now) (a .group .generation) (a .table .now) (length (a .marks .now))
 cleared c =
     let group = c .before .before .before .before .before in
-    let start = group .before .before .before .before .before .before .before .before in
+    let known = group .before .before .before .before .before .before .before in
+    let start = known .before in
     let a = start .args in
     let asked = start .pre in
     group-checked (a .group .settings) (a .heap .now) (a .m .records) (a .plan .now) (a .group .generation) (a .table .now) (length (a .marks .now)) (asked .0) (asked .1 .0)
-    (sym (group .mark-group .ensures .0) ∙ c .enum-told .given .1) (asked .1 .1 .0) (asked .1 .1 .1 .0)
+    (sym (group .mark-group .ensures .0) ∙ c .enum-told .given .1) (asked .1 .1 .0) (asked .1 .1 .1 .0) (λ i. known .shared-slice-known .given i .fits)
 
 slice-aggregate-place-all : tie.Need-slice-aggregate-place-all
 slice-aggregate-place-all c = search needs
@@ -60,10 +64,19 @@ place-all-requires c κs =
     let done = told .enum-told .given .1 in
     let lsns = group .mark-group .ensures .1 .1 done in
     let marks = group .mark-group .ensures .1 .0 done in
-    let checked = cleared told in (
+    let checked = cleared told in
+    let from = source (a .group .settings .«slot_bytes») (a .heap .now) (a .m .records) (usedEntries (a .table .now)) in
+    let marked = marks-used from (length (a .marks .now)) (planned (a .plan .now) (a .group .generation)) in (
       checked .high,
-      placeables (a .group .settings .«max_object_size») (a .group .settings .«slot_bytes») (a .heap .now) (a .m .records) (a .plan .now) (a .group .generation) (a .table .now) (length (a .marks .now)) checked
-          _ _ (a .places .now) (ap length lsns ∙ length-map (a .m .records) (λ (r : Record). r .label .lsn) ∙ all-records start) lsns marks (start .pre .1 .1 .1 .1),
+      (
+        placeables (a .group .settings .«max_object_size») (a .group .settings .«slot_bytes») (a .heap .now) (a .m .records) (a .plan .now) (a .group .generation) (a .table .now) (length (a .marks .now)) checked
+            _ _ (a .places .now) (ap length lsns ∙ length-map (a .m .records) (λ (r : Record). r .label .lsn) ∙ all-records start) lsns marks (start .pre .1 .1 .1 .1),
+        (
+          checked .formed,
+          λ i some. marked i (subst (λ (ms : List ℕ). 0 < getD ms i 0) marks some),
+          λ i some. absurd (omega (arith, ap (λ (ps : List ℕ). getD ps i 0) (start .pre .1 .1 .1 .2) ∙ replicate-at {A = ℕ} (length (a .places .now)) i 0)),
+        ),
+      ),
     )
 
 same-length-2 : tie.Need-same-length-2

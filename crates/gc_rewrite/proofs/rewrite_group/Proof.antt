@@ -5,7 +5,7 @@ use borrow.Author.Needs.{needs}
 use lib.ListN.{length}
 use lib.Seq.{length-take-le}
 use Rattle.as_numbers.specs.StateWords.{stateIn}
-use Rattle.gc_rewrite.specs.Rewriting.{group-stopped, Decided, decided-files, decided-puttable, decided-rewritten}
+use Rattle.gc_rewrite.specs.Rewriting.{group-stopped, Decided, decided-files, decided-chainable, decided-rewritten}
 use Rattle.gc_rewrite.proofs.rewrite_group.Statement.{statement}
 use Rattle.gc_rewrite.proofs.rewrite_group.Tie as tie
 
@@ -59,8 +59,8 @@ within c =
     let long : length (c .before .before .before .before .before .before .before .before .before .before .before .before .before .decided .result .order) ≡ 256 = search needs in
     omega (arith, decided-files _ _ _ _ _ _ _ _ _ _ (known (c .before .before .before .before .before .before .before)), long)
 
-array-share-prefix-order : tie.Need-array-share-prefix-order
-array-share-prefix-order c = within c
+array-borrow-prefix-order : tie.Need-array-borrow-prefix-order
+array-borrow-prefix-order c = within c
 
 slice-aggregate-put-in : tie.Need-slice-aggregate-put-in
 slice-aggregate-put-in c = sym (length-take-le _ _ (within (c .before)))
@@ -73,7 +73,7 @@ put-in-requires c κs =
     let told = c .before .before .before .before .before .before .before .before .before in
     let e = told .before .before .before .before .before .before .before .before .before .before .before .before .before in
     let start = e .before .before .before .before .before .before .before .before .before in
-    (decided-puttable _ _ _ _ _ _ _ _ _ _ (known told), (omega (arith, start .pre .1 .1 .1 .0), e .empties .ensures .1))
+    (decided-chainable _ _ _ _ _ _ _ _ _ _ (known told), (omega (arith, start .pre .1 .1 .1 .0), e .empties .ensures .1))
 
 same-length-5 : tie.Need-same-length-5
 same-length-5 c = search needs
@@ -89,7 +89,7 @@ same-length-8 c = search needs
 
 returns-2 : tie.Need-returns-2
 returns-2 c =
-    let put = c .before .before .before .before in
+    let put = c .before .before .before .before .before .before .before in
     let told = put .before .before .before .before .before .before .before .before .before .before in
     let left = decided-rewritten _ _ _ _ _ _ _ _ _ _ (known told) _ _ _ (put .put-in .ensures) in
     (left .course, (left .limits, (left .count, (search needs, left .kept))))
@@ -108,7 +108,7 @@ rewrite-group-spec =
     same-length-4
     returns
     enum-told
-    array-share-prefix-order
+    array-borrow-prefix-order
     slice-aggregate-put-in
     slice-aggregate-put-in-2
     put-in-requires

@@ -4,6 +4,7 @@ use native.Mathlib.Omega.{arith}
 use borrow.Author.Needs.{needs}
 use lib.ListN.{length, drop, getD}
 use Rattle.rules.specs.declared.Entry.{Entry}
+use Rattle.rules.specs.declared.Loaded.{Loaded}
 use Rattle.rules.specs.Trailer.{countIn, entriesIn}
 use Rattle.rules.specs.Table.{load, noEntry}
 use Rattle.rules.specs.Layout.{usedEntries}
@@ -15,10 +16,10 @@ use Rattle.install.proofs.lose_all.Statement.{statement}
 use Rattle.install.proofs.lose_all.Tie as tie
 
 abbrev Inv-loop : tie.InvT-loop
-Inv-loop lsns order ordered lives₀ table trailer n k₀ lives k = (n ≡ countIn trailer) × (k ≤ n) × (length lives ≡ length lives₀) × (losingLives lsns (usedEntries table) (drop k (entriesIn trailer)) lives ≡ losingLives lsns (usedEntries table) (entriesIn trailer) lives₀)
+Inv-loop lsns order ordered lives₀ table trailer n near₀ k₀ lives near k = (n ≡ countIn trailer) × (k ≤ n) × (length lives ≡ length lives₀) × (losingLives lsns (usedEntries table) (drop k (entriesIn trailer)) lives ≡ losingLives lsns (usedEntries table) (entriesIn trailer) lives₀)
 
 abbrev μ-loop : tie.MeasureT-loop
-μ-loop lsns order ordered lives₀ table trailer n k₀ lives k = n - k
+μ-loop lsns order ordered lives₀ table trailer n near₀ k₀ lives near k = n - k
 
 count-requires : tie.Need-count-requires Inv-loop μ-loop
 count-requires c κs = search needs
@@ -29,11 +30,21 @@ loop-holds c = (c .count .ensures, zero-le, refl, refl)
 entry-requires : tie.Need-entry-requires Inv-loop μ-loop
 entry-requires c κs = search needs
 
+find-near-requires : tie.Need-find-near-requires Inv-loop μ-loop
+find-near-requires c κs = search needs
+
+load-found-requires : tie.Need-load-found-requires Inv-loop μ-loop
+load-found-requires c κs = search needs
+
 lose-one-requires : tie.Need-lose-one-requires Inv-loop μ-loop
 lose-one-requires c κs =
-    let l = c .before .before .before .loop in
-    let pre = c .before .before .before .before .before .before .before .before .before .before .pre in
-    (pre .0, omega (arith, l .inv .2, pre .1), pre .3)
+    let met = c .before .before .before .before .before in
+    let l = met .loop in
+    let pre = met .before .before .before .before .before .before .before .pre in
+    (omega (arith, l .inv .2, pre .1), pre .3)
+
+number-of-requires : tie.Need-number-of-requires Inv-loop μ-loop
+number-of-requires c κs = search needs
 
 add-k : tie.Need-add-k Inv-loop μ-loop
 add-k c = search needs
@@ -43,16 +54,20 @@ loop-less c = search needs
 
 loop-again : tie.Need-loop-again Inv-loop μ-loop
 loop-again c =
-    let w = c .before .before in
-    let l = w .before .before .before .before .loop in
-    let counted = w .before .before .before .before .before in
+    let w = c .before .before .before in
+    let loaded = w .before .before in
+    let entry = loaded .before .before in
+    let l = entry .before .before .loop in
+    let counted = entry .before .before .before in
     let start = counted .before .before .before .before .before .before in
     let a = start .args in
     let es = entriesIn (a .trailer .now) in
     let t = usedEntries (a .table .now) in
-    let h : l .k < length es = omega (arith, l .inv .0, entries-count (a .trailer .now) (start .pre .2), w .before .before .before .loop-test .taken) in
+    let h : l .k < length es = omega (arith, l .inv .0, entries-count (a .trailer .now) (start .pre .2), entry .before .loop-test .taken) in
     let lost : w .lose-one .last .1 .1 .1 .0 ≡ lessAt (slotHolding (a .lsns .now) (load t (getD es (l .k) noEntry .id))) (l .lives) =
-    w .lose-one .ensures ∙ ap (λ (e : Entry). lessAt (slotHolding (a .lsns .now) (load t (e .id))) (l .lives)) (w .before .before .entry .ensures) in (
+    w .lose-one .ensures
+    ∙ ap (λ (x : Loaded). lessAt (slotHolding (a .lsns .now) x) (l .lives)) (loaded .load-found .ensures)
+    ∙ ap (λ (e : Entry). lessAt (slotHolding (a .lsns .now) (load t (e .id))) (l .lives)) (entry .entry .ensures) in (
       l .inv .0,
       omega arith,
       ap length lost ∙ length-less (slotHolding (a .lsns .now) (load t (getD es (l .k) noEntry .id))) (l .lives) ∙ l .inv .2,
@@ -81,7 +96,10 @@ lose-all-spec =
     count-requires
     loop-holds
     entry-requires
+    find-near-requires
+    load-found-requires
     lose-one-requires
+    number-of-requires
     add-k
     loop-less
     loop-again

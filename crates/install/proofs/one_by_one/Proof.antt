@@ -19,10 +19,10 @@ use Rattle.install.proofs.one_by_one.Statement.{statement}
 use Rattle.install.proofs.one_by_one.Tie as tie
 
 abbrev Inv-loop : tie.InvT-loop
-Inv-loop table₀ trailer lsn n k₀ table k = (n ≡ countIn trailer) × (k ≤ n) × Formed table × (capacityOf table ≡ capacityOf table₀) × (insertAll (usedEntries table) (taken lsn (drop k (entriesIn trailer))) ≡ insertAll (usedEntries table₀) (taken lsn (entriesIn trailer)))
+Inv-loop table₀ trailer lsn n near₀ k₀ table near k = (n ≡ countIn trailer) × (k ≤ n) × Formed table × (capacityOf table ≡ capacityOf table₀) × (insertAll (usedEntries table) (taken lsn (drop k (entriesIn trailer))) ≡ insertAll (usedEntries table₀) (taken lsn (entriesIn trailer)))
 
 abbrev μ-loop : tie.MeasureT-loop
-μ-loop table₀ trailer lsn n k₀ table k = n - k
+μ-loop table₀ trailer lsn n near₀ k₀ table near k = n - k
 
 -- what a turn knows of the entry that it looks at
 record Met (lsn k : ℕ) (es : List Entry) (t all : List Entry) (capacity : ℕ) (e : Entry) : Type 0 where
@@ -63,12 +63,19 @@ loop-holds c =
 entry-requires : tie.Need-entry-requires Inv-loop μ-loop
 entry-requires c κs = search needs
 
+find-near-requires : tie.Need-find-near-requires Inv-loop μ-loop
+find-near-requires c κs = c .before .before .before .loop .inv .2
+
 store-one-requires : tie.Need-store-one-requires Inv-loop μ-loop
 store-one-requires c κs =
-    let entry = c .before in
+    let sought = c .before in
+    let entry = sought .before .before in
     let l = entry .before .before .loop in
     let m = met entry in
-    (l .inv .2, m .placed, m .positive, m .room)
+    (l .inv .2, sought .find-near .ensures, m .placed, m .positive, m .room)
+
+number-of-requires : tie.Need-number-of-requires Inv-loop μ-loop
+number-of-requires c κs = search needs
 
 add-k : tie.Need-add-k Inv-loop μ-loop
 add-k c = search needs
@@ -78,8 +85,8 @@ loop-less c = search needs
 
 loop-again : tie.Need-loop-again Inv-loop μ-loop
 loop-again c =
-    let w = c .before .before in
-    let entry = w .before .before in
+    let w = c .before .before .before in
+    let entry = w .before .before .before .before in
     let l = entry .before .before .loop in
     let a = entry .before .before .before .before .before .before .args in
     let es = entriesIn (a .trailer .now) in
@@ -122,7 +129,9 @@ one-by-one-spec =
     count-requires
     loop-holds
     entry-requires
+    find-near-requires
     store-one-requires
+    number-of-requires
     add-k
     loop-less
     loop-again

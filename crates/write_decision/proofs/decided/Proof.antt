@@ -11,7 +11,7 @@ use Rattle.write_decision.proofs.decided.Tie as tie
 
 -- ---- what 1 says
 abbrev begun : tie.After-refused-apart → tie.Start
-begun p = p .before .before .before .before .before .before .before
+begun p = p .before .before .before .before .before .before .before .before
 
 one : (p : tie.After-refused-apart) → let a = begun p .args in p .refused-apart .result ≡ conditionOne (a .settings) (length (a .heap .now)) (a .table .now) (a .state)
 one p =
@@ -30,8 +30,9 @@ refused-apart-requires c κs = search needs
 
 returns : tie.Need-returns
 returns c =
-    let a = begun (c .before) .args in
-    λ w. decision-1 (world (a .settings) (a .state) w (a .heap .now) (a .table .now)) (a .batch .now) (sym (one (c .before)) ∙ c .if1 .taken)
+    let start = begun (c .before) in
+    let a = start .args in
+    (λ w. decision-1 (world (a .settings) (a .state) w (a .heap .now) (a .table .now)) (a .batch .now) (sym (one (c .before)) ∙ c .if1 .taken), start .pre .1)
 
 check-requires : tie.Need-check-requires
 check-requires c κs = search needs
@@ -44,10 +45,10 @@ enum-told c = search needs
 
 room-requires : tie.Need-room-requires
 room-requires c κs =
-    let t = c .before .before in
+    let t = c .before .before .before in
     let p = t .before .before in
     let a = begun p .args in
-    record { passed = sym (p .refused-apart .ensures .0 (a .state .files) (p .before .before .bad-files .ensures)) ∙ t .before .if1 .left; parsed = sym (t .check .ensures) ∙ c .enum-told .given .1 }
+    (record { passed = sym (p .refused-apart .ensures .0 (a .state .files) (p .before .before .bad-files .ensures)) ∙ t .before .if1 .left; parsed = sym (t .check .ensures) ∙ c .before .enum-told .given .1 }, begun p .pre)
 
 returns-2 : tie.Need-returns-2
 returns-2 c =
@@ -55,13 +56,17 @@ returns-2 c =
     let t = r .before .before in
     let p = t .before .before in
     let a = begun p .args in
-    λ w. decision-batch (world (a .settings) (a .state) w (a .heap .now) (a .table .now)) (a .batch .now) (sym (one p) ∙ t .before .if1 .left) _ (sym (t .check .ensures) ∙ r .r .given .1)
+    (λ w. decision-batch (world (a .settings) (a .state) w (a .heap .now) (a .table .now)) (a .batch .now) (sym (one p) ∙ t .before .if1 .left) _ (sym (t .check .ensures) ∙ r .r .given .1), begun p .pre .1)
+
+same-length : tie.Need-same-length
+same-length c = search needs
 
 returns-3 : tie.Need-returns-3
 returns-3 c =
-    let p = c .before .before .before .before .before in
+    let r = c .before .before in
+    let p = r .before .before .before .before .before .before in
     let a = begun p .args in
-    λ w. c .room .ensures w ∙ ap (λ (t : State). decisionOf (world (a .settings) t w (a .heap .now) (a .table .now)) (a .batch .now)) (p .before .rest-of .ensures)
+    (λ w. r .room .ensures .0 w ∙ ap (λ (t : State). decisionOf (world (a .settings) t w (a .heap .now) (a .table .now)) (a .batch .now)) (p .before .rest-of .ensures), r .room .ensures .1)
 
 pub decided-spec : {M : Type 1} → statement M
 decided-spec =
@@ -76,4 +81,5 @@ decided-spec =
     enum-told
     room-requires
     returns-2
+    same-length
     returns-3)

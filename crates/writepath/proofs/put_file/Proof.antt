@@ -12,12 +12,15 @@ write-file-requires c κs = search needs
 same-length : tie.Need-same-length
 same-length c = search needs
 
+same-length-2 : tie.Need-same-length-2
+same-length-2 c = search needs
+
 returns : tie.Need-returns
 returns c =
-    let w = c .before .before in
-    let start = w .before .before .before .before in
+    let w = c .before .before .before .before in
+    let start = w .before .before .before .before .before .before in
     let a = start .args in
-    file-whole (a .start) (a .new) (fileBytes (settled (opsIn (a .batch .now)))) (omega (arith, start .pre .1)) (w .write-file .ensures)
+    file-whole (a .start) (a .new) (fileBytes (settled (opsIn (a .batch .now)))) (omega (arith, start .pre .1 .1)) (w .write-file .ensures)
 
 pub put-file-spec : {M : Type 1} → statement M
-put-file-spec = tie.close (tie.spec write-file-requires same-length returns)
+put-file-spec = tie.close (tie.spec write-file-requires same-length same-length-2 returns)

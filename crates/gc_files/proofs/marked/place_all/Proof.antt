@@ -1,15 +1,16 @@
 use mathlib.Core.Path.{refl, sym, ap, _∙_}
 use lib.ListN.{drop}
-use Rattle.numbers.specs.Parts.{front, putAt, put-front, put-step, put-none}
-use Rattle.rules.specs.Layout.{tableLocations, capacityOf}
-use Rattle.rules.specs.LayoutLaws.{locations-count}
+use Rattle.numbers.specs.Parts.{front, putAt, put-front, put-step}
+use Rattle.rules.specs.Layout.{tableLocations}
+use Rattle.rules.specs.LayoutLaws.{locations-count, used-length}
 use Rattle.gc_files.specs.Places.{placesFor}
-use Rattle.gc_files.specs.PlaceLaws.{places-next, places-end}
-use Prim.Native.Nat.{_≤_, _<_, _-_}
+use Rattle.gc_files.specs.PlaceLaws.{none-behind, places-next, places-none}
+use Prim.Native.Nat.{ℕ, _+_, _≤_, _<_, _-_}
 use mathlib.Core.Path.{_≡_}
 use native.Mathlib.Omega.{arith}
 use borrow.Author.Needs.{needs}
-use lib.ListN.{length, length-set}
+use lib.ListN.{length, getD, length-set, length-drop}
+use lib.Seq.{getD-drop, getD-set-other}
 use Rattle.gc_files.proofs.marked.place_all.Statement.{statement}
 use Rattle.gc_files.proofs.marked.place_all.Tie as tie
 
@@ -18,20 +19,26 @@ Inv-loop table marks lsns slot-bytes places₀ n i₀ places i =
     (i ≤ length (tableLocations table))
     × (putAt places i (placesFor slot-bytes lsns (drop i (tableLocations table)) (drop i marks)) ≡ front (placesFor slot-bytes lsns (tableLocations table) marks) places₀)
     × (length places ≡ length places₀)
+    × ((k : ℕ) → n ≤ k → getD places k 0 ≡ 0)
 
 abbrev μ-loop : tie.MeasureT-loop
-μ-loop table marks lsns slot-bytes places₀ n i₀ places i = capacityOf table - i
+μ-loop table marks lsns slot-bytes places₀ n i₀ places i = n - i
 
-capacity-requires : tie.Need-capacity-requires Inv-loop μ-loop
-capacity-requires c κs = search needs
+used-requires : tie.Need-used-requires Inv-loop μ-loop
+used-requires c κs = search needs
 
 loop-holds : tie.Need-loop-holds Inv-loop μ-loop
 loop-holds c =
     let start = c .before .before .before .before .before in
-    (omega arith, put-front (start .args .places .now) (placesFor (start .args .slot-bytes) (start .args .lsns .now) (tableLocations (start .args .table .now)) (start .args .marks .now)), refl)
+    let blank : (k : ℕ) → c .used .result ≤ k → getD (start .args .places .now) k 0 ≡ 0 =
+    λ k h. none-behind (start .args .table .now) (start .args .places .now) (start .pre .1 .1 .2) k (omega (arith, c .used .ensures)) in
+    (omega arith, put-front (start .args .places .now) (placesFor (start .args .slot-bytes) (start .args .lsns .now) (tableLocations (start .args .table .now)) (start .args .marks .now)), refl, blank)
 
 loaded-at-requires : tie.Need-loaded-at-requires Inv-loop μ-loop
-loaded-at-requires c κs = omega (arith, c .before .before .capacity .ensures)
+loaded-at-requires c κs =
+    let at = c .before in
+    let start = at .before .before .before .before .before .before in
+    omega (arith, at .before .used .ensures, used-length (start .args .table .now))
 
 mul-place-of : tie.Need-mul-place-of Inv-loop μ-loop
 mul-place-of c = search needs
@@ -40,15 +47,17 @@ shared-slice-read-place-of : tie.Need-shared-slice-read-place-of Inv-loop μ-loo
 shared-slice-read-place-of c =
     let at = c .before .before .before in
     let start = at .before .before .before .before .before .before in
-    let entries = at .before .capacity .ensures ∙ sym (locations-count (start .args .table .now)) in
-    omega (arith, start .pre .1 .marks)
+    let entries : at .before .used .result ≤ length (tableLocations (start .args .table .now)) =
+    omega (arith, at .before .used .ensures, used-length (start .args .table .now), locations-count (start .args .table .now)) in
+    omega (arith, start .pre .1 .0 .marks)
 
 place-of-requires : tie.Need-place-of-requires Inv-loop μ-loop
 place-of-requires c κs =
     let at = c .before .before .before in
     let start = at .before .before .before .before .before .before in
-    let entries = at .before .capacity .ensures ∙ sym (locations-count (start .args .table .now)) in
-    let asked = start .pre .1 in
+    let entries : at .before .used .result ≤ length (tableLocations (start .args .table .now)) =
+    omega (arith, at .before .used .ensures, used-length (start .args .table .now), locations-count (start .args .table .now)) in
+    let asked = start .pre .1 .0 in
     let i = at .loop .i in
     let size = at .loop .inv .2 in
     (start .pre .0, rw (c .before .loaded-at .ensures) (asked .each i (omega arith)))
@@ -60,8 +69,9 @@ slice-write-places : tie.Need-slice-write-places Inv-loop μ-loop
 slice-write-places c =
     let at = c .before .before .before .before in
     let start = at .before .before .before .before .before .before in
-    let entries = at .before .capacity .ensures ∙ sym (locations-count (start .args .table .now)) in
-    let asked = start .pre .1 in
+    let entries : at .before .used .result ≤ length (tableLocations (start .args .table .now)) =
+    omega (arith, at .before .used .ensures, used-length (start .args .table .now), locations-count (start .args .table .now)) in
+    let asked = start .pre .1 .0 in
     let i = at .loop .i in
     let size = at .loop .inv .2 in
     omega (arith, asked .room)
@@ -76,8 +86,9 @@ loop-again : tie.Need-loop-again Inv-loop μ-loop
 loop-again c =
     let at = c .before .before .before .before in
     let start = at .before .before .before .before .before .before in
-    let entries = at .before .capacity .ensures ∙ sym (locations-count (start .args .table .now)) in
-    let asked = start .pre .1 in
+    let entries : at .before .used .result ≤ length (tableLocations (start .args .table .now)) =
+    omega (arith, at .before .used .ensures, used-length (start .args .table .now), locations-count (start .args .table .now)) in
+    let asked = start .pre .1 .0 in
     let i = at .loop .i in
     let size = at .loop .inv .2 in
     let low : i < length (tableLocations (start .args .table .now)) = omega arith in
@@ -86,6 +97,7 @@ loop-again c =
       omega arith,
       rw (c .place-of .ensures, c .before .before .loaded-at .ensures) (put-step (at .loop .places) i _ _ room ∙ ap (putAt (at .loop .places) i) (sym next) ∙ at .loop .inv .1),
       length-set (at .loop .places) i _ ∙ at .loop .inv .2,
+      λ k h. getD-set-other (at .loop .places) i k _ 0 (λ q. omega arith) ∙ at .loop .inv .3 k h,
     )
 
 same-length : tie.Need-same-length Inv-loop μ-loop
@@ -95,12 +107,17 @@ returns : tie.Need-returns Inv-loop μ-loop
 returns c =
     let at = c .before in
     let start = at .before .before .before .before .before .before in
-    let entries = at .before .capacity .ensures ∙ sym (locations-count (start .args .table .now)) in
-    let asked = start .pre .1 in
+    let entries : at .before .used .result ≤ length (tableLocations (start .args .table .now)) =
+    omega (arith, at .before .used .ensures, used-length (start .args .table .now), locations-count (start .args .table .now)) in
+    let asked = start .pre .1 .0 in
     let i = at .loop .i in
     let size = at .loop .inv .2 in
-    let none = places-end (start .args .slot-bytes) (start .args .lsns .now) (tableLocations (start .args .table .now)) (start .args .marks .now) i (omega arith) in
-    sym (put-none (at .loop .places) i) ∙ ap (putAt (at .loop .places) i) (sym none) ∙ at .loop .inv .1
+    let unmarked : (k : ℕ) → getD (drop i (start .args .marks .now)) k 0 ≡ 0 =
+    λ k. getD-drop i (start .args .marks .now) k 0 ∙ none-behind (start .args .table .now) (start .args .marks .now) (start .pre .1 .1 .1) (i + k) (omega (arith, at .before .used .ensures)) in
+    let ls = tableLocations (start .args .table .now) in
+    sym (places-none (start .args .slot-bytes) (start .args .lsns .now) (drop i ls) (drop i (start .args .marks .now)) (at .loop .places) i unmarked
+    (λ k h. at .loop .inv .3 k (omega arith)) (omega (arith, length-drop i ls, asked .room)))
+    ∙ at .loop .inv .1
 
 pub place-all-spec : {M : Type 1} → statement M
 place-all-spec =
@@ -108,7 +125,7 @@ place-all-spec =
     (tie.spec
     Inv-loop
     μ-loop
-    capacity-requires
+    used-requires
     loop-holds
     loaded-at-requires
     mul-place-of

@@ -1,12 +1,13 @@
-use mathlib.Core.Path.{_≡_, refl, sym, _∙_}
+use mathlib.Core.Path.{_≡_, refl}
 use Rattle.rules.specs.Layout.{tableIds}
-use Rattle.rules.specs.LayoutLaws.{ids-count}
+use Rattle.rules.specs.LayoutLaws.{ids-count, used-length}
 use Rattle.gc_split.specs.Tally.{tally}
 use Rattle.gc_files.proofs.EntryTurns.{Along, along-start, along-turn, along-end}
-use Prim.Native.Nat.{_≤_, _<_, _-_}
+use Prim.Native.Nat.{ℕ, _≤_, _<_, _-_}
 use native.Mathlib.Omega.{arith}
 use borrow.Author.Needs.{needs}
-use lib.ListN.{length}
+use lib.ListN.{length, getD}
+use Rattle.gc_files.specs.PlaceLaws.{none-behind}
 use Rattle.gc_files.proofs.split.split.Statement.{statement}
 use Rattle.gc_files.proofs.split.split.Tie as tie
 
@@ -17,16 +18,19 @@ Inv-loop heap table places shards₀ cuts₀ pieces₀ settings t₀ n i₀ shar
 abbrev μ-loop : tie.MeasureT-loop
 μ-loop heap table places shards₀ cuts₀ pieces₀ settings t₀ n i₀ shards cuts pieces t i = length (tableIds table) - i
 
-capacity-requires : tie.Need-capacity-requires Inv-loop μ-loop
-capacity-requires c κs = search needs
+used-requires : tie.Need-used-requires Inv-loop μ-loop
+used-requires c κs = search needs
 
 loop-holds : tie.Need-loop-holds Inv-loop μ-loop
 loop-holds c =
     let start = c .before .before .before .before .before .before .before in
-    (refl, along-start (start .args .settings .«target_file_size») (start .args .settings .«slot_bytes») (start .args .heap .now) (tableIds (start .args .table .now)) (start .args .places .now) (start .args .pieces .now) _ (start .pre .1))
+    (refl, along-start (start .args .settings .«target_file_size») (start .args .settings .«slot_bytes») (start .args .heap .now) (tableIds (start .args .table .now)) (start .args .places .now) (start .args .pieces .now) _ (start .pre .1 .1))
 
 id-at-requires : tie.Need-id-at-requires Inv-loop μ-loop
-id-at-requires c κs = search needs
+id-at-requires c κs =
+    let at = c .before in
+    let start = at .before .before .before .before .before .before .before .before in
+    omega (arith, at .before .used .ensures, used-length (start .args .table .now))
 
 mul-t15 : tie.Need-mul-t15 Inv-loop μ-loop
 mul-t15 c = search needs
@@ -35,14 +39,16 @@ shared-slice-read-t17 : tie.Need-shared-slice-read-t17 Inv-loop μ-loop
 shared-slice-read-t17 c =
     let at = c .before .before .before in
     let start = at .before .before .before .before .before .before .before .before in
-    let entries = at .before .capacity .ensures ∙ sym (ids-count (start .args .table .now)) in
+    let entries : at .before .used .result ≤ length (tableIds (start .args .table .now)) =
+    omega (arith, at .before .used .ensures, used-length (start .args .table .now), ids-count (start .args .table .now)) in
     omega (arith, start .pre .0 .places)
 
 split-entry-requires : tie.Need-split-entry-requires Inv-loop μ-loop
 split-entry-requires c κs =
     let at = c .before .before .before .before .before .before in
     let start = at .before .before .before .before .before .before .before .before in
-    let entries = at .before .capacity .ensures ∙ sym (ids-count (start .args .table .now)) in
+    let entries : at .before .used .result ≤ length (tableIds (start .args .table .now)) =
+    omega (arith, at .before .used .ensures, used-length (start .args .table .now), ids-count (start .args .table .now)) in
     let along = at .loop .inv .1 in
     let asked = start .pre .0 in
     let low : at .loop .i < length (tableIds (start .args .table .now)) = omega arith in
@@ -57,7 +63,8 @@ loop-less : tie.Need-loop-less Inv-loop μ-loop
 loop-less c =
     let at = c .before .before .before .before .before .before .before .before .before .before .before .before .before in
     let start = at .before .before .before .before .before .before .before .before in
-    let entries = at .before .capacity .ensures ∙ sym (ids-count (start .args .table .now)) in
+    let entries : at .before .used .result ≤ length (tableIds (start .args .table .now)) =
+    omega (arith, at .before .used .ensures, used-length (start .args .table .now), ids-count (start .args .table .now)) in
     let along = at .loop .inv .1 in
     let asked = start .pre .0 in
     omega (arith, along .low, c .before .before .before .before .before .before .before .before .before .before .before .before .loop-test .taken)
@@ -66,7 +73,8 @@ loop-again : tie.Need-loop-again Inv-loop μ-loop
 loop-again c =
     let at = c .before .before .before .before .before .before .before .before .before .before .before .before .before in
     let start = at .before .before .before .before .before .before .before .before in
-    let entries = at .before .capacity .ensures ∙ sym (ids-count (start .args .table .now)) in
+    let entries : at .before .used .result ≤ length (tableIds (start .args .table .now)) =
+    omega (arith, at .before .used .ensures, used-length (start .args .table .now), ids-count (start .args .table .now)) in
     let along = at .loop .inv .1 in
     let asked = start .pre .0 in
     let done = c .before .before .before .before .before .before .split-entry .ensures in
@@ -91,11 +99,13 @@ returns : tie.Need-returns Inv-loop μ-loop
 returns c =
     let at = c .before in
     let start = at .before .before .before .before .before .before .before .before in
-    let entries = at .before .capacity .ensures ∙ sym (ids-count (start .args .table .now)) in
+    let entries : at .before .used .result ≤ length (tableIds (start .args .table .now)) =
+    omega (arith, at .before .used .ensures, used-length (start .args .table .now), ids-count (start .args .table .now)) in
     let along = at .loop .inv .1 in
     let asked = start .pre .0 in
-    let past : length (tableIds (start .args .table .now)) ≤ at .loop .i = omega arith in
-    along-end (start .args .settings .«target_file_size») (start .args .settings .«slot_bytes») (start .args .heap .now) (tableIds (start .args .table .now)) (start .args .places .now) (start .args .pieces .now) _ _ (at .loop .pieces) (at .loop .i) past along
+    let still : (k : ℕ) → at .loop .i ≤ k → getD (start .args .places .now) k 0 ≡ 0 =
+    λ k h. none-behind (start .args .table .now) (start .args .places .now) (start .pre .1 .0 .1) k (omega (arith, at .before .used .ensures)) in
+    along-end (start .args .settings .«target_file_size») (start .args .settings .«slot_bytes») (start .args .heap .now) (tableIds (start .args .table .now)) (start .args .places .now) (start .args .pieces .now) _ _ (at .loop .pieces) (at .loop .i) still along
 
 pub split-spec : {M : Type 1} → statement M
 split-spec =
@@ -103,7 +113,7 @@ split-spec =
     (tie.spec
     Inv-loop
     μ-loop
-    capacity-requires
+    used-requires
     loop-holds
     id-at-requires
     mul-t15

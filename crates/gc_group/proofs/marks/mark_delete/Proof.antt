@@ -14,14 +14,17 @@ use Rattle.gc_group.specs.MarkLaws.{located-raw, delete-here, delete-not
 is-delete-requires : tie.Need-is-delete-requires
 is-delete-requires c κs = search needs
 
+find-requires : tie.Need-find-requires
+find-requires c κs = search needs
+
 to-absolute-requires : tie.Need-to-absolute-requires
 to-absolute-requires c κs = search needs
 
 raw-requires : tie.Need-raw-requires
 raw-requires c κs = search needs
 
-mark-id-requires : tie.Need-mark-id-requires
-mark-id-requires c κs = search needs
+mark-at-requires : tie.Need-mark-at-requires
+mark-at-requires c κs = search needs
 
 same-length : tie.Need-same-length
 same-length c = search needs
@@ -29,7 +32,7 @@ same-length c = search needs
 returns : tie.Need-returns
 returns c =
     let called = c .before .before in
-    let chosen = called .before .before .before .before in
+    let chosen = called .before .before .before .before .before in
     let start = chosen .before .before .before .before in
     let a = start .args in
     let table = usedEntries (a .table .now) in
@@ -37,7 +40,7 @@ returns c =
     let sum = positionOf (a .e .location) + a .lsn in
     let raw : called .before .raw .result ≡ rawOf sum (deleteOf (a .e .location)) =
     called .before .raw .ensures ∙ ap (λ (l : Located). told l .raw) (called .before .before .to-absolute .ensures) ∙ located-raw sum (deleteOf (a .e .location)) (start .pre .0 d) in
-    called .mark-id .ensures ∙ ap (λ (n : ℕ). marked (a .mark) (current table (a .e .id) n) table (a .marks .now)) raw
+    called .mark-at .ensures ∙ ap (λ (n : ℕ). marked (a .mark) (current table (a .e .id) n) table (a .marks .now)) raw
     ∙ sym (ap (λ (ids : List ℕ). marked (a .mark) ids table (a .marks .now)) (delete-here (a .lsn) table (a .e) d))
 
 returns-2 : tie.Need-returns-2
@@ -53,9 +56,10 @@ mark-delete-spec =
     tie.close
     (tie.spec
     is-delete-requires
+    find-requires
     to-absolute-requires
     raw-requires
-    mark-id-requires
+    mark-at-requires
     same-length
     returns
     returns-2)

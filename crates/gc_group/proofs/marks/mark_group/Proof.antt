@@ -18,7 +18,6 @@ use Rattle.file_map.proofs.RecordTurns.{mapped-length, copied, copied-start, co
 use Rattle.gc_candidates.specs.Plan.{planned, plannedFrom, planned-here, planned-next, planned-start, planned-end}
 use Rattle.gc_group.specs.Source.{source, Lies}
 use Rattle.gc_group.specs.Checks.{groupChecks, group-refused, group-on, group-none}
-use Rattle.gc_group.specs.Clear.{Clear, file-clear}
 use Rattle.gc_group.specs.Marks.{foundFile, idsOf, marked, marksFrom, marksOf}
 use Rattle.gc_group.specs.MarkLaws.{marked-length, marks-next, marks-end, marks-start}
 use Rattle.gc_group.proofs.marks.mark_group.Statement.{statement}
@@ -81,26 +80,36 @@ slot-at-requires c κs =
     let start = at .before .before .before .before .before .before .before .before .before .before in
     start .pre .0 .standing (at .loop .i) (c .if1 .taken)
 
-check-file-requires : tie.Need-check-file-requires Inv-loop μ-loop
-check-file-requires c κs =
-    let chosen = c .before in
+cast-mark : tie.Need-cast-mark Inv-loop μ-loop
+cast-mark c = search needs
+
+add-mark : tie.Need-add-mark Inv-loop μ-loop
+add-mark c = search needs
+
+mark-file-requires : tie.Need-mark-file-requires Inv-loop μ-loop
+mark-file-requires c κs =
+    let found = c .before in
+    let chosen = found .before in
     let at = chosen .before .before .before .before .before .before in
-    let start = at .before .before .before .before .before .before .before .before .before .before in
+    let blank = at .before .before .before in
+    let start = blank .before .before .before .before .before .before .before in
     let a = start .args in
     let i = at .loop .i in
-    let whole : length (c .slot-at .result .now) ≡ a .group .settings .«slot_bytes» =
-    ap length (c .slot-at .ensures) ∙ slot-length (a .group .settings .«slot_bytes») (a .heap .now) i (start .pre .0 .standing i (chosen .if1 .taken)) in
-    (subst (λ (n : ℕ). Lies n (recordAt (a .t3 .records) i .label)) (sym whole) (start .pre .0 .files i), start .pre .1 .0)
+    let whole : length (found .slot-at .result .now) ≡ a .group .settings .«slot_bytes» =
+    ap length (found .slot-at .ensures) ∙ slot-length (a .group .settings .«slot_bytes») (a .heap .now) i (start .pre .0 .standing i (chosen .if1 .taken)) in (
+      subst (λ (n : ℕ). Lies n (recordAt (a .t3 .records) i .label)) (sym whole) (start .pre .0 .files i),
+      (start .pre .1 .0, omega (arith, start .pre .1 .1 .0, at .loop .inv .1, ap length (blank .unmark .ensures) ∙ length-replicate {A = ℕ} (length (a .marks .now)) 0)),
+    )
 
 -- what is decided of the file in a slot
-checked : (c : tie.After-check-file Inv-loop μ-loop) → let at = c .before .before .before .before .before .before .before .before in
+checked : (c : tie.After-mark-file Inv-loop μ-loop) → let at = c .before .before .before .before .before .before .before .before .before in
     let a = at .before .before .before .before .before .before .before .before .before .before .args in
-    decide (fileTests (a .group .settings .«max_object_size») (usedEntries (a .table .now)) (recordAt (a .t3 .records) (at .loop .i) .label) (slotBytes (a .group .settings .«slot_bytes») (a .heap .now) (at .loop .i))) ≡ c .check-file .result
+    decide (fileTests (a .group .settings .«max_object_size») (usedEntries (a .table .now)) (recordAt (a .t3 .records) (at .loop .i) .label) (slotBytes (a .group .settings .«slot_bytes») (a .heap .now) (at .loop .i))) ≡ c .mark-file .result
 checked c =
-    let at = c .before .before .before .before .before .before .before .before in
+    let at = c .before .before .before .before .before .before .before .before .before in
     let a = at .before .before .before .before .before .before .before .before .before .before .args in
-    ap (λ (bytes : List ℕ). decide (fileTests (a .group .settings .«max_object_size») (usedEntries (a .table .now)) (recordAt (a .t3 .records) (at .loop .i) .label) bytes)) (sym (c .before .slot-at .ensures))
-    ∙ sym (c .check-file .ensures)
+    ap (λ (bytes : List ℕ). decide (fileTests (a .group .settings .«max_object_size») (usedEntries (a .table .now)) (recordAt (a .t3 .records) (at .loop .i) .label) bytes)) (sym (c .before .before .slot-at .ensures))
+    ∙ sym (c .mark-file .ensures .0)
 
 enum-known-refusal : tie.Need-enum-known-refusal Inv-loop μ-loop
 enum-known-refusal c = search needs
@@ -110,14 +119,14 @@ same-length c = search needs
 
 same-length-2 : tie.Need-same-length-2 Inv-loop μ-loop
 same-length-2 c =
-    let at = c .before .before .before .before .before .before .before .before .before .before .before in
+    let at = c .before .before .before .before .before .before .before .before .before .before .before .before .before .before in
     let start = at .before .before .before .before .before .before .before .before .before .before in
     length-set (at .loop .lsns) (at .loop .i) _ ∙ at .loop .inv .2 ∙ sym (start .pre .1 .1 .1)
 
 returns : tie.Need-returns Inv-loop μ-loop
 returns c =
-    let done = c .before .before .before in
-    let chosen = done .before .before in
+    let done = c .before .before .before .before .before in
+    let chosen = done .before .before .before in
     let at = chosen .before .before .before .before .before .before in
     let start = at .before .before .before .before .before .before .before .before .before .before in
     let a = start .args in
@@ -132,34 +141,6 @@ returns c =
 
 enum-told : tie.Need-enum-told Inv-loop μ-loop
 enum-told c = search needs
-
-cast-mark-file : tie.Need-cast-mark-file Inv-loop μ-loop
-cast-mark-file c = search needs
-
-add-mark-file : tie.Need-add-mark-file Inv-loop μ-loop
-add-mark-file c = search needs
-
-mark-file-requires : tie.Need-mark-file-requires Inv-loop μ-loop
-mark-file-requires c κs =
-    let done = c .before .before .before in
-    let chosen = done .before .before in
-    let at = chosen .before .before .before .before .before .before in
-    let blank = at .before .before .before in
-    let start = blank .before .before .before .before .before .before .before in
-    let a = start .args in
-    let i = at .loop .i in
-    let l = recordAt (a .t3 .records) i .label in
-    let bytes = done .before .slot-at .ensures in
-    let whole : length (done .before .slot-at .result .now) ≡ a .group .settings .«slot_bytes» =
-    ap length bytes ∙ slot-length (a .group .settings .«slot_bytes») (a .heap .now) i (start .pre .0 .standing i (chosen .if1 .taken)) in
-    let clear =
-    file-clear (a .group .settings .«max_object_size») (usedEntries (a .table .now)) l (slotBytes (a .group .settings .«slot_bytes») (a .heap .now) i) (checked done ∙ c .before .enum-told .given .1) in (
-      subst (λ (n : ℕ). Lies n l) (sym whole) (start .pre .0 .files i),
-      (
-        subst (Clear l) (sym bytes) clear,
-        (start .pre .1 .0, omega (arith, start .pre .1 .1 .0, at .loop .inv .1, ap length (blank .unmark .ensures) ∙ length-replicate {A = ℕ} (length (a .marks .now)) 0)),
-      ),
-    )
 
 add-i : tie.Need-add-i Inv-loop μ-loop
 add-i c = search needs
@@ -189,13 +170,13 @@ loop-again c =
     let here = planned-here (a .plan .now) (a .group .generation) i inside (w .0 .taken) in
     let ids = idsOf (foundFile table l (slotBytes (a .group .settings .«slot_bytes») (a .heap .now) i)) in
     let after : c .if1 .marks ≡ marked (suc i) ids table (at .loop .marks) =
-    w .9 ∙ w .6 .ensures ∙ ap₂ (λ (m : ℕ) (bytes : List ℕ). marked m (idsOf (foundFile table l bytes)) table (at .loop .marks)) (add-one i) (w .1 .ensures) in (
+    w .8 ∙ w .3 .ensures .1 (w .7 .given .1) ∙ ap₂ (λ (m : ℕ) (bytes : List ℕ). marked m (idsOf (foundFile table l bytes)) table (at .loop .marks)) (add-one i) (w .1 .ensures) in (
       omega arith,
       ap length after ∙ marked-length (suc i) ids table (at .loop .marks) ∙ at .loop .inv .1,
       long,
       sym (
           ap f here
-          ∙ group-on (a .group .settings .«max_object_size») from i _ (checked (record { before = record { before = record { before = c .before; if1 = w .0 }; slot-at = w .1 }; check-file = w .2 }) ∙ w .4 .given .1))
+          ∙ group-on (a .group .settings .«max_object_size») from i _ (checked (record { before = record { before = record { before = record { before = c .before; if1 = w .0 }; slot-at = w .1 }; mark-file-arg = w .2 }; mark-file = w .3 }) ∙ w .7 .given .1))
           ∙ at .loop .inv .3,
       ap (marksFrom from rest) after ∙ sym (marks-next from i rest (at .loop .marks)) ∙ sym (ap (λ (ks : List ℕ). marksFrom from ks (at .loop .marks)) here) ∙ at .loop .inv .4,
       read,
@@ -252,15 +233,14 @@ mark-group-spec =
     mul-if1
     shared-slice-read-if1
     slot-at-requires
-    check-file-requires
+    cast-mark
+    add-mark
+    mark-file-requires
     enum-known-refusal
     same-length
     same-length-2
     returns
     enum-told
-    cast-mark-file
-    add-mark-file
-    mark-file-requires
     add-i
     loop-less
     loop-again

@@ -43,7 +43,7 @@ returns-2 c =
     let l = used .before .before .before .loop in
     let start = used .before .before .before .before .before .before in
     let a = start .args in
-    (found-here (a .table .now) (a .id) (start .pre) (l .i) (l .inv .3) (λ q. used .if1 .left (used .before .location-at .ensures ∙ q)) (c .if2 .taken ∙ c .before .id-at .ensures), omega (arith, l .inv .0))
+    (found-here (a .table .now) (a .id) (start .pre) (l .i) (λ q. used .if1 .left (used .before .location-at .ensures ∙ q)) (c .if2 .taken ∙ c .before .id-at .ensures), omega (arith, l .inv .0))
 
 returns-3 : tie.Need-returns-3 Inv-loop μ-loop
 returns-3 c =
