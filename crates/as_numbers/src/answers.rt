@@ -53,14 +53,14 @@ pub fn number(a: Answer) -> u64
 }
 
 // A number and one place.
-#[derive(Drop)]
+#[derive(Clone, Copy)]
 pub struct One {
     pub number: u64,
     pub value: u64,
 }
 
 // A number and two places.
-#[derive(Drop)]
+#[derive(Clone, Copy)]
 pub struct Two {
     pub number: u64,
     pub first: u64,
@@ -68,7 +68,7 @@ pub struct Two {
 }
 
 // A number and three places.
-#[derive(Drop)]
+#[derive(Clone, Copy)]
 pub struct Three {
     pub number: u64,
     pub first: u64,
@@ -77,7 +77,7 @@ pub struct Three {
 }
 
 // A number and the four counts.
-#[derive(Drop)]
+#[derive(Clone, Copy)]
 pub struct Four {
     pub number: u64,
     pub counts: Counts,

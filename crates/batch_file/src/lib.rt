@@ -1,5 +1,8 @@
 // The file of a batch, straight into the heap: objects and trailer by walks over the operations that count, then the label.
 // Each writer makes as many stores of the file's run as `left` reaches, and answers how many are left.
+
+#![tactic(auto)]
+
 ghost use Rattle.std.specs.Prelude.{◌≡◌, ◌+◌, ◌*◌, ◌≤◌, ◌<◌, ◌^◌, length};
 ghost use Rattle.checksum.specs.Checksum.{crc32};
 ghost use Rattle.rules.specs.Base.{each};
@@ -57,7 +60,7 @@ fn put_content(file: &mut [u8], at: usize, batch: &[u8], o: Operation, left: u64
 }
 
 // What is left behind the objects: stores, and the trailer's checksum.
-#[derive(Drop)]
+#[derive(Clone, Copy)]
 struct Objects {
     left: u64,
     checksum: u32,

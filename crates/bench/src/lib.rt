@@ -1,4 +1,7 @@
 // The bench: a script on standard input, one command to a line, run over the calls on lent buffers.
+
+#![tactic(auto)]
+
 mod commands;
 mod lines;
 pub mod say;

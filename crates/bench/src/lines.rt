@@ -11,7 +11,7 @@ use libc::STDIN_FILENO;
 
 // The bench; how much of the input is taken; of the line that is being read, how much is held, that it is too long, and that
 // its end was met.
-#[derive(Drop)]
+#[derive(Clone, Copy)]
 struct Reading {
     bench: Bench,
     taken: usize,

@@ -1,5 +1,7 @@
 // Request P5 of document 02: the call that lists everything wrong with a heap.
 
+#![tactic(auto)]
+
 pub mod slots;
 
 ghost use Rattle.std.specs.Prelude.{◌≡◌};
@@ -12,7 +14,7 @@ use location_table::capacity;
 use rules::{Refusal, Settings};
 
 // "the full number of faults"; "Refusals: 1 only"
-#[derive(Drop)]
+#[derive(Clone, Copy)]
 pub enum CheckAnswer {
     Faults(u64),
     CheckRefused(Refusal),

@@ -1,5 +1,7 @@
 // The CRC-32 of IEEE 802.3, four bytes at a time by tables, in one call or over several parts.
 
+#![tactic(auto)]
+
 ghost use Rattle.std.specs.Prelude.{◌≡◌};
 ghost use Rattle.std.specs.Int.Bits.{bit_xor};
 ghost use Rattle.numbers.specs.LittleEndian.{le_bytes};

@@ -1,4 +1,7 @@
 // The host's claim record, 256 bits in four words by value, and the calls that go by records alone: claim, release, counts.
+
+#![tactic(auto)]
+
 ghost use Rattle.std.specs.Prelude.{◌≡◌, ◌||◌, [], ◌∷◌, ◌-◌, ◌^◌, ◌<◌, leb, length};
 ghost use Rattle.std.specs.Int.Bits.{bit_or, bit_and};
 ghost use Rattle.rules.specs.Refusal.{◌gives◌, decide};
@@ -147,7 +150,7 @@ fn decided(
 }
 
 // What a claim or a release answers, and the claim record after it.
-#[derive(Drop)]
+#[derive(Clone, Copy)]
 pub struct ClaimAnswer {
     pub answer: Answer,
     pub claims: Claims,

@@ -1,5 +1,8 @@
 // "a claim is set and cleared in place, slot by slot": claim and release on the host's own claim record, lent.
 // The answer is the paper's number, 0 for success, so that a host in C can have it.
+
+#![tactic(auto)]
+
 ghost use Rattle.std.specs.Prelude.{◌≡◌};
 ghost use Rattle.rules.specs.Claims.{claim_call, release_call};
 ghost use Rattle.rules.specs.World.{world, leaving};
@@ -10,7 +13,7 @@ use rules::{Claims, Settings, State};
 
 // ---- by value
 // A call's number, and the claim record after it.
-#[derive(Drop)]
+#[derive(Clone, Copy)]
 struct Outcome {
     number: u64,
     claims: Claims,

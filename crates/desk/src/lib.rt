@@ -1,5 +1,8 @@
 // The desk: what the console's commands are given and change, and one function for each command. A command answers by a reply; what is
 // written for a reply is not stated here (crate `bench`).
+
+#![tactic(auto)]
+
 pub mod by_hand;
 pub mod calls;
 pub mod looks;
@@ -24,7 +27,7 @@ use through::ThroughAnswer;
 use turns::{bad_line, shown};
 
 // What lies beside the buffers, and how much of each buffer is lent: bytes of the heap, words of the table.
-#[derive(Drop)]
+#[derive(Clone, Copy)]
 pub struct Bench {
     pub settings: Settings,
     pub state: State,
@@ -34,7 +37,7 @@ pub struct Bench {
 }
 
 // Lines that show something and change nothing. Check: with room for so many lines; Bytes: an offset and how many.
-#[derive(Drop)]
+#[derive(Clone, Copy)]
 pub enum Look {
     Comment,
     Help,
@@ -46,7 +49,7 @@ pub enum Look {
 
 // What a command answers. Marks: how many files are not synced, or whether a mark changed. Planned: what the plan gives stands in words
 // of its own.
-#[derive(Drop)]
+#[derive(Clone, Copy)]
 pub enum Reply {
     BadLine,
     Answered(Answer),
@@ -65,7 +68,7 @@ pub enum Reply {
 }
 
 // The reply, and what lies beside the buffers after it.
-#[derive(Drop)]
+#[derive(Clone, Copy)]
 pub struct Turn {
     pub reply: Reply,
     pub bench: Bench,

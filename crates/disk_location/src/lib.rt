@@ -1,5 +1,7 @@
 // Locations: a position, doubled, with the delete mark in the lowest bit; the batch bit; the shard number.
 
+#![tactic(auto)]
+
 ghost use Rattle.std.specs.Prelude.{◌≡◌, ◌+◌, ◌^◌, ◌<◌};
 ghost use Rattle.disk_location.specs.Locations.{position_of, delete_of, raw_of, located_at, relative_at, told, relative_told};
 ghost use Rattle.disk_location.specs.Locations.{masked_of, batch_of, shard_of};
@@ -11,20 +13,20 @@ pub const BATCH_BIT: u64 = 1 << 62;
 pub const POSITIONS: u64 = 1 << 63;
 
 // A raw location that counts from its file's lsn.
-#[derive(Drop)]
+#[derive(Clone, Copy)]
 pub struct RelativeDiskLocation(pub u64);
 
 // A raw location in the whole store.
-#[derive(Drop)]
+#[derive(Clone, Copy)]
 pub struct DiskLocation(pub u64);
 
-#[derive(Drop)]
+#[derive(Clone, Copy)]
 pub enum Located {
     At(DiskLocation),
     Refused,
 }
 
-#[derive(Drop)]
+#[derive(Clone, Copy)]
 pub enum RelativeLocated {
     At(RelativeDiskLocation),
     Refused,

@@ -1,5 +1,7 @@
 // Request P5 of document 02: the lines of the checker's list, and a slot's own fault, which request P9 goes by too.
 
+#![tactic(auto)]
+
 ghost use Rattle.std.specs.Prelude.{◌≡◌, map, ◌*◌, ◌≤◌, length};
 ghost use Rattle.rules.specs.SlotFile.{view_in, views_in};
 ghost use Rattle.slot_file.specs.Slots.{shown_by};
@@ -15,14 +17,14 @@ use slot_file::slot::{slot_at, trailer_part};
 use slot_file::{SlotAnswer, slot};
 
 // "for an object, its position"
-#[derive(Drop)]
+#[derive(Clone, Copy)]
 pub enum Place {
     Nowhere,
     Object(u64),
 }
 
 // "each with slot number, refusal number and, for an object, its position"
-#[derive(Drop)]
+#[derive(Clone, Copy)]
 pub struct Fault {
     pub slot: u64,
     pub refusal: Refusal,

@@ -1,5 +1,7 @@
 // Request P5 of document 02: one file's lines of the checker's list, told into the lent words.
 
+#![tactic(auto)]
+
 pub mod entries;
 pub mod objects;
 pub mod tell;
@@ -15,7 +17,7 @@ use rules::Label;
 use slot_file::slot::{object_part, trailer_part};
 
 // What a search found missing, and from where the next one sets out.
-#[derive(Drop)]
+#[derive(Clone, Copy)]
 pub struct Sought {
     pub missing: bool,
     pub next: u64,

@@ -1,4 +1,7 @@
 // The lsns and the live counts of the records as flat lists: the lookup of a file, and a live lost.
+
+#![tactic(auto)]
+
 ghost use Rattle.std.specs.Prelude.{◌≡◌, ℕ, ◌<◌, length};
 ghost use Rattle.rules.specs.declared.Slot.TheVariants.{Is};
 ghost use Rattle.file_lists.specs.Lists.{lsn_at, less_at};

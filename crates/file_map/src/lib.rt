@@ -1,4 +1,7 @@
 // The file map (`src/file_map.rs`): 256 records by value, and their lsns and live counts as flat lists, for a call on many ids.
+
+#![tactic(auto)]
+
 ghost use Rattle.std.specs.Prelude.{◌≡◌, ◌<◌, ◌≤◌, set, length};
 ghost use Rattle.rules.specs.FileMap.{empty_label, recorded, empty_record, is_empty, with_live, no_files, lowest_empty, file_for};
 ghost use Rattle.rules.specs.Counts.{counts_of};

@@ -1,5 +1,7 @@
 // Request P7: "the other rewrites one named generation" (`src/gc.rs`).
 
+#![tactic(auto)]
+
 ghost use Rattle.std.specs.Prelude.{◌≡◌};
 ghost use Rattle.rules.specs.TwoCalls.{room_of, notes_left, rewrite_call};
 ghost use Rattle.rules.specs.World.{world, leaving, rewrite_given};
@@ -14,7 +16,7 @@ use gc_words::{refused_in, state_held};
 use rules::{Answer, Claims, Refusal, RewriteAnswer, Settings, State};
 
 // What a rewrite answers, and the state after it.
-#[derive(Drop)]
+#[derive(Clone, Copy)]
 pub struct Rewritten {
     pub answer: RewriteAnswer,
     pub state: State,

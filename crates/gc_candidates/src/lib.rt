@@ -1,4 +1,7 @@
 // The candidates of maintenance (`src/gc.rs`), by a mark and a file count, and the groups that they make: a new generation for each slot.
+
+#![tactic(auto)]
+
 ghost use Rattle.std.specs.Prelude.{◌≡◌, ◌<◌, length};
 ghost use Rattle.rules.specs.Base.{larger};
 ghost use Rattle.rules.specs.SettingsLaws.{InRanges};

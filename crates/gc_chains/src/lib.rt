@@ -1,5 +1,8 @@
 // The entries of each file of a group chained, so that a file's walks are as long as the file: the notes have a file's number for
 // each entry before, and the next entry of the same file after.
+
+#![tactic(auto)]
+
 ghost use Rattle.std.specs.Prelude.{ℕ, suc, ◌<◌, List, ◌≡◌, length, get_or};
 ghost use Rattle.rules.specs.Layout.{table_ids, used_entries};
 ghost use Rattle.location_table.specs.Tables.{Formed};

@@ -1,12 +1,14 @@
 // Where the nightly job stands between two rewrites: whether one was refused, and what the job then answers.
 
+#![tactic(auto)]
+
 ghost use Rattle.std.specs.Prelude.{◌≡◌};
 ghost use Rattle.gc_course.specs.Runs.{is_going, stop_of, stop_by, answer_of};
 
 use rules::{Answer, MaintainAnswer, Refusal};
 
 // "rewrites one named generation", with the plan's mark and file count.
-#[derive(Drop)]
+#[derive(Clone, Copy)]
 pub struct Request {
     pub generation: u64,
     pub mark: u64,
@@ -14,14 +16,14 @@ pub struct Request {
 }
 
 // "stopping at the first call refused": its number and generation.
-#[derive(Drop)]
+#[derive(Clone, Copy)]
 pub enum Halt {
     Going,
     Halted(Refusal, u64),
 }
 
 // Where the job stands between two rewrites.
-#[derive(Drop)]
+#[derive(Clone, Copy)]
 pub struct Run {
     pub halt: Halt,
     pub moved: u64,

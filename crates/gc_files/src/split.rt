@@ -11,7 +11,7 @@ use location_table::{id_at, used};
 use rules::Settings;
 
 // An entry of the table: where it stands, its id, and the place of its operation.
-#[derive(Drop)]
+#[derive(Clone, Copy)]
 struct Placed {
     at: usize,
     id: u64,

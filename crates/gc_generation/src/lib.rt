@@ -1,5 +1,7 @@
 // Maintenance (`src/gc.rs`): the group of one generation, by a mark and a file count, rewritten on the state's words.
 
+#![tactic(auto)]
+
 ghost use Rattle.std.specs.Prelude.{◌≡◌, ◌≤◌, ◌<◌, length};
 ghost use Rattle.rules.specs.Layout.{capacity_of};
 ghost use Rattle.rules.specs.Condition1Laws.{Passed};

@@ -1,5 +1,7 @@
 // One file of a group of maintenance (`src/gc.rs`) written and added, and what stays as it was for the group's other files.
 
+#![tactic(auto)]
+
 ghost use Rattle.std.specs.Prelude.{◌≡◌, ◌∷◌, ℕ, ◌+◌, ◌*◌, ◌≤◌, ◌<◌, ◌^◌, length};
 ghost use Rattle.rules.specs.declared.Claims.{Claims};
 ghost use Rattle.rules.specs.Settings.{slots_in};
@@ -40,7 +42,7 @@ fn put_piece(
 }
 
 // What a piece becomes: a file of a generation in a slot. The piece is known by its first entry.
-#[derive(Drop)]
+#[derive(Clone, Copy)]
 pub struct NewFile {
     pub first: u32,
     pub generation: u64,
@@ -48,7 +50,7 @@ pub struct NewFile {
 }
 
 // The same with its count of entries and T.
-#[derive(Drop)]
+#[derive(Clone, Copy)]
 struct SizedFile {
     first: u32,
     generation: u64,

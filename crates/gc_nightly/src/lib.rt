@@ -1,5 +1,7 @@
 // Request P7's nightly job (`src/gc.rs`): "plan, rewrite 1, 2, 3, then prune, stopping at the first call refused".
 
+#![tactic(auto)]
+
 ghost use Rattle.std.specs.Prelude.{◌≡◌, false, List, ℕ, ◌≤◌, length};
 ghost use Rattle.rules.specs.Layout.{capacity_of};
 ghost use Rattle.rules.specs.Condition1.{refused1};
@@ -20,7 +22,7 @@ use prune::pruned;
 use rules::{Claims, MaintainAnswer, Refusal, Settings, State};
 
 // What the nightly job answers, and the state after it.
-#[derive(Drop)]
+#[derive(Clone, Copy)]
 pub struct Maintained {
     pub answer: MaintainAnswer,
     pub state: State,

@@ -1,5 +1,7 @@
 // The notes of a rewrite, which the host lends: a place and a piece for each table entry.
 
+#![tactic(auto)]
+
 ghost use Rattle.std.specs.Prelude.{◌≡◌, length, replicate};
 ghost use Rattle.rules.specs.TwoCalls.{room_of, short};
 

@@ -1,5 +1,7 @@
 // Where everything that a group of maintenance found stands in the heap (`src/gc.rs`).
 
+#![tactic(auto)]
+
 ghost use Rattle.std.specs.Prelude.{◌≡◌, ◌≤◌, length, replicate};
 ghost use Rattle.rules.specs.declared.Answer.TheVariants.{Done};
 ghost use Rattle.rules.specs.Refusal.{decide};

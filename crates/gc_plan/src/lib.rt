@@ -1,6 +1,8 @@
 // Request P7, "one call plans": which generations, which slots, how many files and bytes would come out before the first refusal, and
 // that refusal.
 
+#![tactic(auto)]
+
 ghost use Rattle.std.specs.Prelude.{◌≡◌, ◌*◌, ◌≤◌, length};
 ghost use Rattle.rules.specs.declared.Answer.TheVariants.{Done};
 ghost use Rattle.rules.specs.Layout.{table_ids, used_entries, capacity_of};
@@ -26,7 +28,7 @@ use gc_words::{candidates_in, count_in, empties, mark_in, refused_in};
 use rules::{Answer, Claims, FileMap, RECORDS, Refusal, Settings, State};
 
 // What a plan gives. `slots` has, for each slot, the generation whose rewrite takes its file, or 0.
-#[derive(Drop)]
+#[derive(Clone, Copy)]
 pub struct PlanValues {
     pub mark: u64,
     pub count: u64,
@@ -37,7 +39,7 @@ pub struct PlanValues {
 }
 
 // "`plan` refuses with 1 only": a plan of zeros beside it then.
-#[derive(Drop)]
+#[derive(Clone, Copy)]
 pub struct Planned {
     pub answer: Answer,
     pub plan: PlanValues,
@@ -45,7 +47,7 @@ pub struct Planned {
 
 // What is foretold so far: a refusal or none, the files that come out before it and their bytes of file_size; what they leave to the
 // next group.
-#[derive(Drop)]
+#[derive(Clone, Copy)]
 struct Forecast {
     halt: Halt,
     files: u64,

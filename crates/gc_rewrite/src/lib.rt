@@ -1,5 +1,7 @@
 // One group of maintenance rewritten (`src/gc.rs`): decided first, then the entries of its files are chained and each file is added.
 
+#![tactic(auto)]
+
 ghost use Rattle.std.specs.Prelude.{◌≡◌, ◌≤◌, length, replicate};
 ghost use Rattle.rules.specs.declared.Claims.{Claims};
 ghost use Rattle.rules.specs.declared.Answer.TheVariants.{Done};
@@ -27,7 +29,7 @@ use gc_words::empties;
 use rules::{Answer, RECORDS, State};
 
 // A group's answer and the ids moved.
-#[derive(Drop)]
+#[derive(Clone, Copy)]
 pub struct Course {
     pub answer: Answer,
     pub moved: u64,

@@ -1,6 +1,8 @@
 // The split of a group's entries into files (`src/writepath.rs`), by sizes alone: no entry is held, each gets the number
 // of the piece that it is in.
 
+#![tactic(auto)]
+
 ghost use Rattle.std.specs.Prelude.{◌≡◌, ◌||◌, ◌++◌, ◌+◌, ◌*◌, ◌^◌, ◌≤◌, ◌<◌, eqb, length, get_or, set, take};
 ghost use Rattle.numbers.specs.Choice.{pick};
 ghost use Rattle.numbers.specs.Parts.{front, put_at};
@@ -20,7 +22,7 @@ const COUNTS_AT: usize = 65;
 const ROUNDS_AT: usize = 130;
 
 // Entries taken, files closed, the sum of T + 1 over these, and whether one is too large for a slot.
-#[derive(Drop)]
+#[derive(Clone, Copy)]
 pub struct Totals {
     pub entries: u64,
     pub files: u64,

@@ -1,6 +1,8 @@
 // Reads of the state's words that a plan and a rewrite share: each makes the state, or its files, of the words for itself, so that a
 // caller holds the words alone.
 
+#![tactic(auto)]
+
 ghost use Rattle.std.specs.Prelude.{◌≡◌, length};
 ghost use Rattle.rules.specs.SettingsLaws.{InRanges, HeapInRange};
 ghost use Rattle.rules.specs.FileMap.{file_count};

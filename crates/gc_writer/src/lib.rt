@@ -1,5 +1,8 @@
 // The file of one piece of a group, straight from the old places of its objects into a slot: walks along the chain of its entries.
 // Each writer makes as many stores of the file's run as `left` reaches, and answers how many are left.
+
+#![tactic(auto)]
+
 ghost use Rattle.std.specs.Prelude.{◌⊎◌, ◌≡◌, ◌+◌, ◌*◌, ◌≤◌, ◌<◌, ◌^◌, length};
 ghost use Rattle.checksum.specs.Checksum.{crc32};
 ghost use Rattle.rules.specs.Base.{false, each};
@@ -23,14 +26,14 @@ use rules::{LABEL_BYTES, Label, OBJECT_HEADER, TRAILER_ENTRY, TRAILER_HEAD};
 use trailer::write;
 
 // How many entries a piece has, and T, its object bytes.
-#[derive(Drop)]
+#[derive(Clone, Copy)]
 pub struct Sizes {
     pub count: u64,
     pub total: u64,
 }
 
 // A turn of a walk: the operation, its object's size, and the next entry of the piece. Entries are counted from 1 on; 0 is none.
-#[derive(Drop)]
+#[derive(Clone, Copy)]
 struct Turn {
     operation: Operation,
     size: u64,
@@ -102,7 +105,7 @@ fn put_content(heap: &mut [u8], at: usize, o: Operation, left: u64) -> u64
 }
 
 // What is left behind the objects: stores, and the trailer's checksum.
-#[derive(Drop)]
+#[derive(Clone, Copy)]
 struct Objects {
     left: u64,
     checksum: u32,
@@ -209,7 +212,7 @@ fn put_trailer(
 }
 
 // The file of a piece: the piece's first entry, where its slot begins and how long that is, its count of entries and T.
-#[derive(Drop)]
+#[derive(Clone, Copy)]
 pub struct PieceFile {
     pub first: u32,
     pub start: usize,

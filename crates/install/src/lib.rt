@@ -1,4 +1,7 @@
 // Adding a file that stands in the heap: table, live counts, record and next position. Write and maintenance share it.
+
+#![tactic(auto)]
+
 ghost use Rattle.std.specs.Prelude.{◌≡◌, false, ◌+◌, ◌*◌, ◌^◌, ◌≤◌, ◌<◌, length, set};
 ghost use Rattle.disk_location.specs.Locations.{position_of};
 ghost use Rattle.rules.specs.Trailer.{absolute, count_in, entries_in};
@@ -202,7 +205,7 @@ fn by_trailer(lsns: &[u64], lives: &mut [u64], table: &mut [u64], trailer: &[u8]
 }
 
 // A file that stands in the heap: where its slot begins, its count of entries, T and its lsn.
-#[derive(Drop)]
+#[derive(Clone, Copy)]
 pub struct StoredFile {
     pub start: usize,
     pub count: u64,

@@ -1,4 +1,7 @@
 // 8's bounds on a label's five numbers.
+
+#![tactic(auto)]
+
 ghost use Rattle.std.specs.Prelude.{◌≡◌, ◌-◌};
 ghost use Rattle.rules.specs.Label.{out_of_bounds};
 

@@ -1,4 +1,7 @@
 // Refusal 1, "first in every call".
+
+#![tactic(auto)]
+
 ghost use Rattle.std.specs.Prelude.{◌≡◌, false, ◌<◌, ◌≤◌};
 ghost use Rattle.rules.specs.declared.FileMap.{FileMap};
 ghost use Rattle.rules.specs.Settings.{defaults, in_ranges, heap_in_range, same_settings};
@@ -74,7 +77,7 @@ fn same_settings(s: Settings, t: Settings) -> bool
 }
 
 // What a state holds beside its records.
-#[derive(Drop)]
+#[derive(Clone, Copy)]
 pub struct Rest {
     pub settings: Settings,
     pub heap_len: u64,

@@ -1,5 +1,7 @@
 // Refusal 1 clause by clause, at the ends of each range; claim and release; counts. A line for each case.
 
+#![tactic(auto)]
+
 mod claiming;
 mod ranges;
 mod show;

@@ -1,5 +1,7 @@
 // Runs the lines of the paper that numbers, checksums and locations can answer: what is computed, then what the paper says.
 
+#![tactic(auto)]
+
 ghost use Rattle.std.specs.Prelude.{◌≡◌, ltb};
 ghost use Rattle.disk_location.specs.Locations.{masked_of};
 

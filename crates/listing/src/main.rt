@@ -1,4 +1,7 @@
 // The listing: line P10's batch written to a fresh store, and a line for each of its files.
+
+#![tactic(auto)]
+
 use libc::STDOUT_FILENO;
 use rules::{FileMap, Record, Settings, State};
 use test_host::{no_claims, no_state, text};

@@ -5,7 +5,7 @@ use test_host::{no_claims, no_state};
 
 // What is changed by hand before the maintenance: generations of the first three files and the next position, where not 0; a heap byte;
 // of the second file the record's file_size and the trailer's checksum, where not 0; the first word of the claims.
-#[derive(Drop)]
+#[derive(Clone, Copy)]
 pub struct ByHand {
     pub first: u64,
     pub second: u64,

@@ -1,5 +1,8 @@
 // Maintenance on small stores: lines P6 to P9, groups, refusals. What it must write (stdout) is what tests/oracle/maintenance.py,
 // the same cases on a model of the paper that shares nothing with this code, writes.
+
+#![tactic(auto)]
+
 mod batches;
 mod host;
 mod show;

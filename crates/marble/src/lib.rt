@@ -1,5 +1,7 @@
 // The public calls of document 01 in one place (`src/lib.rs`). Each is a total function: no `requires`, an answer for every input.
 
+#![tactic(auto)]
+
 // "Settings": the defaults; refusal 1, for the settings and buffers of a reopening and for a call on a state.
 pub use limits::{defaults, out_of_range, refused};
 

@@ -1,5 +1,8 @@
 // The public calls for a host in C (include/marble.h). State and claim record are lent as words and changed in place; an answer is the
 // paper's number, its values go to out-parameters. The contracts are those of the calls, by the same definitions.
+
+#![tactic(auto)]
+
 ghost use Rattle.std.specs.Prelude.{◌≡◌, [], ◌∷◌, length, get_or, set};
 ghost use Rattle.rules.specs.declared.Claims.{Claims};
 ghost use Rattle.rules.specs.Claims.{claim_call, release_call};
@@ -127,7 +130,7 @@ pub extern "C" fn marble_read(
 }
 
 // A read through a batch: a number, what is there of the id, whether the part is one of the batch, its start and its length.
-#[derive(Drop)]
+#[derive(Clone, Copy)]
 struct Piece {
     number: u64,
     kind: u64,

@@ -1,5 +1,8 @@
 // "The host lends its list of file records and asks how many aren't synced, then has them marked": two loops over the list itself, lent.
 // The answer is the paper's number, 0 for success, and one value.
+
+#![tactic(auto)]
+
 ghost use Rattle.std.specs.Prelude.{◌≡◌, [], ◌∷◌, ltb};
 ghost use Rattle.rules.specs.Sync.{unsynced_call, sync_call};
 ghost use Rattle.as_numbers.specs.Shown.{given, shown};

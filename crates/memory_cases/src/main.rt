@@ -1,4 +1,7 @@
 // The four table calls and the file lookup on a few cases, an answer to a line.
+
+#![tactic(auto)]
+
 use as_numbers::answers::refusal_number;
 use libc::STDOUT_FILENO;
 use rules::{

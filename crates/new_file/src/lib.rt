@@ -1,5 +1,8 @@
 // Refusals 4 and 7, for write and maintenance alike: whether a new file has room in its slot, and whether positions are left for it. No sum
 // is made that could wrap.
+
+#![tactic(auto)]
+
 ghost use Rattle.std.specs.Prelude.{◌≡◌, ◌+◌, ◌*◌, ◌^◌, ltb};
 
 use disk_location::BATCH_BIT;

@@ -1,6 +1,8 @@
 // A plan as the words of C's struct (include/marble.h): mark, count, files, bytes, the number and generation foretold; then for each of
 // 1, 2 and 3 how many slots, and 256 places for them.
 
+#![tactic(auto)]
+
 ghost use Rattle.std.specs.Prelude.{◌≡◌, ◌+◌, ◌<◌, ◌≤◌, length};
 ghost use Rattle.numbers.specs.Parts.{put_at};
 ghost use Rattle.rules.specs.Base.{padded};

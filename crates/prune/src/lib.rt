@@ -1,4 +1,7 @@
 // Prune: dead files' labels in the heap and their records, both emptied.
+
+#![tactic(auto)]
+
 ghost use Rattle.std.specs.Prelude.{◌≡◌, true, List, [], ◌∷◌, ℕ, ◌+◌, ◌*◌, ◌<◌, ◌≤◌, length, take};
 ghost use Rattle.numbers.specs.Choice.{pick};
 ghost use Rattle.rules.specs.FileMap.{empty_record, slots_where};
@@ -16,7 +19,7 @@ use limits::{bad_files, refused_apart, rest_of};
 use rules::{Answer, Claims, FileMap, RECORDS, Record, Refusal, Settings, State};
 
 // What a prune answers, and the state after it.
-#[derive(Drop)]
+#[derive(Clone, Copy)]
 pub struct PruneAnswer {
     pub answer: Answer,
     pub state: State,

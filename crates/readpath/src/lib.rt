@@ -1,4 +1,7 @@
 // Read (`src/readpath.rs`): where a body lies in the heap, then that part of it.
+
+#![tactic(auto)]
+
 ghost use Rattle.std.specs.Prelude.{◌≡◌, ◌+◌, ◌*◌, length, drop};
 ghost use Rattle.rules.specs.declared.Claims.{Claims};
 ghost use Rattle.rules.specs.SlotFile.{bytes_of_slot, file_in};

@@ -1,4 +1,7 @@
 // Request P6 on one record, and on a state's own records by value.
+
+#![tactic(auto)]
+
 ghost use Rattle.std.specs.Prelude.{◌≡◌, ◌+◌, ◌<◌, ◌^◌};
 ghost use Rattle.rules.specs.Base.{any, pick};
 ghost use Rattle.rules.specs.Sync.{is_unsynced, marked, marked_all, unsynced_in};
@@ -61,7 +64,7 @@ pub fn unsynced(files: FileMap) -> u64
 }
 
 // The records after a sync call, and "whether any mark changed": 1 for yes, 0 for no.
-#[derive(Drop)]
+#[derive(Clone, Copy)]
 pub struct Synced {
     pub files: FileMap,
     pub changed: u64,

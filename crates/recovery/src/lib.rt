@@ -1,4 +1,7 @@
 // Reopening (`src/recovery.rs`): the file map and the table from the heap alone, which is only read.
+
+#![tactic(auto)]
+
 ghost use Rattle.std.specs.Prelude.{◌≡◌, false, ◌≤◌, length};
 ghost use Rattle.rules.specs.Condition1Laws.{InLimits};
 ghost use Rattle.rules.specs.Reopen.{reopen_call};
@@ -20,7 +23,7 @@ use reopen_tests::slots::survey;
 use rules::{Answer, Claims, Refusal, Settings, State};
 
 // What a reopening hands back.
-#[derive(Drop)]
+#[derive(Clone, Copy)]
 pub struct Reopened {
     pub answer: Answer,
     pub state: State,

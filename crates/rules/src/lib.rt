@@ -1,5 +1,7 @@
 // The shared types of document 01, and the numbers of its bytes. Its rules are the definitions in specs/.
 
+#![tactic(auto)]
+
 // "a 64-byte label"
 pub const LABEL_BYTES: usize = 64;
 
@@ -23,7 +25,7 @@ pub const RECORDS: usize = 256;
 
 // "Settings": the six that a caller chooses; slots and table entries come from the buffers.
 #[repr(C)]
-#[derive(Drop)]
+#[derive(Clone, Copy)]
 pub struct Settings {
     pub slot_bytes: u64,
     pub file_compaction_percent: u64,
@@ -35,7 +37,7 @@ pub struct Settings {
 
 // A slot's label: its five numbers.
 #[repr(C)]
-#[derive(Drop)]
+#[derive(Clone, Copy)]
 pub struct Label {
     pub lsn: u64,
     pub trailer_offset: u64,
@@ -47,7 +49,7 @@ pub struct Label {
 // "A record holds the label's five numbers and the live count" and, since request P6, "the synced mark": 0 clear, 1 set.
 // All zeros: empty.
 #[repr(C)]
-#[derive(Drop)]
+#[derive(Clone, Copy)]
 pub struct Record {
     pub label: Label,
     pub live: u64,
@@ -55,7 +57,7 @@ pub struct Record {
 }
 
 // An id and a raw location: relative in a trailer, absolute in the table.
-#[derive(Drop)]
+#[derive(Clone, Copy)]
 pub struct Entry {
     pub id: u64,
     pub location: u64,
@@ -63,14 +65,14 @@ pub struct Entry {
 
 // "a file map of 256 records"
 #[repr(C)]
-#[derive(Drop)]
+#[derive(Clone, Copy)]
 pub struct FileMap {
     pub records: [Record; RECORDS],
 }
 
 // What a reopening hands to the calls after it.
 #[repr(C)]
-#[derive(Drop)]
+#[derive(Clone, Copy)]
 pub struct State {
     pub settings: Settings,
     pub heap_len: u64,
@@ -81,7 +83,7 @@ pub struct State {
 
 // "a claim record of the host's": slot s is bit s % 64 of word s / 64.
 #[repr(C)]
-#[derive(Drop)]
+#[derive(Clone, Copy)]
 pub struct Claims {
     pub a: u64,
     pub b: u64,
@@ -90,7 +92,7 @@ pub struct Claims {
 }
 
 // "Refusal numbers", 1 to 21 in order, and document 02's 22.
-#[derive(Drop)]
+#[derive(Clone, Copy)]
 pub enum Refusal {
     Limits,
     BatchBytes,
@@ -117,14 +119,14 @@ pub enum Refusal {
 }
 
 // The answer of a call that gives nothing but its success: write, claim, release, prune, reopen, the table's store.
-#[derive(Drop)]
+#[derive(Clone, Copy)]
 pub enum Answer {
     Done,
     Refused(Refusal),
 }
 
 // The body's start in the heap and its length; or that the id is deleted, or never written.
-#[derive(Drop)]
+#[derive(Clone, Copy)]
 pub enum ReadAnswer {
     Found(u64, u64),
     Deleted,
@@ -133,21 +135,21 @@ pub enum ReadAnswer {
 }
 
 // Ids moved; or the refusal, its generation and the ids moved before it.
-#[derive(Drop)]
+#[derive(Clone, Copy)]
 pub enum MaintainAnswer {
     Moved(u64),
     Stopped(Refusal, u64, u64),
 }
 
 // Request P7: "It answers ids moved, or the number alone."
-#[derive(Drop)]
+#[derive(Clone, Copy)]
 pub enum RewriteAnswer {
     Rewrote(u64),
     RewriteRefused(Refusal),
 }
 
 #[repr(C)]
-#[derive(Drop)]
+#[derive(Clone, Copy)]
 pub struct Counts {
     pub files: u64,
     pub bytes: u64,
@@ -155,34 +157,34 @@ pub struct Counts {
     pub live: u64,
 }
 
-#[derive(Drop)]
+#[derive(Clone, Copy)]
 pub enum CountsAnswer {
     Counted(Counts),
     CountsRefused(Refusal),
 }
 
 // What a load tells of an id: its raw location, of an object or of a delete; or that it was never written.
-#[derive(Drop)]
+#[derive(Clone, Copy)]
 pub enum Loaded {
     At(u64),
     DeletedAt(u64),
     Never,
 }
 
-#[derive(Drop)]
+#[derive(Clone, Copy)]
 pub enum LoadAnswer {
     Loads(Loaded),
     LoadRefused(Refusal),
 }
 
 // What the table held before a store-if-greater.
-#[derive(Drop)]
+#[derive(Clone, Copy)]
 pub enum GreaterAnswer {
     Before(Held),
     GreaterRefused(Refusal),
 }
 
-#[derive(Drop)]
+#[derive(Clone, Copy)]
 pub enum CompareAnswer {
     Swapped,
     Differs(u64),
@@ -190,21 +192,21 @@ pub enum CompareAnswer {
 }
 
 // What the table has for an id.
-#[derive(Drop)]
+#[derive(Clone, Copy)]
 pub enum Held {
     Mapped(u64),
     Unmapped,
 }
 
 // A slot found in the file map.
-#[derive(Drop)]
+#[derive(Clone, Copy)]
 pub enum Slot {
     Is(u64),
     NoSlot,
 }
 
 // What the label's bytes of a slot say: empty, five numbers, or no label.
-#[derive(Drop)]
+#[derive(Clone, Copy)]
 pub enum LabelAnswer {
     Vacant,
     Five(Label),

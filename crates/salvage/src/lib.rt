@@ -1,5 +1,7 @@
 // Request P9 of document 02: a salvage empties the slots that make reopening refuse, and says which.
 
+#![tactic(auto)]
+
 pub mod first;
 
 ghost use Rattle.std.specs.Prelude.{◌≡◌, ◌*◌, ◌≤◌, length, take};
@@ -19,7 +21,7 @@ use losses::second::{in_order, second_kind};
 use rules::{RECORDS, Refusal, Settings};
 
 // How many slots were given up; "Refusals: 1 only"
-#[derive(Drop)]
+#[derive(Clone, Copy)]
 pub enum SalvageAnswer {
     GivenUp(u64),
     SalvageRefused(Refusal),

@@ -1,5 +1,7 @@
 // The console's script: a line as a keyword, numbers and bytes; bytes as text.
 
+#![tactic(auto)]
+
 ghost use Rattle.std.specs.Prelude.{◌≡◌, true, false, ◌≤◌, length, drop};
 ghost use Rattle.numbers.specs.Choice.{pick};
 ghost use Rattle.numbers.specs.Parts.{front};
@@ -15,7 +17,7 @@ pub mod words;
 use words::Parsed;
 
 // A line's first word. Blank: a comment alone; Bad: a line that is no command, an empty one too.
-#[derive(Drop)]
+#[derive(Clone, Copy)]
 pub enum Keyword {
     Blank,
     Bad,
@@ -53,14 +55,14 @@ pub enum Keyword {
 }
 
 // What follows a keyword: so many numbers, then a word of hex pairs or none.
-#[derive(Drop)]
+#[derive(Clone, Copy)]
 pub struct Shape {
     pub numbers: usize,
     pub bytes: bool,
 }
 
 // A line taken apart. `length`: how many bytes its hex pairs gave.
-#[derive(Drop)]
+#[derive(Clone, Copy)]
 pub struct Order {
     pub keyword: Keyword,
     pub numbers: [u64; 9],
@@ -68,7 +70,7 @@ pub struct Order {
 }
 
 // The numbers of a line, and the position after them.
-#[derive(Drop)]
+#[derive(Clone, Copy)]
 struct Numbers {
     good: bool,
     values: [u64; 9],

@@ -4,14 +4,14 @@ ghost use Rattle.script.specs.Words.{is_blank, run_of, words_of, none, next_word
 ghost use Rattle.script.specs.Decimal.{number_of, longer_by};
 
 // A decimal number of 64 bits, or none.
-#[derive(Drop)]
+#[derive(Clone, Copy)]
 pub enum Parsed {
     Value(u64),
     Wrong,
 }
 
 // Where a word stands; start and end are the same where there is none.
-#[derive(Drop)]
+#[derive(Clone, Copy)]
 pub struct Word {
     pub start: usize,
     pub end: usize,

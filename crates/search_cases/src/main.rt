@@ -1,6 +1,9 @@
 // Request P4: a search by halving beside one from the front, in the same tables: whether they answer the same, and at how many places each
 // looks. With a line on standard input, `halving ENTRIES ROUNDS` or `front ENTRIES ROUNDS`, one of them alone, for a clock outside
 // (tests/halving.py).
+
+#![tactic(auto)]
+
 mod from_front;
 
 ghost use Rattle.std.specs.Prelude.{◌≡◌, ◌*◌, ◌<◌, ◌≤◌, length};
@@ -17,14 +20,14 @@ const SOUGHT: u64 = 1000;
 const MOST_ENTRIES: u64 = 65536;
 
 // At how many places a search looked: the most for one id, and all.
-#[derive(Drop)]
+#[derive(Clone, Copy)]
 struct Looks {
     most: u64,
     all: u64,
 }
 
 // Both searches, and how often they answered otherwise.
-#[derive(Drop)]
+#[derive(Clone, Copy)]
 struct Beside {
     halving: Looks,
     front: Looks,

@@ -1,5 +1,7 @@
 // One file, that of line P10, written with right and with wrong numbers and cut off after every store: what its slot then shows.
 
+#![tactic(auto)]
+
 ghost use Rattle.std.specs.Prelude.{◌≤◌, ◌<◌, length};
 
 use as_numbers::answers::refusal_number;

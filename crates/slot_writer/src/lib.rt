@@ -1,6 +1,8 @@
 // A file's objects and its label, written straight into the heap as far as `left` stores reach. The run of a file is
 // its objects, its trailer (crate trailer), label bytes 2 to 64, label byte 1.
 
+#![tactic(auto)]
+
 pub mod label;
 
 ghost use Rattle.std.specs.Prelude.{◌++◌, ◌+◌, ◌≤◌, length};

@@ -5,7 +5,7 @@ use crate::{host, show};
 use rules::{Entry, Label};
 
 // A file as its label and trailer say: two entries stand there whatever the count.
-#[derive(Drop)]
+#[derive(Clone, Copy)]
 pub struct TwoEntries {
     pub lsn: u64,
     pub count: u64,

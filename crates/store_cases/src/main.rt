@@ -1,5 +1,8 @@
 // Writes, reads and reopenings on small stores, a call to a line. What it must write (stdout) is what tests/oracle/cases.py,
 // the same cases on a model of the paper that shares nothing with this code, writes.
+
+#![tactic(auto)]
+
 mod heaps;
 mod host;
 mod show;

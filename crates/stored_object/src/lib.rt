@@ -1,11 +1,13 @@
 // An object as it stands in a file: its header, and where its body lies.
 
+#![tactic(auto)]
+
 pub mod object;
 
 use rules::Refusal;
 
 // An object's header, and how many bytes there are from it on.
-#[derive(Drop)]
+#[derive(Clone, Copy)]
 pub struct Header {
     pub checksum: u64,
     pub id: u64,
@@ -14,7 +16,7 @@ pub struct Header {
 }
 
 // What a walk over object bytes meets: their end, bytes too few for a header, or an object.
-#[derive(Drop)]
+#[derive(Clone, Copy)]
 pub enum Step {
     End,
     HeaderCut,
@@ -22,7 +24,7 @@ pub enum Step {
 }
 
 // A body's start in its file and its length.
-#[derive(Drop)]
+#[derive(Clone, Copy)]
 pub enum BodyAnswer {
     Body(u64, u64),
     Unread(Refusal),

@@ -1,5 +1,7 @@
 // The first stores of a run: a writer is given how many stores may still be made, makes no more, and answers how many are left.
 
+#![tactic(auto)]
+
 ghost use Rattle.std.specs.Prelude.{◌≡◌, ◌⊎◌, ◌+◌, ◌≤◌, min, length, take, drop};
 ghost use Rattle.numbers.specs.LittleEndian.{le_bytes};
 ghost use Rattle.rules.specs.Stores.{stores_of};

@@ -1,4 +1,7 @@
 // The four table calls (`src/location_table.rs`).
+
+#![tactic(auto)]
+
 ghost use Rattle.std.specs.Prelude.{◌≡◌, ◌||◌, eqb};
 ghost use Rattle.rules.specs.Refusal.{decide};
 ghost use Rattle.rules.specs.TableCalls.{load_call, store_call, compare_call, greater_call};

@@ -1,4 +1,7 @@
 // What the test programs share: a store before its first reopening, and a store on one line.
+
+#![tactic(auto)]
+
 use as_numbers::answers::refusal_number;
 use libc::STDOUT_FILENO;
 use rules::{Claims, FileMap, RECORDS, Record, Refusal, Settings, State};

@@ -1,4 +1,7 @@
 // Request P3, "Let the editor see what it hasn't saved": a read over a batch buffer and the heap.
+
+#![tactic(auto)]
+
 ghost use Rattle.std.specs.Prelude.{◌≡◌, false, ◌≤◌, length};
 ghost use Rattle.numbers.specs.Choice.{pick};
 ghost use Rattle.rules.specs.declared.Claims.{Claims};
@@ -15,7 +18,7 @@ use readpath::read_answer;
 use rules::{ReadAnswer, Refusal, Settings, State};
 
 // A piece of the batch or of the heap, by its start and length; or that the id is deleted, or never written.
-#[derive(Drop)]
+#[derive(Clone, Copy)]
 pub enum ThroughAnswer {
     InBatch(u64, u64),
     InHeap(u64, u64),
@@ -25,7 +28,7 @@ pub enum ThroughAnswer {
 }
 
 // The last operation of a batch on an id: a put, by its body's start in the batch and its length; a delete; or none.
-#[derive(Drop)]
+#[derive(Clone, Copy)]
 pub enum LastOperation {
     Puts(u64, u64),
     Deletes,
@@ -33,7 +36,7 @@ pub enum LastOperation {
 }
 
 // What a pass over a batch finds: the last operation, or bytes that are no batch.
-#[derive(Drop)]
+#[derive(Clone, Copy)]
 pub enum Pass {
     Whole(LastOperation),
     BadBatch,

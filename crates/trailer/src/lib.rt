@@ -1,5 +1,7 @@
 // A file's trailer: its entries by number from the lent bytes, and the tests 9 to 12 on any bytes.
 
+#![tactic(auto)]
+
 pub mod write;
 
 ghost use Rattle.std.specs.Prelude.{◌≡◌, ◌+◌, ◌*◌, ◌≤◌, ◌<◌, length, get_or};

@@ -1,5 +1,7 @@
 // Refusals 1 to 7, "in order on the whole batch", and what the batch comes to where none is given.
 
+#![tactic(auto)]
+
 ghost use Rattle.std.specs.Prelude.{◌≡◌, ◌+◌, ◌<◌, ◌^◌, length, ltb};
 ghost use Rattle.rules.specs.declared.Claims.{Claims};
 ghost use Rattle.rules.specs.Ops.{settled};
@@ -20,7 +22,7 @@ use rules::{Answer, FileMap, Refusal, Settings, State};
 use table_merge::new_at;
 
 // A refusal; nothing, for an empty batch; or a file: its slot, its count of entries and T.
-#[derive(Drop)]
+#[derive(Clone, Copy)]
 pub enum Decision {
     Refused(Refusal),
     Nothing,
@@ -28,7 +30,7 @@ pub enum Decision {
 }
 
 // How many operations count, T, and how many of their ids the table does not have; or no slot has room for their file.
-#[derive(Drop)]
+#[derive(Clone, Copy)]
 pub enum Sizing {
     Fits(u64, u64, u64),
     TooLarge,

@@ -1,5 +1,7 @@
 // Write (`src/writepath.rs`): the whole batch is decided first; nothing is stored before.
 
+#![tactic(auto)]
+
 ghost use Rattle.std.specs.Prelude.{◌≡◌, ◌+◌, ◌*◌, ◌≤◌, ◌<◌, ◌^◌, length};
 ghost use Rattle.rules.specs.declared.Claims.{Claims};
 ghost use Rattle.rules.specs.Ops.{file_bytes, settled};
@@ -20,7 +22,7 @@ use rules::{Answer, Label, Settings, State};
 use write_decision::Decision;
 
 // The answer, and the state after the call.
-#[derive(Drop)]
+#[derive(Clone, Copy)]
 pub struct Written {
     pub answer: Answer,
     pub state: State,
@@ -56,7 +58,7 @@ fn put_file(
 }
 
 // A batch's file to be: its slot, its count of entries and T.
-#[derive(Drop)]
+#[derive(Clone, Copy)]
 struct NewFile {
     slot: usize,
     count: u64,

@@ -1,0 +1,14 @@
+use mathlib.Core.List.{◌++◌}
+use Prim.Native.Nat.{◌*◌}
+use lib.ListN.{take}
+use Rattle.as_numbers.specs.StateWords.{records_from}
+use Prim.Native.Nat.{◌+◌, ◌≤◌, ◌-◌}
+use mathlib.Core.Path.{◌≡◌}
+use lib.ListN.{length}
+use Rattle.as_numbers.proofs.state_words.files_in.Given as goal
+
+abbrev pub invariant-loop-k : goal.invariant-loop-k
+invariant-loop-k l = (l.k ≤ 256) × (length l.files.records ≡ 256) × (take l.k l.files.records ++ records_from (256 - l.k) l.words (8 + 7 * l.k) ≡ records_from 256 l.words 8)
+
+abbrev pub decreases-loop-k : goal.decreases-loop-k
+decreases-loop-k l = 256 - l.k

@@ -1,0 +1,18 @@
+use mathlib.Core.Path.{ap, ◌∙◌}
+use lib.ListN.{length}
+use Rattle.desk.specs.Desk.{Outcome}
+use Rattle.bench.proofs.Answers.{ran-order}
+use Rattle.bench.proofs.commands.after_line.Goals as goal
+
+pub shape_of-decoded : goal.shape_of-decoded
+shape_of-decoded c =
+    c.order_of-order.auto.1.0
+
+pub returns : goal.returns
+returns c =
+    let a = c.args in
+    let asked = c.order_of-order.ensures in
+    record {
+      runs = ap (λ (x : Outcome). x.desk) c.after_order-turn.ensures.leaves ∙ ran-order (length a.decoded.now) a.line.now a.decoded.now _ _ _ asked.answers asked.writes;
+      decodes = asked.writes;
+    }

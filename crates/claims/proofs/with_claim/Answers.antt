@@ -1,0 +1,7 @@
+use mathlib.Core.Path.{refl, ◌∙◌}
+use Rattle.rules.specs.Claims.{claim_set}
+use Rattle.claims.proofs.with_claim.Goals as goal
+
+pub returns : goal.returns
+unfolding claim_set
+returns c = c.with_word.ensures ∙ rw (c.bit_set.ensures, c.word_of.ensures) refl

@@ -1,0 +1,54 @@
+use mathlib.Core.Path.{◌≡◌, refl, sym, subst}
+use Prim.Native.Nat.{ℕ, suc, ◌-◌}
+use native.Mathlib.Omega.{arith}
+use Rattle.rules.specs.Layout.{table_ids}
+use Rattle.gc_chains.specs.Linking.{Linking, linking-start, linking-end}
+use Rattle.gc_chains.proofs.link.Goals as goal
+
+-- ---- the call, as each place has it
+abbrev begun : goal.At-loop-i → goal.Start
+begun l = l.before.before.before.before.before.before
+
+pub loop-i-init : goal.loop-i-init
+loop-i-init c =
+    let a = c.args in
+    let at = sym c.used-i.ensures in
+    let begins = linking-start (table_ids a.table.now) a.places.now a.links.now a.words.now _ c.requires.linkable in
+    (omega (arith, at), subst (λ (n : ℕ). Linking (table_ids a.table.now) a.places.now a.links.now a.words.now n a.links.now a.words.now) at begins)
+
+pub bounds-places-i : goal.bounds-places-i
+bounds-places-i c =
+    let w = (begun c.before.before).requires.1 in
+    omega (arith, c.loop-i.invariant.0, c.loop-i-test.true, w.low, w.wide)
+
+pub link_entry-requires : goal.link_entry-requires
+link_entry-requires c =
+    let w = (begun c.before.before.before.before.before).requires.1 in
+    let more = c.loop-i-test.true in
+    record {
+      i_in_bounds = omega (arith, c.loop-i.invariant.0, c.loop-i.invariant.1.long, more, w.low, w.numbered);
+      i_bound = omega (arith, c.loop-i.invariant.0, more, w.low, w.few);
+    }
+
+pub loop-i-preserved : goal.loop-i-preserved
+loop-i-preserved c =
+    let a = (begun c.before.before.before.before.before.before.before.before.before.before).args in
+    let w = (begun c.before.before.before.before.before.before.before.before.before.before).requires.1 in
+    let inv = c.loop-i.invariant in
+    let more = c.loop-i-test.true in
+    let on : c.loop-i.i ≡ suc (c.loop-i.i - 1) = omega (arith, more) in
+    let before = subst (λ (n : ℕ). Linking (table_ids a.table.now) a.places.now a.links.now a.words.now n c.loop-i.links c.loop-i.words) on inv.1 in
+    (omega (arith, inv.0), c.link_entry.ensures (table_ids a.table.now) a.places.now a.links.now a.words.now _ w (omega (arith, inv.0, more, w.low)) refl before)
+
+pub shape_of-links : goal.shape_of-links
+shape_of-links c = c.loop-i.invariant.1.long
+
+pub shape_of-words : goal.shape_of-words
+shape_of-words c = c.loop-i.invariant.1.many
+
+pub returns : goal.returns
+returns c =
+    let a = (begun c.before).args in
+    let last : c.loop-i.i ≡ 0 = omega (arith, c.loop-i-test.false) in
+    linking-end (table_ids a.table.now) a.places.now a.links.now a.words.now _ (begun c.before).requires.1 c.loop-i.links c.loop-i.words
+    (subst (λ (n : ℕ). Linking (table_ids a.table.now) a.places.now a.links.now a.words.now n c.loop-i.links c.loop-i.words) last c.loop-i.invariant.1)

@@ -1,0 +1,70 @@
+use mathlib.Core.Path.{◌≡◌, refl, sym, ap, ◌∙◌, subst}
+use mathlib.Core.Logic.{inl, inr}
+use Prim.Native.Nat.{ℕ}
+use lib.ListN.{length}
+use Rattle.rules.specs.BaseLaws.{or-holds, or-clear}
+use Rattle.rules.specs.declared.MaintainAnswer.{MaintainAnswer}
+use Rattle.rules.specs.Condition1.{refused1}
+use Rattle.rules.specs.Condition1Laws.{passed, passes}
+use Rattle.rules.specs.Maintenance.{Course}
+use Rattle.rules.specs.TwoCalls.{room_of, short, job_ended}
+use Rattle.rules.specs.World.{World, world, maintain_given}
+use Rattle.as_numbers.specs.StateWords.{state_in}
+use Rattle.prune.specs.Labels.{passed-labels}
+use Rattle.gc_notes.specs.Notes.{long-enough, notes-cleared}
+use Rattle.gc_course.specs.RunLaws.{ended-own, nightly-refused, nightly-accepted}
+use Rattle.gc_nightly.proofs.nightly_in.Goals as goal
+
+-- the world that the job is given
+abbrev given : goal.Start → World
+given start = let a = start.args in world a.settings (state_in a.state.now) a.claims a.heap.now a.table.now
+
+-- the room of its notes
+abbrev room : goal.Start → ℕ
+room start = room_of start.args.places.now start.args.pieces.now
+
+pub returns-then-refused_in : goal.returns-then-refused_in
+returns-then-refused_in c =
+    let e = or-holds (refused1 (given c.before.before.before.before.before.before)) (short (room c.before.before.before.before.before.before) c.args.table.now) (inl (sym c.refused_in.ensures ∙ c.if-refused_in.true)) in
+    record {
+      leaves = nightly-refused (given c.before.before.before.before.before.before) (room c.before.before.before.before.before.before) e;
+      places = refl;
+      pieces = refl;
+    }
+
+pub returns-then-too_short : goal.returns-then-too_short
+returns-then-too_short c =
+    let e = or-holds (refused1 (given c.before.before.before.before.before.before.before.before)) (short (room c.before.before.before.before.before.before.before.before) c.args.table.now) (inr (sym c.too_short.ensures ∙ c.if-too_short.true)) in
+    record {
+      leaves = nightly-refused (given c.before.before.before.before.before.before.before.before) (room c.before.before.before.before.before.before.before.before) e;
+      places = refl;
+      pieces = refl;
+    }
+
+pub rewrites-run-requires : goal.rewrites-run-requires
+rewrites-run-requires c =
+    let a = c.args in record {
+      passed_2 = passed a.settings (length a.heap.now) a.table.now (state_in a.state.now) (sym c.refused_in.ensures ∙ c.if-refused_in.false);
+      table_in_bounds = long-enough a.places.now a.pieces.now a.table.now (sym c.too_short.ensures ∙ c.if-too_short.false);
+    }
+
+pub finish-requires : goal.finish-requires
+finish-requires c =
+    let a = c.args in
+    passed-labels a.settings _ _ _ c.rewrites-run.ensures.passed
+
+pub returns : goal.returns
+returns c =
+    let a = c.args in
+    let run = c.rewrites-run.result in
+    let left = c.rewrites-run.new.1.1.1 in
+    let k = c.rewrites-run.auto.1.1.1.1.1 in
+    let still = passes a.settings _ _ _ c.rewrites-run.ensures.passed in
+    let clear = or-clear _ _ (sym c.refused_in.ensures ∙ c.if-refused_in.false) (sym c.too_short.ensures ∙ c.if-too_short.false) in
+    let answered = maintain_given c.finish.result in
+    let own : answered.number ≡ 1 → ⊥ =
+    subst (λ (x : MaintainAnswer). (maintain_given x).number ≡ 1 → ⊥) (sym c.finish.ensures.answers) (ended-own run.halt run.moved c.rewrites-run.ensures.own) in record {
+      leaves = c.finish.ensures.leaves left.1.0 still ∙ ap (λ (d : Course). job_ended d.stop d) c.rewrites-run.ensures.leaves ∙ nightly-accepted (given c.before.before.before.before.before.before.before.before.before.before.before.before.before.before.before.before.before.before.before.before.before.before.before.before.before.before.before.before.before.before.before.before.before.before.before) (room c.before.before.before.before.before.before.before.before.before.before.before.before.before.before.before.before.before.before.before.before.before.before.before.before.before.before.before.before.before.before.before.before.before.before.before) clear;
+      places = notes-cleared answered a.places.now left.1.1.0 _ own k.0 c.clear.ensures;
+      pieces = notes-cleared answered a.pieces.now left.1.1.1.0 _ own k.1.0 c.clear-2.ensures;
+    }

@@ -1,0 +1,75 @@
+use mathlib.Core.Path.{refl, sym, ◌∙◌}
+use mathlib.Core.Logic.{⊎_elim}
+use Prim.Native.Nat.{◌-◌}
+use native.Mathlib.Omega.{arith}
+use lib.ListN.{length}
+use Rattle.as_numbers.specs.StateWords.{state_in}
+use Rattle.limits.specs.Settled.{passed-bounded}
+use Rattle.gc_nightly.proofs.Midway.{midway_start, midway-halted, midway-step, midway_end}
+use Rattle.gc_nightly.proofs.rewrites.Goals as goal
+
+pub count_in-count-requires : goal.count_in-count-requires
+count_in-count-requires c =
+    let a = c.args in
+    passed-bounded a.settings (length a.heap.now) a.table.now (state_in a.state.now) c.requires.passed_2
+
+pub loop-generation-init : goal.loop-generation-init
+loop-generation-init c =
+    midway_start _ _ _ _ _ _ _ _ _ c.requires.passed_2
+
+pub rewrite_generation-course-requires : goal.rewrite_generation-course-requires
+rewrite_generation-course-requires c =
+    let m = c.loop-generation.invariant in
+    let notes = c.requires.table_in_bounds in record {
+      passed_2 = m.limits;
+      table_in_bounds = (omega (arith, notes.0, m.table-long, m.places-long), omega (arith, notes.1, m.table-long, m.pieces-long));
+      generation_nonzero = (m.low, c.loop-generation-test.true);
+    }
+
+pub overflow_add-run : goal.overflow_add-run
+overflow_add-run c =
+    let m = c.loop-generation.invariant in
+    record { fits = omega (arith, m.few, c.rewrite_generation-course.ensures.moved) }
+
+pub loop-generation-preserved : goal.loop-generation-preserved
+loop-generation-preserved c =
+    let l = c.loop-generation in
+    let turn = c.loop-generation-test.true in
+    ⊎_elim
+    (λ w.
+    let r = w.6 in
+    let k = r.kept.1.1.1 in
+    rw (w.18, w.19, w.20, w.21, w.22, w.23)
+    (midway-step _ _ _ _ _ _ _ _ _ l.generation l.run (state_in l.state) l.heap l.table l.places l.pieces l.invariant c.requires.table_in_bounds turn
+    (sym c.is_going.ensures ∙ w.0.taken) r.result.answer _ _ _ _ _ _ _
+    r.ensures.0 w.15.ensures r.ensures.1.0 r.ensures.1.1 k.0 k.1.0 k.1.1.0 k.1.1.1.0))
+    (λ w.
+    rw (w.1, w.2, w.3, w.4, w.5, w.6)
+    (midway-halted _ _ _ _ _ _ _ _ _ l.generation l.run (state_in l.state) l.heap l.table l.places l.pieces l.invariant turn (sym c.is_going.ensures ∙ w.0.left)))
+    c.if-is_going.branch-raw
+
+pub shape_of-heap : goal.shape_of-heap
+shape_of-heap c =
+    c.loop-generation.invariant.heap-long
+
+pub shape_of-table : goal.shape_of-table
+shape_of-table c =
+    c.loop-generation.invariant.table-long
+
+pub shape_of-places : goal.shape_of-places
+shape_of-places c =
+    c.loop-generation.invariant.places-long
+
+pub shape_of-pieces : goal.shape_of-pieces
+shape_of-pieces c =
+    c.loop-generation.invariant.pieces-long
+
+pub returns : goal.returns
+unfolding state_in
+returns c =
+    let l = c.loop-generation in record {
+      leaves = midway_end _ _ _ _ _ _ _ _ _ l.generation l.run (state_in l.state) l.heap l.table l.places l.pieces l.invariant c.loop-generation-test.false refl
+          c.count_in-count.ensures;
+      passed = l.invariant.limits;
+      own = l.invariant.own;
+    }

@@ -1,0 +1,26 @@
+use mathlib.Core.Path.{◌≡◌}
+use mathlib.Core.List.{List}
+use mathlib.Core.Bool.{false}
+use Prim.Native.Nat.{ℕ, ◌+◌, ◌-◌, ◌^◌, ◌≤◌, ◌<◌}
+use lib.ListN.{drop}
+use Rattle.rules.specs.declared.Entry.{Entry}
+use Rattle.rules.specs.Trailer.{count_in, entries_in, absolute}
+use Rattle.rules.specs.Table.{insert, insert_all, full}
+use Rattle.rules.specs.Layout.{used_entries, capacity_of}
+use Rattle.location_table.specs.Tables.{Formed}
+use Rattle.disk_location.specs.Locations.{position_of}
+use Rattle.install.specs.Adding.{taken}
+use Rattle.install.proofs.one_by_one.Given as goal
+
+abbrev pub invariant-loop-k : goal.invariant-loop-k
+invariant-loop-k l = (l.n ≡ count_in l.trailer) × (l.k ≤ l.n) × Formed l.table × (capacity_of l.table ≡ capacity_of l.initial.table) × (insert_all (used_entries l.table) (taken l.lsn (drop l.k (entries_in l.trailer))) ≡ insert_all (used_entries l.initial.table) (taken l.lsn (entries_in l.trailer)))
+
+abbrev pub decreases-loop-k : goal.decreases-loop-k
+decreases-loop-k l = l.n - l.k
+
+-- what a turn knows of the entry that it looks at
+record Met (l.lsn l.k : ℕ) (es : List Entry) (t all : List Entry) (capacity : ℕ) (e : Entry) : Type 0 where
+  pub placed : position_of e.location + l.lsn < 2 ^ 63
+  pub positive : 0 < l.lsn
+  pub room : full t capacity e.id ≡ false
+  pub next : insert_all (insert t (absolute l.lsn e)) (taken l.lsn (drop (l.k + 1) es)) ≡ insert_all t (taken l.lsn (drop l.k es))

@@ -1,0 +1,75 @@
+use mathlib.Core.Path.{refl, sym, ap, ◌∙◌, subst, ◌≡◌}
+use Prim.Native.Nat.{zero-le, ◌^◌, ℕ, ◌≤◌, ◌<◌, ◌-◌}
+use Rattle.rules.specs.SlotFile.{empty, view_in}
+use Rattle.rules.specs.SlotLaws.{slots_apart}
+use Rattle.slot_file.specs.Slots.{shown_by}
+use Rattle.faults.specs.Faults.{judged}
+use Rattle.salvage.specs.Types.{SlotAnswer}
+use Rattle.losses.specs.Lines.{loss_shown, own-shown, reports-as, going_start, going-as, going_on, going_end}
+use Rattle.losses.specs.Starts.{start_shown, end_shown, end_fits, judged-length, judged-view, slots_judged, start_in, end_in}
+use Rattle.losses.proofs.LossTurns.{first_next, first-none, shown-few, fill_start, fill-next, fill_end}
+use native.Mathlib.Omega.{arith}
+use lib.ListN.{length, get_or, length-set}
+use mathlib.Core.List.{List}
+use Rattle.salvage.proofs.first.first_kind.Goals as goal
+
+pub loop-k-init : goal.loop-k-init
+loop-k-init c =
+    let a = c.args in
+    let vs = slots_judged (length a.starts.now) a.size a.heap.now in
+    let many = judged-length (length a.starts.now) a.size a.heap.now in
+    (zero-le, refl, refl, refl, c.requires.ends_len, zero-le, going_start, fill_start start_in vs a.starts.now (sym many), fill_start end_in vs a.ends.now (c.requires.ends_len ∙ sym many))
+
+pub slot_at-requires : goal.slot_at-requires
+slot_at-requires c =
+    let a = c.args in
+    let low : c.loop-k.k < length a.starts.now = omega (arith, c.loop-k.invariant.1, c.loop-k-test.true) in
+    omega (arith, c.requires.size_in_bounds.0, slots_apart a.size c.loop-k.k (length a.starts.now) low)
+
+-- what slot k shows by itself
+shown-is : (c : goal.After-own-shown) → let a = c.args in
+    c.own-shown.result ≡ shown_by (get_or (slots_judged (length a.starts.now) a.size a.heap.now) c.loop-k.k empty)
+shown-is c =
+    let a = c.args in
+    let low : c.loop-k.k < length a.starts.now = omega (arith, c.loop-k.invariant.1, c.loop-k-test.true) in
+    c.own-shown.ensures ∙ ap (λ (s : List ℕ). shown_by (judged (view_in s))) c.slot_at.ensures
+    ∙ ap shown_by (sym (judged-view (length a.starts.now) a.size a.heap.now c.loop-k.k low))
+
+pub end-requires : goal.end-requires
+end-requires c = subst (λ (s : SlotAnswer). end_shown s < 2 ^ 64) (sym c.own-shown.ensures) (end_fits c.slot_at.result.now)
+
+pub loop-k-preserved : goal.loop-k-preserved
+loop-k-preserved c =
+    let a = c.args in
+    let n = length a.starts.now in
+    let vs = slots_judged n a.size a.heap.now in
+    let k = c.loop-k.k in
+    let inv = c.loop-k.invariant in
+    let many = judged-length n a.size a.heap.now in
+    let low : k < length vs = omega (arith, many, inv.1, c.loop-k-test.true) in
+    let is = shown-is c.before.before.before.before.before.before in
+    let line = c.own_line-count.ensures in (
+      omega arith,
+      inv.1,
+      c.own_line-count.auto.0 ∙ inv.2,
+      length-set c.loop-k.starts k _ ∙ inv.3,
+      length-set c.loop-k.ends k _ ∙ inv.4,
+      omega (arith, line.count, shown-few k c.own-shown.result),
+      going_on (omega (arith, c.requires.size_in_bounds.1, inv.1, inv.2, inv.5, low)) (going-as (first_next vs k low) inv.6) (reports-as (ap (loss_shown k) is ∙ own-shown k (get_or vs k empty)) line),
+      fill-next start_in vs c.loop-k.starts (omega (arith, inv.1, inv.3, many)) k _ low (c.start.ensures ∙ ap start_shown is) ∙ inv.7,
+      fill-next end_in vs c.loop-k.ends (omega (arith, inv.1, inv.4, many)) k _ low (c.end.ensures ∙ ap end_shown is) ∙ inv.8,
+    )
+
+pub returns : goal.returns
+returns c =
+    let a = c.args in
+    let n = length a.starts.now in
+    let vs = slots_judged n a.size a.heap.now in
+    let k = c.loop-k.k in
+    let inv = c.loop-k.invariant in
+    let many = judged-length n a.size a.heap.now in
+    let past : length vs ≤ k = omega (arith, many, inv.1, c.loop-k-test.false) in record {
+      reports = going_end (going-as (first-none vs k past) inv.6);
+      starts = sym (fill_end start_in vs c.loop-k.starts (omega (arith, inv.1, inv.3, many)) k past) ∙ inv.7;
+      ends = sym (fill_end end_in vs c.loop-k.ends (omega (arith, inv.1, inv.4, many)) k past) ∙ inv.8;
+    }

@@ -1,0 +1,11 @@
+use borrow.Author.Tests.{lt-ltb, le-ltb}
+use Rattle.script.specs.Hex.{glyph_of}
+use Rattle.script.proofs.hex.glyph.Goals as goal
+
+pub returns-then-n-lt10 : goal.returns-then-n-lt10
+unfolding glyph_of
+returns-then-n-lt10 c = simp (lt-ltb _ _ c.if-n-lt10.true)
+
+pub returns-else-n-lt10 : goal.returns-else-n-lt10
+unfolding glyph_of
+returns-else-n-lt10 c = simp (le-ltb _ _ c.if-n-lt10.false)

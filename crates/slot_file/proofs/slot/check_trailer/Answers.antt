@@ -1,0 +1,48 @@
+use mathlib.Core.Path.{◌≡◌, refl, sym, ◌∙◌}
+use borrow.Author.Tests.{eq-eqb, ne_eqb}
+use Rattle.rules.specs.declared.Answer.TheVariants.{Done}
+use Rattle.rules.specs.Refusal.{decide}
+use Rattle.rules.specs.Trailer.{trailer_tests, count_in}
+use Rattle.trailer.specs.Entries.{clear-fits}
+use Rattle.slot_file.specs.Slots.{entry-refused, entry-clear}
+use native.Mathlib.Omega.{arith}
+use Rattle.slot_file.proofs.slot.check_trailer.Goals as goal
+
+-- ---- 9, 10 and 11 are clear
+abbrev begun : goal.In-Done → goal.Start
+begun k = k.before.before.before.before
+
+clear : (k : goal.In-Done) → decide (trailer_tests (begun k).args.bytes.now) ≡ Done
+clear k = sym k.check.ensures ∙ k.in-Done.is
+
+pub some_misplaced-requires : goal.some_misplaced-requires
+some_misplaced-requires c = clear-fits (begun c).args.bytes.now (clear c)
+
+pub returns-then-some_misplaced : goal.returns-then-some_misplaced
+returns-then-some_misplaced c =
+    let a = (begun c.before.before).args in
+    sym (entry-clear a.l a.bytes.now (clear c.before.before) ∙ rw (← c.some_misplaced.ensures, c.if-some_misplaced.true) refl)
+
+pub count-requires : goal.count-requires
+count-requires c =
+    omega (arith, clear-fits (begun c.before.before).args.bytes.now (clear c.before.before))
+
+pub returns-then-l-count : goal.returns-then-l-count
+returns-then-l-count c =
+    let a = (begun c.before.before.before.before.before).args in
+    let t = a.bytes.now in
+    sym (entry-clear a.l t (clear c.before.before.before.before.before)
+    ∙ rw (← c.some_misplaced.ensures, c.if-some_misplaced.false, ne_eqb a.l.present_objects (count_in t) (λ e. c.if-l-count.true (e ∙ sym c.count.ensures))) refl)
+
+pub returns-in-Refused : goal.returns-in-Refused
+returns-in-Refused c =
+    let told = c.in-Refused.is in
+    let a = c.args in
+    sym (entry-refused a.l a.bytes.now _ (sym c.check.ensures ∙ told))
+
+pub returns-else-l-count : goal.returns-else-l-count
+returns-else-l-count c =
+    let a = (begun c.before.before.before.before.before).args in
+    let t = a.bytes.now in
+    sym (entry-clear a.l t (clear c.before.before.before.before.before)
+    ∙ rw (← c.some_misplaced.ensures, c.if-some_misplaced.false, eq-eqb a.l.present_objects (count_in t) (c.if-l-count.false ∙ c.count.ensures)) refl)

@@ -1,0 +1,30 @@
+use mathlib.Core.Path.{◌≡◌, sym, ap, ◌∙◌}
+use lib.ListN.{take, length-take}
+use lib.Seq.{length-take-le}
+use Rattle.numbers.specs.Parts.{put_at}
+use Rattle.numbers.proofs.Lent.{lent, copied}
+use Rattle.stores.specs.Runs.{made-put}
+use Rattle.stores.proofs.FirstBytes.{take-lesser}
+use Prim.Native.Nat.{ℕ}
+use native.Mathlib.Omega.{arith}
+use Rattle.stores.proofs.put_bytes.Goals as goal
+
+pub slice_bounds-copy-end : goal.slice_bounds-copy-end
+slice_bounds-copy-end c =
+    sym (length-take-le c.lesser-many.result c.args.from.now (omega (arith, c.lesser-many.ensures)))
+
+pub copy-requires : goal.copy-requires
+copy-requires c =
+    omega (arith, c.lesser-many.ensures, length-take c.lesser-many.result c.args.from.now, length-take c.lesser-many.result c.args.from.now)
+
+pub returns : goal.returns
+returns c =
+    let a = c.args in
+    let h = a.heap.now in
+    let many = c.lesser-many.result in
+    let small = c.lesser-many.ensures in
+    let fit = c.requires in
+    let written : take many a.from.now ≡ take a.left a.from.now = ap (λ (m : ℕ). take m a.from.now) small ∙ take-lesser a.left a.from.now in
+    made-put a.left a.at a.from.now h _ _ fit
+    (lent h _ (take many a.from.now) a.at (omega (arith, length-take many a.from.now)) (copied _ (take many a.from.now) _ c.copy.ensures.1) ∙ ap (put_at h a.at) written)
+    (omega arith)

@@ -1,0 +1,10 @@
+use mathlib.Core.Path.{ap}
+use Rattle.numbers.specs.LittleEndian.{le_bytes, le-length}
+use Rattle.stores.specs.Runs.{made-behind}
+use Prim.Native.Nat.{ℕ, ◌+◌}
+use Rattle.trailer.proofs.write.put_entry.Goals as goal
+
+pub returns : goal.returns
+returns c =
+    let a = c.args in
+    made-behind a.at (a.at + 8) (le_bytes 8 a.e.id) (le_bytes 8 a.e.location) (ap (λ (k : ℕ). a.at + k) (le-length 8 a.e.id)) c.put_number-behind.ensures c.put_number.ensures
