@@ -8,7 +8,7 @@ use borrow.Author.Tests.{lt-ltb, le-ltb, ltb-true, ltb-false}
 use lib.ListN.{length-append, length-drop}
 use lib.Seq.{take_all, take-length, take_at, take-add}
 use Rattle.rules.specs.Base.{Bool, true, false, List, [], ◌∷◌, ◌++◌, ℕ, suc, ◌+◌, ◌-◌, length, take, drop, ltb, eqb, pick}
-use Rattle.bytes.specs.Bytes.{index_of, index_after, slice}
+use Rattle.byte_parts.specs.Bytes.{index_of, index_after, slice}
 use Rattle.numbers.specs.Parts.{put_at, put-length}
 use Rattle.desk.specs.Desk.{Desk, desk}
 use Rattle.desk.specs.declared.Bench.{Bench}

@@ -115,7 +115,7 @@ fn raised(answer: GreaterAnswer) {
 
 // A comment has no answer: it is for people, and written as it stands.
 fn comment(line: &[u8]) {
-    let from = bytes::scan::find(line, 0, line.len(), b'#');
+    let from = byte_parts::find(line, 0, line.len(), b'#');
     say::text(&line[from..]);
     say::end();
 }

@@ -39,7 +39,7 @@ fn held(s: Reading, line: &mut [u8], part: &[u8]) -> Reading
     if line.len() - n < part.len() {
         return too_long(s);
     }
-    bytes::copy(part, &mut line[n..]);
+    byte_parts::copy(part, &mut line[n..]);
     let mut t = s;
     t.held = n + part.len();
     t
@@ -60,7 +60,7 @@ fn read_on(s: Reading, input: &[u8], line: &mut [u8]) -> Reading
     ensures { ReadOn s input.now line.old result line.new }
 {
     let from = s.taken;
-    let end = bytes::scan::find(input, from, input.len(), b'\n');
+    let end = byte_parts::find(input, from, input.len(), b'\n');
     let t = held(s, line, &input[from..end]);
     if end == input.len() {
         return taken_to(t, end, false);

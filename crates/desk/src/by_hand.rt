@@ -78,7 +78,7 @@ pub fn poke(b: Bench, at: u64, bytes: &[u8], heap: &mut [u8]) -> Turn
         return bad_line(b);
     }
     let from = at as usize;
-    bytes::copy(bytes, &mut heap[from..]);
+    byte_parts::copy(bytes, &mut heap[from..]);
     done(b)
 }
 

@@ -21,11 +21,6 @@ behind s₀ s ys xs bs at l fit e f =
     let same : length s ≡ length s₀ = ap length e ∙ front_length s₀ xs (omega arith) in
     lent s ys bs at (omega arith) f ∙ ap₂ (λ (t : List ℕ) (n : ℕ). put_at t n bs) e (sym l) ∙ put-behind s₀ xs bs
 
--- `bytes::copy` says what it leaves with a `take`
-pub copied : (s b d : List ℕ) → s ≡ take (length b) b ++ drop (length b) d → s ≡ front b d
-unfolding front
-copied s b d e = rw take-length at e
-
 -- a number that was read in `&s[at..]`
 pub read-in : (s : List ℕ) (at k : ℕ) (r : ℕ) → at + k ≤ length s → r ≡ le_value (take k (take (length s - at) (drop at s))) → r ≡ le_value (take k (drop at s))
 read-in s at k r fit e = e ∙ ap le_value (take-take k (length s - at) (drop at s) (omega arith))

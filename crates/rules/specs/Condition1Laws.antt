@@ -90,14 +90,14 @@ pub records-good : (s : Settings) (heap_len : ℕ) (b : Table) (rs : List Record
 records-good s heap_len b rs good = from-good s heap_len b 0 rs (λ k some. rw zero-add (good k some))
 
 -- 1 does not hold
-pub record Passed (s : Settings) (heap_len : ℕ) (b : Table) (t : State) : Type 0 where
-  pub limits : InLimits s heap_len b
+pub record Passed (s : Settings) (heap_size : ℕ) (b : Table) (t : State) : Type 0 where
+  pub limits : InLimits s heap_size b
   pub settings : s ≡ t.settings
-  pub heap_len : heap_len ≡ t.heap_len
+  pub heap_len : heap_size ≡ t.heap_len
   pub table-len : capacity_of b ≡ t.table_len
   pub form : in_form b ≡ true
   pub next : 0 < t.next_position
-  pub records : (k : ℕ) → is_empty (record_at t.files.records k) ≡ false → GoodRecord s heap_len b k (record_at t.files.records k)
+  pub records : (k : ℕ) → is_empty (record_at t.files.records k) ≡ false → GoodRecord s heap_size b k (record_at t.files.records k)
 
 -- so much is known where 1 does not hold
 pub passed : (s : Settings) (heap_len : ℕ) (b : Table) (t : State) → condition_one s heap_len b t ≡ false → Passed s heap_len b t

@@ -8,7 +8,7 @@ use native.Mathlib.Omega.{arith}
 use lib.ListN.{length, take, drop, length-drop}
 use lib.Seq.{take_all, length-take-le}
 use lib.Dec.{ltb}
-use Rattle.bytes.specs.Bytes.{slice, index_of}
+use Rattle.byte_parts.specs.Bytes.{slice, index_of}
 use Rattle.numbers.specs.Choice.{pick}
 use Rattle.numbers.specs.Parts.{front, front_length}
 use Rattle.script.specs.declared.Keyword.{Keyword}

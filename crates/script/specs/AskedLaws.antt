@@ -1,7 +1,7 @@
 -- What holds of what a line asks for.
 use Rattle.std.specs.Prelude.{◌≡◌, refl, Bool, true, false, ◌&&◌, ◌||◌, List, [], ◌∷◌, ◌⊎◌, ℕ, ◌/◌, ◌≤◌, length, take, drop, eqb, leb}
 use Rattle.std.proofs.Common.{sym, ap, ◌∙◌, true≢false, inl, inr, arith, leb-true}
-use Rattle.bytes.specs.Bytes.{index_of, index_after}
+use Rattle.byte_parts.specs.Bytes.{index_of, index_after}
 use Rattle.numbers.specs.Choice.{pick}
 use Rattle.numbers.specs.Parts.{front}
 use Rattle.script.specs.declared.Keyword.{Keyword}

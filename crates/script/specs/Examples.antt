@@ -1,6 +1,6 @@
 -- Lines, and what they ask for.
 use Rattle.std.specs.Prelude.{◌≡◌, refl, [], ◌∷◌}
-use Rattle.bytes.specs.Bytes.{index_of, index_after}
+use Rattle.byte_parts.specs.Bytes.{index_of, index_after}
 use Rattle.numbers.specs.Parts.{front}
 use Rattle.script.specs.declared.Keyword.TheVariants.{Blank, Bad, Write, Read}
 use Rattle.script.specs.Decimal.{all_digits, value_from, number_of}

@@ -1,7 +1,7 @@
 -- Words of a line: runs of bytes that are not blank.
 use Rattle.std.specs.Prelude.{Bool, true, false, not, ◌&&◌, ◌||◌, List, [], ◌∷◌, ℕ, suc, ◌+◌, length, take, drop, eqb, ltb}
 use Rattle.std.specs.Bool.{beq}
-use Rattle.bytes.specs.Bytes.{index_of}
+use Rattle.byte_parts.specs.Bytes.{index_of}
 use Rattle.numbers.specs.Choice.{pick}
 use Rattle.script.specs.declared.words.Word.{Word}
 

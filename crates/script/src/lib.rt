@@ -285,6 +285,6 @@ pub fn order_of(line: &[u8], bytes: &mut [u8]) -> Order
         ≡ front (asked_by (length bytes.old) line.now).bytes bytes.old }
     ensures fits { result.length ≤ length bytes.new }
 {
-    let end = bytes::scan::find(line, 0, line.len(), b'#');
+    let end = byte_parts::find(line, 0, line.len(), b'#');
     order_in(&line[0..end], end < line.len(), bytes)
 }

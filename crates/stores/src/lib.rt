@@ -34,7 +34,7 @@ pub fn put_bytes(heap: &mut [u8], at: usize, from: &[u8], left: u64) -> u64
     ensures { Made left (stores_of at from.now) heap.old heap.new result }
 {
     let many = lesser(from.len(), left);
-    bytes::copy(&from[..many], &mut heap[at..]);
+    byte_parts::copy(&from[..many], &mut heap[at..]);
     left - many as u64
 }
 

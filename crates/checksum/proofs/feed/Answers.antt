@@ -1,6 +1,5 @@
 use mathlib.Core.Path.{◌≡◌, refl, sym, ap, ap₂, ◌∙◌}
 use mathlib.Core.List.{[]}
-use mathlib.Core.Logic.{⊎_elim}
 use Prim.Native.Nat.{ℕ, ◌+◌, ◌-◌, ◌≤◌, zero-le}
 use native.Mathlib.Omega.{arith}
 use lib.Bits.{bit_xor}
@@ -9,6 +8,7 @@ use Rattle.numbers.proofs.Lent.{read-in}
 use Rattle.checksum.specs.Checksum.{shifts, crc_from, crc-nil}
 use Rattle.checksum.proofs.ByteTurns.{bytes-turn, list-turn}
 use Rattle.checksum.proofs.feed.Goals as goal
+use Rattle.checksum.proofs.feed.Goals.{then-s-i-ge4, else-s-i-ge4}
 
 pub loop-i-init : goal.loop-i-init
 loop-i-init c = (zero-le, refl)
@@ -27,14 +27,14 @@ loop-i-2-init c =
     let l = c.loop-i in
     let s = c.args.s.now in
     let at : ℕ → ℕ → ℕ = λ x i. crc_from x (drop i s) in
-    ⊎_elim
-    (λ w.
-    let room : l.i + 4 ≤ length s = omega (arith, w.0.taken) in
-    let read = read-in s l.i 4 w.2.result room w.2.ensures in
-    let fed = w.4 ∙ w.3.ensures ∙ ap (λ (v : ℕ). shifts 32 (bit_xor l.x v)) read in
-    (omega (arith, w.5), ap₂ at fed w.5 ∙ bytes-turn 4 s l.i l.x (λ j. (c.type_inv.s j).fits) room ∙ l.invariant.1))
-    (λ w. (omega (arith, w.2), ap₂ at w.1 w.2 ∙ l.invariant.1))
-    c.if-s-i-ge4.branch-raw
+    elim c.if-s-i-ge4.branch [
+      then-s-i-ge4 w ↦
+        let room : l.i + 4 ≤ length s = omega arith in
+        let read = read-in s l.i 4 w.get-then-s-i-ge4.result room w.get-then-s-i-ge4.ensures in
+        let fed = w.x-is ∙ w.four-x.ensures ∙ ap (λ (v : ℕ). shifts 32 (bit_xor l.x v)) read in
+        (omega arith, ap₂ at fed w.i-is ∙ bytes-turn 4 s l.i l.x (λ j. (c.type_inv.s j).fits) room ∙ l.invariant.1)
+    | else-s-i-ge4 w ↦ (omega arith, ap₂ at w.x-is w.i-is ∙ l.invariant.1)
+    ]
 
 pub loop-i-2-preserved : goal.loop-i-2-preserved
 loop-i-2-preserved c =

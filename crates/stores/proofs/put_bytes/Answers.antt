@@ -2,7 +2,7 @@ use mathlib.Core.Path.{◌≡◌, sym, ap, ◌∙◌}
 use lib.ListN.{take, length-take}
 use lib.Seq.{length-take-le}
 use Rattle.numbers.specs.Parts.{put_at}
-use Rattle.numbers.proofs.Lent.{lent, copied}
+use Rattle.numbers.proofs.Lent.{lent}
 use Rattle.stores.specs.Runs.{made-put}
 use Rattle.stores.proofs.FirstBytes.{take-lesser}
 use Prim.Native.Nat.{ℕ}
@@ -26,5 +26,5 @@ returns c =
     let fit = c.requires in
     let written : take many a.from.now ≡ take a.left a.from.now = ap (λ (m : ℕ). take m a.from.now) small ∙ take-lesser a.left a.from.now in
     made-put a.left a.at a.from.now h _ _ fit
-    (lent h _ (take many a.from.now) a.at (omega (arith, length-take many a.from.now)) (copied _ (take many a.from.now) _ c.copy.ensures.1) ∙ ap (put_at h a.at) written)
+    (lent h _ (take many a.from.now) a.at (omega (arith, length-take many a.from.now)) c.copy.ensures ∙ ap (put_at h a.at) written)
     (omega arith)

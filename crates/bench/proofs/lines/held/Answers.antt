@@ -1,6 +1,6 @@
 use mathlib.Core.Path.{refl, ap}
 use native.Mathlib.Omega.{arith}
-use Rattle.numbers.proofs.Lent.{lent, copied}
+use Rattle.numbers.proofs.Lent.{lent}
 use Rattle.bench.specs.declared.lines.Reading.{Reading}
 use Rattle.bench.proofs.Feeding.{holds-over, holds_more}
 use Rattle.bench.proofs.lines.held.Goals as goal
@@ -25,6 +25,6 @@ returns c =
       whole = refl;
       longer = record {
         kept = refl;
-        holds = λ text h. holds_more a.s _ a.line.now a.part.now text n h c.least-n.ensures.answers _ (lent a.line.now _ a.part.now n (omega arith) (copied _ a.part.now _ c.copy.ensures.1)) (omega arith) refl refl;
+        holds = λ text h. holds_more a.s _ a.line.now a.part.now text n h c.least-n.ensures.answers _ (lent a.line.now _ a.part.now n (omega arith) c.copy.ensures) (omega arith) refl refl;
       };
     }

@@ -5,7 +5,7 @@ use borrow.Author.Tests.{lt-ltb, le-ltb}
 use lib.ListN.{length}
 use mathlib.Core.List.{List}
 use Prim.Native.Nat.{ℕ}
-use Rattle.numbers.proofs.Lent.{lent, copied}
+use Rattle.numbers.proofs.Lent.{lent}
 use Rattle.desk.specs.Desk.{desk, changed}
 use Rattle.desk.proofs.by_hand.poke.Goals as goal
 
@@ -25,4 +25,4 @@ returns c =
     let fit : a.at + length a.bytes.now ≤ length a.heap.now = omega arith in
     λ table.
     rw (c.done.ensures, le-ltb (length a.heap.now) (a.at + length a.bytes.now) fit)
-    (ap (λ (h : List ℕ). changed (desk a.b h table)) (lent _ _ a.bytes.now a.at fit (copied _ a.bytes.now _ c.copy.ensures.1)))
+    (ap (λ (h : List ℕ). changed (desk a.b h table)) (lent _ _ a.bytes.now a.at fit c.copy.ensures))

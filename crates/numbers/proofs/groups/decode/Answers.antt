@@ -25,7 +25,7 @@ returns-then-shift-eq63 c =
 
 pub returns-then-shift-gt0 : goal.returns-then-shift-gt0
 returns-then-shift-gt0 c =
-    padded c.loop-i.invariant c.loop-i-test.true c.if-b-eq0.true (ltb-true 0 _ c.if-shift-gt0.true-raw)
+    padded c.loop-i.invariant c.loop-i-test.true c.if-b-eq0.true c.if-shift-gt0.true
 
 pub overflow_add-result-then-b-lt128 : goal.overflow_add-result-then-b-lt128
 overflow_add-result-then-b-lt128 c =
@@ -35,7 +35,7 @@ overflow_add-result-then-b-lt128 c =
 pub returns-then-b-lt128 : goal.returns-then-b-lt128
 returns-then-b-lt128 c =
     last c.loop-i.invariant c.loop-i-test.true c.if-b-lt128.true c.if-shift-eq63.false
-    (⊎_elim (λ w q. absurd (omega (arith, ltb-false 0 c.loop-i.shift w.1.left))) (λ w q. omega (arith, w.left)) c.else-b-eq0.branch-raw)
+    (⊎_elim (λ w q. absurd (omega arith)) (λ w q. omega arith) c.else-b-eq0.either)
 
 pub overflow_cast-v : goal.overflow_cast-v
 overflow_cast-v c = omega (arith, c.type_inv.s c.loop-i.i)

@@ -21,7 +21,7 @@ turned c =
     (c.type_inv.s (c.loop-i.i - 1)).fits
 
 pub overflow_add-v : goal.overflow_add-v
-overflow_add-v c = record { fits = (turned c).ranges }
+overflow_add-v c = record { fits = (turned c).fits }
 
 pub loop-i-preserved : goal.loop-i-preserved
 loop-i-preserved c = (omega (arith, c.loop-i.invariant.0), (turned c).value, (turned c).below)

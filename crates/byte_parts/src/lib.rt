@@ -1,0 +1,36 @@
+// A byte looked for in a part of a slice, and bytes copied into the front of one.
+
+#![tactic(auto)]
+
+ghost use Rattle.std.specs.Prelude.{◌≡◌, ◌+◌, ◌≤◌, length};
+ghost use Rattle.numbers.specs.Parts.{front};
+ghost use Rattle.byte_parts.specs.Bytes.{slice, index_of};
+
+// Copies `from` over the front of `to`; what is behind it stays.
+pub fn copy(from: &[u8], to: &mut [u8])
+    requires { length from.now ≤ length to.old }
+    ensures { to.new ≡ front from.now to.old }
+{
+    let mut i: usize = 0;
+    while i < from.len() {
+        to[i] = from[i];
+        i += 1;
+    }
+}
+
+// Where `byte` first stands in s[from..to], or `to`.
+pub fn find(s: &[u8], from: usize, to: usize, byte: u8) -> usize
+    requires within { to ≤ length s.now }
+    requires ordered { from ≤ to }
+    ensures finds { result ≡ from + index_of byte (slice from to s.now) }
+    ensures bounded { result ≤ to }
+{
+    let mut i = from;
+    while i < to {
+        if s[i] == byte {
+            return i;
+        }
+        i += 1;
+    }
+    to
+}
