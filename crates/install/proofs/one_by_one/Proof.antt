@@ -8,7 +8,7 @@ use lib.ListN.{length, drop}
 use Rattle.rules.specs.declared.Entry.{Entry}
 use Rattle.rules.specs.Trailer.{count_in, entries_in, absolute}
 use Rattle.rules.specs.Table.{insert, insert_all, full, no_entry}
-use Rattle.rules.specs.Layout.{laid_out_lem, used_entries, capacity_of}
+use Rattle.rules.specs.Layout.{laid_out, used_entries, capacity_of}
 use Rattle.trailer.specs.Entries.{entries-count}
 use Rattle.location_table.specs.Tables.{Formed}
 use Rattle.disk_location.specs.Locations.{position_of}
@@ -118,7 +118,7 @@ returns c =
     let es = entries_in a.trailer.now in
     let done : length es ≤ l.k = omega (arith, l.invariant.0, entries-count a.trailer.now start.requires.1, c.loop-test.false) in
     laid_out_lem l.table l.invariant.2
-    ∙ ap₂ laid_out_lem l.invariant.3 (sym (adding-end a.lsn (used_entries l.table) es l.k done) ∙ l.invariant.4)
+    ∙ ap₂ laid_out l.invariant.3 (sym (adding-end a.lsn (used_entries l.table) es l.k done) ∙ l.invariant.4)
 
 pub one-by-one-spec : {M : Type 1} → statement M
 one-by-one-spec =

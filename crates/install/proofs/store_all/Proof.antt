@@ -5,7 +5,7 @@ use native.Mathlib.Omega.{arith}
 use borrow.Author.Rules.{rules}
 use lib.ListN.{length}
 use Rattle.rules.specs.Trailer.{entries_in}
-use Rattle.rules.specs.Layout.{laid_out_lem, used_entries, capacity_of}
+use Rattle.rules.specs.Layout.{laid_out, used_entries, capacity_of}
 use Rattle.location_table.specs.LayoutLaws.{used-rising}
 use Rattle.table_merge.specs.Merge.{replacing, to_merge}
 use Rattle.table_merge.specs.MergeLaws.{insert-all-by, to-merge-tells, merged-length}
@@ -54,7 +54,7 @@ returns-2 : tie.Need-returns-2
 returns-2 c =
     let merged = c.before.before in
     let a = merged.before.before.before.before.before.before.before.args in
-    merged.merge.ensures ∙ ap (laid_out_lem (capacity_of a.table.now)) (insert-all-by (used_entries a.table.now) (taken a.lsn (entries_in a.trailer.now)))
+    merged.merge.ensures ∙ ap (laid_out (capacity_of a.table.now)) (insert-all-by (used_entries a.table.now) (taken a.lsn (entries_in a.trailer.now)))
 
 pub store-all-spec : {M : Type 1} → statement M
 store-all-spec =

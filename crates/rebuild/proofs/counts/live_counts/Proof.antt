@@ -2,7 +2,7 @@ use mathlib.Core.Path.{sym, ap, ◌∙◌}
 use mathlib.Core.List.{List}
 use Prim.Native.Nat.{ℕ}
 use borrow.Author.Rules.{rules}
-use Rattle.rules.specs.Layout.{laid_out_lem}
+use Rattle.rules.specs.Layout.{laid_out}
 use Rattle.ordered_files.specs.Order.{in_order}
 use Rattle.ordered_files.specs.OrderLaws.{none-laid-out}
 use Rattle.rebuild.proofs.counts.live_counts.Statement.{statement}
@@ -28,7 +28,7 @@ counted-in-requires c κs =
     let put = c.before.before in
     let made = put.before.before.before in
     let start = made.before.before in
-    (start.requires.0, start.requires.1, put.put_all.ensures ∙ ap (λ (ns : List ℕ). laid_out_lem 256 (in_order ns)) made.masked-lsns.ensures)
+    (start.requires.0, start.requires.1, put.put_all.ensures ∙ ap (λ (ns : List ℕ). laid_out 256 (in_order ns)) made.masked-lsns.ensures)
 
 returns : tie.Need-returns
 returns c = search rules

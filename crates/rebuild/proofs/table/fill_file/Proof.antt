@@ -11,7 +11,7 @@ use Rattle.rules.specs.BaseLaws.{all-at}
 use Rattle.rules.specs.Trailer.{absolute, entries_in}
 use Rattle.rules.specs.Table.{no_entry}
 use Rattle.rules.specs.TableLaws.{Rising}
-use Rattle.rules.specs.Layout.{laid_out_lem, used_entries, capacity_of}
+use Rattle.rules.specs.Layout.{laid_out, used_entries, capacity_of}
 use Rattle.rules.specs.LayoutLaws.{used-length}
 use Rattle.rules.specs.Reopen.{latest_from}
 use Rattle.location_table.specs.LayoutLaws.{used-rising}
@@ -119,7 +119,7 @@ returns-3 c =
     let rows = map (absolute a.lsn) (entries_in a.trailer.now) in
     let fits : length (used_entries b) + (counted w).to-merge.result ≤ capacity_of b
     = omega (arith, w.used.ensures, w.before.before.capacity.ensures, used-length b, room.if2.false) in
-    filled-all b (begun w).requires.0 rows _ (many w) fits _ (merged.merge.ensures ∙ ap (laid_out_lem (capacity_of b)) (latest-from-by (used_entries b) rows))
+    filled-all b (begun w).requires.0 rows _ (many w) fits _ (merged.merge.ensures ∙ ap (laid_out (capacity_of b)) (latest-from-by (used_entries b) rows))
 
 pub fill-file-spec : {M : Type 1} → statement M
 fill-file-spec =
