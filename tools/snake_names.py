@@ -13,7 +13,7 @@ import sys
 
 # A word of antt: letters, digits, dashes and primes.
 WORD = re.compile(r"(?<![\w'])[^\W\d](?:[\w'-]*[\w'])?")
-HUMP = re.compile(r"(?<=[a-z0-9])([A-Z])")
+HUMP = re.compile(r"(?<=[A-Za-z0-9])([A-Z])")
 # Lemmas that fall together with the definition they speak of, in these crates (None: in all).
 LEMMAS = {"cut_off": "history_theory", "found_in": "history_theory", "laid_out": None, "live_at": "theory", "said_in": "through", "split_from": "history_theory"}
 OWN = {"slotBytes": "bytes_of_slot"}

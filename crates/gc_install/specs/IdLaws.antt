@@ -8,7 +8,7 @@ use Rattle.rules.specs.declared.Entry.{Entry}
 use Rattle.rules.specs.Ops.{Op, size_of, entries_of}
 use Rattle.rules.specs.Table.{insert, insert_all}
 use Rattle.rules.specs.TableLaws.{Rising, rise, rising-insert, rising-insert-all, insert-next, insert-here}
-use Rattle.rules.specs.Layout.{Table, table_ids, in_form, capacity_of, used_entries, laid_out_lem}
+use Rattle.rules.specs.Layout.{Table, table_ids, in_form, capacity_of, used_entries, laid_out}
 use Rattle.rules.specs.LayoutLaws.{Used, used-located, used-length, form-rising, laid-out-used, laid-out-ids, laid-out-length, used-laid-out, form-laid-out}
 use Rattle.rules.specs.FileMapLaws.{Among}
 use Rattle.location_table.specs.Tables.{Formed}
@@ -88,7 +88,7 @@ module _ (b : Table) (formed : Formed b) (lsn : ℕ) (ops : List Op) (there : Th
   stored-fits = omega (arith, stored-length, used-length b)
 
   -- and they leave the ids of the buffer
-  pub ids-stay : 0 < lsn → SameIds b (laid_out_lem (capacity_of b) (insert_all (used_entries b) (taken lsn (entries_of 0 ops))))
+  pub ids-stay : 0 < lsn → SameIds b (laid_out (capacity_of b) (insert_all (used_entries b) (taken lsn (entries_of 0 ops))))
   ids-stay some =
       let t = insert_all (used_entries b) (taken lsn (entries_of 0 ops)) in
       let used : Used t = used-insert-all (used_entries b) (taken lsn (entries_of 0 ops)) (used-located b) (taken-located lsn (entries_of 0 ops) some) in

@@ -11,7 +11,7 @@ use Rattle.rules.specs.OpsLaws.{file-length, entries-of-length}
 use Rattle.rules.specs.Batch.{batch_in, is_malformed, ops_of, any_too_large}
 use Rattle.rules.specs.Table.{insert_all}
 use Rattle.rules.specs.TableLaws.{insert-all-length}
-use Rattle.rules.specs.Layout.{capacity_of, laid_out_lem, used_entries}
+use Rattle.rules.specs.Layout.{capacity_of, laid_out, used_entries}
 use Rattle.rules.specs.LayoutLaws.{laid-out-capacity, used-laid-out}
 use Rattle.rules.specs.FileMap.{no_files, slots_where, empty_slots}
 use Rattle.rules.specs.FileMapLaws.{is-empty}
@@ -88,8 +88,8 @@ fresh-write w range blank bytes parsed small slot ids =
     let high = l.settings.slot-high in
     let n = file-length (ops_in bytes) in
     let c = laid-out-capacity (capacity_of w.table) [] zero-le in
-    let u : used_entries (laid_out_lem (capacity_of w.table) []) ≡ [] = used-laid-out (capacity_of w.table) [] (λ x l h. absurd h) in
-    let e : length (used_entries (laid_out_lem (capacity_of w.table) [])) ≡ 0 = ap length u in
+    let u : used_entries (laid_out (capacity_of w.table) []) ≡ [] = used-laid-out (capacity_of w.table) [] (λ x l h. absurd h) in
+    let e : length (used_entries (laid_out (capacity_of w.table) [])) ≡ 0 = ap length u in
     ap (λ (a : After). (write_call a.world bytes).answer) (fresh-opens w range blank)
     ∙ write-within (fresh w) (engine []) (sound-fresh w range blank) bytes (record {
       parsed = parsed;

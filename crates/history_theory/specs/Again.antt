@@ -11,7 +11,7 @@ use Rattle.rules.specs.Refusal.{decide, NoneHolds, decide-clear, none-append}
 use Rattle.rules.specs.Condition1Laws.{limits-in}
 use Rattle.rules.specs.SlotFile.{File, View, empty, damaged, holds}
 use Rattle.rules.specs.Table.{lookup}
-use Rattle.rules.specs.Layout.{capacity_of, laid_out_lem}
+use Rattle.rules.specs.Layout.{capacity_of, laid_out}
 use Rattle.rules.specs.LayoutLaws.{laid-out-used}
 use Rattle.rules.specs.FileMap.{recorded, empty_record, record_at, file_for}
 use Rattle.rules.specs.FileMapLaws.{not-empty}
@@ -75,9 +75,9 @@ module _ (w : World) (told : ℕ → Said) (s : SoundWorld w told) where
           (mark-fits (views_of w) (records_of w) s.sound.filed k f e))
 
   -- LAW: each id's location is found again, in the same buffer
-  table-again : laid_out_lem (capacity_of w.table) (table_of (files_in (views_of w))) ≡ w.table
+  table-again : laid_out (capacity_of w.table) (table_of (files_in (views_of w))) ≡ w.table
   table-again =
-      ap (laid_out_lem (capacity_of w.table)) (sym s.sound.newest) ∙ laid-out-used w.table s.tidy.form s.tidy.limits.table.even
+      ap (laid_out (capacity_of w.table)) (sym s.sound.newest) ∙ laid-out-used w.table s.tidy.form s.tidy.limits.table.even
 
   tests-clear : NoneHolds (reopen_tests w (views_of w))
   unfolding reopen_tests NoneHolds

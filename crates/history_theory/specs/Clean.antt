@@ -18,7 +18,7 @@ use Rattle.rules.specs.SettledLaws.{Last, silent, last, or_earlier, last_on}
 use Rattle.rules.specs.SlotFile.{bytes_of_slot, File, View, holds}
 use Rattle.rules.specs.Table.{lookup, unmapped}
 use Rattle.rules.specs.TableLaws.{Has, lookup-here, lookup-next, has-lookup}
-use Rattle.rules.specs.Layout.{capacity_of, laid_out_lem, used_entries}
+use Rattle.rules.specs.Layout.{capacity_of, laid_out, used_entries}
 use Rattle.rules.specs.LayoutLaws.{laid-out-capacity, laid-out-even, used-laid-out, form-laid-out}
 use Rattle.rules.specs.Condition1.{out_of_range}
 use Rattle.rules.specs.FileMap.{record_at, file_for}
@@ -181,7 +181,7 @@ sound-heard w told s = sound-told w told (engine (heard_at w)) (λ x. go x (look
 
 -- ---- the store that a reopening makes of a clean heap
 module _ (w : World) (c : Clean w) (p : Passed w) where
-  used : used_entries (laid_out_lem (capacity_of w.table) (table_of (files_in (views_of w)))) ≡ table_of (files_in (views_of w))
+  used : used_entries (laid_out (capacity_of w.table) (table_of (files_in (views_of w)))) ≡ table_of (files_in (views_of w))
   used = used-laid-out (capacity_of w.table) (table_of (files_in (views_of w))) (rows-used (views_of w) (shown-made (slots_of w) w.settings.slot_bytes w.heap))
 
   sound-opened : SoundWorld (opened w (views_of w)).world (picture_says (picture_of (opened w (views_of w)).world))
@@ -210,7 +210,7 @@ module _ (w : World) (c : Clean w) (p : Passed w) where
           started = next-positive (views_of w);
           above = λ k f h. next-above (views_of w) k f h (made k f h);
           newest = used;
-          room = subst (λ (es : List Entry). length es ≤ capacity_of (laid_out_lem (capacity_of w.table) t)) (sym used) (let r = p.room in omega arith);
+          room = subst (λ (es : List Entry). length es ≤ capacity_of (laid_out (capacity_of w.table) t)) (sym used) (let r = p.room in omega arith);
           narrow = λ x l h. narrow x l (subst (λ (es : List Entry). Has es x l) used h);
           counted = λ k f h. ap (λ (r : Record). r.live) (record-from t (views_of w) k ∙ ap (record_of t) h) ∙ ap (λ (es : List Entry). mapped_into es f.label) (sym used);
           says = λ x. refl;

@@ -17,7 +17,7 @@ use Rattle.rules.specs.SlotLaws.{views-length, views-at}
 use Rattle.rules.specs.SettledLaws.{last_on}
 use Rattle.rules.specs.Table.{lookup}
 use Rattle.rules.specs.TableLaws.{rise-end, Has}
-use Rattle.rules.specs.Layout.{capacity_of, laid_out_lem, used_entries}
+use Rattle.rules.specs.Layout.{capacity_of, laid_out, used_entries}
 use Rattle.rules.specs.LayoutLaws.{laid-out-capacity, laid-out-even, used-laid-out, form-laid-out}
 use Rattle.rules.specs.FileMap.{empty_record, no_files}
 use Rattle.rules.specs.Claims.{no_claims}
@@ -37,7 +37,7 @@ Blank w = (k : ℕ) → k < slots_of w → get_or w.heap (k * w.settings.slot_by
 
 -- no file, no entry, no claim, next position 1
 abbrev pub fresh : World → World
-fresh w = record { settings = w.settings; state = state_of w no_files 1; claims = no_claims; heap = w.heap; table = laid_out_lem (capacity_of w.table) [] }
+fresh w = record { settings = w.settings; state = state_of w no_files 1; claims = no_claims; heap = w.heap; table = laid_out (capacity_of w.table) [] }
 
 -- "First byte 0 means the slot is empty, whatever follows."
 pub blank-view : (slot : List ℕ) → get_or slot 0 0 ≡ 0 → view_in slot ≡ empty
@@ -111,7 +111,7 @@ module _ (w : World) (range : out_of_range w.settings (length w.heap) w.table �
       state = state_of w (no-records i) (ap next_after none i);
       claims = no_claims;
       heap = w.heap;
-      table = laid_out_lem (capacity_of w.table) (no_table i);
+      table = laid_out (capacity_of w.table) (no_table i);
     };
   }
 
@@ -120,7 +120,7 @@ module _ (w : World) (range : out_of_range w.settings (length w.heap) w.table �
   unfolding reopen_call decide
   fresh-opens = rw (range, decide-clear (reopen_tests w (views_of w)) tests-clear) opened-fresh
 
-  no-entries : used_entries (laid_out_lem (capacity_of w.table) []) ≡ []
+  no-entries : used_entries (laid_out (capacity_of w.table) []) ≡ []
   no-entries = used-laid-out (capacity_of w.table) [] (λ x l h. absurd h)
 
   -- LAW: the invariant holds, and nothing was heard

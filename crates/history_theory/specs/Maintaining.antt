@@ -10,7 +10,7 @@ use Rattle.rules.specs.Ops.{Op}
 use Rattle.rules.specs.SettledLaws.{settled-rising}
 use Rattle.rules.specs.Install.{installed_all, room_tests, empty_of, position_tests}
 use Rattle.rules.specs.InstallLaws.{room-clear, positions-clear}
-use Rattle.rules.specs.Maintenance.{found_in_lem, found, files_of, Stop, going, stopped, Course, group, source_tests, group_tests, rewrite_group, onward}
+use Rattle.rules.specs.Maintenance.{found_in, found, files_of, Stop, going, stopped, Course, group, source_tests, group_tests, rewrite_group, onward}
 use Rattle.rules.specs.TwoCalls.{generation_rewritten, rewrite_call}
 use Rattle.rules.specs.World.{World}
 use Rattle.theory.specs.SoundWorld.{SoundWorld}
@@ -28,7 +28,7 @@ module _ (history : List Op) where
   files-rewritable w s slots target =
       all_map (PartOf (found w slots)) (Rewritable (engine history)) (files_of target (found w slots))
       (λ f p. record {
-        rising = sub-rising p.0 (settled-rising (each (found_in_lem w) slots));
+        rising = sub-rising p.0 (settled-rising (each (found_in w) slots));
         current = sub-all (Movable (engine history)) p.0 (found-movable w history s slots);
         some = p.1;
       })

@@ -17,7 +17,7 @@ use Rattle.rules.specs.Table.{lookup, load, current_at}
 use Rattle.rules.specs.TableLaws.{lookup-has, current-is}
 use Rattle.rules.specs.FileMap.{empty_label, record_at, file_for}
 use Rattle.rules.specs.Read.{object_tests}
-use Rattle.rules.specs.Maintenance.{stored_objects, deletes_of, objects_found, deletes_found, slot_of, found_in_lem, found}
+use Rattle.rules.specs.Maintenance.{stored_objects, deletes_of, objects_found, deletes_found, slot_of, found_in, found}
 use Rattle.rules.specs.World.{World, records_of, mappings}
 use Rattle.theory.specs.Entries.{absolute-location}
 use Rattle.theory.specs.Places.{view_at, record-holds, record-empty, no-damage, own-place}
@@ -149,7 +149,7 @@ module _ (w : World) (history : List Op) (s : SoundWorld w (engine history)) whe
       (current-delete e.id (absolute r.lsn e).location (delete-absolute r.lsn e ∙ d) m, narrow e.id (absolute r.lsn e).location m))
       (all_pass (λ (e : Entry). delete_of e.location) (trailer_entries r slot))
 
-  found_in_lem : (k : ℕ) → All (Movable (engine history)) (found_in_lem w k)
+  found_in_lem : (k : ℕ) → All (Movable (engine history)) (found_in w k)
   found_in_lem k =
       all_append (Movable (engine history)) (objects_found (mappings w) (record_at (records_of w) k).label (slot_of w k)) (deletes_found (mappings w) (record_at (records_of w) k).label (slot_of w k))
       (go (view_at (views_of w) k) refl) (deletes-movable (record_at (records_of w) k).label (slot_of w k))
@@ -164,4 +164,4 @@ module _ (w : World) (history : List Op) (s : SoundWorld w (engine history)) whe
   -- LAW: what a group moves is current
   pub found-movable : (slots : List ℕ) → All (Movable (engine history)) (found w slots)
   unfolding found
-  found-movable slots = settled-all (Movable (engine history)) (each (found_in_lem w) slots) (all-each (Movable (engine history)) (found_in_lem w) slots (every (λ (k : ℕ). All (Movable (engine history)) (found_in_lem w k)) slots found_in_lem))
+  found-movable slots = settled-all (Movable (engine history)) (each (found_in w) slots) (all-each (Movable (engine history)) (found_in w) slots (every (λ (k : ℕ). All (Movable (engine history)) (found_in w k)) slots found_in_lem))

@@ -5,7 +5,7 @@ use Rattle.rules.specs.Base.{Bool, true, false, List, [], ◌∷◌, ◌++◌, m
 use Rattle.rules.specs.BaseLaws.{All, all_map, all_append}
 use Rattle.rules.specs.Ops.{Op, shard_for}
 use Rattle.rules.specs.OpsLaws.{RisingOps, ops-rise, ops-lower}
-use Rattle.rules.specs.Maintenance.{Shard, no_entries, Split, cut_off_lem, joining, split_from_lem, has_entries, files_of}
+use Rattle.rules.specs.Maintenance.{Shard, no_entries, Split, cut_off, joining, split_from, has_entries, files_of}
 use Rattle.theory.specs.Lists.{all_set, all-get, all_replicate}
 
 -- a selection of these operations, in order
@@ -58,8 +58,8 @@ pub record SplitOf (ops : List Op) (s : Split) : Type 0 where
 none_of : (ops : List Op) → ShardOf ops no_entries
 none_of ops = (sub-empty ops, λ h. absurd (omega arith))
 
-cut_off_lem : (target n : ℕ) (ops : List Op) (s : Split) → SplitOf ops s → SplitOf ops (cut_off_lem target n s)
-unfolding cut_off_lem
+cut_off_lem : (target n : ℕ) (ops : List Op) (s : Split) → SplitOf ops s → SplitOf ops (cut_off target n s)
+unfolding cut_off
 cut_off_lem target n ops s h = go (ltb target (get_or s.shards n no_entries).size) refl
   where
     go : (b : Bool) → ltb target (get_or s.shards n no_entries).size ≡ b
@@ -86,13 +86,13 @@ join-in o n ops s h =
       fragments = all_map (PartOf ops) (PartOf (ops ++ (o ∷ []))) s.fragments (λ c q. (sub-append (o ∷ []) q.0, q.1)) h.fragments;
     }
 
-split_from_lem : (target : ℕ) (ops os : List Op) (s : Split) → SplitOf ops s → SplitOf (ops ++ os) (split_from_lem target os s)
-unfolding split_from_lem
+split_from_lem : (target : ℕ) (ops os : List Op) (s : Split) → SplitOf ops s → SplitOf (ops ++ os) (split_from target os s)
+unfolding split_from
 split_from_lem target ops [] s h = rw (append-nil ops) h
 split_from_lem target ops (o ∷ os) s h =
-    subst (λ (l : List Op). SplitOf l (split_from_lem target os (joining o (shard_for o.content) (cut_off_lem target (shard_for o.content) s)))) (append_assoc ops (o ∷ []) os)
-    (split_from_lem target (ops ++ (o ∷ [])) os (joining o (shard_for o.content) (cut_off_lem target (shard_for o.content) s))
-    (join-in o (shard_for o.content) ops (cut_off_lem target (shard_for o.content) s) (cut_off_lem target (shard_for o.content) ops s h)))
+    subst (λ (l : List Op). SplitOf l (split_from target os (joining o (shard_for o.content) (cut_off target (shard_for o.content) s)))) (append_assoc ops (o ∷ []) os)
+    (split_from_lem target (ops ++ (o ∷ [])) os (joining o (shard_for o.content) (cut_off target (shard_for o.content) s))
+    (join-in o (shard_for o.content) ops (cut_off target (shard_for o.content) s) (cut_off_lem target (shard_for o.content) ops s h)))
 
 with_entries : (ops : List Op) (shards : List Shard) → All (ShardOf ops) shards → All (PartOf ops) (keep has_entries (map (λ (s : Shard). s.ops) shards))
 unfolding keep
@@ -110,5 +110,5 @@ unfolding files_of
 files-parts target ops =
     let start : Split = record { shards = replicate 65 no_entries; fragments = [] } in
     let s = split_from_lem target [] ops start (record { shards = all_replicate (ShardOf []) 65 no_entries (none_of []); fragments = tt }) in
-    let end : Split = split_from_lem target ops start in
+    let end : Split = split_from target ops start in
     all_append (PartOf ops) (keep has_entries (map (λ (c : Shard). c.ops) end.shards)) end.fragments (with_entries ops end.shards s.shards) s.fragments

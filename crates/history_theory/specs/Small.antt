@@ -21,7 +21,7 @@ use Rattle.rules.specs.FileMap.{record_at}
 use Rattle.rules.specs.Install.{new_slot, new_lsn, installed, installed_all}
 use Rattle.rules.specs.Write.{write_tests, written, write_call}
 use Rattle.rules.specs.WriteLaws.{ops_in, Accepted, write-accepted}
-use Rattle.rules.specs.Maintenance.{deletes_of, objects_found, deletes_found, stored_objects, slot_of, found_in_lem, found, files_of, going, stopped, Course, group, group_tests, rewrite_group}
+use Rattle.rules.specs.Maintenance.{deletes_of, objects_found, deletes_found, stored_objects, slot_of, found_in, found, files_of, going, stopped, Course, group, group_tests, rewrite_group}
 use Rattle.rules.specs.TwoCalls.{generation_rewritten, rewrite_call}
 use Rattle.rules.specs.Prune.{pruned}
 use Rattle.rules.specs.Settings.{slots_in}
@@ -118,7 +118,7 @@ module _ (w : World) (history : List Op) (s : SoundWorld w (engine history)) (sm
       (subst (λ (bs : List ℕ). All (λ (o : Stored). StandsIn f.objects o × (leb w.settings.max_object_size o.size ≡ false)) (objects_in bs)) same
       (all_both (StandsIn f.objects) (λ (o : Stored). leb w.settings.max_object_size o.size ≡ false) (objects_in f.objects) (objects-stand f.objects) (small k f h)))
 
-  found-in-fine : (k : ℕ) → All (Fine w.settings.max_object_size) (found_in_lem w k)
+  found-in-fine : (k : ℕ) → All (Fine w.settings.max_object_size) (found_in w k)
   unfolding deletes_found deletes_of
   found-in-fine k =
       all_append (Fine w.settings.max_object_size) (objects_found (mappings w) (record_at (records_of w) k).label (slot_of w k)) (deletes_found (mappings w) (record_at (records_of w) k).label (slot_of w k))
@@ -140,8 +140,8 @@ module _ (w : World) (history : List Op) (s : SoundWorld w (engine history)) (sm
   found-fine : (ks : List ℕ) → All (Fine w.settings.max_object_size) (found w ks)
   unfolding found
   found-fine ks =
-      settled-all (Fine w.settings.max_object_size) (each (found_in_lem w) ks)
-      (all-each (Fine w.settings.max_object_size) (found_in_lem w) ks (every (λ (k : ℕ). All (Fine w.settings.max_object_size) (found_in_lem w k)) ks found-in-fine))
+      settled-all (Fine w.settings.max_object_size) (each (found_in w) ks)
+      (all-each (Fine w.settings.max_object_size) (found_in w) ks (every (λ (k : ℕ). All (Fine w.settings.max_object_size) (found_in w k)) ks found-in-fine))
 
   files-small : (ks : List ℕ) (target : ℕ) → All (λ (os : List Op). any_too_large w.settings.max_object_size os ≡ false) (files_of target (found w ks))
   unfolding any_too_large

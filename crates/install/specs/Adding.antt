@@ -10,7 +10,7 @@ use Rattle.rules.specs.declared.Held.TheVariants.{Mapped, Unmapped}
 use Rattle.rules.specs.Trailer.{absolute, count_in, entries_in}
 use Rattle.rules.specs.Table.{lookup, insert, insert_all, full}
 use Rattle.rules.specs.TableLaws.{insert-all-length, insert-new, full-mapped, full-room}
-use Rattle.rules.specs.Layout.{Table, used_entries, laid_out_lem, capacity_of}
+use Rattle.rules.specs.Layout.{Table, used_entries, laid_out, capacity_of}
 use Rattle.rules.specs.TurnLaws.{left-next, left-none}
 use Rattle.location_table.specs.Tables.{Formed}
 
@@ -20,7 +20,7 @@ taken lsn es = map (absolute lsn) es
 
 -- the buffer after they are stored
 abbrev pub with_taken : Table → ℕ → List Entry → Table
-with_taken b lsn es = laid_out_lem (capacity_of b) (insert_all (used_entries b) (taken lsn es))
+with_taken b lsn es = laid_out (capacity_of b) (insert_all (used_entries b) (taken lsn es))
 
 -- every absolute position of the file's entries is one
 abbrev pub Placed : ℕ → List Entry → Type 0

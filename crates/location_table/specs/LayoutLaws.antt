@@ -9,7 +9,7 @@ use Rattle.std.proofs.lemmas.List.{length-map}
 use Rattle.std.proofs.Math.ListN.{get_or-eq_default}
 use Rattle.rules.specs.BaseLaws.{order, and-true, zero-or-more, replicate-at}
 use Rattle.rules.specs.declared.Entry.{Entry}
-use Rattle.rules.specs.Layout.{Table, table_ids, table_locations, capacity_of, lengths_in_range, in_form, used_in, used_entries, laid_out_lem}
+use Rattle.rules.specs.Layout.{Table, table_ids, table_locations, capacity_of, lengths_in_range, in_form, used_in, used_entries, laid_out}
 use Rattle.rules.specs.TableLaws.{Rising}
 use Rattle.rules.specs.LayoutLaws.{Used, lengths-in-range, used-located, form-rising, laid-out-used, laid-out-even, laid-out-locations, form-laid-out, used-more, used-stop}
 use Rattle.rules.specs.Table.{no_entry}
@@ -125,7 +125,7 @@ module _ (b : Table) where
     used-rising = form-rising b formed.form
 
     -- the buffer is its used entries, laid out
-    pub laid_out_lem : b ≡ laid_out_lem (capacity_of b) (used_entries b)
+    pub laid_out_lem : b ≡ laid_out (capacity_of b) (used_entries b)
     laid_out_lem = sym (laid-out-used b formed.form formed.even)
 
     -- a used place has a location
@@ -157,7 +157,7 @@ module _ (b : Table) where
         go (inr (inr q)) = absurd (z (past (omega arith)))
 
 -- used entries that rise, laid out, are in form
-pub laid-out-formed : (m : ℕ) (es : List Entry) → Used es → Rising 0 es → length es ≤ m → Formed (laid_out_lem m es)
+pub laid-out-formed : (m : ℕ) (es : List Entry) → Used es → Rising 0 es → length es ≤ m → Formed (laid_out m es)
 laid-out-formed m es u r h = record { even = laid-out-even m es h; form = form-laid-out m es u r }
 
 -- a table that passed refusal 1

@@ -13,7 +13,7 @@ use Rattle.rules.specs.Ops.{objects_of, entries_of, file_bytes, joined, settled}
 use Rattle.rules.specs.Label.{label_bytes, out_of_bounds}
 use Rattle.rules.specs.SlotFile.{bytes_of_slot}
 use Rattle.rules.specs.Table.{lookup, insert, insert_all}
-use Rattle.rules.specs.Layout.{table_ids, table_locations, alternating, lengths_in_range, form_from, in_form, used_in, used_entries, laid_out_lem}
+use Rattle.rules.specs.Layout.{table_ids, table_locations, alternating, lengths_in_range, form_from, in_form, used_in, used_entries, laid_out}
 use Rattle.rules.specs.FileMap.{recorded, empty_record, is_empty, no_files, slots_where, empty_slots, lowest_empty, leads, lead_from, file_for, file_count}
 use Rattle.rules.specs.Condition1.{out_of_range, not_the_states, bad_record, bad_from, condition_one}
 use Rattle.rules.specs.Stores.{made, stores_of, file_stores}
@@ -53,7 +53,7 @@ pub stopped-stands :
     ∷ 50 ∷ 0 ∷ 0 ∷ 50
     ∷ 0 ∷ 0 ∷ 0 ∷ 0
     ∷ []
-unfolding any zeros keep each sum greatest padded out_of_range not_the_states bad_record bad_from condition_one is_empty no_files slots_where empty_slots lowest_empty leads lead_from file_for file_count new_label new_record losing records_with stores_for table_with next_with installed installed_all room_tests position_tests label_bytes out_of_bounds table_ids table_locations alternating lengths_in_range form_from in_form used_in used_entries laid_out_lem worth_it cut_off joining split_from files_of object_bytes stored_at objects_from objects_in bad_checksum objects_of entries_of file_bytes joined settled decide in_ranges heap_in_range same_settings bytes_of_slot made stores_of file_stores lookup insert insert_all listed trailer_bytes trailer_tests entries_from entries_in is_dead emptied_from prune_stores pruned is_claimed is_candidate group moved_tests delete_tests deletes_of file_tests objects_found deletes_found found group_tests rewrite_group groups_from course_of maintain_call le_bytes le_value groups_of shift_bit shifts crc_from crc32 object_sum masked_of digits_in
+unfolding any zeros keep each sum greatest padded out_of_range not_the_states bad_record bad_from condition_one is_empty no_files slots_where empty_slots lowest_empty leads lead_from file_for file_count new_label new_record losing records_with stores_for table_with next_with installed installed_all room_tests position_tests label_bytes out_of_bounds table_ids table_locations alternating lengths_in_range form_from in_form used_in used_entries laid_out worth_it cut_off joining split_from files_of object_bytes stored_at objects_from objects_in bad_checksum objects_of entries_of file_bytes joined settled decide in_ranges heap_in_range same_settings bytes_of_slot made stores_of file_stores lookup insert insert_all listed trailer_bytes trailer_tests entries_from entries_in is_dead emptied_from prune_stores pruned is_claimed is_candidate group moved_tests delete_tests deletes_of file_tests objects_found deletes_found found group_tests rewrite_group groups_from course_of maintain_call le_bytes le_value groups_of shift_bit shifts crc_from crc32 object_sum masked_of digits_in
 stopped-stands = refl
 
 -- LAW: with that trailer as it should be both ids are moved, each to a file of its generation, and what has nothing live is pruned
@@ -66,5 +66,5 @@ pub finished-pruned :
     ∷ 0 ∷ 0 ∷ 0 ∷ 0
     ∷ 221 ∷ 2 ∷ 1 ∷ 0xdd
     ∷ []
-unfolding any zeros keep each sum greatest padded out_of_range not_the_states bad_record bad_from condition_one is_empty no_files slots_where empty_slots lowest_empty leads lead_from file_for file_count new_label new_record losing records_with stores_for table_with next_with installed installed_all room_tests position_tests label_bytes out_of_bounds table_ids table_locations alternating lengths_in_range form_from in_form used_in used_entries laid_out_lem worth_it cut_off joining split_from files_of object_bytes stored_at objects_from objects_in bad_checksum objects_of entries_of file_bytes joined settled decide in_ranges heap_in_range same_settings bytes_of_slot made stores_of file_stores lookup insert insert_all listed trailer_bytes trailer_tests entries_from entries_in is_dead emptied_from prune_stores pruned is_claimed is_candidate group moved_tests delete_tests deletes_of file_tests objects_found deletes_found found group_tests rewrite_group groups_from course_of maintain_call le_bytes le_value groups_of shift_bit shifts crc_from crc32 object_sum masked_of digits_in
+unfolding any zeros keep each sum greatest padded out_of_range not_the_states bad_record bad_from condition_one is_empty no_files slots_where empty_slots lowest_empty leads lead_from file_for file_count new_label new_record losing records_with stores_for table_with next_with installed installed_all room_tests position_tests label_bytes out_of_bounds table_ids table_locations alternating lengths_in_range form_from in_form used_in used_entries laid_out worth_it cut_off joining split_from files_of object_bytes stored_at objects_from objects_in bad_checksum objects_of entries_of file_bytes joined settled decide in_ranges heap_in_range same_settings bytes_of_slot made stores_of file_stores lookup insert insert_all listed trailer_bytes trailer_tests entries_from entries_in is_dead emptied_from prune_stores pruned is_claimed is_candidate group moved_tests delete_tests deletes_of file_tests objects_found deletes_found found group_tests rewrite_group groups_from course_of maintain_call le_bytes le_value groups_of shift_bit shifts crc_from crc32 object_sum masked_of digits_in
 finished-pruned = refl

@@ -14,7 +14,7 @@ use Rattle.rules.specs.Ops.{objects_of, entries_of, file_bytes, joined, settled}
 use Rattle.rules.specs.Label.{label_bytes, five_in, label_in, out_of_bounds}
 use Rattle.rules.specs.SlotFile.{bytes_of_slot, slot_tests, view_in, views_in}
 use Rattle.rules.specs.Table.{lookup, insert, insert_all, full}
-use Rattle.rules.specs.Layout.{table_ids, table_locations, alternating, lengths_in_range, form_from, in_form, used_in, used_entries, laid_out_lem}
+use Rattle.rules.specs.Layout.{table_ids, table_locations, alternating, lengths_in_range, form_from, in_form, used_in, used_entries, laid_out}
 use Rattle.rules.specs.FileMap.{recorded, is_empty, no_files, slots_where, empty_slots, lowest_empty, leads, lead_from, file_for, file_count}
 use Rattle.rules.specs.Condition1.{out_of_range, not_the_states, bad_record, bad_from, condition_one}
 use Rattle.rules.specs.Batch.{put_operation, operation_at, batch_from, batch_in, any_too_large}
@@ -104,5 +104,5 @@ two_call_points =
 
 -- LAW: no row differs
 pub two-calls-hold : any (λ (l : Line). not (agree l.ours l.paper)) two_call_points ≡ false
-unfolding two_call_points planned_slots foretold_tests foretold foretold_from forecast_of plan_values plan_call rewrite_tests generation_rewritten rewrite_of job_from job_of nightly_call any zeros keep each sum greatest padded put_operation operation_at batch_from batch_in any_too_large out_of_range not_the_states bad_record bad_from condition_one is_empty no_files slots_where empty_slots lowest_empty leads lead_from file_for file_count new_label new_record losing records_with stores_for table_with next_with installed installed_all room_tests position_tests label_bytes five_in label_in out_of_bounds table_ids table_locations alternating lengths_in_range form_from in_form used_in used_entries laid_out_lem worth_it cut_off joining split_from files_of object_bytes stored_at objects_from objects_in bad_checksum objects_of entries_of file_bytes joined settled decide files_in overlapping not_rising latest latest_from table_of reopen_tests mapped_into records_from next_after opened given_up reopen_call in_ranges heap_in_range same_settings bytes_of_slot slot_tests view_in views_in made stores_of file_stores lookup insert insert_all full listed trailer_bytes trailer_tests entries_from entries_in misplaced too_many_ids write_tests written write_call load_call store_call compare_call greater_call with_stored is_dead emptied_from prune_stores pruned is_claimed claim_set claim_cleared claim_call release_call is_candidate group moved_tests delete_tests deletes_of file_tests objects_found deletes_found found group_tests rewrite_group groups_from course_of maintain_call object_tests read_of le_bytes le_value groups_of read_groups number_in shift_bit shifts crc_from crc32 object_sum masked_of digits_in read_call counts_of counts_call prune_call decimal relative_given
+unfolding two_call_points planned_slots foretold_tests foretold foretold_from forecast_of plan_values plan_call rewrite_tests generation_rewritten rewrite_of job_from job_of nightly_call any zeros keep each sum greatest padded put_operation operation_at batch_from batch_in any_too_large out_of_range not_the_states bad_record bad_from condition_one is_empty no_files slots_where empty_slots lowest_empty leads lead_from file_for file_count new_label new_record losing records_with stores_for table_with next_with installed installed_all room_tests position_tests label_bytes five_in label_in out_of_bounds table_ids table_locations alternating lengths_in_range form_from in_form used_in used_entries laid_out worth_it cut_off joining split_from files_of object_bytes stored_at objects_from objects_in bad_checksum objects_of entries_of file_bytes joined settled decide files_in overlapping not_rising latest latest_from table_of reopen_tests mapped_into records_from next_after opened given_up reopen_call in_ranges heap_in_range same_settings bytes_of_slot slot_tests view_in views_in made stores_of file_stores lookup insert insert_all full listed trailer_bytes trailer_tests entries_from entries_in misplaced too_many_ids write_tests written write_call load_call store_call compare_call greater_call with_stored is_dead emptied_from prune_stores pruned is_claimed claim_set claim_cleared claim_call release_call is_candidate group moved_tests delete_tests deletes_of file_tests objects_found deletes_found found group_tests rewrite_group groups_from course_of maintain_call object_tests read_of le_bytes le_value groups_of read_groups number_in shift_bit shifts crc_from crc32 object_sum masked_of digits_in read_call counts_of counts_call prune_call decimal relative_given
 two-calls-hold = refl

@@ -9,7 +9,7 @@ use Rattle.rules.specs.Refusal.{decide-none, decide-first, decide-next}
 use Rattle.disk_location.specs.Locations.{delete_of}
 use Rattle.rules.specs.Table.{lookup, loaded_of, load, insert, unmapped, full}
 use Rattle.rules.specs.TableLaws.{Rising, mapped-one, mapped-not, lookup-insert-same, lookup-insert-other, rising-insert, lookup-has, has-lookup, insert-new, insert-old, full-when, full-mapped, full-room}
-use Rattle.rules.specs.Layout.{Table, lengths_in_range, in_form, capacity_of, used_entries, laid_out_lem}
+use Rattle.rules.specs.Layout.{Table, lengths_in_range, in_form, capacity_of, used_entries, laid_out}
 use Rattle.rules.specs.LayoutLaws.{lengths-in-range, range-lengths-in, laid-out-capacity, laid-out-even, Used, used-laid-out, form-laid-out, used-located, used-length, form-rising}
 use Rattle.rules.specs.World.{accepted, refused, loaded_given}
 use Rattle.rules.specs.TableCalls.{TableAfter, not_form, same, with_stored, load_call, store_call, compare_call, greater_call}
@@ -103,7 +103,7 @@ took b id raw f some room = record {
     es = insert (used_entries b) n
 
     t : Table
-    t = laid_out_lem (capacity_of b) es
+    t = laid_out (capacity_of b) es
 
     rising : Rising 0 (used_entries b)
     rising = form-rising b (in-form b f).1

@@ -7,7 +7,7 @@ use Rattle.rules.specs.Base.{Bool, true, false, List, [], ◌∷◌, ◌++◌, m
 use Rattle.rules.specs.BaseLaws.{All, and-true}
 use Rattle.rules.specs.Table.{lookup, insert, unmapped, full}
 use Rattle.rules.specs.TableCalls.{with_stored}
-use Rattle.rules.specs.Layout.{Table, capacity_of, used_entries, laid_out_lem, cleared}
+use Rattle.rules.specs.Layout.{Table, capacity_of, used_entries, laid_out, cleared}
 use Rattle.rules.specs.LayoutLaws.{Used, laid-out-capacity, laid-out-length, used-laid-out, used-located, used-length}
 use Rattle.disk_location.specs.Locations.{position_of, raw_of, delete_of}
 use Rattle.rules.specs.Trailer.{absolute}
@@ -34,7 +34,7 @@ pub record Placed (lsn : ℕ) (es : List Entry) : Type 0 where
 -- whether there is room for all ids, and the buffer: the latest entries laid out, or zeros
 pub record Filled (b : Table) (es : List Entry) (room : Bool) (after : Table) : Type 0 where
   pub answer : room ≡ leb (length (latest_from (used_entries b) es)) (capacity_of b)
-  pub left : after ≡ pick room (laid_out_lem (capacity_of b) (latest_from (used_entries b) es)) (cleared b)
+  pub left : after ≡ pick room (laid_out (capacity_of b) (latest_from (used_entries b) es)) (cleared b)
 
 -- an absolute location is in use
 raw-some : (p : ℕ) (d : Bool) → 0 < p → 0 < raw_of p d
@@ -94,7 +94,7 @@ module _ (b : Table) (formed : Formed b) where
   -- ---- many at once, by their count
   module _ (es : List Entry) (n : ℕ) (count : length (latest_from (used_entries b) es) ≡ n) where
     -- there is room
-    pub filled-all : n ≤ capacity_of b → (after : Table) → after ≡ laid_out_lem (capacity_of b) (latest_from (used_entries b) es) → Filled b es true after
+    pub filled-all : n ≤ capacity_of b → (after : Table) → after ≡ laid_out (capacity_of b) (latest_from (used_entries b) es) → Filled b es true after
     filled-all fits after at = record { answer = sym (le-leb (length (latest_from (used_entries b) es)) (capacity_of b) (omega arith)); left = at }
 
     -- there is none
@@ -143,7 +143,7 @@ module _ (b : Table) (formed : Formed b) where
       pub filled-then : (ys : List Entry) (room : Bool) (after : Table) → Filled m ys room after → Filled b (xs ++ ys) room after
       filled-then ys room after v = record {
         answer = v.answer ∙ ap₂ (λ (es : List Entry) (k : ℕ). leb (length es) k) all filled-capacity;
-        left = v.left ∙ ap₂ (λ (t u : Table). pick room t u) (ap₂ laid_out_lem filled-capacity all) filled-cleared;
+        left = v.left ∙ ap₂ (λ (t u : Table). pick room t u) (ap₂ laid_out filled-capacity all) filled-cleared;
       }
         where
           all : latest_from (used_entries m) ys ≡ latest_from (used_entries b) (xs ++ ys)

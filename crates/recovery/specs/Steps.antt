@@ -8,7 +8,7 @@ use Rattle.rules.specs.Base.{true, false, List, [], ◌∷◌, ◌++◌, ℕ, ze
 use Rattle.rules.specs.Refusal.{Test, ◌gives◌, NoneHolds, decide, after, clear-when, none_rest, decide-early, decide-late, decide-first, decide-next, decide-none, after-refused, after-done}
 use Rattle.rules.specs.Claims.{no_claims}
 use Rattle.rules.specs.Condition1.{out_of_range}
-use Rattle.rules.specs.Layout.{Table, alternating, capacity_of, used_entries, laid_out_lem, cleared}
+use Rattle.rules.specs.Layout.{Table, alternating, capacity_of, used_entries, laid_out, cleared}
 use Rattle.rules.specs.SlotFile.{View, views_in}
 use Rattle.rules.specs.Reopen.{view_tests, files_in, overlapping, latest_from, table_of, reopen_tests, records_from, next_after, given_up, opened, reopen_call}
 use Rattle.rules.specs.World.{World, world, After}
@@ -78,8 +78,8 @@ zeros-in-turn (suc n) =
     ap (λ (ws : List ℕ). 0 ∷ 0 ∷ ws) (zeros-in-turn n) ∙ sym (ap (λ (m : ℕ). replicate m 0) q)
 
 -- no entries laid out are zeros
-none-laid-out : (n : ℕ) → laid_out_lem n [] ≡ replicate (2 * n) 0
-unfolding laid_out_lem padded
+none-laid-out : (n : ℕ) → laid_out n [] ≡ replicate (2 * n) 0
+unfolding laid_out padded
 none-laid-out n = rw (sub-zero n) (zeros-in-turn n)
 
 module _ (b : Table) where
@@ -89,7 +89,7 @@ module _ (b : Table) where
     zero = q ∙ sym (ap cleared q ∙ ap (λ (n : ℕ). replicate n 0) (length-replicate (length b) 0));
   }
 
-  blank-laid-out : Blank b → b ≡ laid_out_lem (capacity_of b) []
+  blank-laid-out : Blank b → b ≡ laid_out (capacity_of b) []
   blank-laid-out w =
       let q : length b ≡ 2 * capacity_of b = omega (arith, w.even) in
       w.zero ∙ ap (λ (n : ℕ). replicate n 0) q ∙ sym (none-laid-out (capacity_of b))
@@ -143,7 +143,7 @@ module _ (settings : Settings) (heap : List ℕ) (table left : Table) where
     -- accepted: records, next position and table are the definition's
     pub past_room : leb (length (table_of (files_in views))) (capacity_of table) ≡ true → (m : ℕ) (state : State) (claims : Claims) (records : List Record) (next : ℕ)
         → state ≡ state_by settings (length heap) m records next → m ≡ capacity_of table → claims ≡ no_claims
-        → records ≡ records_from (table_of (files_in views)) views → next ≡ next_after (files_in views) → left ≡ laid_out_lem (capacity_of table) (table_of (files_in views))
+        → records ≡ records_from (table_of (files_in views)) views → next ≡ next_after (files_in views) → left ≡ laid_out (capacity_of table) (table_of (files_in views))
         → leaves settings (record { answer = Done; state = state; claims = claims }) heap left ≡ past_tests (bare settings heap table) views
     unfolding opened
     past_room e m state claims records next s k d p q t =

@@ -6,7 +6,7 @@ use Rattle.rules.specs.Trailer.{absolute}
 use Rattle.rules.specs.Ops.{Op, objects_of, entries_of, file_bytes}
 use Rattle.rules.specs.Label.{label_bytes}
 use Rattle.rules.specs.Table.{load, insert_all}
-use Rattle.rules.specs.Layout.{Table, laid_out_lem, capacity_of}
+use Rattle.rules.specs.Layout.{Table, laid_out, capacity_of}
 use Rattle.rules.specs.FileMap.{recorded, empty_slots, lowest_empty, file_for, less_live}
 use Rattle.rules.specs.Stores.{Store, made, file_stores}
 use Rattle.rules.specs.World.{World, records_of, slots_of, mappings, state_with}
@@ -54,7 +54,7 @@ stores_for new w ops = file_stores (new_slot w * w.settings.slot_bytes) (label_b
 
 -- "Each id takes its new location"
 unfoldable pub table_with : ℕ → World → List Op → Table
-table_with lsn w ops = laid_out_lem (capacity_of w.table) (insert_all (mappings w) (map (absolute lsn) (entries_of 0 ops)))
+table_with lsn w ops = laid_out (capacity_of w.table) (insert_all (mappings w) (map (absolute lsn) (entries_of 0 ops)))
 
 -- "next grows by T + 1"
 unfoldable pub next_with : World → List Op → ℕ

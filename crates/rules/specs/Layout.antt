@@ -53,8 +53,8 @@ unfoldable pub used_entries : Table → List Entry
 used_entries b = used_in (table_ids b) (table_locations b)
 
 -- a buffer of n entries that holds just these
-unfoldable pub laid_out_lem : ℕ → List Entry → Table
-laid_out_lem n es = alternating (padded n (map (λ (e : Entry). e.id) es)) (padded n (map (λ (e : Entry). e.location) es))
+unfoldable pub laid_out : ℕ → List Entry → Table
+laid_out n es = alternating (padded n (map (λ (e : Entry). e.id) es)) (padded n (map (λ (e : Entry). e.location) es))
 
 -- "zeroes the one buffer"
 abbrev pub cleared : Table → Table

@@ -7,7 +7,7 @@ use Rattle.rules.specs.Base.{true, List, [], ◌∷◌, ◌++◌, map, ℕ, zero
 use Rattle.rules.specs.Types.{Entry}
 use Rattle.rules.specs.BaseLaws.{and-true, and-holds, within-true, within-holds, zero-or-more, zeros-is, zeros-replicate, padded-length}
 use Rattle.rules.specs.TableLaws.{Rising, rise, rise-end, Has}
-use Rattle.rules.specs.Layout.{Table, table_ids, table_locations, alternating, lengths_in_range, capacity_of, form_from, in_form, used_in, used_entries, laid_out_lem}
+use Rattle.rules.specs.Layout.{Table, table_ids, table_locations, alternating, lengths_in_range, capacity_of, form_from, in_form, used_in, used_entries, laid_out}
 
 -- "table entries 1..65,536"; "1 also for an odd length"
 pub record LengthsInRange (b : Table) : Type 0 where
@@ -86,26 +86,26 @@ unfolding padded
 same-lengths n es = simp (length-append, length-map, length-replicate)
 
 -- the ids in it
-pub laid-out-ids : (n : ℕ) (es : List Entry) → table_ids (laid_out_lem n es) ≡ padded n (map (λ (e : Entry). e.id) es)
-unfolding laid_out_lem
+pub laid-out-ids : (n : ℕ) (es : List Entry) → table_ids (laid_out n es) ≡ padded n (map (λ (e : Entry). e.id) es)
+unfolding laid_out
 laid-out-ids n es = ids-alternating _ _ (same-lengths n es)
 
 -- and the locations
-pub laid-out-locations : (n : ℕ) (es : List Entry) → table_locations (laid_out_lem n es) ≡ padded n (map (λ (e : Entry). e.location) es)
-unfolding laid_out_lem
+pub laid-out-locations : (n : ℕ) (es : List Entry) → table_locations (laid_out n es) ≡ padded n (map (λ (e : Entry). e.location) es)
+unfolding laid_out
 laid-out-locations n es = locations-alternating _ _ (same-lengths n es)
 
 -- the buffer has n entries, two words each
-pub laid-out-length : (n : ℕ) (es : List Entry) → length es ≤ n → length (laid_out_lem n es) ≡ 2 * n
-unfolding laid_out_lem
+pub laid-out-length : (n : ℕ) (es : List Entry) → length es ≤ n → length (laid_out n es) ≡ 2 * n
+unfolding laid_out
 laid-out-length n es h =
     alternating-length (padded n (map (λ (e : Entry). e.id) es)) _ (same-lengths n es)
     ∙ ap (λ (k : ℕ). 2 * k) (padded-length n (map (λ (e : Entry). e.id) es) (omega (arith, length-map es (λ (e : Entry). e.id))))
 
-pub laid-out-capacity : (n : ℕ) (es : List Entry) → length es ≤ n → capacity_of (laid_out_lem n es) ≡ n
+pub laid-out-capacity : (n : ℕ) (es : List Entry) → length es ≤ n → capacity_of (laid_out n es) ≡ n
 laid-out-capacity n es h = omega (arith, laid-out-length n es h)
 
-pub laid-out-even : (n : ℕ) (es : List Entry) → length es ≤ n → length (laid_out_lem n es) % 2 ≡ 0
+pub laid-out-even : (n : ℕ) (es : List Entry) → length es ≤ n → length (laid_out n es) % 2 ≡ 0
 laid-out-even n es h = omega (arith, laid-out-length n es h)
 
 -- "location 0 means unused": none of these is
@@ -155,12 +155,12 @@ form-back f (e ∷ es) k u (rise a r) =
     ∙ and-holds (leb f e.id) _ (le-leb f e.id a) (form-back (suc e.id) es k (λ x l h. u x l (inr h)) r)
 
 -- a buffer that was laid out holds just these entries
-pub used-laid-out : (n : ℕ) (es : List Entry) → Used es → used_entries (laid_out_lem n es) ≡ es
+pub used-laid-out : (n : ℕ) (es : List Entry) → Used es → used_entries (laid_out n es) ≡ es
 unfolding used_entries padded
 used-laid-out n es u = rw (laid-out-ids n es, laid-out-locations n es, same_rest n es) (used-back es (n - length (map (λ (e : Entry). e.id) es)) u)
 
 -- and is in form
-pub form-laid-out : (n : ℕ) (es : List Entry) → Used es → Rising 0 es → in_form (laid_out_lem n es) ≡ true
+pub form-laid-out : (n : ℕ) (es : List Entry) → Used es → Rising 0 es → in_form (laid_out n es) ≡ true
 unfolding in_form padded
 form-laid-out n es u r = rw (laid-out-ids n es, laid-out-locations n es, same_rest n es) (form-back 0 es (n - length (map (λ (e : Entry). e.id) es)) u r)
 
@@ -246,8 +246,8 @@ again f (i ∷ is) (l ∷ ls) e n = go (zero-or-more l) (again (suc i) is ls)
         (ap (λ (xs : List ℕ). i ∷ xs) v.0, ap (λ (xs : List ℕ). l ∷ xs) v.1)
 
 -- a buffer in form is its used entries, laid out
-pub laid-out-used : (b : Table) → in_form b ≡ true → length b % 2 ≡ 0 → laid_out_lem (capacity_of b) (used_entries b) ≡ b
-unfolding used_entries in_form laid_out_lem
+pub laid-out-used : (b : Table) → in_form b ≡ true → length b % 2 ≡ 0 → laid_out (capacity_of b) (used_entries b) ≡ b
+unfolding used_entries in_form laid_out
 laid-out-used b e n =
     let w = again 0 (table_ids b) (table_locations b) e (ids-count b ∙ sym (locations-count b)) in
-    ap (λ (k : ℕ). laid_out_lem k (used_in (table_ids b) (table_locations b))) (sym (ids-count b)) ∙ ap₂ alternating w.0 w.1 ∙ in-turn b n
+    ap (λ (k : ℕ). laid_out k (used_in (table_ids b) (table_locations b))) (sym (ids-count b)) ∙ ap₂ alternating w.0 w.1 ∙ in-turn b n

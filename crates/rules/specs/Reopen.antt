@@ -5,7 +5,7 @@ use Rattle.disk_location.specs.Locations.{masked_of, position_of}
 use Rattle.rules.specs.Refusal.{Test, ◌gives◌, decide, after}
 use Rattle.rules.specs.Trailer.{absolute}
 use Rattle.rules.specs.SlotFile.{File, View, empty, damaged, holds, views_in}
-use Rattle.rules.specs.Layout.{capacity_of, laid_out_lem, cleared}
+use Rattle.rules.specs.Layout.{capacity_of, laid_out, cleared}
 use Rattle.rules.specs.FileMap.{recorded, empty_record, no_files}
 use Rattle.rules.specs.Claims.{no_claims}
 use Rattle.rules.specs.Condition1.{out_of_range}
@@ -124,7 +124,7 @@ opened w views =
         state = state_of w (records_from table views) (next_after (files_in views));
         claims = no_claims;
         heap = w.heap;
-        table = laid_out_lem (capacity_of w.table) table;
+        table = laid_out (capacity_of w.table) table;
       };
     }
 

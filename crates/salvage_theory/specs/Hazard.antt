@@ -10,7 +10,7 @@ use Rattle.rules.specs.Condition1.{out_of_range, not_the_states, bad_record, bad
 use Rattle.rules.specs.FileMap.{is_empty, no_files, slots_where, empty_slots, lowest_empty, leads, lead_from, file_for}
 use Rattle.rules.specs.Install.{new_label, new_record, losing, records_with, stores_for, table_with, next_with, installed, installed_all, room_tests, position_tests}
 use Rattle.rules.specs.Label.{label_bytes, five_in, label_in, out_of_bounds}
-use Rattle.rules.specs.Layout.{table_ids, table_locations, alternating, lengths_in_range, form_from, in_form, used_in, used_entries, laid_out_lem}
+use Rattle.rules.specs.Layout.{table_ids, table_locations, alternating, lengths_in_range, form_from, in_form, used_in, used_entries, laid_out}
 use Rattle.rules.specs.Object.{object_bytes, stored_at, objects_from, objects_in, bad_checksum}
 use Rattle.rules.specs.Ops.{objects_of, entries_of, file_bytes, joined, settled}
 use Rattle.rules.specs.Read.{object_tests, read_of}
@@ -52,7 +52,7 @@ pub older-again :
     × (report_of newer.settings newer.heap ≡ loss 1 Checksum ∷ [])
     × (list_of (rescued newer []) ≡ [])
     × (got (reopen_call (rescued newer [])).world 7 ≡ bytes (0x41 ∷ []))
-unfolding any zeros keep each sum greatest padded put_operation operation_at batch_from batch_in any_too_large out_of_range not_the_states bad_record bad_from condition_one is_empty no_files slots_where empty_slots lowest_empty leads lead_from file_for new_record new_label losing records_with stores_for table_with next_with installed installed_all room_tests position_tests label_bytes five_in label_in out_of_bounds table_ids table_locations alternating lengths_in_range form_from in_form used_in used_entries laid_out_lem object_bytes stored_at objects_of entries_of file_bytes joined settled decide files_in overlapping not_rising latest latest_from table_of reopen_tests mapped_into records_from next_after opened reopen_call in_ranges heap_in_range same_settings slot_tests view_in views_in made stores_of file_stores lookup insert insert_all listed trailer_bytes trailer_tests entries_from entries_in misplaced too_many_ids write_tests written write_call le_bytes le_value groups_of read_groups number_in shift_bit shifts crc_from crc32 object_sum masked_of digits_in objects_from objects_in bad_checksum object_tests read_of bytes_of_slot given_up first_kind the_rest placed in_order given_up_behind second_kind losses_in emptying_of salvage_call front walked object_faults entry_faults file_faults slot_faults faults_from closing faults_of
+unfolding any zeros keep each sum greatest padded put_operation operation_at batch_from batch_in any_too_large out_of_range not_the_states bad_record bad_from condition_one is_empty no_files slots_where empty_slots lowest_empty leads lead_from file_for new_record new_label losing records_with stores_for table_with next_with installed installed_all room_tests position_tests label_bytes five_in label_in out_of_bounds table_ids table_locations alternating lengths_in_range form_from in_form used_in used_entries laid_out object_bytes stored_at objects_of entries_of file_bytes joined settled decide files_in overlapping not_rising latest latest_from table_of reopen_tests mapped_into records_from next_after opened reopen_call in_ranges heap_in_range same_settings slot_tests view_in views_in made stores_of file_stores lookup insert insert_all listed trailer_bytes trailer_tests entries_from entries_in misplaced too_many_ids write_tests written write_call le_bytes le_value groups_of read_groups number_in shift_bit shifts crc_from crc32 object_sum masked_of digits_in objects_from objects_in bad_checksum object_tests read_of bytes_of_slot given_up first_kind the_rest placed in_order given_up_behind second_kind losses_in emptying_of salvage_call front walked object_faults entry_faults file_faults slot_faults faults_from closing faults_of
 older-again = (refl, refl, refl, refl)
 
 -- LAW: 7 was deleted; slot 1 is given up, and 7 reads 0x41 again
@@ -60,5 +60,5 @@ pub delete-undone :
     (got (called first (write (0x07 ∷ 0x00 ∷ []))).world 7 ≡ deleted)
     × (report_of gone.settings gone.heap ≡ loss 1 Checksum ∷ [])
     × (got (reopen_call (rescued gone [])).world 7 ≡ bytes (0x41 ∷ []))
-unfolding any zeros keep each sum greatest padded put_operation operation_at batch_from batch_in any_too_large out_of_range not_the_states bad_record bad_from condition_one is_empty no_files slots_where empty_slots lowest_empty leads lead_from file_for new_record new_label losing records_with stores_for table_with next_with installed installed_all room_tests position_tests label_bytes five_in label_in out_of_bounds table_ids table_locations alternating lengths_in_range form_from in_form used_in used_entries laid_out_lem object_bytes stored_at objects_of entries_of file_bytes joined settled decide files_in overlapping not_rising latest latest_from table_of reopen_tests mapped_into records_from next_after opened reopen_call in_ranges heap_in_range same_settings slot_tests view_in views_in made stores_of file_stores lookup insert insert_all listed trailer_bytes trailer_tests entries_from entries_in misplaced too_many_ids write_tests written write_call le_bytes le_value groups_of read_groups number_in shift_bit shifts crc_from crc32 object_sum masked_of digits_in objects_from objects_in bad_checksum object_tests read_of bytes_of_slot given_up first_kind the_rest placed in_order given_up_behind second_kind losses_in emptying_of salvage_call front
+unfolding any zeros keep each sum greatest padded put_operation operation_at batch_from batch_in any_too_large out_of_range not_the_states bad_record bad_from condition_one is_empty no_files slots_where empty_slots lowest_empty leads lead_from file_for new_record new_label losing records_with stores_for table_with next_with installed installed_all room_tests position_tests label_bytes five_in label_in out_of_bounds table_ids table_locations alternating lengths_in_range form_from in_form used_in used_entries laid_out object_bytes stored_at objects_of entries_of file_bytes joined settled decide files_in overlapping not_rising latest latest_from table_of reopen_tests mapped_into records_from next_after opened reopen_call in_ranges heap_in_range same_settings slot_tests view_in views_in made stores_of file_stores lookup insert insert_all listed trailer_bytes trailer_tests entries_from entries_in misplaced too_many_ids write_tests written write_call le_bytes le_value groups_of read_groups number_in shift_bit shifts crc_from crc32 object_sum masked_of digits_in objects_from objects_in bad_checksum object_tests read_of bytes_of_slot given_up first_kind the_rest placed in_order given_up_behind second_kind losses_in emptying_of salvage_call front
 delete-undone = (refl, refl, refl)

@@ -15,7 +15,7 @@ use Rattle.rules.specs.Reopen.{files_in, table_of, in_range, mapped_into}
 use Rattle.theory.specs.Counting.{count-has}
 use Rattle.theory.specs.Newest.{masked_at, newest-less, newest-one}
 use Rattle.theory.specs.Places.{view_at, rows_of, Agrees, Filed, Stands, stands-has, has-stands, not-empty, own-file, in-own-range, distinct}
-use Rattle.theory.specs.Losing.{live_at_lem}
+use Rattle.theory.specs.Losing.{live_at}
 use Rattle.theory.specs.Picture.{Picture, Said, view_says, slot_says, held_says, picture_says}
 use Rattle.theory.specs.Says.{held_same}
 use Rattle.theory.specs.Sound.{Sound, newest-table, rising-table, table-rising, table-newest, table-stands}
@@ -24,7 +24,7 @@ use Rattle.theory.specs.Sound.{Sound, newest-table, rising-table, table-rising, 
 abbrev pub KeptOrEmptied : Picture → Picture → ℕ → Type 0
 KeptOrEmptied p q k =
     ((view_at q.views k ≡ view_at p.views k) × (record_at q.records k ≡ record_at p.records k))
-    ⊎ ((live_at_lem p.records k ≡ 0) × (view_at q.views k ≡ empty) × (record_at q.records k ≡ empty_record))
+    ⊎ ((live_at p.records k ≡ 0) × (view_at q.views k ≡ empty) × (record_at q.records k ≡ empty_record))
 
 -- q is p with some files of no live entry removed
 pub record Emptied (p q : Picture) : Type 0 where
@@ -58,7 +58,7 @@ module _ (bounds : ℕ) (p : Picture) (told : ℕ → Said) (s : Sound bounds p 
   unfolding mapped_into
   kept x l k h t = ⊎_elim (λ c. c) (λ c. absurd (no c.0)) (e.each k)
     where
-      no : live_at_lem p.records k ≡ 0 → ⊥
+      no : live_at p.records k ≡ 0 → ⊥
       no z =
           let b = count-has (λ (m : ℕ). in_range t.file.label (masked_at m)) p.table x l (lookup-has p.table x l h)
           (in-own-range p.views p.records s.filed x l k t) in

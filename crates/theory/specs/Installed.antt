@@ -26,7 +26,7 @@ use Rattle.theory.specs.Entries.{shift_held, lookup-absolute, rising-absolute, h
 use Rattle.theory.specs.Counting.{count, count_none}
 use Rattle.theory.specs.Newest.{masked_at, newest-iff, newest-one, newest-insert-all}
 use Rattle.theory.specs.Places.{view_at, rows_in, rows_of, WellMade, Single, rising-single, Apart, Agrees, Filed, Stands, stands-has, has-stands, not-empty, holds-inj, own-file, in-own-range, in-no-other, found-in-range, distinct, masked-entry}
-use Rattle.theory.specs.Losing.{live_at_lem, rows_for, losing-live, losing-new}
+use Rattle.theory.specs.Losing.{live_at, rows_for, losing-live, losing-new}
 use Rattle.rules.specs.WrittenLaws.{file_of_ops}
 use Rattle.theory.specs.Picture.{Picture, Said, unheard, gone, body, broken, place_says, entry_says, file_says, view_says, slot_says, held_says, picture_says, added}
 use Rattle.theory.specs.Says.{held-says, held_same}
@@ -242,7 +242,7 @@ module _ (bounds : ℕ) (p : Picture) (told : ℕ → Said) (s : Sound bounds p 
       omega arith
 
   counted-old : (j : ℕ) (h : File) → (j ≡ k → ⊥) → view_at p.views j ≡ holds h
-      → live_at_lem (losing p.table os p.records) j ≡ mapped_into (insert_all p.table (rows_for lsn 0 os)) h.label
+      → live_at (losing p.table os p.records) j ≡ mapped_into (insert_all p.table (rows_for lsn 0 os)) h.label
   unfolding mapped_into
   counted-old j h n e =
       losing-live (λ (l : ℕ). in_range h.label (masked_at l)) j lsn p.table 0 0 p.table os p.records (table-rising bounds p told s) a.rising
@@ -253,13 +253,13 @@ module _ (bounds : ℕ) (p : Picture) (told : ℕ → Said) (s : Sound bounds p 
 
   -- LAW: every live count is again the number of ids mapped into the file
   pub counted-added : (j : ℕ) (h : File) → view_at (added lsn g p k os).views j ≡ holds h
-      → live_at_lem (added lsn g p k os).records j ≡ mapped_into (insert_all p.table (rows_for lsn 0 os)) h.label
+      → live_at (added lsn g p k os).records j ≡ mapped_into (insert_all p.table (rows_for lsn 0 os)) h.label
   unfolding new_record new_label mapped_into
   counted-added j h e = go (same? j k)
     where
-      go : (j ≡ k) ⊎ (j ≡ k → ⊥) → live_at_lem (added lsn g p k os).records j ≡ mapped_into (insert_all p.table (rows_for lsn 0 os)) h.label
+      go : (j ≡ k) ⊎ (j ≡ k → ⊥) → live_at (added lsn g p k os).records j ≡ mapped_into (insert_all p.table (rows_for lsn 0 os)) h.label
       go (inl z) =
-          ap (live_at_lem (added lsn g p k os).records) z ∙ ap (λ (r : Record). r.live) record-new ∙ counted-new
+          ap (live_at (added lsn g p k os).records) z ∙ ap (λ (r : Record). r.live) record-new ∙ counted-new
           ∙ ap (λ (c : File). mapped_into (insert_all p.table (rows_for lsn 0 os)) c.label) (is-new j h e z)
       go (inr z) = ap (λ (r : Record). r.live) (record-old j z) ∙ counted-old j h z (sym (view-old j z) ∙ e)
 

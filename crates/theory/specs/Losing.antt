@@ -19,8 +19,8 @@ use Rattle.rules.specs.FileMapLaws.{file-same, less-live-length}
 use Rattle.rules.specs.InstallLaws.{holding-mapped, is_at, less-at}
 
 -- the live count of a slot
-abbrev pub live_at_lem : List Record → ℕ → ℕ
-live_at_lem rs j = (record_at rs j).live
+abbrev pub live_at : List Record → ℕ → ℕ
+live_at rs j = (record_at rs j).live
 
 -- an operation's entry at a position of the file, with its absolute location
 abbrev pub row_at : ℕ → ℕ → Op → Entry
@@ -47,8 +47,8 @@ module _ (p : ℕ → Bool) (j lsn : ℕ) (t : List Entry) where
       → ((x : ℕ) → f ≤ x → lookup u x ≡ lookup t x)
       → ((x m : ℕ) → lookup t x ≡ Mapped m → is_at j (file_for rs m) ≡ p m)
       → ((x l : ℕ) → Has (rows_for lsn position os) x l → p l ≡ false)
-      → live_at_lem rs j ≡ count p u
-      → live_at_lem (losing t os rs) j ≡ count p (insert_all u (rows_for lsn position os))
+      → live_at rs j ≡ count p u
+      → live_at (losing t os rs) j ≡ count p (insert_all u (rows_for lsn position os))
   unfolding losing insert_all entries_of
   losing-live f position u [] rs r s same found new c = c
   losing-live f position u (o ∷ os) rs r (ops-rise a s) same found new c =
@@ -59,9 +59,9 @@ module _ (p : ℕ → Bool) (j lsn : ℕ) (t : List Entry) where
       (λ x l h. new x l (inr h))
       turn
     where
-      turn : live_at_lem (less_live (file_holding rs (load t o.id)) rs) j ≡ count p (insert u (row_at lsn position o))
+      turn : live_at (less_live (file_holding rs (load t o.id)) rs) j ≡ count p (insert u (row_at lsn position o))
       turn =
-          let v : live_at_lem (less_live (file_holding rs (load t o.id)) rs) j ≡ live_at_lem rs j - bit_of (is_at j (file_holding rs (load t o.id)))
+          let v : live_at (less_live (file_holding rs (load t o.id)) rs) j ≡ live_at rs j - bit_of (is_at j (file_holding rs (load t o.id)))
           = ap (λ (r : Record). r.live) (less-at (file_holding rs (load t o.id)) rs j) in
           let w = held_share rs (lookup t o.id) (found o.id) in
           let q : had p (lookup u o.id) ≡ had p (lookup t o.id) = ap (had p) (same o.id a) in

@@ -13,7 +13,7 @@ use Rattle.rules.specs.FileMap.{recorded, empty_record, is_empty, record_at, fil
 use Rattle.rules.specs.FileMapLaws.{is-empty, file-same}
 use Rattle.rules.specs.Sync.{is_unsynced, unsynced_in, marked, marked_all}
 use Rattle.theory.specs.Places.{view_at, Agrees}
-use Rattle.theory.specs.Losing.{live_at_lem}
+use Rattle.theory.specs.Losing.{live_at}
 use Rattle.theory.specs.Picture.{Picture, Said, view_says, slot_says, held_says, picture_says}
 use Rattle.theory.specs.Says.{held_same}
 use Rattle.theory.specs.Sound.{Sound}
@@ -140,10 +140,10 @@ module _ (bounds : ℕ) (p : Picture) (told : ℕ → Said) (s : Sound bounds p 
       go (inl e) = ap (λ (r : Record). r.label) e ∙ marked-label (record_at p.records k)
       go (inr e) = ap (λ (r : Record). r.label) e
 
-  live_at_lem : (k : ℕ) → live_at_lem qs k ≡ live_at_lem p.records k
+  live_at_lem : (k : ℕ) → live_at qs k ≡ live_at p.records k
   live_at_lem k = go (some.each k)
     where
-      go : (record_at qs k ≡ marked (record_at p.records k)) ⊎ (record_at qs k ≡ record_at p.records k) → live_at_lem qs k ≡ live_at_lem p.records k
+      go : (record_at qs k ≡ marked (record_at p.records k)) ⊎ (record_at qs k ≡ record_at p.records k) → live_at qs k ≡ live_at p.records k
       go (inl e) = ap (λ (r : Record). r.live) e ∙ marked-live (record_at p.records k)
       go (inr e) = ap (λ (r : Record). r.live) e
 

@@ -13,7 +13,7 @@ use Rattle.rules.specs.Condition1Laws.{InLimits, in-limits}
 use Rattle.rules.specs.SlotFile.{File, View, empty, damaged, holds, views_in, bytes_of_slot}
 use Rattle.rules.specs.Table.{lookup}
 use Rattle.rules.specs.TableLaws.{Has, has-lookup}
-use Rattle.rules.specs.Layout.{capacity_of, laid_out_lem, used_entries}
+use Rattle.rules.specs.Layout.{capacity_of, laid_out, used_entries}
 use Rattle.rules.specs.LayoutLaws.{Used, used-laid-out}
 use Rattle.rules.specs.FileMap.{recorded, record_at, file_for}
 use Rattle.rules.specs.Reopen.{view_tests, files_in, overlapping, not_rising, table_of, reopen_tests, mapped_into, record_of, records_from, in_range, given_up, opened, reopen_call}
@@ -26,7 +26,7 @@ use Rattle.rules.specs.SlotLaws.{views-length, views-at}
 use Rattle.rules.specs.SeenLaws.{seen}
 use Rattle.rules.specs.InstallLaws.{is_at}
 use Rattle.theory.specs.Files.{any-file, undamaged, overlap-apart, clear-single, next-above, record-from}
-use Rattle.theory.specs.Losing.{live_at_lem}
+use Rattle.theory.specs.Losing.{live_at}
 use Rattle.theory.specs.Picture.{views_of}
 use Rattle.theory.specs.Sound.{newest-table, rising-table}
 
@@ -46,9 +46,9 @@ pub record Opened (w v : World) : Type 0 where
   -- the location is looked up in the file where the entry stands
   pub found : (x l k : ℕ) → Stands (views_of w) x l k → file_for (records_of v) l ≡ Is k
   -- a slot's record has its label's five numbers, as live count the number of ids that are mapped into the file, and the mark set
-  pub labelled : (k : ℕ) (f : File) → view_at (views_of w) k ≡ holds f → record_at (records_of v) k ≡ recorded f.label (live_at_lem (records_of v) k) 1
+  pub labelled : (k : ℕ) (f : File) → view_at (views_of w) k ≡ holds f → record_at (records_of v) k ≡ recorded f.label (live_at (records_of v) k) 1
   pub counted : (k : ℕ) (f : File) → view_at (views_of w) k ≡ holds f
-      → live_at_lem (records_of v) k ≡ count (λ (l : ℕ). is_at k (file_for (records_of v) l)) (mappings v)
+      → live_at (records_of v) k ≡ count (λ (l : ℕ). is_at k (file_for (records_of v) l)) (mappings v)
   -- the next position lies above every file
   pub above : (k : ℕ) (f : File) → view_at (views_of w) k ≡ holds f → masked_of f.label.lsn + f.label.trailer_offset < v.state.next_position
 
@@ -158,7 +158,7 @@ module _ (w : World) (p : Passed w) where
   opened-means : Opened w (opened w (views_of w)).world
   unfolding opened
   opened-means =
-      let table : used_entries (laid_out_lem (capacity_of w.table) (table_of (files_in (views_of w)))) ≡ table_of (files_in (views_of w))
+      let table : used_entries (laid_out (capacity_of w.table) (table_of (files_in (views_of w)))) ≡ table_of (files_in (views_of w))
       = used-laid-out (capacity_of w.table) (table_of (files_in (views_of w))) (rows-used (views_of w) made) in
       record {
         mentioned = λ x l h. has-stands (views_of w) x l (subst (Newest (Has (rows_of (views_of w)) x)) (sym (ap (λ (t : List Entry). lookup t x) table) ∙ h) (newest-table (views_of w) x)).0;

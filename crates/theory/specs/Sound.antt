@@ -15,7 +15,7 @@ use Rattle.rules.specs.TableLaws.{Rising, Has}
 use Rattle.rules.specs.ReopenLaws.{latest-of-rising}
 use Rattle.theory.specs.Newest.{masked_at, Newest, newest-latest}
 use Rattle.theory.specs.Places.{view_at, rows_of, Filed, Stands, has-stands, holds-inj, in-no-other}
-use Rattle.theory.specs.Losing.{live_at_lem}
+use Rattle.theory.specs.Losing.{live_at}
 use Rattle.theory.specs.Picture.{Picture, Said, picture_says}
 
 -- an object of this id starts at this position
@@ -54,7 +54,7 @@ pub record Sound (bounds : ℕ) (p : Picture) (told : ℕ → Said) : Type 0 whe
   -- ids are numbers of 64 bits
   pub narrow : (x l : ℕ) → Has p.table x l → x < 2 ^ 64
   -- a file's live count is the number of ids mapped into it
-  pub counted : (k : ℕ) (f : File) → view_at p.views k ≡ holds f → live_at_lem p.records k ≡ mapped_into p.table f.label
+  pub counted : (k : ℕ) (f : File) → view_at p.views k ≡ holds f → live_at p.records k ≡ mapped_into p.table f.label
   -- of each id the store says what the engine says
   pub says : (x : ℕ) → picture_says p x ≡ told x
 

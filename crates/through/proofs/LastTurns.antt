@@ -13,7 +13,7 @@ use Rattle.through.specs.declared.LastOperation.TheVariants.{NoOperation}
 use Rattle.through.specs.declared.Pass.{Pass}
 use Rattle.through.specs.declared.Pass.TheVariants.{Whole, BadBatch}
 use Rattle.through.specs.Through.{said_by, or_earlier, last_from, last_in}
-use Rattle.through.specs.Pieces.{said_in_lem}
+use Rattle.through.specs.Pieces.{said_in}
 use Rattle.through.specs.ThroughLaws.{or-none, or_assoc, last_end, last-next, said_in_lem}
 
 -- what the rest from `at` on says of x, with what was said before it
@@ -39,13 +39,13 @@ before-malformed o (operations os) = refl
 -- one operation of the batch behind, which k bounds
 pub telling-turn : (k : ℕ) (s : List ℕ) (x at : ℕ) (last : LastOperation) (o : Operation) (next : ℕ) → at < length s → length s - at ≤ k
     → (operation_at s at ≡ parsed (op_in s o) next) × (o.start + o.len ≤ length s)
-    → telling (k - 1) s x next (or_earlier (said_in_lem o next x) last) ≡ telling k s x at last
+    → telling (k - 1) s x next (or_earlier (said_in o next x) last) ≡ telling k s x at last
 unfolding telling
 telling-turn zero s x at last o next l h e = absurd (omega arith)
 telling-turn (suc k) s x at last o next l h e =
     let less : suc k - 1 ≡ k = omega arith in
     let said = said_by (op_in s o) next x in
-    ap (λ (j : ℕ). telling j s x next (or_earlier (said_in_lem o next x) last)) less
+    ap (λ (j : ℕ). telling j s x next (or_earlier (said_in o next x) last)) less
     ∙ ap (λ (a : LastOperation). telling k s x next (or_earlier a last)) (sym (said_in_lem s o next x e.1))
     ∙ ap₂ (λ (m : Bool) (a : LastOperation). pick m BadBatch (Whole a)) (sym (before-malformed (op_in s o) (batch_from k s next))) (or_assoc (last_from k s x next) said last)
     ∙ ap₂ (λ (b : Batch) (a : LastOperation). pick (is_malformed b) BadBatch (Whole (or_earlier a last)))

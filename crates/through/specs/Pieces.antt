@@ -11,8 +11,8 @@ use Rattle.through.specs.declared.LastOperation.{LastOperation}
 use Rattle.through.specs.declared.LastOperation.TheVariants.{Puts, Deletes, NoOperation}
 
 -- what an operation says of x, by its numbers
-abbrev pub said_in_lem : Operation → ℕ → ℕ → LastOperation
-said_in_lem o behind x = pick (eqb o.id x) (pick o.delete Deletes (Puts (behind - o.len) o.len)) NoOperation
+abbrev pub said_in : Operation → ℕ → ℕ → LastOperation
+said_in o behind x = pick (eqb o.id x) (pick o.delete Deletes (Puts (behind - o.len) o.len)) NoOperation
 
 -- refused with 1
 abbrev pub refused_first : ReadAnswer → Bool

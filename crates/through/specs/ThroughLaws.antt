@@ -39,7 +39,7 @@ use Rattle.through.specs.declared.ThroughAnswer.TheVariants.{InBatch, InHeap, Th
 use Rattle.through.specs.declared.LastOperation.{LastOperation}
 use Rattle.through.specs.declared.LastOperation.TheVariants.{Puts, Deletes, NoOperation}
 use Rattle.through.specs.Through.{content_at, said_by, or_earlier, last_by, last_from, last_in, as_read, answer_by, through_of, through_part, through_given}
-use Rattle.through.specs.Pieces.{said_in_lem, refused_first, PutWithin, Within, through_place}
+use Rattle.through.specs.Pieces.{said_in, refused_first, PutWithin, Within, through_place}
 
 -- ---- a put's body is the last of the bytes of its operation
 abbrev pub Ends : List ℕ → ℕ → Content → Type 0
@@ -139,7 +139,7 @@ last_within (suc k) s x at = go (operation_at s at) refl (last_within k s x)
         (one (eqb o.id x) o.content next (ends s at o next q) (operation-behind s at o next q).inside)
 
 -- ---- an operation by its numbers
-pub said_in_lem : (s : List ℕ) (o : Operation) (next x : ℕ) → o.start + o.len ≤ length s → said_by (op_in s o) next x ≡ said_in_lem o next x
+pub said_in_lem : (s : List ℕ) (o : Operation) (next x : ℕ) → o.start + o.len ≤ length s → said_by (op_in s o) next x ≡ said_in o next x
 said_in_lem s o next x h = ap (λ (l : LastOperation). pick (eqb o.id x) l NoOperation) (go o.delete)
   where
     go : (d : Bool) → content_at (pick d delete (put (take o.len (drop o.start s)))) next ≡ pick d Deletes (Puts (next - o.len) o.len)

@@ -13,7 +13,7 @@ use Rattle.rules.specs.declared.Answer.{Answer}
 use Rattle.rules.specs.declared.Answer.TheVariants.{Done, Refused}
 use Rattle.rules.specs.Refusal.{◌gives◌, decide, decide-first, after}
 use Rattle.rules.specs.Table.{lookup, loaded_of, insert, unmapped, mapped_to, full}
-use Rattle.rules.specs.Layout.{Table, table_ids, table_locations, alternating, capacity_of, lengths_in_range, in_form, used_entries, laid_out_lem}
+use Rattle.rules.specs.Layout.{Table, table_ids, table_locations, alternating, capacity_of, lengths_in_range, in_form, used_entries, laid_out}
 use Rattle.rules.specs.LayoutLaws.{ids-count, locations-count, ids-alternating, locations-alternating, alternating-length, laid-out-ids, laid-out-locations, same-table}
 use Rattle.rules.specs.TableCalls.{TableAfter, not_form, same, with_stored, below, load_call, store_call, compare_call, greater_call}
 use Rattle.rules.specs.World.{accepted, refused, loaded_given, held_given}
@@ -75,7 +75,7 @@ module _ (b : Table) (even : length b % 2 ≡ 0) where
 
   -- a store leaves equal contents
   same-stored : (id raw : ℕ) → Alike (two.with_stored apart id raw) (with_stored b id raw)
-  unfolding two.with_stored two.laid_out with_stored laid_out_lem padded
+  unfolding two.with_stored two.laid_out with_stored laid_out padded
   same-stored id raw = record {
     ids = ap₂ (λ (m : ℕ) (xs : List Entry). padded m (map (λ (e : Entry). e.id) (insert xs (record { id = id; location = raw })))) (ids-count b) same_entries ∙ sym (laid-out-ids n es);
     locations = ap₂ (λ (m : ℕ) (xs : List Entry). padded m (map (λ (e : Entry). e.location) (insert xs (record { id = id; location = raw })))) (ids-count b) same_entries ∙ sym (laid-out-locations n es);

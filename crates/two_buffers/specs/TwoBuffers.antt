@@ -32,8 +32,8 @@ unfoldable pub used_entries : Buffers → List Entry
 used_entries b = used_in b.ids b.locations
 
 -- buffers of n entries that hold just these
-unfoldable pub laid_out_lem : ℕ → List Entry → Buffers
-laid_out_lem n es = record {
+unfoldable pub laid_out : ℕ → List Entry → Buffers
+laid_out n es = record {
   ids = padded n (map (λ (e : Entry). e.id) es);
   locations = padded n (map (λ (e : Entry). e.location) es);
 }
@@ -53,7 +53,7 @@ same b g = record { answer = g; table = b }
 
 -- the buffers after a store
 unfoldable pub with_stored : Buffers → ℕ → ℕ → Buffers
-with_stored b id raw = laid_out_lem (capacity_of b) (insert (used_entries b) (record { id = id; location = raw }))
+with_stored b id raw = laid_out (capacity_of b) (insert (used_entries b) (record { id = id; location = raw }))
 
 -- "Load": never written, deleted at a raw location, or at one
 unfoldable pub load_call : Buffers → ℕ → TableAfter

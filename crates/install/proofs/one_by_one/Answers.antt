@@ -7,7 +7,7 @@ use lib.ListN.{length, drop}
 use Rattle.rules.specs.declared.Entry.{Entry}
 use Rattle.rules.specs.Trailer.{entries_in, absolute}
 use Rattle.rules.specs.Table.{insert, insert_all, no_entry}
-use Rattle.rules.specs.Layout.{laid_out_lem, used_entries, capacity_of}
+use Rattle.rules.specs.Layout.{laid_out, used_entries, capacity_of}
 use Rattle.trailer.specs.Entries.{entries-count}
 use Rattle.location_table.specs.Tables.{Formed}
 use Rattle.disk_location.specs.Locations.{position_of}
@@ -69,10 +69,10 @@ loop-k-preserved c =
           ∙ l.invariant.4,
     )
 
-pub shape_of-table : goal.shape_of-table
-shape_of-table c =
-    let l = c.loop-k in
-    let pre = c.requires in
+pub UNKNOWN-same_length : goal.UNKNOWN-same_length
+UNKNOWN-same_length c =
+    let l = c.before.loop in
+    let pre = c.before.before.before.before.before.requires in
     omega (arith, l.invariant.3, l.invariant.2.even, pre.0.even)
 
 pub returns : goal.returns
@@ -82,4 +82,4 @@ returns c =
     let es = entries_in a.trailer.now in
     let done : length es ≤ l.k = omega (arith, l.invariant.0, entries-count a.trailer.now c.requires.1, c.loop-k-test.false) in
     laid_out_lem l.table l.invariant.2
-    ∙ ap₂ laid_out_lem l.invariant.3 (sym (adding-end a.lsn (used_entries l.table) es l.k done) ∙ l.invariant.4)
+    ∙ ap₂ laid_out l.invariant.3 (sym (adding-end a.lsn (used_entries l.table) es l.k done) ∙ l.invariant.4)

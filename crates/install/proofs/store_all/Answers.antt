@@ -4,7 +4,7 @@ use Prim.Native.Nat.{◌<◌}
 use native.Mathlib.Omega.{arith}
 use lib.ListN.{length}
 use Rattle.rules.specs.Trailer.{entries_in}
-use Rattle.rules.specs.Layout.{laid_out_lem, used_entries, capacity_of}
+use Rattle.rules.specs.Layout.{laid_out, used_entries, capacity_of}
 use Rattle.location_table.specs.LayoutLaws.{used-rising}
 use Rattle.table_merge.specs.Merge.{replacing, to_merge}
 use Rattle.table_merge.specs.MergeLaws.{insert-all-by, to-merge-tells, merged-length}
@@ -34,4 +34,4 @@ merge-requires c =
 pub returns-else-more-eq0 : goal.returns-else-more-eq0
 returns-else-more-eq0 c =
     let a = c.args in
-    c.merge.ensures ∙ ap (laid_out_lem (capacity_of a.table.now)) (insert-all-by (used_entries a.table.now) (taken a.lsn (entries_in a.trailer.now)))
+    c.merge.ensures ∙ ap (laid_out (capacity_of a.table.now)) (insert-all-by (used_entries a.table.now) (taken a.lsn (entries_in a.trailer.now)))

@@ -10,7 +10,7 @@ use Rattle.rules.specs.BaseLaws.{all-at}
 use Rattle.rules.specs.Trailer.{absolute, entries_in}
 use Rattle.rules.specs.Table.{no_entry}
 use Rattle.rules.specs.TableLaws.{Rising}
-use Rattle.rules.specs.Layout.{laid_out_lem, used_entries, capacity_of}
+use Rattle.rules.specs.Layout.{laid_out, used_entries, capacity_of}
 use Rattle.rules.specs.LayoutLaws.{used-length}
 use Rattle.rules.specs.Reopen.{latest_from}
 use Rattle.location_table.specs.LayoutLaws.{used-rising}
@@ -83,4 +83,4 @@ returns c =
     let rows = map (absolute a.lsn) (entries_in a.trailer.now) in
     let fits : length (used_entries b) + (counted c.before.before.before.before.before).to-merge.result ≤ capacity_of b
     = omega (arith, c.used.ensures, c.capacity.ensures, used-length b, c.if-free-more.false) in
-    filled-all b (begun c.before.before.before.before.before).requires.0 rows _ (many c.before.before.before.before.before) fits _ (c.merge.ensures ∙ ap (laid_out_lem (capacity_of b)) (latest-from-by (used_entries b) rows))
+    filled-all b (begun c.before.before.before.before.before).requires.0 rows _ (many c.before.before.before.before.before) fits _ (c.merge.ensures ∙ ap (laid_out (capacity_of b)) (latest-from-by (used_entries b) rows))
