@@ -34,7 +34,7 @@ fn put_piece(
     requires { Writing file.start file.slot_bytes
         heap.old (table_ids table.now) places.now links.now file.first file.count file.total }
     ensures { heap.new ≡ made (file_stores file.start (label_bytes new)
-        (file_bytes (piece_ops file.first heap.entry table.entry places.entry links.entry)))
+        (file_bytes (piece_ops file.first heap.old table.now places.now links.now)))
         heap.old }
 {
     let k = heap.len() as u64;
@@ -69,13 +69,13 @@ fn add_at(
     links: &[u32],
     file: SizedFile,
 ) -> State
-    requires addable { Addable 0 (piece_ops file.first heap table places links)
+    requires addable { Addable 0 (piece_ops file.first heap.old table.old places.now links.now)
         settings state heap.old table.old file.slot file.count file.total }
     requires writing { Writing (file.slot * settings.slot_bytes) settings.slot_bytes
         heap.old (table_ids table.old) places.now links.now file.first file.count file.total }
     ensures { (c : Claims) → world settings result c heap.new table.new
         ≡ installed 0 file.generation (world settings state c heap.old table.old)
-        (piece_ops file.first heap.entry table.entry places.entry links.entry) }
+        (piece_ops file.first heap.old table.old places.now links.now) }
 {
     // "lsn = base without the batch bit", the new generation
     let base = state.next_position;
@@ -118,23 +118,23 @@ pub fn add_piece(
     requires placing_2 { Placing settings state heap.old table.old places.now links.now }
     requires leads { Leads (length (table_ids table.old)) places.now 0 file.first }
     requires generation_bound { file.generation ≤ 255 }
-    requires links_bound { 64 + length (file_bytes (piece_ops file.first heap table places links)) ≤ settings.slot_bytes }
+    requires links_bound { 64 + length (file_bytes (piece_ops file.first heap.old table.old places.now links.now)) ≤ settings.slot_bytes }
     requires nonzero { (0 < length (empty_slots (slots_in settings (length heap.old)) state.files.records))
         × (file.slot ≡ lowest_empty (slots_in settings (length heap.old)) state.files.records) }
-    requires links_bound_2 { state.next_position + (length (objects_of (piece_ops file.first heap table places links)) + 1) ≤ 2 ^ 62 }
+    requires links_bound_2 { state.next_position + (length (objects_of (piece_ops file.first heap.old table.old places.now links.now)) + 1) ≤ 2 ^ 62 }
     ensures leaves { (c : Claims) → world settings result c heap.new table.new
         ≡ installed 0 file.generation (world settings state c heap.old table.old)
-        (piece_ops file.first heap.entry table.entry places.entry links.entry) }
+        (piece_ops file.first heap.old table.old places.now links.now) }
     ensures placing { Placing settings result heap.new table.new
         places.now links.now }
     ensures ids { table_ids table.new ≡ table_ids table.old }
     ensures others { (q : ℕ)
-        → piece_ops q heap.exit table.exit places.entry links.entry
-        ≡ piece_ops q heap.entry table.entry places.entry links.entry }
+        → piece_ops q heap.new table.new places.now links.now
+        ≡ piece_ops q heap.old table.old places.now links.now }
     ensures slots { empty_slots (slots_in settings (length heap.old)) state.files.records
         ≡ file.slot ∷ empty_slots (slots_in settings (length heap.new)) result.files.records }
     ensures position { result.next_position ≡ state.next_position
-        + (length (objects_of (piece_ops file.first heap.entry table.entry places.entry links.entry)) + 1) }
+        + (length (objects_of (piece_ops file.first heap.old table.old places.now links.now)) + 1) }
 {
     let sizes = gc_writer::sized(heap, table, places, links, file.first);
     let sized = SizedFile {

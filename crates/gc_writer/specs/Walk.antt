@@ -1,7 +1,6 @@
 -- The walk along the entries of one piece.
 use Rattle.std.specs.Prelude.{◌≡◌, ◌⊎◌, ◌≤◌, ◌<◌}
 use Rattle.std.proofs.Common.{ap, ◌∙◌, inl, inr, arith, eq-eqb, ne_eqb}
-use Rattle.std.specs.Borrow.{Bor}
 use Rattle.rules.specs.Base.{List, [], ℕ, suc, ◌-◌, ◌^◌, length, get_or, eqb, pick}
 use Rattle.rules.specs.BaseLaws.{zero-or-more}
 use Rattle.rules.specs.Layout.{table_ids}
@@ -14,9 +13,9 @@ use Rattle.gc_files.specs.PlaceLaws.{moving-told}
 use Rattle.gc_chains.specs.Chains.{chain_ops, Leads, Chained}
 use Rattle.gc_chains.specs.ChainLaws.{chain-none, chain-step}
 
--- the operations of the piece with this first entry, as heap, table, places and links hold them that a function is lent
-abbrev pub piece_ops : ℕ → (heap table places links : Bor (List ℕ)) → List Op
-piece_ops first heap table places links = chain_ops first heap.now (table_ids table.now) places.now links.now
+-- the operations of the piece with this first entry, in heap, table, places and links
+abbrev pub piece_ops : ℕ → (heap table places links : List ℕ) → List Op
+piece_ops first heap table places links = chain_ops first heap (table_ids table) places links
 
 -- what every walk asks for: a place and a link for each entry, each object in the heap, each link leads on
 pub record Walking (heap ids places links : List ℕ) : Type 0 where

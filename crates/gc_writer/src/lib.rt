@@ -64,9 +64,9 @@ pub fn sized(heap: &[u8], table: &[u64], places: &[u32], links: &[u32], first: u
     requires walking { Walking heap.now (table_ids table.now) places.now links.now }
     requires leads { Leads (length (table_ids table.now)) places.now 0 first }
     requires table_len_bound { length (table_ids table.now) ≤ 65536 }
-    ensures count { result.count ≡ length (piece_ops first heap.entry table.entry places.entry links.entry) }
+    ensures count { result.count ≡ length (piece_ops first heap.now table.now places.now links.now) }
     ensures total { result.total
-        ≡ length (objects_of (piece_ops first heap.entry table.entry places.entry links.entry)) }
+        ≡ length (objects_of (piece_ops first heap.now table.now places.now links.now)) }
 {
     let mut count: u64 = 0;
     let mut total: u64 = 0;
@@ -123,16 +123,16 @@ fn put_objects(
     count: u64,
     left: u64,
 ) -> Objects
-    requires free { Free at (length (objects_of (piece_ops first heap table places links)))
+    requires free { Free at (length (objects_of (piece_ops first heap.old table.now places.now links.now)))
         heap.old (table_ids table.now) places.now links.now }
     requires leads { Leads (length (table_ids table.now)) places.now 0 first }
-    requires count_value { count ≡ length (piece_ops first heap table places links) }
-    requires links_len_bound { length (objects_of (piece_ops first heap table places links)) < 2 ^ 62 }
+    requires count_value { count ≡ length (piece_ops first heap.old table.now places.now links.now) }
+    requires links_len_bound { length (objects_of (piece_ops first heap.old table.now places.now links.now)) < 2 ^ 62 }
     ensures made { Made left
-        (stores_of at (objects_of (piece_ops first heap.entry table.entry places.entry links.entry)))
+        (stores_of at (objects_of (piece_ops first heap.old table.now places.now links.now)))
         heap.old heap.new result.left }
     ensures summed { result.checksum
-        ≡ crc32 (listed (entries_of 0 (piece_ops first heap.entry table.entry places.entry links.entry))) }
+        ≡ crc32 (listed (entries_of 0 (piece_ops first heap.old table.now places.now links.now))) }
 {
     let mut register = write::sum_count(count);
     let mut rest = left;
@@ -164,12 +164,12 @@ fn put_entries(
     first: u32,
     left: u64,
 ) -> u64
-    requires free { Free at (16 * length (piece_ops first heap table places links))
+    requires free { Free at (16 * length (piece_ops first heap.old table.now places.now links.now))
         heap.old (table_ids table.now) places.now links.now }
     requires leads { Leads (length (table_ids table.now)) places.now 0 first }
-    requires links_len_bound { length (objects_of (piece_ops first heap table places links)) < 2 ^ 62 }
+    requires links_len_bound { length (objects_of (piece_ops first heap.old table.now places.now links.now)) < 2 ^ 62 }
     ensures { Made left
-        (stores_of at (each entry_bytes (entries_of 0 (piece_ops first heap.entry table.entry places.entry links.entry))))
+        (stores_of at (each entry_bytes (entries_of 0 (piece_ops first heap.old table.now places.now links.now))))
         heap.old heap.new result }
 {
     let mut rest = left;
@@ -200,11 +200,11 @@ fn put_trailer(
 ) -> u64
     requires free { Free at (12 + 16 * count) heap.old (table_ids table.now) places.now links.now }
     requires leads { Leads (length (table_ids table.now)) places.now 0 first }
-    requires count_value { count ≡ length (piece_ops first heap table places links) }
-    requires checksum_value { objects.checksum ≡ crc32 (listed (entries_of 0 (piece_ops first heap table places links))) }
-    requires links_len_bound { length (objects_of (piece_ops first heap table places links)) < 2 ^ 62 }
+    requires count_value { count ≡ length (piece_ops first heap.old table.now places.now links.now) }
+    requires checksum_value { objects.checksum ≡ crc32 (listed (entries_of 0 (piece_ops first heap.old table.now places.now links.now))) }
+    requires links_len_bound { length (objects_of (piece_ops first heap.old table.now places.now links.now)) < 2 ^ 62 }
     ensures { Made objects.left
-        (stores_of at (trailer_bytes (entries_of 0 (piece_ops first heap.entry table.entry places.entry links.entry))))
+        (stores_of at (trailer_bytes (entries_of 0 (piece_ops first heap.old table.now places.now links.now))))
         heap.old heap.new result }
 {
     let rest = write::put_head(heap, at, objects.checksum, count, objects.left);
@@ -234,7 +234,7 @@ pub fn write_piece(
     requires { Writing file.start file.slot_bytes
         heap.old (table_ids table.now) places.now links.now file.first file.count file.total }
     ensures { Made k (file_stores file.start (label_bytes new)
-        (file_bytes (piece_ops file.first heap.entry table.entry places.entry links.entry)))
+        (file_bytes (piece_ops file.first heap.old table.now places.now links.now)))
         heap.old heap.new result }
 {
     let start = file.start + LABEL_BYTES;

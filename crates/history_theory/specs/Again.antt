@@ -101,7 +101,7 @@ module _ (w : World) (told : ℕ → Said) (s : SoundWorld w told) where
       settings = w.settings;
       state = record {
         settings = s.tidy.settings i;
-        heap_len = s.tidy.heap-len i;
+        heap_len = s.tidy.heap_len i;
         table_len = s.tidy.table-len i;
         files = record { records = records-again i };
         next_position = next_after (files_in (views_of w));
@@ -124,7 +124,7 @@ module _ (w : World) (told : ℕ → Said) (s : SoundWorld w told) where
       let t = s.tidy in
       let p = sound-marked (bounds_of w) (picture_of w) told s.sound in
       record {
-        tidy = record { limits = t.limits; settings = t.settings; heap-len = t.heap-len; table-len = t.table-len; form = t.form };
+        tidy = record { limits = t.limits; settings = t.settings; heap_len = t.heap_len; table-len = t.table-len; form = t.form };
         sound = record {
           filed = p.filed;
           whole = p.whole;

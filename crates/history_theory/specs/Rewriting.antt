@@ -142,7 +142,7 @@ last-all P (o ∷ os) a x c e = go (last-all P os a.1 x c) (last_on os x) refl (
 stands-all : (P : Op → Type 0) (q : ℕ) (os : List Op) → All P os → (x : ℕ) (c : Content) (p : ℕ) → Stands q os x c p → P (record { id = x; content = c })
 stands-all P q [] a x c p h = absurd h
 stands-all P q (o ∷ os) a x c p (inl (i, d, e)) = subst P (op-is o x c i d) a.0
-stands-all P q (o ∷ os) a x c p (inr h) = stands-all P _ os a.1 x c p h
+stands-all P q (o ∷ os) a x c p (inr h) = stands-all P (q + size_of o.content) os a.1 x c p h
 
 -- an operation says something
 pub heard-of : (c : Content) → unheard ≡ last_says (last c) → ⊥

@@ -28,12 +28,12 @@ loop-i-2-init c =
     let s = c.args.s.now in
     let at : ℕ → ℕ → ℕ = λ x i. crc_from x (drop i s) in
     elim c.if-s-i-ge4.branch [
-      then-s-i-ge4 w ↦
-        let room : l.i + 4 ≤ length s = omega arith in
-        let read = read-in s l.i 4 w.get-then-s-i-ge4.result room w.get-then-s-i-ge4.ensures in
-        let fed = w.x-is ∙ w.four-x.ensures ∙ ap (λ (v : ℕ). shifts 32 (bit_xor l.x v)) read in
-        (omega arith, ap₂ at fed w.i-is ∙ bytes-turn 4 s l.i l.x (λ j. (c.type_inv.s j).fits) room ∙ l.invariant.1)
-    | else-s-i-ge4 w ↦ (omega arith, ap₂ at w.x-is w.i-is ∙ l.invariant.1)
+      | then-s-i-ge4 w ↦
+          let room : l.i + 4 ≤ length s = omega arith in
+          let read = read-in s l.i 4 w.get-then-s-i-ge4.result room w.get-then-s-i-ge4.ensures in
+          let fed = w.x-is ∙ w.four-x.ensures ∙ ap (λ (v : ℕ). shifts 32 (bit_xor l.x v)) read in
+          (omega arith, ap₂ at fed w.i-is ∙ bytes-turn 4 s l.i l.x (λ j. (c.type_inv.s j).fits) room ∙ l.invariant.1)
+      | else-s-i-ge4 w ↦ (omega arith, ap₂ at w.x-is w.i-is ∙ l.invariant.1)
     ]
 
 pub loop-i-2-preserved : goal.loop-i-2-preserved

@@ -65,11 +65,9 @@ returns c =
     let q = c.args.asked in
     let some = c.if-asked-eq0.false in
     let clear = or-clear _ _ (sym c.refused_in.ensures ∙ c.if-refused_in.false) (sym c.too_short.ensures ∙ c.if-too_short.false) in
-    let k = c.rewrite_generation-course.auto.1.1.1.1.1 in
     let answer = c.rewrite_generation-course.result.answer in
     let moved = c.rewrite_generation-course.result.moved in
-    let left = c.rewrite_generation-course.new.1.1.1 in
-    let after = world c.args.settings (state_in c.rewrite_generation-course.new.1.0) c.args.claims left.0 left.1.0 in
+    let after = world c.args.settings (state_in c.rewrite_generation-course.new.state) c.args.claims c.rewrite_generation-course.new.heap c.rewrite_generation-course.new.table in
     let answered = rewrite_given c.answered.result in
     let own : answered.number ≡ 1 → ⊥ =
     subst (λ (x : RewriteAnswer). (rewrite_given x).number ≡ 1 → ⊥) (sym c.answered.ensures)
@@ -77,6 +75,6 @@ returns c =
       leaves = ap (λ (x : RewriteAnswer). leaving (rewrite_given x) after) c.answered.ensures
           ∙ rewrite-given (given c.before.before.before.before.before.before.before.before.before.before.before.before.before.before.before.before.before.before.before.before.before.before.before.before.before.before.before.before.before.before.before.before.before.before.before) (room c.before.before.before.before.before.before.before.before.before.before.before.before.before.before.before.before.before.before.before.before.before.before.before.before.before.before.before.before.before.before.before.before.before.before.before) q.generation q.mark q.count clear (omega (arith, some)) (ltb-false 3 q.generation c.if-asked-gt3.false-raw) answer moved after
           c.rewrite_generation-course.ensures.leaves;
-      places = notes-cleared answered c.args.places.now left.1.1.0 _ own k.0 c.clear-2.ensures;
-      pieces = notes-cleared answered c.args.pieces.now left.1.1.1.0 _ own k.1.0 c.clear-3.ensures;
+      places = notes-cleared answered c.args.places.now c.rewrite_generation-course.new.places _ own c.rewrite_generation-course.auto.places c.clear-2.ensures;
+      pieces = notes-cleared answered c.args.pieces.now c.rewrite_generation-course.new.pieces _ own c.rewrite_generation-course.auto.pieces c.clear-3.ensures;
     }

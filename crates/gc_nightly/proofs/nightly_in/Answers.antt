@@ -57,14 +57,12 @@ pub returns : goal.returns
 returns c =
     let a = c.args in
     let run = c.rewrites-run.result in
-    let left = c.rewrites-run.new.1.1.1 in
-    let k = c.rewrites-run.auto.1.1.1.1.1 in
     let still = passes a.settings _ _ _ c.rewrites-run.ensures.passed in
     let clear = or-clear _ _ (sym c.refused_in.ensures ∙ c.if-refused_in.false) (sym c.too_short.ensures ∙ c.if-too_short.false) in
     let answered = maintain_given c.finish.result in
     let own : answered.number ≡ 1 → ⊥ =
     subst (λ (x : MaintainAnswer). (maintain_given x).number ≡ 1 → ⊥) (sym c.finish.ensures.answers) (ended-own run.halt run.moved c.rewrites-run.ensures.own) in record {
-      leaves = c.finish.ensures.leaves left.1.0 still ∙ ap (λ (d : Course). job_ended d.stop d) c.rewrites-run.ensures.leaves ∙ nightly-accepted (given c.before.before.before.before.before.before.before.before.before.before.before.before.before.before.before.before.before.before.before.before.before.before.before.before.before.before.before.before.before.before.before.before.before.before.before) (room c.before.before.before.before.before.before.before.before.before.before.before.before.before.before.before.before.before.before.before.before.before.before.before.before.before.before.before.before.before.before.before.before.before.before.before) clear;
-      places = notes-cleared answered a.places.now left.1.1.0 _ own k.0 c.clear.ensures;
-      pieces = notes-cleared answered a.pieces.now left.1.1.1.0 _ own k.1.0 c.clear-2.ensures;
+      leaves = c.finish.ensures.leaves c.rewrites-run.new.table still ∙ ap (λ (d : Course). job_ended d.stop d) c.rewrites-run.ensures.leaves ∙ nightly-accepted (given c.before.before.before.before.before.before.before.before.before.before.before.before.before.before.before.before.before.before.before.before.before.before.before.before.before.before.before.before.before.before.before.before.before.before.before) (room c.before.before.before.before.before.before.before.before.before.before.before.before.before.before.before.before.before.before.before.before.before.before.before.before.before.before.before.before.before.before.before.before.before.before.before) clear;
+      places = notes-cleared answered a.places.now c.rewrites-run.new.places _ own c.rewrites-run.auto.places c.clear.ensures;
+      pieces = notes-cleared answered a.pieces.now c.rewrites-run.new.pieces _ own c.rewrites-run.auto.pieces c.clear-2.ensures;
     }

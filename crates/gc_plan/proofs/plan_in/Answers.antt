@@ -50,12 +50,10 @@ worked_out-worked-requires c =
 pub returns : goal.returns
 returns c =
     let a = c.args in
-    let left = c.worked_out-worked.new.1.1.1.1.1 in
-    let kept = c.worked_out-worked.auto.1.1.1.1.1 in
     let clear = or-clear _ _ (sym c.refused_in.ensures ∙ c.if-refused_in.false) (sym c.too_short.ensures ∙ c.if-too_short.false) in
     let answered = plan_given (record { answer = Done; plan = c.worked_out-worked.result }) in
     let own = plan-own c.worked_out-worked.result in record {
       answers = plan-accepted (given c.before.before.before.before.before.before.before.before.before.before.before.before.before.before.before.before.before.before.before.before.before.before.before) (room c.before.before.before.before.before.before.before.before.before.before.before.before.before.before.before.before.before.before.before.before.before.before.before) clear _ c.worked_out-worked.ensures;
-      places = notes-cleared answered a.places.now left.0 _ own kept.0 c.clear.ensures;
-      pieces = notes-cleared answered a.pieces.now left.1.0 _ own kept.1.0 c.clear-2.ensures;
+      places = notes-cleared answered a.places.now c.worked_out-worked.new.places _ own c.worked_out-worked.auto.places c.clear.ensures;
+      pieces = notes-cleared answered a.pieces.now c.worked_out-worked.new.pieces _ own c.worked_out-worked.auto.pieces c.clear-2.ensures;
     }

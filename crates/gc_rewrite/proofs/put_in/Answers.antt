@@ -25,7 +25,7 @@ put_files-after-requires c =
 
 pub shape_of-pieces : goal.shape_of-pieces
 shape_of-pieces c =
-    search ((chained c.before.before.before.before.before.before.before.before.before).link.auto.1.1.0, rules)
+    search ((chained c.before.before.before.before.before.before.before.before.before).link.auto.links, rules)
 
 pub returns : goal.returns
 returns c =

@@ -32,7 +32,7 @@ returns-in-Refused c =
 -- nothing refuses the group
 known : (c : goal.In-Done) → let a = c.args in
     Decided a.group.settings (state_in a.state.now) a.heap.now a.table.now a.plan.now a.group.generation
-    c.decided-decision.new.1.1.1.1.1.1.1.0 c.decided-decision.new.1.1.1.1.1.1.0 c.decided-decision.result.order c.decided-decision.result.total
+    c.decided-decision.new.places c.decided-decision.new.pieces c.decided-decision.result.order c.decided-decision.result.total
 known c = c.decided-decision.ensures.splits c.in-Done.is
 
 -- the numbers stand within their list

@@ -18,7 +18,7 @@ loop-n-preserved c =
     let t = c.loop-n.t in
     let sizes = c.args.sizes.now in
     let counts = c.args.counts.now in
-    let slot-bytes = c.args.slot-bytes in
+    let slot-bytes = c.args.slot_bytes in
     let able = c.requires in
     let ls = able.same in
     let lc = able.shards in
@@ -33,4 +33,4 @@ pub returns : goal.returns
 returns c =
     let counts = c.args.counts.now in
     let past : length counts ≤ c.loop-n.n = omega arith in
-    sym (c.loop-n.invariant.3 ∙ closing_end c.args.slot-bytes counts c.args.sizes.now c.loop-n.n c.loop-n.t past)
+    sym (c.loop-n.invariant.3 ∙ closing_end c.args.slot_bytes counts c.args.sizes.now c.loop-n.n c.loop-n.t past)

@@ -29,7 +29,7 @@ loop-k-preserved c =
     let es = entries_in a.trailer.now in
     let t = used_entries a.table.now in
     let h : l.k < length es = omega (arith, l.invariant.0, entries-count a.trailer.now c.requires.2, c.loop-k-test.true) in
-    let lost : c.lose_one.new.1.1.1.0 ≡ less_at (slot_holding a.lsns.now (load t (get_or es l.k no_entry).id)) l.lives =
+    let lost : c.lose_one.new.lives ≡ less_at (slot_holding a.lsns.now (load t (get_or es l.k no_entry).id)) l.lives =
     c.lose_one.ensures
     ∙ ap (λ (x : Loaded). less_at (slot_holding a.lsns.now x) l.lives) c.load_found-loaded.ensures
     ∙ ap (λ (e : Entry). less_at (slot_holding a.lsns.now (load t e.id)) l.lives) c.entry-e.ensures in (

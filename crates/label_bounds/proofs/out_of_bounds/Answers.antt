@@ -23,8 +23,8 @@ abbrev l : goal.Else-room-l → Label
 l z = z.args.l
 
 -- ---- each test as it was left
-size-held : (z : goal.Else-room-l) → ltb (z.args.slot-bytes - 64) (l z).file_size ≡ false
-size-held z = le-ltb (z.args.slot-bytes - 64) (l z).file_size (omega (arith, z.room.ensures, z.if-room-l.false))
+size-held : (z : goal.Else-room-l) → ltb (z.args.slot_bytes - 64) (l z).file_size ≡ false
+size-held z = le-ltb (z.args.slot_bytes - 64) (l z).file_size (omega (arith, z.room.ensures, z.if-room-l.false))
 
 offset-held : (z : goal.Else-l) → ltb (l (first z)).file_size (l (first z)).trailer_offset ≡ false
 offset-held z = le-ltb _ _ z.if-l.false
@@ -44,7 +44,7 @@ pub returns-then-room-l : goal.returns-then-room-l
 unfolding out_of_bounds
 returns-then-room-l c =
     let a = c.args in
-    rw (lt-ltb (a.slot-bytes - 64) a.l.file_size (omega (arith, c.room.ensures, c.if-room-l.true))) refl
+    rw (lt-ltb (a.slot_bytes - 64) a.l.file_size (omega (arith, c.room.ensures, c.if-room-l.true))) refl
 
 pub returns-then-l : goal.returns-then-l
 unfolding out_of_bounds

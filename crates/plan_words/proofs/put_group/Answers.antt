@@ -11,13 +11,13 @@ use Rattle.plan_words.proofs.put_group.Goals as goal
 
 pub loop-i-init : goal.loop-i-init
 loop-i-init c =
-    let zeros : replicate (length c.clear.new.0) 0 ≡ c.clear.new.0 = ap (λ (k : ℕ). replicate k 0) c.clear.auto.0 ∙ sym c.clear.ensures in (
+    let zeros : replicate (length c.clear.new.table) 0 ≡ c.clear.new.table = ap (λ (k : ℕ). replicate k 0) c.clear.auto.table ∙ sym c.clear.ensures in (
       omega arith,
       omega arith,
-      omega (arith, c.clear.auto.0, c.requires),
+      omega (arith, c.clear.auto.table, c.requires),
       refl,
-      subst (Written c.args.slots.now c.args.generation (length c.clear.new.0) 0 0) zeros
-          (written_start c.args.slots.now c.args.generation (length c.clear.new.0) (omega (arith, c.clear.auto.0, c.requires))),
+      subst (Written c.args.slots.now c.args.generation (length c.clear.new.table) 0 0) zeros
+          (written_start c.args.slots.now c.args.generation (length c.clear.new.table) (omega (arith, c.clear.auto.table, c.requires))),
     )
 
 pub loop-i-preserved : goal.loop-i-preserved
@@ -43,10 +43,10 @@ loop-i-preserved c =
 
 pub shape_of-words : goal.shape_of-words
 shape_of-words c =
-    length-set c.loop-i.words 0 c.loop-i.n ∙ c.loop-i.invariant.3 ∙ c.clear.auto.0
+    length-set c.loop-i.words 0 c.loop-i.n ∙ c.loop-i.invariant.3 ∙ c.clear.auto.table
 
 pub returns : goal.returns
 returns c =
     let a = c.args in
     written-end a.slots.now a.generation _ c.loop-i.n c.loop-i.i c.loop-i.words c.loop-i.invariant.4 (omega arith)
-    ∙ ap (λ (m : ℕ). padded m (counted (planned a.slots.now a.generation))) c.clear.auto.0
+    ∙ ap (λ (m : ℕ). padded m (counted (planned a.slots.now a.generation))) c.clear.auto.table

@@ -23,9 +23,9 @@ loop-i-init c =
       few a.due,
       all,
       refl,
-      labels-start a.slot-bytes (length a.heap.now) a.due rs c.requires,
+      labels-start a.slot_bytes (length a.heap.now) a.due rs c.requires,
       emptied-start a.claims a.due rs all,
-      λ after m d. rw (← stores-start a.slot-bytes a.claims a.due rs all) d,
+      λ after m d. rw (← stores-start a.slot_bytes a.claims a.due rs all) d,
     )
   where
     few : (t : Bool) → pick t 0 256 ≤ 256
@@ -53,9 +53,9 @@ loop-i-preserved c =
       omega arith,
       simp length-set (omega arith),
       made-length one ∙ l.invariant.2,
-      labels_next a.slot-bytes (length a.heap.now) i rs x l.invariant.3,
+      labels_next a.slot_bytes (length a.heap.now) i rs x l.invariant.3,
       ap (λ (r : Record). emptied_on a.claims (i + 1) (set rs i r)) (c.emptied_record.ensures ∙ ap (λ (t : Bool). pick t empty_record r) c.is_dead-dead.ensures) ∙ emptied-next a.claims i rs (omega arith) ∙ l.invariant.4,
-      λ after m d. l.invariant.5 after m (rw (stores-next a.slot-bytes a.claims i rs _ c.is_dead-dead.ensures (omega arith)) (made_then one (rw (drop-set-lt (i + 1) rs i x (omega arith)) at d))),
+      λ after m d. l.invariant.5 after m (rw (stores-next a.slot_bytes a.claims i rs _ c.is_dead-dead.ensures (omega arith)) (made_then one (rw (drop-set-lt (i + 1) rs i x (omega arith)) at d))),
     )
 
 pub shape_of-heap : goal.shape_of-heap
@@ -70,5 +70,5 @@ returns c =
     let a = c.args in
     let rs = l.n.records in record {
       records = sym (emptied-end a.claims l.i rs (omega arith)) ∙ l.invariant.4;
-      heap = (l.invariant.5 l.heap l.rest (rw (stores-end a.slot-bytes a.claims l.i rs (omega arith)) (made_none l.rest l.heap))).heap;
+      heap = (l.invariant.5 l.heap l.rest (rw (stores-end a.slot_bytes a.claims l.i rs (omega arith)) (made_none l.rest l.heap))).heap;
     }

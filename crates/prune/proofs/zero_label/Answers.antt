@@ -16,7 +16,7 @@ put_number-requires c =
 pub returns-then-dead : goal.returns-then-dead
 returns-then-dead c =
     let a = c.args in
-    rw (c.if-dead.true, one_store a.slot-bytes a.slot) c.put_number.ensures
+    rw (c.if-dead.true, one_store a.slot_bytes a.slot) c.put_number.ensures
 
 pub returns : goal.returns
 returns c =

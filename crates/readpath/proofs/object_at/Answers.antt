@@ -16,7 +16,7 @@ begun w = w.before.before.before
 abbrev file : goal.After-read → List ℕ
 file w =
     let a = (begun w).args in
-    file_in a.l (bytes_of_slot a.slot-bytes a.heap.now a.slot)
+    file_in a.l (bytes_of_slot a.slot_bytes a.heap.now a.slot)
 
 -- what was read is the file's
 told : (w : goal.After-read) → let a = (begun w).args in body_of a.id (stored_at a.position (drop a.position (file w))) ≡ w.read.result
@@ -32,15 +32,15 @@ overflow_add-result-in-Body c =
     let low = b.body in
     let fit = lies.file in
     let slot = lies.slot in
-    let all = file-length a.slot-bytes a.l a.slot a.heap.now lies in
+    let all = file-length a.slot_bytes a.l a.slot a.heap.now lies in
     search rules
 
 pub returns-in-Body : goal.returns-in-Body
 returns-in-Body c =
     let a = (begun c.before.before.before).args in
-    ap (in_heap (a.slot * a.slot-bytes + 64)) (sym (told c.before.before.before ∙ c.in-Body.is))
+    ap (in_heap (a.slot * a.slot_bytes + 64)) (sym (told c.before.before.before ∙ c.in-Body.is))
 
 pub returns-in-Unread : goal.returns-in-Unread
 returns-in-Unread c =
     let a = (begun c.before.before.before).args in
-    ap (in_heap (a.slot * a.slot-bytes + 64)) (sym (told c.before.before.before ∙ c.in-Unread.is))
+    ap (in_heap (a.slot * a.slot_bytes + 64)) (sym (told c.before.before.before ∙ c.in-Unread.is))

@@ -9,4 +9,4 @@ pub returns : goal.returns
 returns c =
     let a = c.args in
     let handed : State → Claims → Reopened = λ (s : State) (d : Claims). record { answer = Refused a.refusal; state = s; claims = d } in
-    ap₂ handed (c.state_of.ensures ∙ ap (λ (rs : List Record). state_by a.settings a.heap_len a.table-len rs 1) c.no_files.ensures) c.no_claims.ensures
+    ap₂ handed (c.state_of.ensures ∙ ap (λ (rs : List Record). state_by a.settings a.heap_len a.table_len rs 1) c.no_files.ensures) c.no_claims.ensures

@@ -26,7 +26,7 @@ empty_slots-requires c =
     let a = c.args in
     let w = c.requires.1 in
     let told = c.list_losses-lines.ensures in record {
-      lines_in_bounds = omega (arith, told.count, report-few a.settings a.heap.now w, c.list_losses-lines.auto.0, c.requires.2);
+      lines_in_bounds = omega (arith, told.count, report-few a.settings a.heap.now w, c.list_losses-lines.auto.report, c.requires.2);
       labels_in = subst (λ (ks : List ℕ). LabelsIn a.settings.slot_bytes ks (length a.heap.now)) (sym (reports-slots told)) (report-labels a.settings a.heap.now w c.requires.0);
     }
 

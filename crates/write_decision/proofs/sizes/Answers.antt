@@ -33,13 +33,13 @@ taken q = q.before.before.before
 -- what is left of the slot has room for one more
 fits : (z : goal.Else-too_large-2)
     → let l = turn (taken z.before) in
-    64 + (z.before.before.type_size.result + (12 + 16 * (l.loop.count + 1))) ≤ (begun l).args.slot-bytes - l.loop.total
+    64 + (z.before.before.type_size.result + (12 + 16 * (l.loop.count + 1))) ≤ (begun l).args.slot_bytes - l.loop.total
 fits z = ltb-false _ _ (sym z.too_large-in-loop-o.ensures ∙ z.if-too_large-2.false)
 
 pub returns-then-too_large : goal.returns-then-too_large
 returns-then-too_large c =
     let a = c.args in
-    let over : a.slot-bytes < 64 + (0 + (12 + 16 * 0)) = ltb-true _ _ (sym c.too_large.ensures ∙ c.if-too_large.true) in
+    let over : a.slot_bytes < 64 + (0 + (12 + 16 * 0)) = ltb-true _ _ (sym c.too_large.ensures ∙ c.if-too_large.true) in
     record {
       sizes = sizes-large _ _ (settled (ops_in a.batch.now)) (omega arith);
       again = c.requires.2;
@@ -47,7 +47,7 @@ returns-then-too_large c =
 
 pub loop-o-init : goal.loop-o-init
 loop-o-init c =
-    let room : 64 + (0 + (12 + 16 * 0)) ≤ c.args.slot-bytes = ltb-false _ _ (sym c.too_large.ensures ∙ c.if-too_large.false) in
+    let room : 64 + (0 + (12 + 16 * 0)) ≤ c.args.slot_bytes = ltb-false _ _ (sym c.too_large.ensures ∙ c.if-too_large.false) in
     let e = c.requires.2.all in
     let one = ap length e in
     let more = ap (λ (os : List Op). length (objects_of os)) e in
@@ -82,7 +82,7 @@ returns-then-too_large-2 c =
     let one = ap length e.next in
     let more = total-next e in
     let size = q.before.type_size.ensures in
-    let over : a.slot-bytes - (turn o).loop.total < 64 + (q.before.type_size.result + (12 + 16 * ((turn o).loop.count + 1))) =
+    let over : a.slot_bytes - (turn o).loop.total < 64 + (q.before.type_size.result + (12 + 16 * ((turn o).loop.count + 1))) =
     ltb-true _ _ (sym c.too_large-in-loop-o.ensures ∙ c.if-too_large-2.true) in
     record {
       sizes = sizes-large _ _ (settled (ops_in a.batch.now)) (omega arith);

@@ -6,20 +6,18 @@ use Rattle.file_map.proofs.RecordTurns.{mapped-length}
 use Rattle.as_numbers.specs.StateLaws.{put_all}
 use Rattle.as_numbers.proofs.state_words.put_state.Goals as goal
 
-all-records : (start : goal.Start) → length start.args.s.files.records ≡ 256
-all-records start = search (mapped-length, rules)
-
 pub put_files-requires : goal.put_files-requires
-put_files-requires c = simp length-set (c.put_settings.auto.0 ∙ c.requires)
+put_files-requires c = simp length-set (c.put_settings.auto.words ∙ c.requires)
 
 pub bounds-words-1800 : goal.bounds-words-1800
 bounds-words-1800 c =
-    omega (arith, c.put_files.auto.0 ∙ put_files-requires c.before.before.before c.put_files.lifetimes)
+    omega (arith, c.put_files.auto.words ∙ simp length-set (c.put_settings.auto.words ∙ c.requires))
 
 pub shape_of-words : goal.shape_of-words
 shape_of-words c =
-    simp length-set (c.put_files.auto.0 ∙ put_files-requires c.before.before.before c.put_files.lifetimes ∙ sym c.requires)
+    simp length-set (c.put_files.auto.words ∙ simp length-set (c.put_settings.auto.words ∙ c.requires) ∙ sym c.requires)
 
 pub returns : goal.returns
 returns c =
-    rw (c.put_files.ensures, c.put_settings.ensures) (put_all c.args.words.now c.args.s c.requires (all-records c.before.before.before.before.before.before.before.before.before.before.before))
+    let records : length c.args.s.files.records ≡ 256 = search (mapped-length, rules) in
+    rw (c.put_files.ensures, c.put_settings.ensures) (put_all c.args.words.now c.args.s c.requires records)

@@ -6,7 +6,7 @@ use Rattle.bench.proofs.commands.after_line.Goals as goal
 
 pub shape_of-decoded : goal.shape_of-decoded
 shape_of-decoded c =
-    c.order_of-order.auto.1.0
+    c.order_of-order.auto.bytes
 
 pub returns : goal.returns
 returns c =

@@ -56,7 +56,7 @@ pub loop-k-preserved : goal.loop-k-preserved
 loop-k-preserved c =
     let a = c.args in
     let vs = slots_judged a.n a.size a.heap.now in
-    (omega arith, c.slot_lines-count.auto.0 ∙ c.loop-k.invariant.1, going_on (going-as (lines_next vs c.loop-k.k (low c.before.before.before.before.before.before.before)) c.loop-k.invariant.2) (tells_as (chunk c.before.before.before) c.slot_lines-count.ensures))
+    (omega arith, c.slot_lines-count.auto.listing ∙ c.loop-k.invariant.1, going_on (going-as (lines_next vs c.loop-k.k (low c.before.before.before.before.before.before.before)) c.loop-k.invariant.2) (tells_as (chunk c.before.before.before) c.slot_lines-count.ensures))
 
 pub returns : goal.returns
 returns c =

@@ -10,16 +10,14 @@ use Rattle.desk.specs.Commands.{with_state}
 use Rattle.desk.proofs.Marking.{sync-whole}
 use Rattle.desk.proofs.calls.sync.Goals as goal
 
-all-records : (start : goal.Start) → length start.args.b.state.files.records ≡ 256
-all-records start = search (mapped-length, rules)
-
 pub returns : goal.returns
 unfolding sync_state
 returns c =
     let b = c.args.b in
     let s = b.state in
     let rs = s.files.records in
-    let left = sync-whole rs (all-records c.before.before.before.before.before) in
+    let all : length rs ≡ 256 = search (mapped-length, rules) in
+    let left = sync-whole rs all in
     let answer : accepted (c.sync-done.result.changed ∷ []) ≡ (sync_call rs).answer = ap (λ (n : ℕ). accepted (n ∷ [])) c.sync-done.ensures.answers ∙ sym (ap (λ (x : Synced). x.answer) left) in
     let records : c.sync-done.result.files.records ≡ (sync_call rs).records = c.sync-done.ensures.marks ∙ sym (ap (λ (x : Synced). x.records) left) in
     λ heap table.

@@ -33,7 +33,7 @@ loop-k-preserved c =
     let told =
     ap₂ line_if c.meet-met.ensures.missing (c.at_object-x.ensures ∙ ap (λ (p : ℕ). line a.slot OtherId (Object p)) c.position-position.ensures)
     ∙ sym (entry-line a.slot objects c.entry-e.result) ∙ ap f c.entry-e.ensures in
-    (c.loop-k.invariant.0, omega arith, c.note_if-told.auto.0 ∙ c.loop-k.invariant.2, c.meet-met.ensures.next, going_on (going-as (each_next es k no_entry low f) c.loop-k.invariant.4) (tells_as told c.note_if-told.ensures.tells))
+    (c.loop-k.invariant.0, omega arith, c.note_if-told.auto.listing ∙ c.loop-k.invariant.2, c.meet-met.ensures.next, going_on (going-as (each_next es k no_entry low f) c.loop-k.invariant.4) (tells_as told c.note_if-told.ensures.tells))
 
 pub returns : goal.returns
 returns c =

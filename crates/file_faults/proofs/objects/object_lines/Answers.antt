@@ -103,4 +103,4 @@ loop-listing-smaller c = omega (arith, whole c.before.before.before.before.befor
 
 pub loop-listing-preserved : goal.loop-listing-preserved
 loop-listing-preserved c =
-    ((whole c.before.before.before.before.before.before).1, c.seek-sought.ensures.next, c.object_line-told.auto.0 ∙ c.loop-listing.invariant.2, going_on (going-as (further c.before.before.before.before.before) c.loop-listing.invariant.3) c.object_line-told.ensures)
+    ((whole c.before.before.before.before.before.before).1, c.seek-sought.ensures.next, c.object_line-told.auto.listing ∙ c.loop-listing.invariant.2, going_on (going-as (further c.before.before.before.before.before) c.loop-listing.invariant.3) c.object_line-told.ensures)

@@ -16,7 +16,7 @@ pub loop-i-init : goal.loop-i-init
 loop-i-init c =
     let blank : (k : ℕ) → c.used-n.result ≤ k → get_or c.args.places.now k 0 ≡ 0 =
     λ k h. none-behind c.args.table.now c.args.places.now c.requires.formed.2 k (omega (arith, c.used-n.ensures)) in
-    (omega arith, put_front c.args.places.now (places_for c.args.slot-bytes c.args.lsns.now (table_locations c.args.table.now) c.args.marks.now), refl, blank)
+    (omega arith, put_front c.args.places.now (places_for c.args.slot_bytes c.args.lsns.now (table_locations c.args.table.now) c.args.marks.now), refl, blank)
 
 pub loaded_at-loaded-requires : goal.loaded_at-loaded-requires
 loaded_at-loaded-requires c =
@@ -58,7 +58,7 @@ loop-i-preserved c =
     let size = c.loop-i.invariant.2 in
     let low : i < length (table_locations c.args.table.now) = omega arith in
     let room : i < length c.loop-i.places = omega (arith, asked.room) in
-    let next = places-next c.args.slot-bytes c.args.lsns.now (table_locations c.args.table.now) c.args.marks.now i low (omega (arith, asked.marks)) in (
+    let next = places-next c.args.slot_bytes c.args.lsns.now (table_locations c.args.table.now) c.args.marks.now i low (omega (arith, asked.marks)) in (
       omega arith,
       rw (c.place_of.ensures, c.loaded_at-loaded.ensures) (put_step c.loop-i.places i _ _ room ∙ ap (put_at c.loop-i.places i) (sym next) ∙ c.loop-i.invariant.1),
       length-set c.loop-i.places i _ ∙ c.loop-i.invariant.2,
@@ -78,6 +78,6 @@ returns c =
     let unmarked : (k : ℕ) → get_or (drop i c.args.marks.now) k 0 ≡ 0 =
     λ k. get_or-drop i c.args.marks.now k 0 ∙ none-behind c.args.table.now c.args.marks.now c.requires.formed.1 (i + k) (omega (arith, c.used-n.ensures)) in
     let ls = table_locations c.args.table.now in
-    sym (places-none c.args.slot-bytes c.args.lsns.now (drop i ls) (drop i c.args.marks.now) c.loop-i.places i unmarked
+    sym (places-none c.args.slot_bytes c.args.lsns.now (drop i ls) (drop i c.args.marks.now) c.loop-i.places i unmarked
     (λ k h. c.loop-i.invariant.3 k (omega arith)) (omega (arith, length-drop i ls, asked.room)))
     ∙ c.loop-i.invariant.1

@@ -37,7 +37,7 @@ loop-k-preserved c =
     let es = entries_in a.trailer.now in
     let k = c.loop-k.k in
     let inside : k < length es = omega (arith, c.loop-k.invariant.0, entries-count a.trailer.now c.requires.trailer_in_bounds, c.loop-k-test.true) in
-    let after : c.mark_delete.new.1.1.1.0 ≡ marked a.mark (delete_id a.lsn table (get_or es k no_entry)) table c.loop-k.marks =
+    let after : c.mark_delete.new.marks ≡ marked a.mark (delete_id a.lsn table (get_or es k no_entry)) table c.loop-k.marks =
     c.mark_delete.ensures ∙ ap (λ (e : Entry). marked a.mark (delete_id a.lsn table e) table c.loop-k.marks) c.entry.ensures in (
       c.loop-k.invariant.0,
       omega arith,

@@ -127,7 +127,7 @@ loop-h-preserved c =
     let next = position + (20 + h.size) in
     let raw : c.raw.result ≡ raw_of (a.lsn + position) false =
     c.raw.ensures ∙ ap (λ (l : Located). (told l).raw) c.new-location.ensures ∙ located-raw (a.lsn + position) false (omega (arith, start.pre.0, at.loop.inv.0)) in
-    let after : c.mark_at.new.1.0 ≡ marked a.mark (current table h.id (raw_of (a.lsn + position) false)) table at.loop.marks =
+    let after : c.mark_at.new.marks ≡ marked a.mark (current table h.id (raw_of (a.lsn + position) false)) table at.loop.marks =
     c.mark_at.ensures ∙ ap (λ (n : ℕ). marked a.mark (current table h.id n) table at.loop.marks) raw in (
       (further c).0,
       ap length after ∙ marked-length a.mark _ table at.loop.marks ∙ at.loop.inv.1,

@@ -1,5 +1,5 @@
 use mathlib.Core.Path.{refl, sym, ◌∙◌, subst}
-use Prim.Native.Nat.{zero-le, ℕ, ◌+◌, ◌*◌, ◌≤◌, ◌-◌}
+use Prim.Native.Nat.{zero-le, ℕ, ◌+◌, ◌*◌, ◌≤◌, ◌<◌, ◌-◌}
 use native.Mathlib.Nat.{sub-zero}
 use Rattle.stores.specs.Runs.{made_then, made_none, made-length, Made}
 use Rattle.losses.proofs.LossTurns.{told-step, told-end, made_one}
@@ -17,22 +17,19 @@ loop-i-init c =
     rw (sub-zero a.lines) (zero-le, refl, c.requires.labels_in, λ after m d. d)
 
 -- the next slot's label, and those behind it
-labels : (c : goal.In-loop-i) → let a = c.args in
-    (get_or a.report.now (2 * c.loop-i.i) 0 * a.slot-bytes + 64 ≤ length a.heap.now)
-    × LabelsIn a.slot-bytes (slots_told (a.lines - (c.loop-i.i + 1)) (drop (2 * (c.loop-i.i + 1)) a.report.now)) (length a.heap.now)
-labels c =
-    let a = c.args in
-    subst (λ (ks : List ℕ). LabelsIn a.slot-bytes ks (length a.heap.now)) (told-step a.lines c.loop-i.i a.report.now c.loop-i-test.true) c.loop-i.invariant.2
+labels : (lines i size : ℕ) (report : List ℕ) (room : ℕ) → i < lines → LabelsIn size (slots_told (lines - i) (drop (2 * i) report)) room
+    → (get_or report (2 * i) 0 * size + 64 ≤ room) × LabelsIn size (slots_told (lines - (i + 1)) (drop (2 * (i + 1)) report)) room
+labels lines i size report room more held = subst (λ (ks : List ℕ). LabelsIn size ks room) (told-step lines i report more) held
 
 pub overflow_mul-slot-in-loop-i : goal.overflow_mul-slot-in-loop-i
 overflow_mul-slot-in-loop-i c =
-    let low = (labels c.before.before).0 in
+    let low = (labels c.args.lines c.loop-i.i c.args.slot_bytes c.args.report.now (length c.args.heap.now) c.loop-i-test.true c.loop-i.invariant.2).0 in
     let same = c.loop-i.invariant.1 in
     search rules
 
 pub put_number-rest-requires : goal.put_number-rest-requires
 put_number-rest-requires c =
-    let low = (labels c.before.before).0 in
+    let low = (labels c.args.lines c.loop-i.i c.args.slot_bytes c.args.report.now (length c.args.heap.now) c.loop-i-test.true c.loop-i.invariant.2).0 in
     let same = c.loop-i.invariant.1 in
     omega arith
 
@@ -41,11 +38,11 @@ loop-i-preserved c =
     let a = c.args in
     let i = c.loop-i.i in
     let words = a.report.now in
-    let one = made_one a.slot-bytes (get_or words (2 * i) 0) c.put_number-rest.ensures in (
+    let one = made_one a.slot_bytes (get_or words (2 * i) 0) c.put_number-rest.ensures in (
       omega arith,
       made-length c.put_number-rest.ensures ∙ c.loop-i.invariant.1,
-      (labels c.before.before.before.before.before).1,
-      λ after m d. c.loop-i.invariant.3 after m (subst (λ (ks : List ℕ). Made c.loop-i.rest (emptying a.slot-bytes ks) c.loop-i.heap after m) (sym (told-step a.lines i words c.loop-i-test.true)) (made_then one d)),
+      (labels c.args.lines c.loop-i.i c.args.slot_bytes c.args.report.now (length c.args.heap.now) c.loop-i-test.true c.loop-i.invariant.2).1,
+      λ after m d. c.loop-i.invariant.3 after m (subst (λ (ks : List ℕ). Made c.loop-i.rest (emptying a.slot_bytes ks) c.loop-i.heap after m) (sym (told-step a.lines i words c.loop-i-test.true)) (made_then one d)),
     )
 
 pub returns : goal.returns

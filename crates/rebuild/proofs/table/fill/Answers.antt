@@ -58,7 +58,7 @@ loop-k-preserved c =
     let view = ap view_in c.slot_at.ensures ∙ sym (views-at a.n a.size a.heap.now l.k low) in
     let rows = slot-in views l.k (omega arith) ∙ ap (λ (v : View). rows_in (take l.k views) ++ each rows_of (file_of v)) (sym view) in (
       omega arith,
-      c.fill_slot.auto.1.1.0 ∙ l.invariant.1,
+      c.fill_slot.auto.table ∙ l.invariant.1,
       chunk_in a.table.now c.requires.formed (rows_in (take l.k views)) _ (views-in-use a.size (take l.k views) sound) _ l.invariant.2 _ _ c.fill_slot.ensures (not-false _ c.if-not-fill_slot.false-raw) (rows_in (take (l.k + 1) views)) rows,
     )
 

@@ -66,7 +66,7 @@ loop-k-preserved c =
     let low : l.k < length es = omega (arith, l.invariant, entries-count t c.requires.1, c.loop-k-test.true) in (
       l.invariant.0,
       omega arith,
-      c.meet.auto.0 ∙ l.invariant.2,
+      c.meet.auto.table ∙ l.invariant.2,
       chunk_in c.args.table.now c.requires.0 (take l.k rows) _ used _ l.invariant.3 _ _ c.meet.ensures (not-false _ c.if-not-meet.false-raw) (take (l.k + 1) rows)
           (entry_in lsn es l.k _ low is),
     )

@@ -51,7 +51,7 @@ loop-k-preserved c =
     let line = c.own_line-count.ensures in (
       omega arith,
       inv.1,
-      c.own_line-count.auto.0 ∙ inv.2,
+      c.own_line-count.auto.report ∙ inv.2,
       length-set c.loop-k.starts k _ ∙ inv.3,
       length-set c.loop-k.ends k _ ∙ inv.4,
       omega (arith, line.count, shown-few k c.own-shown.result),
