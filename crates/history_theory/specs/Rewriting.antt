@@ -8,7 +8,7 @@ use Rattle.rules.specs.Base.{Bool, true, false, List, [], ◌∷◌, ℕ, zero, 
 use Rattle.theory.specs.Types.{Record, Settings, Held, Mapped, Unmapped}
 use Rattle.rules.specs.BaseLaws.{All, all_map}
 use Rattle.rules.specs.Settings.{slots_in}
-use Rattle.rules.specs.Ops.{Content, put, delete, Op, objects_of, entries_of, file_bytes}
+use Rattle.rules.specs.Ops.{Content, put, delete, size_of, Op, objects_of, entries_of, file_bytes}
 use Rattle.rules.specs.OpsLaws.{RisingOps, entry-stands, Stands}
 use Rattle.rules.specs.SettledLaws.{Last, silent, last, or_earlier, last_on}
 use Rattle.rules.specs.StoreLaws.{made-length}
