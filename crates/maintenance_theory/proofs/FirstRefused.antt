@@ -280,6 +280,7 @@ module _ (history : List Op) (w : World) (s : SoundWorld w (engine history)) whe
           low g (inl e) = omega arith
           low g (inr (inl e)) = omega arith
           low g (inr (inr (inl e))) = omega arith
+          low g (inr (inr (inr x6))) = elim x6 [ ]
 
           counted : AnswersBut (λ r g. Refusable w (start_group w g) r) w → (maintain_call w).answer ≡ maintain_given (Moved (sum (live_of w) generations))
           counted (inl a) = a

@@ -225,6 +225,7 @@ module _ (history : List Op) (w : World) (s : SoundWorld w (engine history)) whe
     goes_on g (inl e) = subst (λ (h : ℕ). forecast_of w ≡ foretold_from (h ∷ behind h) w (foreseen h)) e refl
     goes_on g (inr (inl e)) = subst (λ (h : ℕ). forecast_of w ≡ foretold_from (h ∷ behind h) w (foreseen h)) e refl
     goes_on g (inr (inr (inl e))) = subst (λ (h : ℕ). forecast_of w ≡ foretold_from (h ∷ behind h) w (foreseen h)) e refl
+    goes_on g (inr (inr (inr x3))) = elim x3 [ ]
 
     -- LAW: a rewrite alone, in its turn
     alone-so : (g : ℕ) → Among generations g → NoneBefore g (forecast_of w).stop → AnswersSo (forecast_of w).stop g (rewrite_call (turn w g).world room g (mark_of w) (count_of w)).answer
