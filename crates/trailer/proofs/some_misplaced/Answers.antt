@@ -1,10 +1,9 @@
 use mathlib.Core.Path.{sym, ap, refl, ◌∙◌, ◌≡◌}
-use Prim.Native.Nat.{ℕ, zero-le, ◌+◌, ◌*◌, ◌<◌, ◌≤◌, ◌-◌}
+use Prim.Native.Nat.{ℕ, zero-le, ◌+◌, ◌*◌, ◌<◌, ◌≤◌}
 use mathlib.Core.Bool.{Bool}
 use mathlib.Core.List.{List}
 use Rattle.rules.specs.declared.Entry.{Entry}
-use lib.ListN.{drop, length, get_or}
-use Rattle.rules.specs.Base.{any}
+use lib.ListN.{length, get_or}
 use Rattle.rules.specs.TurnLaws.{any_here, any-later, any-end}
 use Rattle.rules.specs.Trailer.{count_in, entries_in, misplaced}
 use Rattle.rules.specs.Table.{no_entry}
