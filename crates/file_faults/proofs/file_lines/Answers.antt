@@ -29,13 +29,9 @@ in_all number l slot =
     ap length (sym (file-lines number (file_seen l slot))) ∙ length-append (of_objects number (trailer_part l slot) (object_part l slot)) (of_entries number (trailer_part l slot) (object_part l slot))
 
 -- of the parts that were lent
-objects-are : (c : goal.After-trailer_part-trailer) → let a = c.args in
-    of_objects a.number c.trailer_part-trailer.result.now c.object_part-objects.result.now ≡ of_objects a.number (trailer_part a.l a.slot.now) (object_part a.l a.slot.now)
-objects-are c = ap₂ (of_objects c.args.number) c.trailer_part-trailer.ensures c.object_part-objects.ensures
-
-entries-are : (c : goal.After-trailer_part-trailer) → let a = c.args in
-    of_entries a.number c.trailer_part-trailer.result.now c.object_part-objects.result.now ≡ of_entries a.number (trailer_part a.l a.slot.now) (object_part a.l a.slot.now)
-entries-are c = ap₂ (of_entries c.args.number) c.trailer_part-trailer.ensures c.object_part-objects.ensures
+parts-are : (of : ℕ → List ℕ → List ℕ → List Fault) (number : ℕ) (trailer objects t o : List ℕ) → t ≡ trailer → o ≡ objects
+    → of number t o ≡ of number trailer objects
+parts-are of number trailer objects t o e f = ap₂ (of number) e f
 
 pub object_part-objects-requires : goal.object_part-objects-requires
 object_part-objects-requires c =
@@ -51,17 +47,17 @@ pub object_lines-told-requires : goal.object_lines-told-requires
 object_lines-told-requires c =
     let a = c.args in record {
       trailer_in_bounds = subst (λ (s : List ℕ). 12 + 16 * count_in s ≤ length s) (sym c.trailer_part-trailer.ensures) c.requires.file_at.fits;
-      objects_bound = omega (arith, c.requires.slot_bound, in_all a.number a.l a.slot.now, ap length (objects-are c.before));
+      objects_bound = omega (arith, c.requires.slot_bound, in_all a.number a.l a.slot.now, ap length (parts-are of_objects a.number _ _ _ _ c.trailer_part-trailer.ensures c.object_part-objects.ensures));
     }
 
 pub entry_lines-requires : goal.entry_lines-requires
 entry_lines-requires c =
     let a = c.args in record {
       trailer_in_bounds = subst (λ (s : List ℕ). 12 + 16 * count_in s ≤ length s) (sym c.trailer_part-trailer.ensures) c.requires.file_at.fits;
-      trailer_bound = omega (arith, c.requires.slot_bound, in_all a.number a.l a.slot.now, ap length (objects-are c.before.before.before.before.before), ap length (entries-are c.before.before.before.before.before), c.object_lines-told.ensures.count);
+      trailer_bound = omega (arith, c.requires.slot_bound, in_all a.number a.l a.slot.now, ap length (parts-are of_objects a.number _ _ _ _ c.trailer_part-trailer.ensures c.object_part-objects.ensures), ap length (parts-are of_entries a.number _ _ _ _ c.trailer_part-trailer.ensures c.object_part-objects.ensures), c.object_lines-told.ensures.count);
     }
 
 pub returns : goal.returns
 returns c =
     let a = c.args in
-    tells_as (file-lines a.number (file_seen a.l a.slot.now)) (tells-then (tells_as (objects-are c.before.before.before.before.before.before.before.before) c.object_lines-told.ensures) (tells_as (entries-are c.before.before.before.before.before.before.before.before) c.entry_lines.ensures))
+    tells_as (file-lines a.number (file_seen a.l a.slot.now)) (tells-then (tells_as (parts-are of_objects a.number _ _ _ _ c.trailer_part-trailer.ensures c.object_part-objects.ensures) c.object_lines-told.ensures) (tells_as (parts-are of_entries a.number _ _ _ _ c.trailer_part-trailer.ensures c.object_part-objects.ensures) c.entry_lines.ensures))

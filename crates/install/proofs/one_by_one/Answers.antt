@@ -1,38 +1,43 @@
 use mathlib.Core.Path.{◌≡◌, refl, sym, ap, ap₂, subst, ◌∙◌}
 use mathlib.Core.List.{List}
 use mathlib.Core.Bool.{false}
-use Prim.Native.Nat.{◌+◌, ◌-◌, ◌≤◌, ◌<◌, zero-le}
+use Prim.Native.Nat.{ℕ, ◌^◌, ◌*◌, ◌+◌, ◌-◌, ◌≤◌, ◌<◌, zero-le}
 use native.Mathlib.Omega.{arith}
-use lib.ListN.{length, drop}
+use lib.ListN.{length, drop, get_or}
 use Rattle.rules.specs.declared.Entry.{Entry}
-use Rattle.rules.specs.Trailer.{entries_in, absolute}
-use Rattle.rules.specs.Table.{insert, insert_all, no_entry}
+use Rattle.rules.specs.Trailer.{count_in, entries_in, absolute}
+use Rattle.rules.specs.Table.{insert, insert_all, full, no_entry}
 use Rattle.rules.specs.Layout.{laid_out, used_entries, capacity_of}
 use Rattle.trailer.specs.Entries.{entries-count}
 use Rattle.location_table.specs.Tables.{Formed}
 use Rattle.disk_location.specs.Locations.{position_of}
 use Rattle.location_table.specs.LayoutLaws.{laid_out_lem}
 use Rattle.location_table.specs.StoreLaws.{formed-after, length-after, used-after}
-use Rattle.install.specs.Adding.{taken, adding-next, adding-end, room-now}
+use Rattle.install.specs.Adding.{taken, Placed, adding-next, adding-end, room-now}
 use Rattle.install.proofs.one_by_one.Goals as goal
 
-met : (c : goal.After-entry-e) → let l = c.loop-k in
-    let a = c.args in
-    let es = entries_in a.trailer.now in
-    Met a.lsn l.k es (used_entries l.table) es (capacity_of l.table) c.entry-e.result
-met c =
-    let l = c.loop-k in
-    let a = c.args in
-    let pre = c.requires in
-    let es = entries_in a.trailer.now in
-    let t = used_entries l.table in
-    let h : l.k < length es = omega (arith, l.invariant.0, entries-count a.trailer.now pre.1, c.loop-k-test.true) in
-    let next : insert_all (insert t (absolute a.lsn c.entry-e.result)) (taken a.lsn (drop (l.k + 1) es)) ≡ insert_all t (taken a.lsn (drop l.k es)) =
-    ap (λ (e : Entry). insert_all (insert t (absolute a.lsn e)) (taken a.lsn (drop (l.k + 1) es))) c.entry-e.ensures ∙ sym (adding-next a.lsn t es l.k no_entry h) in
+-- what a turn knows of the entry that it looks at
+record Met (lsn k : ℕ) (es : List Entry) (t : List Entry) (capacity : ℕ) (e : Entry) : Type 0 where
+  pub placed : position_of e.location + lsn < 2 ^ 63
+  pub positive : 0 < lsn
+  pub room : full t capacity e.id ≡ false
+  pub next : insert_all (insert t (absolute lsn e)) (taken lsn (drop (k + 1) es)) ≡ insert_all t (taken lsn (drop k es))
+
+met : (b table : List ℕ) (s : List ℕ) (lsn n k : ℕ) (e : Entry) → 12 + 16 * count_in s ≤ length s → Placed lsn (entries_in s) → 0 < lsn
+    → length (insert_all (used_entries b) (taken lsn (entries_in s))) ≤ capacity_of b
+    → n ≡ count_in s → k < n → capacity_of table ≡ capacity_of b
+    → insert_all (used_entries table) (taken lsn (drop k (entries_in s))) ≡ insert_all (used_entries b) (taken lsn (entries_in s))
+    → e ≡ get_or (entries_in s) k no_entry → Met lsn k (entries_in s) (used_entries table) (capacity_of table) e
+met b table s lsn n k e long placed some fits count more same all here =
+    let es = entries_in s in
+    let t = used_entries table in
+    let h : k < length es = omega (arith, entries-count s long) in
+    let next : insert_all (insert t (absolute lsn e)) (taken lsn (drop (k + 1) es)) ≡ insert_all t (taken lsn (drop k es)) =
+    ap (λ (d : Entry). insert_all (insert t (absolute lsn d)) (taken lsn (drop (k + 1) es))) here ∙ sym (adding-next lsn t es k no_entry h) in
     record {
-      placed = omega (arith, ap (λ (e : Entry). position_of e.location) c.entry-e.ensures, pre.2 l.k);
-      positive = pre.3;
-      room = room-now t (absolute a.lsn c.entry-e.result) (taken a.lsn (drop (l.k + 1) es)) (capacity_of l.table) (omega (arith, ap length (next ∙ l.invariant.4), pre.4, l.invariant.3));
+      placed = omega (arith, ap (λ (d : Entry). position_of d.location) here, placed k);
+      positive = some;
+      room = room-now t (absolute lsn e) (taken lsn (drop (k + 1) es)) (capacity_of table) (omega (arith, ap length (next ∙ all), fits, same));
       next = next;
     }
 
@@ -47,15 +52,18 @@ find_near-place-requires c = c.loop-k.invariant.2
 pub store_one-requires : goal.store_one-requires
 store_one-requires c =
     let l = c.loop-k in
-    let m = met c.before.before in
+    let a = c.args in
+    let pre = c.requires in
+    let m = met a.table.now l.table a.trailer.now a.lsn c.count-n.result l.k c.entry-e.result pre.1 pre.2 pre.3 pre.4 l.invariant.0 c.loop-k-test.true l.invariant.3 l.invariant.4 c.entry-e.ensures in
     (l.invariant.2, c.find_near-place.ensures, m.placed, m.positive, m.room)
 
 pub loop-k-preserved : goal.loop-k-preserved
 loop-k-preserved c =
     let l = c.loop-k in
     let a = c.args in
+    let pre = c.requires in
+    let m = met a.table.now l.table a.trailer.now a.lsn c.count-n.result l.k c.entry-e.result pre.1 pre.2 pre.3 pre.4 l.invariant.0 c.loop-k-test.true l.invariant.3 l.invariant.4 c.entry-e.ensures in
     let es = entries_in a.trailer.now in
-    let m = met c.before.before.before.before.before.before in
     let e = c.entry-e.result in
     let some : 0 < (absolute a.lsn e).location = omega (arith, m.positive) in
     let stored = c.store_one.ensures in (
@@ -69,10 +77,10 @@ loop-k-preserved c =
           ∙ l.invariant.4,
     )
 
-pub UNKNOWN-same_length : goal.UNKNOWN-same_length
-UNKNOWN-same_length c =
-    let l = c.before.loop in
-    let pre = c.before.before.before.before.before.requires in
+pub shape_of-table : goal.shape_of-table
+shape_of-table c =
+    let l = c.loop-k in
+    let pre = c.requires in
     omega (arith, l.invariant.3, l.invariant.2.even, pre.0.even)
 
 pub returns : goal.returns

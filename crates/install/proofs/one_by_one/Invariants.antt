@@ -17,10 +17,3 @@ invariant-loop-k l = (l.n ≡ count_in l.trailer) × (l.k ≤ l.n) × Formed l.t
 
 abbrev pub decreases-loop-k : goal.decreases-loop-k
 decreases-loop-k l = l.n - l.k
-
--- what a turn knows of the entry that it looks at
-record Met (l.lsn l.k : ℕ) (es : List Entry) (t all : List Entry) (capacity : ℕ) (e : Entry) : Type 0 where
-  pub placed : position_of e.location + l.lsn < 2 ^ 63
-  pub positive : 0 < l.lsn
-  pub room : full t capacity e.id ≡ false
-  pub next : insert_all (insert t (absolute l.lsn e)) (taken l.lsn (drop (l.k + 1) es)) ≡ insert_all t (taken l.lsn (drop l.k es))

@@ -27,7 +27,7 @@ merge-requires c =
       placed = λ k h. pre.2 k;
       some = pre.3;
       rising = tells.0;
-      c.before.before = more ∙ tells.1;
+      counted = more ∙ tells.1;
       room = omega (arith, merged-length (replacing false) t es a.lsn (used-rising a.table.now pre.0) tells.0, all, more, tells.1, pre.4);
     }
 

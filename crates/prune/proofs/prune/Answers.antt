@@ -10,23 +10,17 @@ use Rattle.prune.specs.CallLaws.{prune-decided}
 use Rattle.prune.proofs.prune.Goals as goal
 
 -- ---- what 1 says
-abbrev begun : goal.After-refused_apart-refused → goal.Start
-begun p = p.before.before.before.before.before.before
-
-one : (p : goal.After-refused_apart-refused) → let a = (begun p).args in p.refused_apart-refused.result ≡ condition_one a.settings (length a.heap.now) a.table.now a.state
-one p =
-    let a = (begun p).args in
-    p.refused_apart-refused.ensures.answers a.state.files p.bad_files-bad.ensures ∙ ap (condition_one a.settings (length a.heap.now) a.table.now) p.rest_of.ensures
-
 pub pruned-after-requires : goal.pruned-after-requires
 pruned-after-requires c =
-    let a = (begun c.before).args in
+    let a = c.args in
+    let one = c.refused_apart-refused.ensures.answers a.state.files c.bad_files-bad.ensures ∙ ap (condition_one a.settings (length a.heap.now) a.table.now) c.rest_of.ensures in
     let n = length a.heap.now in
     let b = a.table.now in
-    λ e. passed-labels a.settings n b a.state (passed a.settings n b a.state (sym (one c.before) ∙ not-true _ e))
+    λ e. passed-labels a.settings n b a.state (passed a.settings n b a.state (sym (one) ∙ not-true _ e))
 
 pub returns : goal.returns
 returns c =
-    let a = (begun c.before.before.before.before.before).args in
+    let a = c.args in
+    let one = c.refused_apart-refused.ensures.answers a.state.files c.bad_files-bad.ensures ∙ ap (condition_one a.settings (length a.heap.now) a.table.now) c.rest_of.ensures in
     ap₂ (λ (x : Answer) (w : World). leaving (answer_given x) w) c.answer.ensures (c.pruned-after.ensures a.table.now)
-    ∙ prune-decided (world a.settings a.state a.claims a.heap.now a.table.now) c.refused_apart-refused.result (one c.before.before.before.before.before)
+    ∙ prune-decided (world a.settings a.state a.claims a.heap.now a.table.now) c.refused_apart-refused.result one

@@ -6,10 +6,8 @@ use Rattle.prune.specs.CallLaws.{pruned-parts}
 use Rattle.prune.proofs.EmptyingTurns.{all_made}
 use Rattle.prune.proofs.pruned.Goals as goal
 
-all-records : (start : goal.Start) → length start.args.state.files.records ≡ 256
-all-records start = search (mapped-length, rules)
-
 pub returns : goal.returns
 returns c =
     let a = c.args in
-    λ table. pruned-parts a.settings a.state a.claims a.heap.now table a.due _ _ c.prune_stores-next.ensures.records (c.prune_stores-next.ensures.heap ∙ all_made a.settings.slot_bytes a.claims a.due a.state.files.records a.heap.now (all-records c.before.before.before.before.before.before))
+    let all-records : length a.state.files.records ≡ 256 = search (mapped-length, rules) in
+    λ table. pruned-parts a.settings a.state a.claims a.heap.now table a.due _ _ c.prune_stores-next.ensures.records (c.prune_stores-next.ensures.heap ∙ all_made a.settings.slot_bytes a.claims a.due a.state.files.records a.heap.now all-records)

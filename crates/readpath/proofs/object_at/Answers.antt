@@ -5,30 +5,22 @@ use borrow.Author.Rules.{rules}
 use lib.ListN.{drop}
 use Rattle.rules.specs.SlotFile.{bytes_of_slot, file_in}
 use Rattle.rules.specs.Object.{stored_at}
+use Rattle.stored_object.specs.declared.BodyAnswer.{BodyAnswer}
 use Rattle.stored_object.specs.Objects.{body_of}
 use Rattle.readpath.specs.Reads.{in_heap}
 use Rattle.readpath.specs.ReadLaws.{file-length, body-in}
 use Rattle.readpath.proofs.object_at.Goals as goal
 
-abbrev begun : goal.After-read → goal.Start
-begun w = w.before.before.before
-
-abbrev file : goal.After-read → List ℕ
-file w =
-    let a = (begun w).args in
-    file_in a.l (bytes_of_slot a.slot_bytes a.heap.now a.slot)
-
 -- what was read is the file's
-told : (w : goal.After-read) → let a = (begun w).args in body_of a.id (stored_at a.position (drop a.position (file w))) ≡ w.read.result
-told w =
-    let a = (begun w).args in
-    sym (ap (λ (f : List ℕ). body_of a.id (stored_at a.position (drop a.position f))) w.file_part.ensures) ∙ sym w.read.ensures
+told : (id position : ℕ) (file part : List ℕ) (r : BodyAnswer) → part ≡ file → r ≡ body_of id (stored_at position (drop position part))
+    → body_of id (stored_at position (drop position file)) ≡ r
+told id position file part r at said = sym (ap (λ (f : List ℕ). body_of id (stored_at position (drop position f))) at) ∙ sym said
 
 pub overflow_add-result-in-Body : goal.overflow_add-result-in-Body
 overflow_add-result-in-Body c =
-    let a = (begun c.before.before.before).args in
-    let lies = (begun c.before.before.before).requires in
-    let b = body-in a.id a.position (file c.before.before.before) _ _ (told c.before.before.before ∙ c.in-Body.is) in
+    let a = c.args in
+    let lies = c.requires in
+    let b = body-in a.id a.position (file_in a.l (bytes_of_slot a.slot_bytes a.heap.now a.slot)) _ _ (told a.id a.position (file_in a.l (bytes_of_slot a.slot_bytes a.heap.now a.slot)) _ _ c.file_part.ensures c.read.ensures ∙ c.in-Body.is) in
     let low = b.body in
     let fit = lies.file in
     let slot = lies.slot in
@@ -37,10 +29,10 @@ overflow_add-result-in-Body c =
 
 pub returns-in-Body : goal.returns-in-Body
 returns-in-Body c =
-    let a = (begun c.before.before.before).args in
-    ap (in_heap (a.slot * a.slot_bytes + 64)) (sym (told c.before.before.before ∙ c.in-Body.is))
+    let a = c.args in
+    ap (in_heap (a.slot * a.slot_bytes + 64)) (sym (told a.id a.position (file_in a.l (bytes_of_slot a.slot_bytes a.heap.now a.slot)) _ _ c.file_part.ensures c.read.ensures ∙ c.in-Body.is))
 
 pub returns-in-Unread : goal.returns-in-Unread
 returns-in-Unread c =
-    let a = (begun c.before.before.before).args in
-    ap (in_heap (a.slot * a.slot_bytes + 64)) (sym (told c.before.before.before ∙ c.in-Unread.is))
+    let a = c.args in
+    ap (in_heap (a.slot * a.slot_bytes + 64)) (sym (told a.id a.position (file_in a.l (bytes_of_slot a.slot_bytes a.heap.now a.slot)) _ _ c.file_part.ensures c.read.ensures ∙ c.in-Unread.is))

@@ -26,7 +26,7 @@ returns-in-Found c =
     let n = c.in-Found.size in
     let size : start + n - start ≡ n = omega arith in record {
       bytes = ap (λ (k : ℕ). take k (drop start a.heap.now)) size ∙ ap (λ (r : ReadAnswer). part_of r a.heap.now) (sym c.in-Found.is);
-      place = ap (λ (r : ReadAnswer). place_of r a.heap.ptr) (sym c.in-Found.is);
+      place = ap (λ (r : ReadAnswer). place_of r a.heap.ref_ptr) (sym c.in-Found.is);
     }
 
 pub returns-in-Deleted : goal.returns-in-Deleted
@@ -34,7 +34,7 @@ returns-in-Deleted c =
     let a = c.args in
     record {
       bytes = search rules;
-      place = rw (zero-add a.heap.ptr.1) (ap (λ (r : ReadAnswer). place_of r a.heap.ptr) (sym c.in-Deleted.is));
+      place = rw (zero-add a.heap.ref_ptr.1) (ap (λ (r : ReadAnswer). place_of r a.heap.ref_ptr) (sym c.in-Deleted.is));
     }
 
 pub returns-in-NeverWritten : goal.returns-in-NeverWritten
@@ -42,7 +42,7 @@ returns-in-NeverWritten c =
     let a = c.args in
     record {
       bytes = search rules;
-      place = rw (zero-add a.heap.ptr.1) (ap (λ (r : ReadAnswer). place_of r a.heap.ptr) (sym c.in-NeverWritten.is));
+      place = rw (zero-add a.heap.ref_ptr.1) (ap (λ (r : ReadAnswer). place_of r a.heap.ref_ptr) (sym c.in-NeverWritten.is));
     }
 
 pub returns-in-ReadRefused : goal.returns-in-ReadRefused
@@ -50,5 +50,5 @@ returns-in-ReadRefused c =
     let a = c.args in
     record {
       bytes = search rules;
-      place = rw (zero-add a.heap.ptr.1) (ap (λ (r : ReadAnswer). place_of r a.heap.ptr) (sym c.in-ReadRefused.is));
+      place = rw (zero-add a.heap.ref_ptr.1) (ap (λ (r : ReadAnswer). place_of r a.heap.ref_ptr) (sym c.in-ReadRefused.is));
     }

@@ -17,5 +17,5 @@ pub returns : goal.returns
 returns c =
     let a = c.args in record {
       bytes = λ claims. c.part.ensures.bytes ∙ ap (λ (r : ReadAnswer). part_of r a.heap.now) (c.read_answer-answer.ensures claims);
-      place = λ claims. c.part.ensures.place ∙ ap (λ (r : ReadAnswer). place_of r a.heap.ptr) (c.read_answer-answer.ensures claims);
+      place = λ claims. c.part.ensures.place ∙ ap (λ (r : ReadAnswer). place_of r a.heap.ref_ptr) (c.read_answer-answer.ensures claims);
     }

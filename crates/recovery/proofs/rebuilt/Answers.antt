@@ -24,7 +24,7 @@ returns-then-not-fill c =
     let a = c.args in
     let heap = a.heap.now in
     let views = views_in a.n a.size heap in
-    let out = no_room a.table.now c.requires.2 views _ _ c.fill.ensures (not-true _ c.if-not-fill.true-raw) in
+    let out = no_room a.table.now c.requires.2 views _ _ c.fill.ensures (c.if-not-fill.true) in
     gives_up a.settings heap a.table.now _ _ _ TableRoom c.given_up.ensures c.capacity-table_len.ensures out.1
     ∙ sym (past-full a.settings heap a.table.now a.table.now views out.0)
 
@@ -33,7 +33,7 @@ with_live_counts-files-requires c =
     let a = c.args in
     let views = views_in a.n a.size a.heap.now in
     let sound = sound-views a.n a.size a.heap.now _ c.requires.0 in
-    (room-formed a.table.now c.requires.2 views _ _ c.fill.ensures a.size sound (not-false _ c.if-not-fill.false-raw), surveyed-apart a.n a.size a.heap.now _ c.requires.0 c.requires.3)
+    (room-formed a.table.now c.requires.2 views _ _ c.fill.ensures a.size sound (c.if-not-fill.false), surveyed-apart a.n a.size a.heap.now _ c.requires.0 c.requires.3)
 
 pub next_position-requires : goal.next_position-requires
 next_position-requires c =
@@ -50,7 +50,7 @@ returns c =
     let views = views_in a.n a.size heap in
     let mapped = table_of (files_in views) in
     let sound = sound-views a.n a.size heap _ c.requires.0 in
-    let room = not-false _ c.if-not-fill.false-raw in
+    let room = c.if-not-fill.false in
     let b = a.table.now in
     let in_table = has_room b c.requires.2 views _ _ c.fill.ensures room in
     let records =

@@ -47,7 +47,7 @@ returns-in-Refused c =
     let views = views_in (slots_in a.settings (length heap)) a.settings.slot_bytes heap in
     let wiped = c.clear in
     let said = slots-refuse views _ (told-refused (decide (each view_tests views)) views _ c.survey-found.ensures _ c.in-Refused.is) in
-    gives_up a.settings heap a.table.now _ _ _ c.in-Refused.r c.given_up.ensures (c.capacity.ensures ∙ ap (λ (n : ℕ). n / 2) wiped.auto.0) wiped.ensures
+    gives_up a.settings heap a.table.now _ _ _ c.in-Refused.r c.given_up.ensures (c.capacity.ensures ∙ ap (λ (n : ℕ). n / 2) wiped.auto.table) wiped.ensures
     ∙ sym (tests-refuse (bare a.settings heap a.table.now) views c.in-Refused.r said)
 
 pub returns-in-Done : goal.returns-in-Done

@@ -1,5 +1,4 @@
 use mathlib.Core.Path.{refl, sym, ◌∙◌}
-use Prim.Native.Nat.{◌-◌}
 use native.Mathlib.Omega.{arith}
 use lib.ListN.{drop, length-set}
 use Rattle.script.specs.Words.{words_of}
@@ -25,9 +24,9 @@ pub loop-k-preserved : goal.loop-k-preserved
 loop-k-preserved c =
     let a = c.args in
     let s = a.text.now in
-    let v = c.v-1.given in
-    let said = sym c.number.ensures ∙ v.1 in
-    (omega arith, omega arith, underway-turn a.n c.loop-k.k (words_of (drop a.from s)) (words_of (drop c.loop-k.at s)) _ c.loop-k.values _ v.0.0 (omega arith) (omega (arith, c.loop-k.invariant.3)) (number_word s c.loop-k.at c.next_word-word.result c.next_word-word.ensures.answers v.0.0 said) said c.loop-k.invariant.2, length-set c.loop-k.values c.loop-k.k v.0.0 ∙ c.loop-k.invariant.3)
+    let v = c.in-Value.v in
+    let said = sym c.number.ensures ∙ c.in-Value.is in
+    (omega arith, omega arith, underway-turn a.n c.loop-k.k (words_of (drop a.from s)) (words_of (drop c.loop-k.at s)) _ c.loop-k.values _ v (omega arith) (omega (arith, c.loop-k.invariant.3)) (number_word s c.loop-k.at c.next_word-word.result c.next_word-word.ensures.answers v said) said c.loop-k.invariant.2, length-set c.loop-k.values c.loop-k.k v ∙ c.loop-k.invariant.3)
 
 pub returns : goal.returns
 returns c =

@@ -32,7 +32,7 @@ returns-then-shape c =
     let a = c.args in
     let there = word_some a.text.now 0 c.next_word-first.result c.next_word-first.ensures.answers c.if-start-end.false in
     let good = not-false _ c.if-not-numbers.false in
-    let whole = given-same _ _ _ _ _ (asked-on _ a.comment _ _ _ c.keyword_of-keyword.result c.shape_of-shape.result there c.keyword_of-keyword.ensures c.shape_of-shape.ensures.answers _ true _ _ good c.numbers_from-numbers.ensures.good c.numbers_from-numbers.ensures.values c.numbers_from-numbers.ensures.rest c.if-shape.true) c.with_bytes.ensures in
+    let whole = given-same _ _ _ _ _ (asked-on _ a.comment _ _ _ c.keyword_of-keyword.result c.shape_of-shape.result there c.keyword_of-keyword.ensures c.shape_of-shape.ensures.answers _ true _ _ good c.numbers_from-numbers.ensures.good c.numbers_from-numbers.ensures.values c.numbers_from-numbers.ensures.rest c.if-shape.true) (c.with_bytes.ensures.answers, c.with_bytes.ensures.writes) in
     record {
       answers = whole.0;
       writes = whole.1;

@@ -7,7 +7,7 @@ pub returns : goal.returns
 returns c =
     let a = c.args in
     let room = length a.bytes.now in
-    let given = given-same _ _ a.bytes.now _ _ (asked-whole room a.line.now c.find-end.result c.find-end.ensures.0) c.order_in.ensures in
+    let given = given-same _ _ a.bytes.now _ _ (asked-whole room a.line.now c.find-end.result c.find-end.ensures.finds) (c.order_in.ensures.answers, c.order_in.ensures.writes) in
     record {
       answers = given.0;
       writes = given.1;

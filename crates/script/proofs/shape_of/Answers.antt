@@ -14,19 +14,19 @@ returns-in-Settings c = record {
 
 pub returns-in-Heap : goal.returns-in-Heap
 returns-in-Heap c = record {
-  answers = shape-told 3 (4 ∷ 12 ∷ 13 ∷ 15 ∷ 23 ∷ 25 ∷ []) (numbers 1) c.args.keyword (refl, (refl, (refl, (refl, (refl, (refl, (refl, tt))))))) c.in-Heap.keys2;
+  answers = shape-told 3 (4 ∷ 12 ∷ 13 ∷ 15 ∷ 23 ∷ 25 ∷ []) (numbers 1) c.args.keyword (refl, (refl, (refl, (refl, (refl, (refl, (refl, tt))))))) c.in-Heap.in-Heap-own.keys2;
   fits = omega arith;
 }
 
 pub returns-in-Store : goal.returns-in-Store
 returns-in-Store c = record {
-  answers = shape-told 26 (28 ∷ 31 ∷ []) (numbers 2) c.args.keyword (refl, (refl, (refl, tt))) c.in-Store.keys3;
+  answers = shape-told 26 (28 ∷ 31 ∷ []) (numbers 2) c.args.keyword (refl, (refl, (refl, tt))) c.in-Store.in-Store-own.keys3;
   fits = omega arith;
 }
 
 pub returns-in-Entry : goal.returns-in-Entry
 returns-in-Entry c = record {
-  answers = shape-told 6 (18 ∷ 27 ∷ []) (numbers 3) c.args.keyword (refl, (refl, (refl, tt))) c.in-Entry.keys4;
+  answers = shape-told 6 (18 ∷ 27 ∷ []) (numbers 3) c.args.keyword (refl, (refl, (refl, tt))) c.in-Entry.in-Entry-own.keys4;
   fits = omega arith;
 }
 
@@ -53,7 +53,7 @@ returns-in-State c = record {
 
 pub returns-in-Poke : goal.returns-in-Poke
 returns-in-Poke c = record {
-  answers = shape-told 5 (16 ∷ []) (numbers_and_bytes 1) c.args.keyword (refl, (refl, tt)) c.in-Poke.keys8;
+  answers = shape-told 5 (16 ∷ []) (numbers_and_bytes 1) c.args.keyword (refl, (refl, tt)) c.in-Poke.in-Poke-own.keys8;
   fits = omega arith;
 }
 
@@ -66,6 +66,6 @@ returns-in-Write c = record {
 
 pub returns-in_default : goal.returns-in_default
 returns-in_default c = record {
-  answers = shape-told 0 (1 ∷ 10 ∷ 14 ∷ 17 ∷ 19 ∷ 20 ∷ 21 ∷ 22 ∷ 24 ∷ 29 ∷ 30 ∷ 32 ∷ []) (numbers 0) c.args.keyword (refl, (refl, (refl, (refl, (refl, (refl, (refl, (refl, (refl, (refl, (refl, (refl, (refl, tt))))))))))))) c.in_default.keys10;
+  answers = shape-told 0 (1 ∷ 10 ∷ 14 ∷ 17 ∷ 19 ∷ 20 ∷ 21 ∷ 22 ∷ 24 ∷ 29 ∷ 30 ∷ 32 ∷ []) (numbers 0) c.args.keyword (refl, (refl, (refl, (refl, (refl, (refl, (refl, (refl, (refl, (refl, (refl, (refl, (refl, tt))))))))))))) c.in_default.in_default-own.keys10;
   fits = omega arith;
 }

@@ -26,19 +26,19 @@ returns-in_default c =
 pub said_by-requires : goal.said_by-requires
 said_by-requires c =
     let s = c.args.batch.now in
-    len-behind s c.loop-at.at c.in-Holds.o c.in-Holds.next (held s _ _ _ _ c.operation_at.ensures c.in-Holds.is)
+    len-behind s c.loop-at.at c.in-Holds.o c.in-Holds.next (held s _ _ _ _ (c.operation_at.ensures.parses, c.operation_at.ensures.within) c.in-Holds.is)
 
 pub loop-at-smaller : goal.loop-at-smaller
 loop-at-smaller c =
     let s = c.args.batch.now in
-    let e = held s _ _ _ _ c.operation_at.ensures c.in-Holds.is in
+    let e = held s _ _ _ _ (c.operation_at.ensures.parses, c.operation_at.ensures.within) c.in-Holds.is in
     omega (arith, operation-behind s _ _ _ e.0)
 
 pub loop-at-preserved : goal.loop-at-preserved
 loop-at-preserved c =
     let s = c.args.batch.now in
     let x = c.args.id in
-    let e = held s _ _ _ _ c.operation_at.ensures c.in-Holds.is in
+    let e = held s _ _ _ _ (c.operation_at.ensures.parses, c.operation_at.ensures.within) c.in-Holds.is in
     let inv = c.loop-at.invariant in
     let behind = operation-behind s _ _ _ e.0 in
     let turn = telling-turn inv.0 s x c.loop-at.at c.loop-at.last c.in-Holds.o c.in-Holds.next c.loop-at-test.true inv.1 e in

@@ -36,7 +36,7 @@ returns-in-InBatch c =
     let n = c.in-InBatch.size in
     let size : start + n - start ≡ n = omega arith in record {
       bytes = ap (λ (k : ℕ). take k (drop start a.batch.now)) size ∙ ap (λ (r : ThroughAnswer). through_part r a.batch.now a.heap.now) (sym c.in-InBatch.is);
-      place = ap (λ (r : ThroughAnswer). through_place r a.batch.ptr a.heap.ptr) (sym c.in-InBatch.is);
+      place = ap (λ (r : ThroughAnswer). through_place r a.batch.ref_ptr a.heap.ref_ptr) (sym c.in-InBatch.is);
     }
 
 pub returns-in-InHeap : goal.returns-in-InHeap
@@ -46,7 +46,7 @@ returns-in-InHeap c =
     let n = c.in-InHeap.size in
     let size : start + n - start ≡ n = omega arith in record {
       bytes = ap (λ (k : ℕ). take k (drop start a.heap.now)) size ∙ ap (λ (r : ThroughAnswer). through_part r a.batch.now a.heap.now) (sym c.in-InHeap.is);
-      place = ap (λ (r : ThroughAnswer). through_place r a.batch.ptr a.heap.ptr) (sym c.in-InHeap.is);
+      place = ap (λ (r : ThroughAnswer). through_place r a.batch.ref_ptr a.heap.ref_ptr) (sym c.in-InHeap.is);
     }
 
 pub returns-in-ThroughDeleted : goal.returns-in-ThroughDeleted
@@ -54,7 +54,7 @@ returns-in-ThroughDeleted c =
     let a = c.args in
     record {
       bytes = search rules;
-      place = rw (zero-add a.heap.ptr.1) (ap (λ (r : ThroughAnswer). through_place r a.batch.ptr a.heap.ptr) (sym c.in-ThroughDeleted.is));
+      place = rw (zero-add a.heap.ref_ptr.1) (ap (λ (r : ThroughAnswer). through_place r a.batch.ref_ptr a.heap.ref_ptr) (sym c.in-ThroughDeleted.is));
     }
 
 pub returns-in-ThroughNever : goal.returns-in-ThroughNever
@@ -62,7 +62,7 @@ returns-in-ThroughNever c =
     let a = c.args in
     record {
       bytes = search rules;
-      place = rw (zero-add a.heap.ptr.1) (ap (λ (r : ThroughAnswer). through_place r a.batch.ptr a.heap.ptr) (sym c.in-ThroughNever.is));
+      place = rw (zero-add a.heap.ref_ptr.1) (ap (λ (r : ThroughAnswer). through_place r a.batch.ref_ptr a.heap.ref_ptr) (sym c.in-ThroughNever.is));
     }
 
 pub returns-in-ThroughRefused : goal.returns-in-ThroughRefused
@@ -70,5 +70,5 @@ returns-in-ThroughRefused c =
     let a = c.args in
     record {
       bytes = search rules;
-      place = rw (zero-add a.heap.ptr.1) (ap (λ (r : ThroughAnswer). through_place r a.batch.ptr a.heap.ptr) (sym c.in-ThroughRefused.is));
+      place = rw (zero-add a.heap.ref_ptr.1) (ap (λ (r : ThroughAnswer). through_place r a.batch.ref_ptr a.heap.ref_ptr) (sym c.in-ThroughRefused.is));
     }

@@ -1,4 +1,7 @@
 use mathlib.Core.Path.{◌≡◌, sym, ap, ap₂, ◌∙◌}
+use mathlib.Core.Bool.{Bool}
+use Prim.Native.Nat.{ℕ}
+use Rattle.rules.specs.declared.ReadAnswer.{ReadAnswer}
 use Rattle.rules.specs.Batch.{batch_in, is_malformed}
 use Rattle.rules.specs.Condition1.{refused1}
 use Rattle.rules.specs.Read.{read_of}
@@ -9,31 +12,28 @@ use Rattle.through.specs.ThroughLaws.{read_first, through-refused, through-bad, 
 use Rattle.through.proofs.LastTurns.{pass-bad, pass-whole}
 use Rattle.through.proofs.seen.Goals as goal
 
-abbrev begun : goal.After-refused_first → goal.Start
-begun p = p.before.before
-
 -- whether 1 holds
-asked : (p : goal.After-refused_first) (w : World) → (begun p).args.stored ≡ read_of w (begun p).args.id → refused1 w ≡ p.refused_first.result
-asked p w e = sym (p.refused_first.ensures ∙ ap refused_first e ∙ read_first w (begun p).args.id)
+asked : (stored : ReadAnswer) (id : ℕ) (b : Bool) → b ≡ refused_first stored → (w : World) → stored ≡ read_of w id → refused1 w ≡ b
+asked stored id b said w e = sym (said ∙ ap refused_first e ∙ read_first w id)
 
 pub returns-then-refused_first : goal.returns-then-refused_first
 returns-then-refused_first c =
-    let a = (begun c.before).args in
-    λ w e. sym (through-refused w a.id a.batch.now (asked c.before w e ∙ c.if-refused_first.true))
+    let a = c.args in
+    λ w e. sym (through-refused w a.id a.batch.now (asked a.stored a.id c.refused_first.result c.refused_first.ensures w e ∙ c.if-refused_first.true))
 
 pub returns-in_default : goal.returns-in_default
 returns-in_default c =
-    let a = (begun c.before.before.before.before).args in
+    let a = c.args in
     let m = is_malformed (batch_in a.batch.now) in
     let bad = pass-bad m (last_in a.batch.now a.id) (sym c.last_on.ensures ∙ c.in_default.is) in
-    λ w e. sym (through-bad w a.id a.batch.now (asked c.before.before.before.before w e ∙ c.if-refused_first.false) bad)
+    λ w e. sym (through-bad w a.id a.batch.now (asked a.stored a.id c.refused_first.result c.refused_first.ensures w e ∙ c.if-refused_first.false) bad)
 
 pub returns : goal.returns
 returns c =
-    let a = (begun c.before.before.before.before.before.before.before).args in
+    let a = c.args in
     let m = is_malformed (batch_in a.batch.now) in
     let whole = pass-whole m (last_in a.batch.now a.id) c.in-Whole.last (sym c.last_on.ensures ∙ c.in-Whole.is) in
     λ w e.
     c.answer_by.ensures
     ∙ ap₂ answer_by (sym whole.1) (c.as_read.ensures ∙ ap as_read e)
-    ∙ sym (through-last w a.id a.batch.now (asked c.before.before.before.before.before.before.before w e ∙ c.if-refused_first.false) whole.0)
+    ∙ sym (through-last w a.id a.batch.now (asked a.stored a.id c.refused_first.result c.refused_first.ensures w e ∙ c.if-refused_first.false) whole.0)

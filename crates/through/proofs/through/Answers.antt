@@ -17,5 +17,5 @@ pub returns : goal.returns
 returns c =
     let a = c.args in record {
       bytes = λ claims. c.piece.ensures.bytes ∙ ap (λ (r : ThroughAnswer). through_part r a.batch.now a.heap.now) (c.through_answer-answer.ensures claims);
-      place = λ claims. c.piece.ensures.place ∙ ap (λ (r : ThroughAnswer). through_place r a.batch.ptr a.heap.ptr) (c.through_answer-answer.ensures claims);
+      place = λ claims. c.piece.ensures.place ∙ ap (λ (r : ThroughAnswer). through_place r a.batch.ref_ptr a.heap.ref_ptr) (c.through_answer-answer.ensures claims);
     }

@@ -21,35 +21,28 @@ returns-then-trailer-lt-TRAILER_LEAST c =
 pub overflow_cast-sum : goal.overflow_cast-sum
 overflow_cast-sum c = search rules
 
--- the stored and the right checksum
-record Found (s : List ℕ) (was sum : ℕ) : Type 0 where
-  long : 20 ≤ length s
-  stored : was ≡ le_value (take 4 s)
-  right : sum ≡ crc32 (drop 4 s)
-
-found : (c : goal.After-sum-sum) → Found c.args.trailer.now c.get-stored.result c.sum-sum.result
-found c =
-    let s = c.args.trailer.now in
-    record { long = c.if-trailer-lt-TRAILER_LEAST.false; stored = c.get-stored.ensures; right = c.sum-sum.ensures ∙ ap crc32 (take_all (length s - 4) (drop 4 s) (omega (arith, length-drop 4 s))) }
+-- the right checksum
+right : (s : List ℕ) (sum : ℕ) → sum ≡ crc32 (take (length s - 4) (drop 4 s)) → sum ≡ crc32 (drop 4 s)
+right s sum e = e ∙ ap crc32 (take_all (length s - 4) (drop 4 s) (omega (arith, length-drop 4 s)))
 
 pub returns-then-stored-sum : goal.returns-then-stored-sum
 unfolding decide trailer_tests
 returns-then-stored-sum c =
-    let w = found c.before in
-    rw (le-ltb _ 20 w.long, ne_eqb _ _ (λ e. c.if-stored-sum.true (w.stored ∙ e ∙ sym w.right))) refl
+    let r = right c.args.trailer.now c.sum-sum.result c.sum-sum.ensures in
+    rw (le-ltb _ 20 c.if-trailer-lt-TRAILER_LEAST.false, ne_eqb _ _ (λ e. c.if-stored-sum.true (c.get-stored.ensures ∙ e ∙ sym r))) refl
 
 pub returns-then-room-n : goal.returns-then-room-n
 unfolding decide trailer_tests
 returns-then-room-n c =
-    let w = found c.before.before.before in
+    let r = right c.args.trailer.now c.sum-sum.result c.sum-sum.ensures in
     let s = c.args.trailer.now in
     let n = c.count-n.ensures in
-    rw (le-ltb _ 20 w.long, eq-eqb _ _ (sym w.stored ∙ c.if-stored-sum.false ∙ w.right), lt-ltb (length s) (12 + 16 * count_in s) (omega arith)) refl
+    rw (le-ltb _ 20 c.if-trailer-lt-TRAILER_LEAST.false, eq-eqb _ _ (sym c.get-stored.ensures ∙ c.if-stored-sum.false ∙ r), lt-ltb (length s) (12 + 16 * count_in s) (omega arith)) refl
 
 pub returns : goal.returns
 unfolding decide trailer_tests
 returns c =
-    let w = found c.before.before.before in
+    let r = right c.args.trailer.now c.sum-sum.result c.sum-sum.ensures in
     let s = c.args.trailer.now in
     let n = c.count-n.ensures in
-    rw (le-ltb _ 20 w.long, eq-eqb _ _ (sym w.stored ∙ c.if-stored-sum.false ∙ w.right), le-ltb (length s) (12 + 16 * count_in s) (omega arith)) refl
+    rw (le-ltb _ 20 c.if-trailer-lt-TRAILER_LEAST.false, eq-eqb _ _ (sym c.get-stored.ensures ∙ c.if-stored-sum.false ∙ r), le-ltb (length s) (12 + 16 * count_in s) (omega arith)) refl

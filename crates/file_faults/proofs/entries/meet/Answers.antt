@@ -24,7 +24,7 @@ returns-then-position-from c =
     }
 
 pub look-requires-2 : goal.look-requires-2
-look-requires-2 c κs =
+look-requires-2 c =
     (sym c.is_delete.ensures ∙ c.if-is_delete.false, c.requires, λ e q. c.requires e (omega (arith, q, c.position.ensures, c.if-position-from.false)))
 
 pub returns : goal.returns

@@ -5,19 +5,18 @@ use Rattle.file_faults.specs.Walks.{cut-passes, short-passes, walked_end, walked
 use native.Mathlib.Omega.{arith}
 use Rattle.file_faults.proofs.entries.none_here.Goals as goal
 
--- the object that the step met
-walked : (c : goal.In-Here) → let a = c.args in Walked a.objects.now a.at c.in-Here.o
-walked c = told-by _ _ _ (sym c.step.ensures ∙ c.in-Here.is)
-
 pub overflow_sub-o : goal.overflow_sub-o
-overflow_sub-o c = omega (arith, (header-fits _ _ _ (walked c.before)).0)
+overflow_sub-o c =
+    let a = c.args in
+    let w : Walked a.objects.now a.at c.in-Here.o = told-by _ _ _ (sym c.step.ensures ∙ c.in-Here.is) in
+    omega (arith, (header-fits _ _ _ w).0)
 
 pub returns-then-o : goal.returns-then-o
 returns-then-o c =
     let a = c.args in
     let objects = a.objects.now in
     let h = c.in-Here.o in
-    let w = walked c.before.before.before in
+    let w : Walked a.objects.now a.at c.in-Here.o = told-by _ _ _ (sym c.step.ensures ∙ c.in-Here.is) in
     let r = header-fits objects a.at h w in
     sym (ap not (gone-ended objects a.e a.at c.requires.2 (walked-cut objects a.at (header-begins objects a.at h w) (short-passes objects a.at h w (omega arith)))))
 
@@ -40,6 +39,6 @@ returns-else-o c =
     let a = c.args in
     let objects = a.objects.now in
     let h = c.in-Here.o in
-    let w = walked c.before.before.before.before.before in
+    let w : Walked a.objects.now a.at c.in-Here.o = told-by _ _ _ (sym c.step.ensures ∙ c.in-Here.is) in
     let r = header-fits objects a.at h w in
     ap not (sym (gone-here objects a.e a.at c.requires.2 h w (omega arith) c.requires.0 c.requires.1))

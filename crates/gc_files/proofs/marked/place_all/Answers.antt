@@ -5,7 +5,7 @@ use Rattle.rules.specs.Layout.{table_locations}
 use Rattle.rules.specs.LayoutLaws.{locations-count, used-length}
 use Rattle.gc_files.specs.Places.{places_for}
 use Rattle.gc_files.specs.PlaceLaws.{none-behind, places-next, places-none}
-use Prim.Native.Nat.{ℕ, ◌+◌, ◌≤◌, ◌<◌, ◌-◌}
+use Prim.Native.Nat.{ℕ, ◌+◌, ◌≤◌, ◌<◌}
 use mathlib.Core.Path.{◌≡◌}
 use native.Mathlib.Omega.{arith}
 use lib.ListN.{length, get_or, length-set, length-drop}

@@ -1,6 +1,6 @@
 use mathlib.Core.Path.{refl, ap, sym, ◌∙◌}
 use Rattle.numbers.specs.Parts.{put_front, put_step, put-none, put_at}
-use Prim.Native.Nat.{◌*◌, ℕ, ◌+◌, ◌-◌}
+use Prim.Native.Nat.{◌*◌, ℕ, ◌+◌}
 use lib.ListN.{drop, set}
 use Rattle.script.specs.Hex.{bytes_of}
 use Rattle.script.proofs.WordTurns.{pair_turn, pair_end}

@@ -1,6 +1,6 @@
 use mathlib.Core.Path.{refl, ap, sym, ◌∙◌, ◌≡◌}
 use Rattle.numbers.specs.Parts.{put_front, put-none, put_at}
-use Prim.Native.Nat.{◌*◌, ◌+◌, ◌-◌}
+use Prim.Native.Nat.{◌*◌, ◌+◌}
 use lib.ListN.{length-set}
 use Rattle.script.proofs.WordTurns.{text-turn, text-end, put_two}
 use native.Mathlib.Omega.{arith}

@@ -4,7 +4,7 @@ use borrow.Author.Tests.{eq-eqb, ne_eqb}
 use lib.ListN.{drop, get_or}
 use Rattle.script.specs.Names.{same_bytes}
 use Rattle.script.proofs.Taken.{same_length, same_turn, same_end}
-use Prim.Native.Nat.{◌+◌, ◌-◌}
+use Prim.Native.Nat.{◌+◌}
 use native.Mathlib.Omega.{arith}
 use Rattle.script.proofs.names.same.Goals as goal
 

@@ -11,8 +11,8 @@ returns c =
     let one = c.run_end-start in
     let two = c.run_end-end in
     let s = c.args.text.now in
-    let last : two.result ≡ one.result + run_of false (drop one.result s) = two.ensures.0 in
+    let last : two.result ≡ one.result + run_of false (drop one.result s) = two.ensures.answers in
     record {
-      within = (one.ensures.1.0, two.ensures.1.0, two.ensures.1.1);
-      answers = ap (λ (n : ℕ). record { start = one.result; end = n }) last ∙ ap (word_from s) one.ensures.0;
+      within = (one.ensures.within.0, two.ensures.within.0, two.ensures.within.1);
+      answers = ap (λ (n : ℕ). record { start = one.result; end = n }) last ∙ ap (word_from s) one.ensures.answers;
     }

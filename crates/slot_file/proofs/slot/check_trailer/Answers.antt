@@ -9,29 +9,25 @@ use native.Mathlib.Omega.{arith}
 use Rattle.slot_file.proofs.slot.check_trailer.Goals as goal
 
 -- ---- 9, 10 and 11 are clear
-abbrev begun : goal.In-Done → goal.Start
-begun k = k.before.before.before.before
-
-clear : (k : goal.In-Done) → decide (trailer_tests (begun k).args.bytes.now) ≡ Done
-clear k = sym k.check.ensures ∙ k.in-Done.is
-
 pub some_misplaced-requires : goal.some_misplaced-requires
-some_misplaced-requires c = clear-fits (begun c).args.bytes.now (clear c)
+some_misplaced-requires c = clear-fits c.args.bytes.now (sym c.check.ensures ∙ c.in-Done.is)
 
 pub returns-then-some_misplaced : goal.returns-then-some_misplaced
 returns-then-some_misplaced c =
-    let a = (begun c.before.before).args in
-    sym (entry-clear a.l a.bytes.now (clear c.before.before) ∙ rw (← c.some_misplaced.ensures, c.if-some_misplaced.true) refl)
+    let a = c.args in
+    let clear = sym c.check.ensures ∙ c.in-Done.is in
+    sym (entry-clear a.l a.bytes.now clear ∙ rw (← c.some_misplaced.ensures, c.if-some_misplaced.true) refl)
 
 pub count-requires : goal.count-requires
 count-requires c =
-    omega (arith, clear-fits (begun c.before.before).args.bytes.now (clear c.before.before))
+    omega (arith, clear-fits c.args.bytes.now (sym c.check.ensures ∙ c.in-Done.is))
 
 pub returns-then-l-count : goal.returns-then-l-count
 returns-then-l-count c =
-    let a = (begun c.before.before.before.before.before).args in
+    let a = c.args in
     let t = a.bytes.now in
-    sym (entry-clear a.l t (clear c.before.before.before.before.before)
+    let clear = sym c.check.ensures ∙ c.in-Done.is in
+    sym (entry-clear a.l t clear
     ∙ rw (← c.some_misplaced.ensures, c.if-some_misplaced.false, ne_eqb a.l.present_objects (count_in t) (λ e. c.if-l-count.true (e ∙ sym c.count.ensures))) refl)
 
 pub returns-in-Refused : goal.returns-in-Refused
@@ -42,7 +38,8 @@ returns-in-Refused c =
 
 pub returns-else-l-count : goal.returns-else-l-count
 returns-else-l-count c =
-    let a = (begun c.before.before.before.before.before).args in
+    let a = c.args in
     let t = a.bytes.now in
-    sym (entry-clear a.l t (clear c.before.before.before.before.before)
+    let clear = sym c.check.ensures ∙ c.in-Done.is in
+    sym (entry-clear a.l t clear
     ∙ rw (← c.some_misplaced.ensures, c.if-some_misplaced.false, eq-eqb a.l.present_objects (count_in t) (c.if-l-count.false ∙ c.count.ensures)) refl)
