@@ -24,7 +24,7 @@ use Rattle.numbers.specs.Parts.{put_at}
 use Rattle.history_theory.specs.History.{Call, write, rewrite, prune, quiet}
 use Rattle.history_theory.specs.Quiet.{claim, release}
 use Rattle.history_theory.specs.History.{called as calling}
-use Rattle.history_theory.specs.Writes.{refused-unchanged}
+use Rattle.history_theory.proofs.Writes.{refused-unchanged}
 use Rattle.history_theory.specs.Writes.{Plain as PlainCall}
 use Rattle.losses.specs.Salvage.{Salvaged, salvage_call}
 use Rattle.through.specs.Through.{through_call}

@@ -20,8 +20,10 @@ use Rattle.gc_writer.specs.declared.PieceFile.{PieceFile}
 use Rattle.gc_writer.proofs.write_piece.Reads as piece
 use Rattle.prune.proofs.prune_stores.Reads as labels
 use Rattle.history_theory.specs.History.{Call, called}
-use Rattle.power_cuts.specs.Runs.{run_of, run-made}
-use Rattle.power_cuts.specs.Jobs.{Job, file, empties, job_run, jobs_run, jobs_of, jobs-run}
+use Rattle.power_cuts.specs.Runs.{run_of}
+use Rattle.power_cuts.proofs.Runs.{run-made}
+use Rattle.power_cuts.specs.Jobs.{Job, file, empties, job_run, jobs_run, jobs_of}
+use Rattle.power_cuts.proofs.Jobs.{jobs-run}
 use Rattle.power_cuts.specs.Cuts.{Alike, CutAt, Survived}
 use Rattle.marble.specs.CallContracts.{Lent, LentMut}
 use Rattle.marble.specs.Results.{Lived, reached}

@@ -13,8 +13,8 @@ pub loop-i-preserved : goal.loop-i-preserved
 loop-i-preserved c =
     let a = c.args in
     elim c.if-plan-i.branch [
-      then-plan-i w ↦ (omega arith, omega arith, omega (arith, ap length (planned-here a.plan.now a.generation c.loop-i.i (omega arith) w.if-plan-i.true)))
-    | else-plan-i w ↦ (omega arith, omega arith, omega (arith, ap length (planned-next a.plan.now a.generation c.loop-i.i (omega arith) w.if-plan-i.false)))
+      | then-plan-i w ↦ (omega arith, omega arith, omega (arith, ap length (planned-here a.plan.now a.generation c.loop-i.i (omega arith) w.if-plan-i.true)))
+      | else-plan-i w ↦ (omega arith, omega arith, omega (arith, ap length (planned-next a.plan.now a.generation c.loop-i.i (omega arith) w.if-plan-i.false)))
     ]
 
 pub returns : goal.returns

@@ -6,7 +6,7 @@ use lib.ListN.{length, get_or, length-map}
 use borrow.Author.Rules.{rules}
 use Rattle.numbers.specs.Parts.{front}
 use Rattle.rules.specs.declared.Record.{Record}
-use Rattle.rules.specs.BaseLaws.{replicate-at}
+use Rattle.rules.proofs.BaseLaws.{replicate-at}
 use Rattle.rules.specs.Layout.{table_locations, used_entries}
 use Rattle.file_map.proofs.RecordTurns.{mapped-length}
 use Rattle.gc_candidates.specs.Plan.{planned}

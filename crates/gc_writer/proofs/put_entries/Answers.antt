@@ -2,7 +2,7 @@ use mathlib.Core.Path.{refl, ap}
 use Prim.Native.Nat.{ℕ, ◌+◌}
 use native.Mathlib.Omega.{arith}
 use Rattle.rules.specs.Trailer.{entry_bytes}
-use Rattle.rules.specs.TrailerLaws.{entry_length}
+use Rattle.rules.proofs.TrailerLaws.{entry_length}
 use Rattle.batch.specs.SizeLaws.{total-next}
 use Rattle.batch_file.specs.Putting.{entries_from, putting-start, entry-fits, entry-put, entries-put}
 use Rattle.rules.specs.Layout.{table_ids}

@@ -4,7 +4,7 @@ use native.Mathlib.Omega.{arith}
 use borrow.Author.Rules.{rules}
 use lib.ListN.{length, get_or}
 use Rattle.rules.specs.Layout.{table_ids}
-use Rattle.rules.specs.LayoutLaws.{ids-count}
+use Rattle.rules.proofs.LayoutLaws.{ids-count}
 use Rattle.gc_files.specs.PlaceLaws.{moving-told}
 use Rattle.gc_writer.specs.Walk.{turned}
 use Rattle.gc_writer.proofs.turn_at.Goals as goal

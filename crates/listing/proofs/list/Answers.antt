@@ -1,6 +1,6 @@
 use mathlib.Core.Path.{sym, ◌∙◌}
 use lib.ListN.{length}
-use Rattle.rules.specs.Condition1Laws.{passed}
+use Rattle.rules.proofs.Condition1Laws.{passed}
 use Rattle.limits.specs.Settled.{passed-formed}
 use Rattle.listing.proofs.list.Goals as goal
 

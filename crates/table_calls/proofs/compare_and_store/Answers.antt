@@ -5,7 +5,7 @@ use lib.Dec.{eqb}
 use Rattle.rules.specs.declared.Held.TheVariants.{Mapped}
 use Rattle.rules.specs.Layout.{Table}
 use Rattle.rules.specs.Table.{lookup}
-use Rattle.rules.specs.TableLaws.{full-mapped}
+use Rattle.rules.proofs.TableLaws.{full-mapped}
 use Rattle.rules.specs.TableCalls.{compare_call}
 use Rattle.rules.specs.Refusal.{decide}
 use Rattle.rules.specs.Layout.{capacity_of, used_entries}

@@ -2,7 +2,7 @@ use mathlib.Core.Path.{refl, sym, ap, ◌∙◌}
 use lib.ListN.{drop}
 use Rattle.numbers.specs.Parts.{put_at, put_front, put_step}
 use Rattle.rules.specs.Layout.{table_locations}
-use Rattle.rules.specs.LayoutLaws.{locations-count, used-length}
+use Rattle.rules.proofs.LayoutLaws.{locations-count, used-length}
 use Rattle.gc_files.specs.Places.{places_for}
 use Rattle.gc_files.specs.PlaceLaws.{none-behind, places-next, places-none}
 use Prim.Native.Nat.{ℕ, ◌+◌, ◌≤◌, ◌<◌}

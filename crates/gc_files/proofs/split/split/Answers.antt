@@ -1,6 +1,6 @@
 use mathlib.Core.Path.{◌≡◌, refl}
 use Rattle.rules.specs.Layout.{table_ids}
-use Rattle.rules.specs.LayoutLaws.{ids-count, used-length}
+use Rattle.rules.proofs.LayoutLaws.{ids-count, used-length}
 use Rattle.gc_files.proofs.EntryTurns.{along-start, along-turn, along-end}
 use Prim.Native.Nat.{ℕ, ◌≤◌, ◌<◌}
 use native.Mathlib.Omega.{arith}

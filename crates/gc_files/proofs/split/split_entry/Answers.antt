@@ -5,7 +5,7 @@ use borrow.Author.Tests.{eq-eqb, ne_eqb}
 use lib.ListN.{get_or, set}
 use lib.Seq.{set-get_or}
 use Rattle.gc_split.specs.Tally.{Tally, tally, taking, piece_no}
-use Rattle.rules.specs.OpsLaws.{shard-most}
+use Rattle.rules.proofs.OpsLaws.{shard-most}
 use Rattle.gc_split.specs.BoundLaws.{take_within}
 use Rattle.gc_files.specs.Places.{op_at, entry_taken, entry_piece}
 use Rattle.gc_files.specs.PlaceLaws.{moving-told, measured}

@@ -4,9 +4,10 @@ use mathlib.Core.List.{◌++◌}
 use native.Mathlib.Omega.{arith}
 use lib.ListN.{length, get_or, drop}
 use Rattle.rules.specs.Base.{each}
-use Rattle.rules.specs.TurnLaws.{each_next, each-end}
+use Rattle.rules.proofs.TurnLaws.{each_next, each-end}
 use Rattle.rules.specs.declared.Entry.{Entry}
-use Rattle.rules.specs.Refusal.{decide, decide-none, decide-early, decide-late}
+use Rattle.rules.specs.Refusal.{decide}
+use Rattle.rules.proofs.RefusalLaws.{decide-none, decide-early, decide-late}
 use Rattle.rules.specs.Trailer.{entries_in}
 use Rattle.rules.specs.Table.{no_entry}
 use Rattle.trailer.specs.Entries.{entries-count}

@@ -3,7 +3,7 @@ use mathlib.Core.Path.{sym, ap, ◌∙◌}
 use native.Mathlib.Omega.{arith}
 use mathlib.Core.List.{List, []}
 use Rattle.rules.specs.declared.Held.TheVariants.{Mapped}
-use Rattle.rules.specs.LayoutLaws.{used-length, ids-count}
+use Rattle.rules.proofs.LayoutLaws.{used-length, ids-count}
 use Rattle.rules.specs.Layout.{used_entries}
 use Rattle.location_table.specs.LayoutLaws.{used-location, used-rising}
 use Rattle.location_table.specs.EntryLaws.{IsFound, found-tells, gap-tells}

@@ -11,7 +11,7 @@ use Rattle.rules.specs.declared.Record.{Record}
 use Rattle.rules.specs.Refusal.{decide}
 use Rattle.rules.specs.FileMap.{record_at}
 use Rattle.rules.specs.SlotFile.{bytes_of_slot}
-use Rattle.rules.specs.SlotLaws.{slot-length}
+use Rattle.rules.proofs.SlotLaws.{slot-length}
 use Rattle.rules.specs.Maintenance.{file_tests}
 use Rattle.rules.specs.Layout.{used_entries}
 use Rattle.file_map.proofs.RecordTurns.{mapped-length, copied-start, copied_next, copied-end}
