@@ -221,6 +221,7 @@ module _ (history : List Op) (w : World) (s : SoundWorld w (engine history)) whe
           none h (inl e) l = absurd (omega arith)
           none h (inr (inl e)) l = absurd (omega arith)
           none h (inr (inr (inl e))) l = absurd (omega arith)
+          none h (inr (inr (inr x5))) l = elim x5 [ ]
 
       t2 : At w 2 c2.stop c2.world
       t2 = one-turn 1 (inl refl) refl c1 u1 x.0 going refl t1

@@ -214,6 +214,7 @@ module _ (history : List Op) (w : World) (s : SoundWorld w (engine history)) whe
     steps g (inl e) = subst Step e (job-turn history w s room enough 2 (inr (inl refl)))
     steps g (inr (inl e)) = subst Step e (sym (ap (λ (c : Course). job_step c.stop room 2 (mark_of w) (count_of w) c) (job-turn history w s room enough 2 (inr (inl refl)))) ∙ job-turn history w s room enough 3 (inr (inr (inl refl))))
     steps g (inr (inr (inl e))) = subst Step e (sym (ap (λ (c : Course). job_step c.stop room 3 (mark_of w) (count_of w) c) (job-turn history w s room enough 3 (inr (inr (inl refl))))) ∙ job-course history w s room enough)
+    steps g (inr (inr (inr x3))) = elim x3 [ ]
 
     -- the generations behind one
     abbrev behind : ℕ → List ℕ
