@@ -19,7 +19,7 @@ use Rattle.salvage_theory.specs.Types.{Loss}
 use Rattle.salvage_theory.specs.InOrder.{Before, Ordered, OneEach}
 use Rattle.salvage_theory.proofs.InOrder.{before-start, in-order-rest, order-ascends, order-once}
 use Rattle.salvage_theory.specs.Kinds.{HoldsSound, OverlapOf}
-use Rattle.salvage_theory.proofs.Kinds.{rest-holds, rest-by-slot, behind-lines}
+use Rattle.salvage_theory.proofs.KindLaws.{rest-holds, rest-by-slot, behind-lines}
 use Rattle.salvage_theory.proofs.Next.{next-loss}
 use Rattle.salvage_theory.proofs.Nothing.{nothing-peaceful}
 use Rattle.salvage_theory.specs.Lost.{Lost}

@@ -1,5 +1,5 @@
 pub mod InOrder
-pub mod Kinds
+pub mod KindLaws
 pub mod Next
 pub mod Nothing
 pub mod Lost

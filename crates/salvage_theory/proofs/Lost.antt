@@ -13,7 +13,7 @@ use Rattle.losses.specs.Salvage.{first_kind, Sound, the_rest, in_order, second_k
 use Rattle.salvage_theory.specs.Types.{Loss}
 use Rattle.losses.specs.Starts.{all-in-order}
 use Rattle.salvage_theory.specs.Kinds.{OwnLine, HoldsSound, OverlapOf}
-use Rattle.salvage_theory.proofs.Kinds.{first-own, rest-holds, second-lines}
+use Rattle.salvage_theory.proofs.KindLaws.{first-own, rest-holds, second-lines}
 use Rattle.salvage_theory.specs.Lost.{Lost}
 
 -- the first kind

@@ -11,7 +11,7 @@ use Rattle.salvage_theory.specs.Types.{Loss}
 use Rattle.salvage_theory.specs.InOrder.{OneEach, without}
 use Rattle.salvage_theory.proofs.InOrder.{order-once, without-here, without_other, without-none, order-without}
 use Rattle.salvage_theory.specs.Kinds.{OverlapOf}
-use Rattle.salvage_theory.proofs.Kinds.{behind-lines, rest_from, rest-by-slot}
+use Rattle.salvage_theory.proofs.KindLaws.{behind-lines, rest_from, rest-by-slot}
 use Rattle.salvage_theory.specs.Next.{FirstNext}
 
 -- ---- lists of lines

@@ -15,7 +15,7 @@ use Rattle.salvage_theory.specs.Types.{Loss}
 use Rattle.salvage_theory.specs.InOrder.{Before, Ordered, OneEach}
 use Rattle.salvage_theory.proofs.InOrder.{before-start, rest-in-order, in-order-rest, order-ascends, order-once}
 use Rattle.salvage_theory.specs.Kinds.{HoldsSound}
-use Rattle.salvage_theory.proofs.Kinds.{own_first, rest-holds, holds-rest, rest-by-slot}
+use Rattle.salvage_theory.proofs.KindLaws.{own_first, rest-holds, holds-rest, rest-by-slot}
 use Rattle.salvage_theory.proofs.Next.{none-not}
 use Rattle.salvage_theory.specs.Nothing.{NothingToGiveUp, Separate}
 

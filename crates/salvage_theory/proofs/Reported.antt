@@ -22,7 +22,7 @@ use Rattle.losses.specs.Salvage.{loss, first_kind, the_rest, in_order, second_ki
 use Rattle.salvage_theory.specs.Types.{Loss}
 use Rattle.losses.specs.Lines.{words-length}
 use Rattle.losses.specs.Few.{losses-few}
-use Rattle.salvage_theory.proofs.Kinds.{own_first}
+use Rattle.salvage_theory.proofs.KindLaws.{own_first}
 use Rattle.salvage_theory.proofs.Next.{next-loss}
 use Rattle.salvage_theory.specs.Lost.{Lost}
 use Rattle.salvage_theory.proofs.Lost.{all-lost, lost-lt, lost-some}
