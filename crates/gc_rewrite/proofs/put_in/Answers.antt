@@ -2,7 +2,7 @@ use borrow.Author.Rules.{rules}
 use Rattle.limits.specs.Settled.{passed-formed}
 use Rattle.gc_rewrite.proofs.put_in.Goals as goal
 
-pub link-requires : goac.link-requires
+pub link-requires : goal.link-requires
 link-requires c =
     let asked = c.requires.chainable in
     record {
