@@ -27,4 +27,4 @@ with_file-requires c =
 pub returns : goal.returns
 returns c =
     let f = c.requires.addable in
-    added f (sym (add-zero _)) c.new_label-new.ensures c.put_piece.ensures c.lsns-lsns.ensures c.lives-lives.ensures c.install.ensures c.with_file.ensures
+    added f (sym (add-zero _)) c.new_label-new.ensures c.put_piece.ensures c.lsns-lsns.ensures c.lives-lives.ensures (c.install.ensures.lives, c.install.ensures.table) c.with_file.ensures

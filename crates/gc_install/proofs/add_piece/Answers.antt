@@ -1,5 +1,6 @@
 use Prim.Native.Nat.{◌*◌}
 use native.Mathlib.Omega.{arith}
+use borrow.Author.Rules.{rules}
 use Rattle.rules.specs.Claims.{no_claims}
 use Rattle.rules.specs.Layout.{table_ids}
 use Rattle.rules.proofs.LayoutLaws.{ids-count}
@@ -25,7 +26,7 @@ add_at-requires c =
     let f : Fits a.settings a.state a.heap.now (chain_ops a.file.first a.heap.now (table_ids a.table.now) a.places.now a.links.now) a.file.generation =
     record { young = c.requires.generation_bound; room = c.requires.links_bound; free = c.requires.nonzero.0; last = c.requires.links_bound_2 } in
     let e = c.sized-sizes.ensures in record {
-      addable = piece-addable a.settings a.state a.heap.now a.table.now a.places.now a.links.now p a.file.first a.file.generation f _ _ _ c.requires.nonzero.1 e.count e.total (λ i low. rw (← id-word a.table.now i (omega (arith, low, ids-count a.table.now))) (c.type_inv.table (2 * i)).fits);
+      addable = piece-addable a.settings a.state a.heap.now a.table.now a.places.now a.links.now p a.file.first a.file.generation f _ _ _ c.requires.nonzero.1 e.count e.total (λ i low. rw (← id-word a.table.now i (omega (arith, low, ids-count a.table.now))) (search rules));
       writing = piece-writing a.settings a.state a.heap.now a.table.now a.places.now a.links.now p a.file.first a.file.generation f _ _ _ c.requires.nonzero.1 e.count e.total c.requires.leads;
     }
 

@@ -2,7 +2,13 @@ use Rattle.gc_plan.proofs.foretell_in.Goals as goal
 
 pub foretell-requires : goal.foretell-requires
 foretell-requires c =
-    (c.requires.in_ranges, (rw c.files_in-files.ensures c.requires.ready, c.requires.1.1))
+    record {
+      in_ranges = c.requires.in_ranges;
+      ready = rw c.files_in-files.ensures c.requires.ready;
+      formed = c.requires.formed;
+      table_len_bound = c.requires.table_len_bound;
+      within = c.requires.within;
+    }
 
 pub returns : goal.returns
 returns c =

@@ -13,29 +13,24 @@ use Rattle.gc_notes.specs.Notes.{long-enough, notes-cleared}
 use Rattle.gc_plan.specs.Plans.{plan_given, plan-refused, plan-accepted, notes-kept, plan-own}
 use Rattle.gc_plan.proofs.plan_in.Goals as goal
 
--- the world that is given, and the room of its notes
-abbrev given : goal.Start → World
-given start = let a = start.args in world a.settings (state_in a.state.now) a.claims a.heap.now a.table.now
-
-abbrev room : goal.Start → ℕ
-room start = room_of start.args.places.now start.args.pieces.now
-
 pub returns-then-refused_in : goal.returns-then-refused_in
 returns-then-refused_in c =
-    let e = or-holds (refused1 (given c.before.before.before.before.before.before.before)) (short (room c.before.before.before.before.before.before.before) c.args.table.now) (inl (sym c.refused_in.ensures ∙ c.if-refused_in.true)) in
+    let a = c.args in
+    let e = or-holds (refused1 (world a.settings (state_in a.state.now) a.claims a.heap.now a.table.now)) (short (room_of a.places.now a.pieces.now) c.args.table.now) (inl (sym c.refused_in.ensures ∙ c.if-refused_in.true)) in
     let none = c.refused.ensures in
     record {
-      answers = none ∙ plan-refused (given c.before.before.before.before.before.before.before) (room c.before.before.before.before.before.before.before) e;
+      answers = none ∙ plan-refused (world a.settings (state_in a.state.now) a.claims a.heap.now a.table.now) (room_of a.places.now a.pieces.now) e;
       places = notes-kept _ none _;
       pieces = notes-kept _ none _;
     }
 
 pub returns-then-too_short : goal.returns-then-too_short
 returns-then-too_short c =
-    let e = or-holds (refused1 (given c.before.before.before.before.before.before.before.before.before)) (short (room c.before.before.before.before.before.before.before.before.before) c.args.table.now) (inr (sym c.too_short.ensures ∙ c.if-too_short.true)) in
+    let a = c.args in
+    let e = or-holds (refused1 (world a.settings (state_in a.state.now) a.claims a.heap.now a.table.now)) (short (room_of a.places.now a.pieces.now) c.args.table.now) (inr (sym c.too_short.ensures ∙ c.if-too_short.true)) in
     let none = c.refused-then-too_short.ensures in
     record {
-      answers = none ∙ plan-refused (given c.before.before.before.before.before.before.before.before.before) (room c.before.before.before.before.before.before.before.before.before) e;
+      answers = none ∙ plan-refused (world a.settings (state_in a.state.now) a.claims a.heap.now a.table.now) (room_of a.places.now a.pieces.now) e;
       places = notes-kept _ none _;
       pieces = notes-kept _ none _;
     }
@@ -53,7 +48,7 @@ returns c =
     let clear = or-clear _ _ (sym c.refused_in.ensures ∙ c.if-refused_in.false) (sym c.too_short.ensures ∙ c.if-too_short.false) in
     let answered = plan_given (record { answer = Done; plan = c.worked_out-worked.result }) in
     let own = plan-own c.worked_out-worked.result in record {
-      answers = plan-accepted (given c.before.before.before.before.before.before.before.before.before.before.before.before.before.before.before.before.before.before.before.before.before.before.before) (room c.before.before.before.before.before.before.before.before.before.before.before.before.before.before.before.before.before.before.before.before.before.before.before) clear _ c.worked_out-worked.ensures;
+      answers = plan-accepted (world a.settings (state_in a.state.now) a.claims a.heap.now a.table.now) (room_of a.places.now a.pieces.now) clear _ c.worked_out-worked.ensures;
       places = notes-cleared answered a.places.now c.worked_out-worked.new.places _ own c.worked_out-worked.auto.places c.clear.ensures;
       pieces = notes-cleared answered a.pieces.now c.worked_out-worked.new.pieces _ own c.worked_out-worked.auto.pieces c.clear-2.ensures;
     }

@@ -16,28 +16,6 @@ use Rattle.gc_plan.specs.Plans.{candidates_of, due_in, plan-made, planned_genera
 use Rattle.gc_plan.proofs.Turns.{foretelling-start, foretelling-turn, foretelling-end}
 use Rattle.gc_plan.proofs.worked_out.Goals as goal
 
--- the start
-abbrev begun : goal.After-candidates_in-candidates → goal.Start
-begun p = p.before.before.before.before.before.before.before
-
--- the world that is given
-abbrev given : goal.Start → World
-given start = let a = start.args in world a.settings (state_in a.state.now) a.claims a.heap.now a.table.now
-
--- as many records as candidates are given for
-all-records : (p : goal.After-candidates_in-candidates) → length (state_in (begun p).args.state.now).files.records ≡ 256
-all-records p =
-    let a = (begun p).args in
-    let long : length p.candidates_in-candidates.result ≡ 256 = search rules in
-    omega (arith, long, ap length p.candidates_in-candidates.ensures, plan-length a.settings a.claims p.mark_in-mark.result p.count_in-count.result (state_in a.state.now).files.records)
-
--- the groups are those of the plan's own mark and file count
-found : (p : goal.After-candidates_in-candidates) → p.candidates_in-candidates.result ≡ candidates_of (given (begun p))
-found p =
-    let a = (begun p).args in
-    p.candidates_in-candidates.ensures
-    ∙ ap₂ (λ (mark n : ℕ). plan_of a.settings a.claims mark n (state_in a.state.now).files.records) p.mark_in-mark.ensures p.count_in-count.ensures
-
 pub count_in-count-requires : goal.count_in-count-requires
 count_in-count-requires c =
     let a = c.args in
@@ -53,7 +31,7 @@ candidates_in-candidates-requires c =
 
 pub empties-requires : goal.empties-requires
 empties-requires c =
-    let limits = (begun c.before).pre.0.limits in
+    let limits = c.requires.passed.limits in
     record {
       in_ranges = limits.settings;
       heap_in_range = limits.heap;
@@ -62,55 +40,61 @@ empties-requires c =
 
 pub loop-generation-init : goal.loop-generation-init
 loop-generation-init c =
-    let start = begun c.before.before.before in
-    let a = start.args in
+    let a = c.args in
     let few = empty-most (slots_in a.settings (length a.heap.now)) (state_in a.state.now).files.records in (
       refl,
       refl,
       λ k q. foretelling-start (world a.settings (state_in a.state.now) k a.heap.now a.table.now)
-          (omega (arith, few, start.pre.0.limits.heap.most)) _ _ (omega (arith, c.mark_in-mark.type-inv)) c.empties.ensures.counts c.mark_in-mark.ensures,
+          (omega (arith, few, c.requires.passed.limits.heap.most)) _ _ (omega (arith, c.mark_in-mark.type_inv)) c.empties.ensures.counts c.mark_in-mark.ensures,
     )
 
 pub foretell_in-f-requires : goal.foretell_in-f-requires
 foretell_in-f-requires c =
-    let start = begun c.before.before.before.before.before.before.before.before in
-    let a = start.args in
+    let a = c.args in
     let b = a.table.now in
+    let long : length c.candidates_in-candidates.result ≡ 256 = search rules in
+    let all : length (state_in a.state.now).files.records ≡ 256 =
+    omega (arith, long, ap length c.candidates_in-candidates.ensures, plan-length a.settings a.claims c.mark_in-mark.result c.count_in-count.result (state_in a.state.now).files.records) in
+    let found : c.candidates_in-candidates.result ≡ candidates_of (world a.settings (state_in a.state.now) a.claims a.heap.now a.table.now) =
+    c.candidates_in-candidates.ensures
+    ∙ ap₂ (λ (mark n : ℕ). plan_of a.settings a.claims mark n (state_in a.state.now).files.records) c.mark_in-mark.ensures c.count_in-count.ensures in
     let inv = c.loop-generation.invariant in
-    let m = inv.2 a.claims (found c.before.before.before.before.before.before.before.before) in
-    let limits = start.pre.0.limits in record {
+    let m = inv.2 a.claims found in
+    let limits = c.requires.passed.limits in record {
       in_ranges = limits.settings;
       ready = rw c.candidates_in-candidates.ensures
-          (ready a.settings a.claims _ _ (length a.heap.now) b (state_in a.state.now) c.loop-generation.generation start.pre.0 (all-records c.before.before.before.before.before.before.before.before) m.low);
-      formed = passed-formed a.settings (length a.heap.now) b (state_in a.state.now) start.pre.0;
+          (ready a.settings a.claims _ _ (length a.heap.now) b (state_in a.state.now) c.loop-generation.generation c.requires.passed all m.low);
+      formed = passed-formed a.settings (length a.heap.now) b (state_in a.state.now) c.requires.passed;
       table_len_bound = (
         omega (arith, ids-count b, limits.table.most),
-        omega (arith, ids-count b, start.pre.1.1, inv.1),
-        omega (arith, ids-count b, start.pre.1.0, inv.0),
+        omega (arith, ids-count b, c.requires.table_in_bounds.1, inv.1),
+        omega (arith, ids-count b, c.requires.table_in_bounds.0, inv.0),
       );
       within = m.here.bounds;
     }
 
 pub loop-generation-preserved : goal.loop-generation-preserved
 loop-generation-preserved c =
-    let start = begun c.before.before.before.before.before.before.before.before.before.before.before.before.before in
-    let a = start.args in (
+    let a = c.args in (
       search rules,
       search rules,
       λ k p. foretelling-turn (world a.settings (state_in a.state.now) k a.heap.now a.table.now) c.loop-generation.generation c.loop-generation.f (c.loop-generation.invariant.2 k p)
-          c.loop-generation-test.true start.pre.0.limits.settings _ p _ c.foretell_in-f.ensures,
+          c.loop-generation-test.true c.requires.passed.limits.settings _ p _ c.foretell_in-f.ensures,
     )
 
 pub returns : goal.returns
 unfolding planned_generations
 returns c =
-    let a = (begun c.before.before.before.before.before.before.before).args in
-    let w = given (begun c.before.before.before.before.before.before.before) in
-    let told = foretelling-end w c.loop-generation.generation c.loop-generation.f (c.loop-generation.invariant.2 a.claims (found c.before.before.before.before.before.before.before)) c.loop-generation-test.false in
+    let a = c.args in
+    let found : c.candidates_in-candidates.result ≡ candidates_of (world a.settings (state_in a.state.now) a.claims a.heap.now a.table.now) =
+    c.candidates_in-candidates.ensures
+    ∙ ap₂ (λ (mark n : ℕ). plan_of a.settings a.claims mark n (state_in a.state.now).files.records) c.mark_in-mark.ensures c.count_in-count.ensures in
+    let w = world a.settings (state_in a.state.now) a.claims a.heap.now a.table.now in
+    let told = foretelling-end w c.loop-generation.generation c.loop-generation.f (c.loop-generation.invariant.2 a.claims found) c.loop-generation-test.false in
     plan-made w _
     c.mark_in-mark.ensures
     c.count_in-count.ensures
     (ap (λ (f : calls.Forecast). f.files) told)
     (ap (λ (f : calls.Forecast). f.bytes) told)
     (ap (λ (f : calls.Forecast). f.stop) told)
-    (c.due.ensures ∙ ap (due_in a.settings.min_compaction_files) (found c.before.before.before.before.before.before.before))
+    (c.due.ensures ∙ ap (due_in a.settings.min_compaction_files) found)

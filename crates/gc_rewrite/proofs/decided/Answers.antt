@@ -2,7 +2,11 @@ use Prim.Native.Nat.{ℕ, ◌≤◌}
 use mathlib.Core.Path.{◌≡◌, sym, ap₂, ◌∙◌}
 use native.Mathlib.Omega.{arith}
 use borrow.Author.Rules.{rules}
-use lib.ListN.{length}
+use mathlib.Core.List.{List}
+use lib.ListN.{length, get_or}
+use Rattle.rules.specs.declared.Settings.{Settings}
+use Rattle.rules.specs.declared.Answer.{Answer}
+use Rattle.gc_decision.specs.Empties.{empty_in}
 use Rattle.rules.specs.declared.FileMap.{FileMap}
 use Rattle.rules.specs.Refusal.{decide}
 use Rattle.rules.specs.Layout.{table_ids, used_entries}
@@ -28,29 +32,29 @@ decide_group-requires c =
     }
 
 -- what was decided, by the words and the empty slots that they have
-answers : (c : goal.After-decide_group) → let a = c.args in
-    c.decide_group.result.answer ≡ decide (group_decision a.group.settings (state_in a.state.now) a.heap.now a.table.now a.plan.now a.group.generation)
+answers-are : (settings : Settings) (words heap table plan : List ℕ) (generation empty : ℕ) (files : FileMap) (answer : Answer) → files ≡ (state_in words).files
+    → empty ≡ empty_in settings (state_in words).files heap
+    → answer ≡ decide (decision_tests settings (source settings.slot_bytes heap files.records (used_entries table)) (planned plan generation) empty (get_or words 1800 0))
+    → answer ≡ decide (group_decision settings (state_in words) heap table plan generation)
 unfolding state_in
-answers c =
-    let a = c.args in
-    c.decide_group.ensures.answers
-    ∙ ap₂ (λ (m : FileMap) (n : ℕ). decide (decision_tests a.group.settings
-    (source a.group.settings.slot_bytes a.heap.now m.records (used_entries a.table.now))
-    (planned a.plan.now a.group.generation) n (state_in a.state.now).next_position)) c.files_in-files.ensures c.requires.empty_value
+answers-are settings words heap table plan generation empty files answer is few decided =
+    decided
+    ∙ ap₂ (λ (m : FileMap) (n : ℕ). decide (decision_tests settings (source settings.slot_bytes heap m.records (used_entries table)) (planned plan generation) n (state_in words).next_position)) is few
 
 pub returns : goal.returns
 returns c =
     let a = c.args in
+    let answers = answers-are a.group.settings a.state.now a.heap.now a.table.now a.plan.now a.group.generation a.empty _ _ c.files_in-files.ensures c.requires.empty_value c.decide_group.ensures.answers in
     let room = c.requires.table_in_bounds in
-    let left = c.decide_group.ensures.1.1 in record {
-      answers = answers c.before.before.before.before;
+    record {
+      answers = answers;
       splits = λ done. record {
         limits = c.requires.passed;
         filled = c.requires.filled;
         wide = search (room, rules);
         numbered = search (room, rules);
-        clear = sym (answers c.before.before.before.before) ∙ done;
-        placed = rw (← c.files_in-files.ensures) (left.0 done);
-        split = left.1 done;
+        clear = sym answers ∙ done;
+        placed = rw (← c.files_in-files.ensures) (c.decide_group.ensures.places done);
+        split = c.decide_group.ensures.splits done;
       };
     }

@@ -23,30 +23,24 @@ overflow_cast-first c =
     let fits = (c.type_inv.words c.loop-file.file).fits in
     search (fits, rules)
 
--- the next file's slot stands in the list, and is the lowest empty one
-next-slot : (c : goal.In-loop-file) → let a = c.args in
-    (c.loop-file.file < length a.frees.now) × (get_or a.frees.now c.loop-file.file 0 ≡ lowest_empty (slots_in a.group.settings (length c.loop-file.heap)) c.loop-file.after.files.records)
-next-slot c =
-    put-slot _ _ _ _ _ _ _ _ _ _ _ _ c.loop-file.invariant c.loop-file-test.true _ refl c.args.frees.now c.requires.listed
-
 pub offset_bounds-frees-file : goal.offset_bounds-frees-file
 offset_bounds-frees-file c =
-    let fits : c.loop-file.file * 8 < 2 ^ 64 = omega (arith, (next-slot c.before).0, c.well_formed) in
+    let fits : c.loop-file.file * 8 < 2 ^ 64 = omega (arith, (put-slot _ _ _ _ _ _ _ _ _ _ _ _ c.loop-file.invariant c.loop-file-test.true _ refl c.args.frees.now c.requires.listed).0, c.well_formed) in
     search (fits, rules)
 
 pub bounds-frees-file : goal.bounds-frees-file
-bounds-frees-file c = let room = (next-slot c.before.before).0 in search (room, rules)
+bounds-frees-file c = let room = (put-slot _ _ _ _ _ _ _ _ _ _ _ _ c.loop-file.invariant c.loop-file-test.true _ refl c.args.frees.now c.requires.listed).0 in search (room, rules)
 
 pub add_piece-after-requires : goal.add_piece-after-requires
 add_piece-after-requires c =
     let asks = put-asks _ _ _ _ _ _ _ _ _ _ _ _ c.loop-file.invariant c.loop-file-test.true _ refl in
-    let leads = rw (← c.loop-file.invariant.same_ids) c.before.before.before.before.before.before (c.requires.puttable.firsts c.loop-file.file c.loop-file-test.true) in
+    let leads = rw (← c.loop-file.invariant.same_ids) at (c.requires.puttable.firsts c.loop-file.file c.loop-file-test.true) in
     record {
       placing_2 = c.loop-file.invariant.placing;
       leads = leads;
       generation_bound = c.requires.generation_bound;
       links_bound = asks.0;
-      nonzero = (asks.1, (next-slot c.before.before.before.before.before).1);
+      nonzero = (asks.1, (put-slot _ _ _ _ _ _ _ _ _ _ _ _ c.loop-file.invariant c.loop-file-test.true _ refl c.args.frees.now c.requires.listed).1);
       links_bound_2 = asks.2;
     }
 

@@ -1,10 +1,13 @@
-use Prim.Native.Nat.{◌≤◌}
+use Prim.Native.Nat.{ℕ, ◌≤◌}
+use mathlib.Core.List.{List}
+use Rattle.rules.specs.declared.Settings.{Settings}
+use Rattle.rules.specs.declared.State.{State}
+use Rattle.gc_split.specs.declared.Totals.{Totals}
 use mathlib.Core.Path.{◌≡◌, refl, sym, ◌∙◌}
 use native.Mathlib.Omega.{arith}
 use borrow.Author.Rules.{rules}
 use lib.ListN.{length}
 use lib.Seq.{length-take-le}
-use Rattle.as_numbers.specs.StateWords.{state_in}
 use Rattle.gc_rewrite.specs.Rewriting.{group-stopped, Decided, decided-files, decided-chainable, decided-rewritten}
 use Rattle.gc_rewrite.proofs.rewrite_group.Goals as goal
 
@@ -29,35 +32,29 @@ returns-in-Refused c =
       keeps = left.kept;
     }
 
--- nothing refuses the group
-known : (c : goal.In-Done) → let a = c.args in
-    Decided a.group.settings (state_in a.state.now) a.heap.now a.table.now a.plan.now a.group.generation
-    c.decided-decision.new.places c.decided-decision.new.pieces c.decided-decision.result.order c.decided-decision.result.total
-known c = c.decided-decision.ensures.splits c.in-Done.is
-
 -- the numbers stand within their list
-within : (c : tie.After-put-in-arg5) → let decision = c.before.before.before.before.before.before.before.before.before.before.before.before.before.decided.result in decision.total.files ≤ length decision.order
-within c =
-    let long : length c.before.before.before.before.before.before.before.before.before.before.before.before.before.decided.result.order ≡ 256 = search rules in
-    omega (arith, decided-files _ _ _ _ _ _ _ _ _ _ (known c.before.before.before.before.before.before.before), long)
+within : (settings : Settings) (state : State) (heap table plan : List ℕ) (generation : ℕ) (places pieces order : List ℕ) (total : Totals)
+    → Decided settings state heap table plan generation places pieces order total → length order ≡ 256 → total.files ≤ length order
+within settings state heap table plan generation places pieces order total decided long =
+    omega (arith, decided-files _ _ _ _ _ _ _ _ _ _ decided, long)
 
 pub slice_bounds-order-end : goal.slice_bounds-order-end
-slice_bounds-order-end c = within c
+slice_bounds-order-end c = within _ _ _ _ _ _ _ _ _ _ (c.decided-decision.ensures.splits c.in-Done.is) (search rules)
 
 pub slice_bounds-put_in-end : goal.slice_bounds-put_in-end
-slice_bounds-put_in-end c = sym (length-take-le _ _ (within c.before))
+slice_bounds-put_in-end c = sym (length-take-le _ _ (within _ _ _ _ _ _ _ _ _ _ (c.decided-decision.ensures.splits c.in-Done.is) (search rules)))
 
 pub put_in-requires : goal.put_in-requires
 put_in-requires c =
     record {
-      chainable = decided-chainable _ _ _ _ _ _ _ _ _ _ (known c.before.before.before.before.before.before.before.before);
+      chainable = decided-chainable _ _ _ _ _ _ _ _ _ _ (c.decided-decision.ensures.splits c.in-Done.is);
       generation_bound = omega (arith, c.requires.generation_bound);
       listed = c.empties-empty.ensures.lists;
     }
 
 pub returns : goal.returns
 returns c =
-    let left = decided-rewritten _ _ _ _ _ _ _ _ _ _ (known c.before.before.before.before.before.before.before.before.before.before.before.before.before.before.before.before) _ _ _ c.put_in.ensures in
+    let left = decided-rewritten _ _ _ _ _ _ _ _ _ _ (c.decided-decision.ensures.splits c.in-Done.is) _ _ _ c.put_in.ensures in
     record {
       leaves = left.course;
       passed = left.limits;
