@@ -126,16 +126,16 @@ extern "C" {
 
 /* ---- stack: bytes below the caller that each call was never seen to pass in the tests (tests/c fails where one does). Measured on x86-64,
    not proved; what interrupts take comes on top. */
-#define MARBLE_STACK_REOPEN 58368
-#define MARBLE_STACK_WRITE 48128
+#define MARBLE_STACK_REOPEN 146432
+#define MARBLE_STACK_WRITE 107520
 #define MARBLE_STACK_READ 17408
 #define MARBLE_STACK_READ_THROUGH 17408
 #define MARBLE_STACK_CLAIM 15360
 #define MARBLE_STACK_RELEASE 15360
 #define MARBLE_STACK_PRUNE 29696
-#define MARBLE_STACK_PLAN 53248
-#define MARBLE_STACK_REWRITE 63488
-#define MARBLE_STACK_NIGHTLY 92160
+#define MARBLE_STACK_PLAN 97280
+#define MARBLE_STACK_REWRITE 107520
+#define MARBLE_STACK_NIGHTLY 136192
 #define MARBLE_STACK_COUNTS 29696
 #define MARBLE_STACK_UNSYNCED 128
 #define MARBLE_STACK_SYNC 128

@@ -3,9 +3,9 @@
 exactly once in the file that it names, and what a row says refuses the edit is there (a function of the crate's code, or a law of its
 definitions or proofs). Seconds, no proof.
 
-After a whole `rt ci`, its logs say what refused each edit first:
-    tests/edits.py --logs          compares the table's last column with them
-    tests/edits.py --logs --write  writes that column anew
+What `rt ci` or `rt must-fail` wrote, kept in a file, says what refused each edit first:
+    tests/edits.py --said FILE          compares the table's last column with it
+    tests/edits.py --said FILE --write  writes that column anew, of the edits that FILE has
 """
 import glob
 import os
@@ -15,7 +15,9 @@ import sys
 ROOT = os.path.dirname(os.path.dirname(os.path.abspath(__file__)))
 TABLE = os.path.join(ROOT, 'docs', 'MUST-FAIL.md')
 ROW = re.compile(r'^\| (?P<about>[^|]+) \| (?P<promise>[^|]+) \| `(?P<edit>[a-z_]+/[A-Za-z0-9_-]+)` \| (?P<by>[^|]*) \|$')
-# what a log says of a proof that no longer fits the code, which shows nothing
+# the files of a function's proof
+PROOF = ('Answers', 'Invariants', 'Proof')
+# what an error says of a proof that no longer fits the code, which shows nothing
 MISFIT = re.compile(r'has no `|has no field|no module|not found|unknown name|was not admitted')
 
 
@@ -52,28 +54,45 @@ def misplaced(path):
     return None if pairs else 'has no `old:` and `new:` pair'
 
 
-def refuser(crate, label):
-    """What refuses an edit by its log: a function of the code, or a law with its file; and whether the proof only no longer fits. A function that
-    needs no proof file has no error of its own: the search does not close a need of it, and its callers cannot be checked."""
-    with open(os.path.join(ROOT, 'target', 'must-fail', crate, label, '.log'), encoding='utf-8', errors='replace') as log:
-        text = log.read()
-    unclosed = re.search(r'^fn \w+::(\S+): no proof: .*`search` does not close', text, re.M)
-    for line in text.split('\n'):
-        at = re.search(r'/(proofs|specs)/([^ :]*)\.antt:\d+:\d+: error: `([^`]*)`', line)
-        if not at or unclosed and 'was not admitted' in line:
-            continue
-        part, where, name = at.groups()
-        if part == 'proofs' and where.endswith('/Proof'):
-            return '`%s`' % '::'.join(where.split('/')[:-1]).lstrip('+'), bool(MISFIT.search(line))
-        return '`%s` (`%s`)' % (name, where), bool(MISFIT.search(line))
-    return ('`%s`' % unclosed.group(1), False) if unclosed else (None, True)
+def refusers(said):
+    """By what `rt ci` or `rt must-fail` said of each edit, by its name: what refuses it, a function of the code or a law with its file, or nothing
+    where it was not refused; and whether the proof only no longer fits, which rt says or the words of the error show."""
+    found = {}
+    for edit, told in re.findall(r'^rt: must-fail ([\w-]+/[\w.-]+)\.edit: (.*)', said, re.M):
+        crate = edit.split('/')[0]
+        law = re.search(r'(?:^|[ /])(proofs|specs)/([^ :]*)\.antt:\d+:\d+: error: `([^`]*)`', told)
+        code = re.search(r'(?:^|[ /])src/([^ :]*)\.rt:(\d+):\d+:', told)
+        by = None
+        if told.startswith('refused') and law:
+            part, where, name = law.groups()
+            *function, file = where.split('/')
+            by = '`%s`' % '::'.join(p for p in function if p[0] != '+') if part == 'proofs' and function and file in PROOF else '`%s` (`%s`)' % (name, where)
+        elif told.startswith('refused') and code:
+            by = '`%s`' % function_at(crate, code[1], int(code[2]))
+        found[edit] = by, by is None or '(only because' in told or bool(MISFIT.search(told))
+    return found
+
+
+def function_at(crate, module, line):
+    """The function of the code in which a line stands."""
+    with open(os.path.join(ROOT, 'crates', crate, 'src', module + '.rt'), encoding='utf-8') as source:
+        text = source.read().split('\n')[:line]
+    of, name = '', '?'
+    for row in text:
+        head = re.match(r'(?:unsafe )?impl(?:<[^>]*>)? (?:[\w:<>, ]+ for )?(\w+)', row)
+        function = re.match(r'(\s*)(?:pub(?:\([^)]*\))? )?(?:const |unsafe |extern "C" )*fn (\w+)', row)
+        if head:
+            of = head[1] + '::'
+        if function:
+            name = (of if function[1] else '') + function[2]
+    return name if module in ('lib', 'main') else module + '::' + name
 
 
 def named(crate, by):
     """Whether every name of a row's last column is there, in the crate that the edit changes."""
     text = ''
-    for path in glob.glob(os.path.join(ROOT, 'crates', crate, '**', '*.*t*'), recursive=True):
-        if path.endswith(('.rt', '.antt')):
+    for part in ('src/**/*.rt', 'specs/**/*.antt', 'proofs/**/*.antt'):
+        for path in glob.glob(os.path.join(ROOT, 'crates', crate, part), recursive=True):
             with open(path, encoding='utf-8') as source:
                 text += source.read()
     names = re.findall(r'`([^`]+)`', by)
@@ -84,20 +103,23 @@ def named(crate, by):
 
 def main(words):
     wrong, rows, lines = [], {}, []
-    found = edits()
+    found, said = edits(), None
+    if '--said' in words:
+        with open(words[words.index('--said') + 1], encoding='utf-8', errors='replace') as file:
+            said = refusers(file.read())
     with open(TABLE, encoding='utf-8') as table:
         for line in table.read().split('\n'):
             row = ROW.match(line)
             if row:
                 edit = row['edit']
-                crate, label = edit.split('/', 1)
+                crate = edit.split('/')[0]
                 if edit in rows:
                     wrong.append('%s: two rows' % edit)
                 rows[edit] = row['by']
                 if edit not in found:
                     wrong.append('%s: a row, and no such edit' % edit)
-                elif '--logs' in words:
-                    by, misfit = refuser(crate, label)
+                elif said is not None and (edit in said or '--write' not in words):
+                    by, misfit = said.get(edit, (None, True))
                     if misfit:
                         wrong.append('%s: the first error is no fact' % edit)
                     if by and '--write' in words:

@@ -8,7 +8,8 @@ import re
 import sys
 
 ROOT = os.path.dirname(os.path.dirname(os.path.abspath(__file__)))
-TOKEN = re.compile(r'«[^»]*»|[(){};,λ]|[^\s(){};,λ]+')
+# a projection is written behind its term, `w.heap`, and is a token of its own
+TOKEN = re.compile(r'«[^»]*»|[(){};,λ]|\.[^\s(){};,λ.]+|[^\s(){};,λ.]+\.?(?![^\s(){};,λ.])|[^\s(){};,λ.]+|\.')
 LAW = re.compile(r' *(?:pub )?([^\s(){}:=]+) : (.*)')
 MORE = re.compile(r' +([→×≡≤<∙+(]|- |\|\||&&)')
 BINDER = re.compile(r'[({] ([^(){}]*?) : (.*) [)}]')
@@ -73,8 +74,10 @@ def normal(law):
 
 def main():
     seen = collections.defaultdict(list)
-    for path in sorted(glob.glob(os.path.join(ROOT, 'crates/*/*/**/*.antt'), recursive=True)):
-        if os.path.basename(path) != 'Proof.antt':
+    for path in sorted(found for part in ('specs', 'proofs') for found in glob.glob(os.path.join(ROOT, 'crates/*', part, '**/*.antt'), recursive=True)):
+        where = os.path.relpath(path, ROOT).split(os.sep)
+        # the proof of a function, in a folder of its own, says what rattle asks of it and no law
+        if where[2] == 'specs' or len(where) == 4:
             for name, line, law in laws(open(path, encoding='utf-8').read()):
                 key = normal(law)
                 if re.search('[a-z#]', key[0]):

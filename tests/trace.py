@@ -65,7 +65,7 @@ def defined(name, where):
 def declared(name, where):
     """a function, a type or a module; a field or a variant; what is passed on"""
     n = re.escape(name)
-    return re.search(r'(?m)\b(fn|struct|enum|const|mod) ' + n + r'\b|^ +(pub )?' + n + r'(:|,|\()|^pub use [\w:]+::' + n + ';', where) is not None
+    return re.search(r'(?m)\b(fn|struct|enum|const|mod) ' + n + r'\b|^ +(pub )?' + n + r'(:|,|\()|^pub use [\w:]+::(' + n + r'|\{([^}]*[\s{,])?' + n + r'[,}\s][^;]*);', where) is not None
 
 
 class Page:

@@ -212,9 +212,9 @@ static void stops_at_a_position(void) {
 }
 
 /* Copies of the file map go by groups and by files that come out, not by slots, entries or objects. */
-#define PLAN_COPIES(groups) (1 + (groups))
-#define REWRITE_COPIES(groups, files) (3 * (groups) + 2 * (files))
-#define NIGHTLY_COPIES(groups, files) (1 + 3 * (groups) + 2 * (files))
+#define PLAN_COPIES(groups) (5 + (groups))
+#define REWRITE_COPIES(groups, files) (1 + 6 * (groups) + 3 * (files))
+#define NIGHTLY_COPIES(groups, files) (4 + 6 * (groups) + 3 * (files))
 
 static void copied(const char *call, uint64_t groups, uint64_t files, uint64_t most) {
     printf("%s, %llu groups, %llu files: copies of the file map %llu of %llu\n", call, (unsigned long long)groups, (unsigned long long)files, (unsigned long long)copies_made(), (unsigned long long)most);

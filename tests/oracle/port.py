@@ -56,16 +56,12 @@ def answer_to(line, said):
 
 
 def console_command(path):
-    """programs are x86-64: the kit has their loader and, on Arm, an emulator. A Python file (the model) runs as it is"""
+    """programs are x86-64: the kit has their loader. A Python file (the model) runs as it is"""
     if path.endswith('.py'):
         return [sys.executable, path]
     guide = subprocess.run(['rt', 'doc'], capture_output=True, text=True, check=True).stdout.strip()
-    home = os.path.dirname(os.path.dirname(guide))
-    tools = os.path.join(home, 'on', os.uname().machine, 'toolchain')
-    emulator = os.path.join(tools, 'bin', 'qemu-x86_64')
-    library = os.path.join(tools, 'lib')
-    start = [emulator] if os.access(emulator, os.X_OK) else []
-    return start + [os.path.join(library, 'ld-linux-x86-64.so.2'), '--library-path', library, os.path.abspath(path)]
+    library = os.path.join(os.path.dirname(guide), 'toolchain', 'lib')
+    return [os.path.join(library, 'ld-linux-x86-64.so.2'), '--library-path', library, os.path.abspath(path)]
 
 
 class Rust:

@@ -5,7 +5,7 @@ use Rattle.std.proofs.lemmas.List.{get_or_at}
 use Rattle.std.proofs.Math.Seq.{get_or-append_seam}
 use Rattle.numbers.specs.Parts.{front, put_at, put_front, put_step, put-put, put-length}
 use Rattle.rules.specs.Base.{List, [], ◌∷◌, ◌++◌, ℕ, zero, suc, ◌+◌, length, get_or, set, take, drop}
-use Rattle.rules.specs.PartLaws.{put_one}
+use Rattle.rules.proofs.PartLaws.{put_one}
 use Rattle.rules.specs.declared.Settings.{Settings}
 use Rattle.rules.specs.declared.Record.{Record}
 use Rattle.rules.specs.declared.State.{State}

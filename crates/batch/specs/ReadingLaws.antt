@@ -5,9 +5,9 @@ use Rattle.std.proofs.lemmas.Bool.{lt-leb}
 use Rattle.numbers.specs.GroupLaws.{either_way}
 use Rattle.rules.specs.Ops.{Op, settled}
 use Rattle.rules.specs.OpsLaws.{IdsFit}
-use Rattle.rules.specs.SettledLaws.{settled-all}
+use Rattle.rules.proofs.SettledLaws.{settled-all}
 use Rattle.rules.specs.Batch.{Parsed, parsed, malformed, operation_at, Batch, operations, not_as_above, before, batch_from, batch_in, is_malformed, ops_of}
-use Rattle.rules.specs.BatchLaws.{batch-end, batch-bad, batch-next}
+use Rattle.rules.proofs.BatchLaws.{batch-end, batch-bad, batch-next}
 use Rattle.batch.specs.declared.Operation.{Operation}
 use Rattle.batch.specs.declared.Parse.{Parse}
 use Rattle.batch.specs.declared.Parse.TheVariants.{Holds, NotAsAbove}

@@ -3,7 +3,7 @@ use Rattle.std.specs.Prelude.{◌≡◌, refl, Bool, true, false, List, [], ℕ,
 use Rattle.std.proofs.Common.{ap, ◌∙◌, arith}
 use Rattle.numbers.specs.Choice.{pick}
 use Rattle.rules.specs.Ops.{Op, put, delete, size_of, objects_of}
-use Rattle.rules.specs.OpsLaws.{objects-nil, objects-length}
+use Rattle.rules.proofs.OpsLaws.{objects-nil, objects-length}
 use Rattle.batch.specs.Reading.{op_in}
 use Rattle.batch.specs.ReadingLaws.{piece-length}
 use Rattle.batch.specs.Sizes.{size_in}

@@ -8,7 +8,7 @@ use borrow.Rule.Slice.PartMut.{put_mid}
 use Rattle.numbers.specs.Parts.{front, put_front}
 use Rattle.numbers.proofs.Lent.{lent}
 use Rattle.rules.specs.Stores.{Store, made, stores_of}
-use Rattle.rules.specs.StoreLaws.{made-run, stores-length, stores-take}
+use Rattle.rules.proofs.StoreLaws.{made-run, stores-length, stores-take}
 use Rattle.stores.specs.Runs.{Made, made-put}
 
 pub lent-made : (h ys bs : List ℕ) (at k left : ℕ) → at + length bs ≤ length h → Made k (stores_of 0 bs) (take (length h - at) (drop at h)) ys left

@@ -4,9 +4,9 @@ use Rattle.std.proofs.Common.{ap, ◌∙◌, arith, length-append}
 use Rattle.rules.specs.declared.Entry.{Entry}
 use Rattle.rules.specs.Base.{each}
 use Rattle.rules.specs.Trailer.{entry_bytes}
-use Rattle.rules.specs.TrailerLaws.{entry_length, entries-length}
+use Rattle.rules.proofs.TrailerLaws.{entry_length, entries-length}
 use Rattle.rules.specs.Ops.{Op, content_bytes, objects_of, entries_of}
-use Rattle.rules.specs.OpsLaws.{objects-nil, entries-of-length}
+use Rattle.rules.proofs.OpsLaws.{objects-nil, entries-of-length}
 use Rattle.rules.specs.Stores.{stores_of}
 use Rattle.stores.specs.Runs.{Made}
 use Rattle.batch.specs.Reading.{op_in}

@@ -9,7 +9,7 @@ use Rattle.rules.specs.declared.Entry.{Entry}
 use Rattle.rules.specs.Base.{each}
 use Rattle.rules.specs.Trailer.{entry_bytes}
 use Rattle.rules.specs.Ops.{Op, put, delete, is_delete, content_bytes, objects_of, entries_of, settled}
-use Rattle.rules.specs.OpsLaws.{content-length, objects-cons}
+use Rattle.rules.proofs.OpsLaws.{content-length, objects-cons}
 use Rattle.batch.specs.Reading.{op_in, ops_in}
 use Rattle.batch.specs.Sizes.{size_in}
 use Rattle.batch.specs.SizeLaws.{size_is}

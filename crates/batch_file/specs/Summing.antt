@@ -7,7 +7,7 @@ use Rattle.rules.specs.declared.Entry.{Entry}
 use Rattle.rules.specs.Base.{each}
 use Rattle.rules.specs.Trailer.{entry_bytes, listed, trailer_bytes}
 use Rattle.rules.specs.Ops.{Op, objects_of, entries_of}
-use Rattle.rules.specs.OpsLaws.{entries-of-length}
+use Rattle.rules.proofs.OpsLaws.{entries-of-length}
 use Rattle.rules.specs.Stores.{stores_of}
 use Rattle.stores.specs.Runs.{Made}
 use Rattle.trailer.specs.Written.{sum-start, trailer-made}

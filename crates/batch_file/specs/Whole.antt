@@ -4,8 +4,8 @@ use Rattle.std.proofs.Common.{arith, length-append, length-drop, length-take-le}
 use Rattle.rules.specs.declared.Label.{Label}
 use Rattle.rules.specs.Label.{label_bytes}
 use Rattle.rules.specs.Stores.{made, stores_of, file_stores}
-use Rattle.rules.specs.StoreLaws.{stores-length}
-use Rattle.rules.specs.LabelLaws.{label-length}
+use Rattle.rules.proofs.StoreLaws.{stores-length}
+use Rattle.rules.proofs.LabelLaws.{label-length}
 use Rattle.stores.specs.Runs.{Made, made-whole}
 
 -- its file's bytes, and the label's 64

@@ -9,152 +9,180 @@ use crate::{decoded_bytes, say, show};
 use desk::{Bench, Look, Reply, Turn};
 use marble::ThroughAnswer;
 use rules::{CompareAnswer, CountsAnswer, GreaterAnswer, Held, LoadAnswer, Loaded, ReadAnswer};
+use std::io;
 
 // ---- what is written for a reply: of that nothing is stated, since the kit's output states nothing
-fn body(b: Bench, heap: &[u8], table: &[u64], id: u64) {
+fn body(rt: &impl Print, b: Bench, heap: &[u8], table: &[u64], id: u64) -> io::Result<()> {
     let settings = b.settings;
     let state = b.state;
     let part = marble::read(settings, state, heap, table, id);
-    say::text(b"ok ");
-    say::hex(part);
-    say::end();
+    say::text(rt, b"ok ")?;
+    say::hex(rt, part)?;
+    say::end(rt)
 }
 
 // The body is read again from the lent parts, which a read leaves alone.
-fn found(b: Bench, heap: &[u8], table: &[u64], id: u64) {
+fn found(rt: &impl Print, b: Bench, heap: &[u8], table: &[u64], id: u64) -> io::Result<()> {
     let h = desk::least(b.heap_len, heap.len());
     let t = desk::least(b.table_words, table.len());
-    body(b, &heap[0..h], &table[0..t], id);
+    body(rt, b, &heap[0..h], &table[0..t], id)
 }
 
-fn read(answer: ReadAnswer, b: Bench, heap: &[u8], table: &[u64], id: u64) {
+fn read(
+    rt: &impl Print,
+    answer: ReadAnswer,
+    b: Bench,
+    heap: &[u8],
+    table: &[u64],
+    id: u64,
+) -> io::Result<()> {
     match answer {
-        ReadAnswer::Found(_, _) => found(b, heap, table, id),
-        ReadAnswer::Deleted => say::text(b"deleted\n"),
-        ReadAnswer::NeverWritten => say::text(b"never\n"),
-        ReadAnswer::ReadRefused(r) => say::refused(r),
+        ReadAnswer::Found(_, _) => found(rt, b, heap, table, id),
+        ReadAnswer::Deleted => say::text(rt, b"deleted\n"),
+        ReadAnswer::NeverWritten => say::text(rt, b"never\n"),
+        ReadAnswer::ReadRefused(r) => say::refused(rt, r),
     }
 }
 
 // The batch is taken out of its line again.
-fn of_batch(line: &[u8], decoded: &mut [u8], at: u64, count: u64) {
+fn of_batch(
+    rt: &impl Print,
+    line: &[u8],
+    decoded: &mut [u8],
+    at: u64,
+    count: u64,
+) -> io::Result<()> {
     script::order_of(line, decoded);
-    show::bytes(b"batch ", decoded, at, count);
+    show::bytes(rt, b"batch ", decoded, at, count)
 }
 
-fn in_batch(line: &[u8], at: u64, count: u64) {
+fn in_batch(rt: &impl Print, line: &[u8], at: u64, count: u64) -> io::Result<()> {
     let mut decoded = decoded_bytes();
-    of_batch(line, &mut decoded, at, count);
+    of_batch(rt, line, &mut decoded, at, count)
 }
 
-fn in_heap(b: Bench, heap: &[u8], at: u64, count: u64) {
+fn in_heap(rt: &impl Print, b: Bench, heap: &[u8], at: u64, count: u64) -> io::Result<()> {
     let h = desk::least(b.heap_len, heap.len());
-    show::bytes(b"heap ", &heap[0..h], at, count);
+    show::bytes(rt, b"heap ", &heap[0..h], at, count)
 }
 
-fn through(answer: ThroughAnswer, b: Bench, line: &[u8], heap: &[u8]) {
+fn through(
+    rt: &impl Print,
+    answer: ThroughAnswer,
+    b: Bench,
+    line: &[u8],
+    heap: &[u8],
+) -> io::Result<()> {
     match answer {
-        ThroughAnswer::InBatch(at, count) => in_batch(line, at, count),
-        ThroughAnswer::InHeap(at, count) => in_heap(b, heap, at, count),
-        ThroughAnswer::ThroughDeleted => say::text(b"deleted\n"),
-        ThroughAnswer::ThroughNever => say::text(b"never\n"),
-        ThroughAnswer::ThroughRefused(r) => say::refused(r),
+        ThroughAnswer::InBatch(at, count) => in_batch(rt, line, at, count),
+        ThroughAnswer::InHeap(at, count) => in_heap(rt, b, heap, at, count),
+        ThroughAnswer::ThroughDeleted => say::text(rt, b"deleted\n"),
+        ThroughAnswer::ThroughNever => say::text(rt, b"never\n"),
+        ThroughAnswer::ThroughRefused(r) => say::refused(rt, r),
     }
 }
 
-fn counted(answer: CountsAnswer) {
+fn counted(rt: &impl Print, answer: CountsAnswer) -> io::Result<()> {
     match answer {
         CountsAnswer::Counted(c) => {
-            say::text(b"ok");
-            say::number(c.files);
-            say::number(c.bytes);
-            say::number(c.present);
-            say::number(c.live);
-            say::end();
+            say::text(rt, b"ok")?;
+            say::number(rt, c.files)?;
+            say::number(rt, c.bytes)?;
+            say::number(rt, c.present)?;
+            say::number(rt, c.live)?;
+            say::end(rt)
         }
-        CountsAnswer::CountsRefused(r) => say::refused(r),
+        CountsAnswer::CountsRefused(r) => say::refused(rt, r),
     }
 }
 
-fn told(loaded: Loaded) {
+fn told(rt: &impl Print, loaded: Loaded) -> io::Result<()> {
     match loaded {
-        Loaded::At(raw) => say::named(b"ok", raw),
-        Loaded::DeletedAt(raw) => say::named(b"deleted", raw),
-        Loaded::Never => say::text(b"never\n"),
+        Loaded::At(raw) => say::named(rt, b"ok", raw),
+        Loaded::DeletedAt(raw) => say::named(rt, b"deleted", raw),
+        Loaded::Never => say::text(rt, b"never\n"),
     }
 }
 
-fn loaded(answer: LoadAnswer) {
+fn loaded(rt: &impl Print, answer: LoadAnswer) -> io::Result<()> {
     match answer {
-        LoadAnswer::Loads(l) => told(l),
-        LoadAnswer::LoadRefused(r) => say::refused(r),
+        LoadAnswer::Loads(l) => told(rt, l),
+        LoadAnswer::LoadRefused(r) => say::refused(rt, r),
     }
 }
 
-fn compared(answer: CompareAnswer) {
+fn compared(rt: &impl Print, answer: CompareAnswer) -> io::Result<()> {
     match answer {
-        CompareAnswer::Swapped => say::ok(),
-        CompareAnswer::Differs(current) => say::named(b"differs", current),
-        CompareAnswer::CompareRefused(r) => say::refused(r),
+        CompareAnswer::Swapped => say::ok(rt),
+        CompareAnswer::Differs(current) => say::named(rt, b"differs", current),
+        CompareAnswer::CompareRefused(r) => say::refused(rt, r),
     }
 }
 
-fn held_before(held: Held) {
+fn held_before(rt: &impl Print, held: Held) -> io::Result<()> {
     match held {
-        Held::Mapped(raw) => say::named(b"ok", raw),
-        Held::Unmapped => say::text(b"ok nothing\n"),
+        Held::Mapped(raw) => say::named(rt, b"ok", raw),
+        Held::Unmapped => say::text(rt, b"ok nothing\n"),
     }
 }
 
-fn raised(answer: GreaterAnswer) {
+fn raised(rt: &impl Print, answer: GreaterAnswer) -> io::Result<()> {
     match answer {
-        GreaterAnswer::Before(held) => held_before(held),
-        GreaterAnswer::GreaterRefused(r) => say::refused(r),
+        GreaterAnswer::Before(held) => held_before(rt, held),
+        GreaterAnswer::GreaterRefused(r) => say::refused(rt, r),
     }
 }
 
 // A comment has no answer: it is for people, and written as it stands.
-fn comment(line: &[u8]) {
+fn comment(rt: &impl Print, line: &[u8]) -> io::Result<()> {
     let from = byte_parts::find(line, 0, line.len(), b'#');
-    say::text(&line[from..]);
-    say::end();
+    say::text(rt, &line[from..])?;
+    say::end(rt)
 }
 
-fn listed(b: Bench, table: &[u64]) {
+fn listed(rt: &impl Print, b: Bench, table: &[u64]) -> io::Result<()> {
     let t = desk::least(b.table_words, table.len());
-    show::list(b, &table[0..t]);
+    show::list(rt, b, &table[0..t])
 }
 
-fn dumped(b: Bench, heap: &[u8], table: &[u64]) {
+fn dumped(rt: &impl Print, b: Bench, heap: &[u8], table: &[u64]) -> io::Result<()> {
     let h = desk::least(b.heap_len, heap.len());
     let t = desk::least(b.table_words, table.len());
-    show::dump(b, &heap[0..h], &table[0..t]);
+    show::dump(rt, b, &heap[0..h], &table[0..t])
 }
 
-fn checked(b: Bench, heap: &[u8], table: &[u64], room: u64) {
+fn checked(rt: &impl Print, b: Bench, heap: &[u8], table: &[u64], room: u64) -> io::Result<()> {
     let h = desk::least(b.heap_len, heap.len());
     let t = desk::least(b.table_words, table.len());
-    show::check(b, &heap[0..h], &table[0..t], room);
+    show::check(rt, b, &heap[0..h], &table[0..t], room)
 }
 
-fn bytes_shown(b: Bench, heap: &[u8], at: u64, count: u64) {
+fn bytes_shown(rt: &impl Print, b: Bench, heap: &[u8], at: u64, count: u64) -> io::Result<()> {
     let h = desk::least(b.heap_len, heap.len());
-    show::bytes(b"ok ", &heap[0..h], at, count);
+    show::bytes(rt, b"ok ", &heap[0..h], at, count)
 }
 
-fn shown(look: Look, b: Bench, line: &[u8], heap: &[u8], table: &[u64]) {
+fn shown(
+    rt: &impl Print,
+    look: Look,
+    b: Bench,
+    line: &[u8],
+    heap: &[u8],
+    table: &[u64],
+) -> io::Result<()> {
     match look {
-        Look::Comment => comment(line),
-        Look::Help => say::help(),
-        Look::List => listed(b, table),
-        Look::Dump => dumped(b, heap, table),
-        Look::Check(room) => checked(b, heap, table, room),
-        Look::Bytes(at, count) => bytes_shown(b, heap, at, count),
+        Look::Comment => comment(rt, line),
+        Look::Help => say::help(rt),
+        Look::List => listed(rt, b, table),
+        Look::Dump => dumped(rt, b, heap, table),
+        Look::Check(room) => checked(rt, b, heap, table, room),
+        Look::Bytes(at, count) => bytes_shown(rt, b, heap, at, count),
     }
 }
 
 // `id`: the first number of the order, the id that was read. `report`: a salvage's lines. `plan`: what a plan gives.
 fn written(
+    rt: &impl Print,
     turn: Turn,
     id: u64,
     line: &[u8],
@@ -162,24 +190,24 @@ fn written(
     table: &[u64],
     report: &[u64; 512],
     plan: &[u64; 777],
-) {
+) -> io::Result<()> {
     let b = turn.bench;
     let reply = turn.reply;
     match reply {
-        Reply::BadLine => say::bad_line(),
-        Reply::Answered(answer) => say::answer(answer),
-        Reply::Read(answer) => read(answer, b, heap, table, id),
-        Reply::Through(answer) => through(answer, b, line, heap),
-        Reply::Planned(answer) => show::planned(answer, plan),
-        Reply::Rewrote(answer) => say::rewrote(answer),
-        Reply::Maintained(answer) => say::maintained(answer),
-        Reply::Counted(answer) => counted(answer),
-        Reply::Marks(n) => say::named(b"ok", n),
-        Reply::Loaded(answer) => loaded(answer),
-        Reply::Compared(answer) => compared(answer),
-        Reply::Raised(answer) => raised(answer),
-        Reply::Salvaged(answer) => show::salvaged(answer, report),
-        Reply::Shown(look) => shown(look, b, line, heap, table),
+        Reply::BadLine => say::bad_line(rt),
+        Reply::Answered(answer) => say::answer(rt, answer),
+        Reply::Read(answer) => read(rt, answer, b, heap, table, id),
+        Reply::Through(answer) => through(rt, answer, b, line, heap),
+        Reply::Planned(answer) => show::planned(rt, answer, plan),
+        Reply::Rewrote(answer) => say::rewrote(rt, answer),
+        Reply::Maintained(answer) => say::maintained(rt, answer),
+        Reply::Counted(answer) => counted(rt, answer),
+        Reply::Marks(n) => say::named(rt, b"ok", n),
+        Reply::Loaded(answer) => loaded(rt, answer),
+        Reply::Compared(answer) => compared(rt, answer),
+        Reply::Raised(answer) => raised(rt, answer),
+        Reply::Salvaged(answer) => show::salvaged(rt, answer, report),
+        Reply::Shown(look) => shown(rt, look, b, line, heap, table),
     }
 }
 
@@ -197,17 +225,18 @@ fn plan_words() -> [u64; 777]
     [0u64; 777]
 }
 
-// A line's command is done, and its reply written.
+// A line's command is done, whether or not its reply can be written.
 pub fn after_line(
+    rt: &impl Print,
     b: Bench,
     line: &[u8],
     decoded: &mut [u8],
     heap: &mut [u8],
     table: &mut [u64],
-) -> Bench
+) -> (Bench, io::Result<()>)
     ensures runs { Ran (length decoded.old) line.now
         (desk b heap.old table.old)
-        (desk result heap.new table.new) }
+        (desk result.0 heap.new table.new) }
     ensures decodes { decoded.new
         ≡ front (asked_by (length decoded.old) line.now).bytes decoded.old }
 {
@@ -227,6 +256,6 @@ pub fn after_line(
         &mut report,
         &mut plan,
     );
-    written(turn, numbers[0], line, heap, table, &report, &plan);
-    turn.bench
+    let said = written(rt, turn, numbers[0], line, heap, table, &report, &plan);
+    (turn.bench, said)
 }

@@ -9,6 +9,8 @@ mod show;
 
 ghost use Rattle.std.specs.Prelude.{◌≡◌, length};
 
+use std::io;
+
 fn heap_bytes() -> [u8; 1048576]
     ensures { 1048576 ≡ length result }
 {
@@ -34,12 +36,22 @@ fn decoded_bytes() -> [u8; 65600]
     [0u8; 65600]
 }
 
-// The script on standard input, to its end.
-pub fn run() {
+// The script on standard input, to its end; then the first failure of a write, if there was one.
+pub fn run(rt: &(impl Print + Input)) -> io::Result<()> {
     let mut heap = heap_bytes();
     let mut table = table_words();
     let mut line = line_bytes();
     let mut decoded = decoded_bytes();
-    let mut input = io::large_buffer();
-    lines::run_all(&mut input, &mut line, &mut decoded, &mut heap, &mut table);
+    let mut input = standard_input::large_buffer();
+    let mut written = Ok(());
+    lines::run_all(
+        rt,
+        &mut written,
+        &mut input,
+        &mut line,
+        &mut decoded,
+        &mut heap,
+        &mut table,
+    );
+    written
 }

@@ -7,7 +7,7 @@ ghost use Rattle.bench.specs.Lines.{next_line, Answered};
 ghost use Rattle.bench.specs.Input.{Holds, Longer, ReadOn, taken_to, with_long, FedTo, last_done, told};
 
 use desk::{Bench, least};
-use libc::STDIN_FILENO;
+use std::io;
 
 // The bench; how much of the input is taken; of the line that is being read, how much is held, that it is too long, and that
 // its end was met.
@@ -79,8 +79,17 @@ fn next_line(s: Reading) -> Reading
     t
 }
 
+// The first failure of a write stays.
+fn note(written: &mut io::Result<()>, said: io::Result<()>) {
+    if written.is_ok() {
+        *written = said;
+    }
+}
+
 // A whole line is answered.
 fn answered(
+    rt: &impl Print,
+    written: &mut io::Result<()>,
     s: Reading,
     line: &[u8],
     decoded: &mut [u8],
@@ -97,18 +106,21 @@ fn answered(
     }
     let mut t = next_line(s);
     if s.long {
-        crate::say::bad_line();
+        note(written, crate::say::bad_line(rt));
         return t;
     }
     let n = least(s.held, line.len());
     let was = s.bench;
-    let bench = crate::commands::after_line(was, &line[0..n], decoded, heap, table);
+    let (bench, said) = crate::commands::after_line(rt, was, &line[0..n], decoded, heap, table);
+    note(written, said);
     t.bench = bench;
     t
 }
 
 // Each line of the input is answered when its end is met; what is behind the last end is held.
 fn lines_in(
+    rt: &impl Print,
+    written: &mut io::Result<()>,
     s: Reading,
     input: &[u8],
     line: &mut [u8],
@@ -126,21 +138,22 @@ fn lines_in(
     let mut t = taken_to(s, 0, false);
     while t.taken < input.len() {
         t = read_on(t, input, line);
-        t = answered(t, line, decoded, heap, table);
+        t = answered(rt, written, t, line, decoded, heap, table);
     }
     t
 }
 
 // The next bytes of standard input: none at its end, or where it cannot be read.
-fn read_some(input: &mut [u8]) -> usize
+fn read_some(rt: &impl Input, input: &mut [u8]) -> usize
     ensures { result ≤ length input.new }
 {
-    let got = libc::read(STDIN_FILENO, input);
-    io::count(got, input)
+    standard_input::read_some(&mut rt.reader(), input)
 }
 
 // A last line without its end counts.
 fn finished(
+    rt: &impl Print,
+    written: &mut io::Result<()>,
     s: Reading,
     line: &[u8],
     decoded: &mut [u8],
@@ -157,7 +170,7 @@ fn finished(
         return s.bench;
     }
     let last = taken_to(s, 0, true);
-    let t = answered(last, line, decoded, heap, table);
+    let t = answered(rt, written, last, line, decoded, heap, table);
     t.bench
 }
 
@@ -172,7 +185,10 @@ fn turns_left(turns: u64, got: usize) -> u64
 }
 
 // Some input is told to the desk at the start: which, cannot be stated, since the kit states nothing of the bytes that are read.
+// `written`: the first failure of a write, after which the lines go on.
 pub fn run_all(
+    rt: &(impl Print + Input),
+    written: &mut io::Result<()>,
     input: &mut [u8],
     line: &mut [u8],
     decoded: &mut [u8],
@@ -193,9 +209,9 @@ pub fn run_all(
     };
     let mut turns = u64::MAX;
     while turns > 0 {
-        let n = read_some(input);
-        s = lines_in(s, &input[0..n], line, decoded, heap, table);
+        let n = read_some(rt, input);
+        s = lines_in(rt, written, s, &input[0..n], line, decoded, heap, table);
         turns = turns_left(turns, n);
     }
-    finished(s, line, decoded, heap, table)
+    finished(rt, written, s, line, decoded, heap, table)
 }

@@ -3,7 +3,8 @@ use Rattle.std.specs.Prelude.{◌≡◌, true, false}
 use Rattle.std.proofs.Math.Path.{refl}
 use Rattle.std.proofs.Common.{◌∙◌}
 use Rattle.rules.specs.Base.{List, [], ◌∷◌, ◌++◌, ℕ, length, map}
-use Rattle.rules.specs.Refusal.{decide-none, decide-first, decide-next, after}
+use Rattle.rules.specs.Refusal.{after}
+use Rattle.rules.proofs.RefusalLaws.{decide-none, decide-first, decide-next}
 use Rattle.rules.specs.Settings.{slots_in}
 use Rattle.rules.specs.SlotFile.{View, views_in}
 use Rattle.rules.specs.Layout.{Table, capacity_of}

@@ -4,7 +4,7 @@ use Rattle.std.proofs.Common.{sym, ap, subst, inl, inr, zero-le, arith, suc-mul,
 use Rattle.rules.specs.Base.{List, [], ◌∷◌, ◌++◌, ℕ, zero, suc, ◌+◌, ◌*◌, ◌^◌, length, take, drop, ltb, any, each}
 use Rattle.disk_location.specs.Locations.{delete_of}
 use Rattle.rules.specs.Object.{Stored, stored_at, bad_checksum, objects_from, objects_in}
-use Rattle.rules.specs.ObjectLaws.{stored-room}
+use Rattle.rules.proofs.ObjectLaws.{stored-room}
 use Rattle.rules.specs.SlotFile.{File, View, empty, damaged, holds, object_part, trailer_part, view_in, views_in}
 use Rattle.rules.specs.Reopen.{file_of, files_in, table_of}
 use Rattle.trailer.specs.Entries.{entries-count}

@@ -4,10 +4,11 @@ use Rattle.std.proofs.Common.{sym, ap₂, ◌∙◌, subst, true≢false, append
 use Rattle.std.proofs.Math.Path.{ap}
 use Rattle.std.proofs.lemmas.List.{length-map, take-append-le}
 use Rattle.rules.specs.Base.{List, [], ◌∷◌, ◌++◌, map, ℕ, zero, suc, ◌+◌, length, get_or, take, drop, ltb, any, each}
-use Rattle.rules.specs.BaseLaws.{All, all_take, each_append}
-use Rattle.rules.specs.TurnLaws.{left-next, left-none}
+use Rattle.rules.specs.BaseLaws.{All}
+use Rattle.rules.proofs.BaseLaws.{all_take, each_append}
+use Rattle.rules.proofs.TurnLaws.{left-next, left-none}
 use Rattle.rules.specs.SlotFile.{File, View, empty, damaged, holds, bytes_of_slot, view_in, views_in}
-use Rattle.rules.specs.SlotLaws.{views-length, views-at}
+use Rattle.rules.proofs.SlotLaws.{views-length, views-at}
 use Rattle.rules.specs.Reopen.{file_of, files_in, meets, table_of}
 use Rattle.slot_file.specs.Slots.{shown_by}
 use Rattle.reopen_tests.specs.Labels.{no_file, label_at, label_of, labels_of, clash}

@@ -2,7 +2,9 @@
 
 #![tactic(auto)]
 
-fn main() {
-    bench::say::first_screen();
-    bench::run();
+use std::io;
+
+fn main(rt: HostRuntime) -> io::Result<()> {
+    bench::say::first_screen(&rt)?;
+    bench::run(&rt)
 }

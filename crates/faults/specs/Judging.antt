@@ -4,10 +4,11 @@ use Rattle.std.proofs.Common.{sym, ap, ◌∙◌, subst, true≢false, inl, inr,
 use Rattle.std.proofs.lemmas.List.{length-map}
 use Rattle.rules.specs.FileMap.{empty_label}
 use Rattle.rules.specs.SlotFile.{View, empty, damaged, holds, bytes_of_slot, view_in, views_in}
-use Rattle.rules.specs.SlotLaws.{views-length, views-at}
+use Rattle.rules.proofs.SlotLaws.{views-length, views-at}
 use Rattle.rules.specs.declared.Answer.TheVariants.{Done}
 use Rattle.rules.specs.Reopen.{view_tests, file_of, not_rising}
-use Rattle.rules.specs.Refusal.{decide, decide-none}
+use Rattle.rules.specs.Refusal.{decide}
+use Rattle.rules.proofs.RefusalLaws.{decide-none}
 use Rattle.slot_file.specs.declared.SlotAnswer.TheVariants.{Empty, Damaged, Holds}
 use Rattle.slot_file.specs.Slots.{shown_by}
 use Rattle.reopen_tests.specs.Labels.{no_file, label_at, label_of, labels_of}

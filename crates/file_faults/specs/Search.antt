@@ -2,8 +2,8 @@
 use Rattle.std.specs.Prelude.{◌≡◌, refl, Bool, true, false, ◌||◌, ◌≤◌, ◌<◌}
 use Rattle.std.proofs.Common.{sym, ap, ◌∙◌, arith, take-append-drop, get_or-take, length-take-le}
 use Rattle.rules.specs.Base.{List, ℕ, ◌+◌, length, get_or, take, drop, any}
-use Rattle.rules.specs.BaseLaws.{any_append, or-clear}
-use Rattle.rules.specs.TurnLaws.{any_here, any-later, any-end}
+use Rattle.rules.proofs.BaseLaws.{any_append, or-clear}
+use Rattle.rules.proofs.TurnLaws.{any_here, any-later, any-end}
 
 module _ {A : Type 0} (f : A → Bool) (xs : List A) (to : ℕ) (d : A) (fit : to ≤ length xs) where
   many : length (take to xs) ≡ to

@@ -5,10 +5,11 @@ use Rattle.std.proofs.Common.{ap₂, ◌∙◌, inl, inr, arith, lt-ltb, le-ltb,
 use Rattle.std.proofs.Math.Bool.{Bool, not}
 use Rattle.numbers.specs.GroupLaws.{either_way}
 use Rattle.rules.specs.Base.{List, [], ◌∷◌, ◌++◌, ℕ, zero, suc, ◌+◌, length, drop, eqb, pick, any, keep, each}
-use Rattle.rules.specs.BaseLaws.{All, all_map, any-clear}
+use Rattle.rules.specs.BaseLaws.{All}
+use Rattle.rules.proofs.BaseLaws.{all_map, any-clear}
 use Rattle.disk_location.specs.Locations.{position_of, delete_of}
 use Rattle.rules.specs.Object.{Stored, stored_at, bad_checksum, objects_from, objects_in}
-use Rattle.rules.specs.ObjectLaws.{stored-position, stored-room}
+use Rattle.rules.proofs.ObjectLaws.{stored-position, stored-room}
 use Rattle.rules.specs.SlotFile.{File}
 use Rattle.stored_object.specs.declared.Header.{Header}
 use Rattle.stored_object.specs.Objects.{objects_at, objects-start, objects-next, objects-end, Walked, CutOff, header-size, header-id, header-room, header-begins}

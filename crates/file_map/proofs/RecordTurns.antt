@@ -13,8 +13,8 @@ use Rattle.rules.specs.Base.{sum}
 use Rattle.rules.specs.declared.Record.{Record}
 use Rattle.rules.specs.declared.Counts.{Counts}
 use Rattle.rules.specs.FileMap.{empty_record, is_empty, record_at, with_live, slots_where, empty_slots, lowest_empty, file_count}
-use Rattle.rules.specs.FileMapLaws.{where-here, where_next}
-use Rattle.rules.specs.TurnLaws.{left-next, sum-next, sum-end}
+use Rattle.rules.proofs.FileMapLaws.{where-here, where_next}
+use Rattle.rules.proofs.TurnLaws.{left-next, sum-next, sum-end}
 use Rattle.rules.specs.Counts.{counts_of}
 use Rattle.file_lists.specs.Lists.{with_lives}
 

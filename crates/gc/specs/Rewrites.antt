@@ -9,12 +9,12 @@ use Rattle.rules.specs.declared.Answer.TheVariants.{Done, Refused}
 use Rattle.rules.specs.declared.RewriteAnswer.{RewriteAnswer}
 use Rattle.rules.specs.declared.RewriteAnswer.TheVariants.{Rewrote, RewriteRefused}
 use Rattle.rules.specs.declared.Refusal.TheVariants.{Limits, Generation}
-use Rattle.rules.specs.Refusal.{decide-first, decide-next, after-refused}
+use Rattle.rules.proofs.RefusalLaws.{decide-first, decide-next, after-refused}
 use Rattle.rules.specs.Maintenance.{Course}
 use Rattle.rules.specs.TwoCalls.{refused_noting, rewrite_tests, generation_rewritten, rewrite_of, rewrite_answered, rewrite_call}
 use Rattle.rules.specs.World.{World, After, rewrite_given, leaving}
 use Rattle.gc_course.specs.Own.{OwnStop, own-generation}
-use Rattle.rules.specs.TwoCallsLaws.{rewrite-opens}
+use Rattle.rules.proofs.TwoCallsLaws.{rewrite-opens}
 use Rattle.gc_rewrite.specs.Courses.{course_given}
 
 -- "It answers ids moved, or the number alone."

@@ -7,7 +7,7 @@ use Rattle.rules.specs.Base.{true, false, ℕ, ◌*◌, ◌/◌, ltb, larger}
 use Rattle.rules.specs.declared.Settings.{Settings}
 use Rattle.rules.specs.declared.Record.{Record}
 use Rattle.rules.specs.Maintenance.{worth_it}
-use Rattle.rules.specs.MaintenanceLaws.{is-worth-it}
+use Rattle.rules.proofs.MaintenanceLaws.{is-worth-it}
 
 module _ (s : Settings) (files : ℕ) (r : Record) (n : ℕ) (e : n ≡ larger r.label.present_objects 1) where
   pub worth-share : r.live * 100 / n < s.file_compaction_percent → true ≡ worth_it s files r

@@ -7,13 +7,14 @@ use Rattle.std.proofs.Math.ListN.{get_or-eq_default}
 use borrow.Author.Tests.{eq-eqb, ne_eqb}
 use Rattle.rules.specs.Base.{Bool, true, false, ◌&&◌, List, [], ◌∷◌, ℕ, zero, suc, ◌+◌, length, get_or, drop, eqb, pick}
 use Rattle.numbers.specs.GroupLaws.{either_way}
-use Rattle.rules.specs.BaseLaws.{All, same?}
+use Rattle.rules.specs.BaseLaws.{All}
+use Rattle.rules.proofs.BaseLaws.{same?}
 use Rattle.rules.specs.declared.Record.{Record}
 use Rattle.rules.specs.declared.Settings.{Settings}
 use Rattle.rules.specs.declared.Claims.{Claims}
 use Rattle.rules.specs.FileMap.{is_empty, record_at, slots_where}
 use Rattle.rules.specs.Maintenance.{new_generation, is_candidate, group}
-use Rattle.rules.specs.MaintenanceLaws.{candidate}
+use Rattle.rules.proofs.MaintenanceLaws.{candidate}
 use Rattle.rules.specs.World.{World, records_of}
 
 -- a candidate's new generation; 0 for any other slot

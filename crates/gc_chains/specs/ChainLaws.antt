@@ -4,7 +4,8 @@ use Rattle.std.proofs.Math.Path.{refl}
 use Rattle.std.proofs.Common.{sym, ap, ◌∙◌, inl, inr, arith}
 use borrow.Author.Tests.{eq-eqb, ne_eqb, eqb-false}
 use Rattle.rules.specs.Base.{Bool, true, false, List, [], ◌∷◌, ℕ, zero, suc, ◌+◌, length, get_or, drop, eqb, pick}
-use Rattle.rules.specs.BaseLaws.{All, zero-or-more}
+use Rattle.rules.specs.BaseLaws.{All}
+use Rattle.rules.proofs.BaseLaws.{zero-or-more}
 use Rattle.rules.specs.Ops.{Op}
 use Rattle.gc_files.specs.Places.{op_at}
 use Rattle.gc_chains.specs.Chains.{chain_from, chain_ops, Leads}

@@ -4,7 +4,7 @@ use Rattle.std.proofs.Math.Path.{refl}
 use Rattle.std.proofs.Common.{sym, ap, ap₂, ◌∙◌, inl, inr, arith, eq-eqb, ne_eqb, length-set, drop-set-lt, get_or-set_same, get_or-set_other, get_or-drop}
 use Rattle.std.proofs.Math.Seq.{drop-cons}
 use Rattle.rules.specs.Base.{List, [], ◌∷◌, map, ℕ, suc, ◌+◌, ◌-◌, ◌*◌, ◌^◌, length, get_or, set, drop, eqb, pick}
-use Rattle.rules.specs.BaseLaws.{same?, zero-or-more}
+use Rattle.rules.proofs.BaseLaws.{same?, zero-or-more}
 use Rattle.rules.specs.Ops.{Op}
 use Rattle.gc_files.specs.Places.{op_at, filed_ops}
 use Rattle.gc_chains.specs.Chains.{chain_from, number_in, first_in, Leads, Linkable, Linked, FileOf}

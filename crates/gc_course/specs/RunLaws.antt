@@ -2,10 +2,11 @@
 use Rattle.std.specs.Prelude.{◌≡◌, refl, ◌≤◌, ◌<◌}
 use Rattle.std.proofs.Common.{sym, ap, ◌∙◌, true≢false, arith}
 use Rattle.rules.specs.Base.{Bool, true, false, [], ℕ, ◌+◌, not, within, pick}
-use Rattle.rules.specs.BaseLaws.{within-holds}
+use Rattle.rules.proofs.BaseLaws.{within-holds}
 use Rattle.rules.specs.declared.Refusal.TheVariants.{Limits, Generation}
 use Rattle.rules.specs.declared.MaintainAnswer.TheVariants.{Stopped}
-use Rattle.rules.specs.Refusal.{decide, decide-none, decide-first, decide-next, after-refused, after-done}
+use Rattle.rules.specs.Refusal.{decide}
+use Rattle.rules.proofs.RefusalLaws.{decide-none, decide-first, decide-next, after-refused, after-done}
 use Rattle.rules.specs.Condition1.{refused1}
 use Rattle.rules.specs.Maintenance.{going, Course}
 use Rattle.rules.specs.Prune.{pruned}

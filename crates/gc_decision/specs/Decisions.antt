@@ -6,7 +6,8 @@ use Rattle.rules.specs.Base.{List, ◌++◌, ℕ, length, each}
 use Rattle.rules.specs.declared.Settings.{Settings}
 use Rattle.rules.specs.declared.Refusal.{Refusal}
 use Rattle.rules.specs.declared.Answer.TheVariants.{Done, Refused}
-use Rattle.rules.specs.Refusal.{Test, decide, decide-early, decide-late, clear-when, none_rest}
+use Rattle.rules.specs.Refusal.{Test, decide}
+use Rattle.rules.proofs.RefusalLaws.{decide-early, decide-late, clear-when, none_rest}
 use Rattle.rules.specs.Ops.{Op, settled}
 use Rattle.rules.specs.Install.{room_tests, empty_of, position_tests}
 use Rattle.rules.specs.Maintenance.{files_of, found, source_tests, group_tests}

@@ -2,10 +2,12 @@
 use Rattle.std.specs.Prelude.{◌≡◌, ◌≤◌, ◌<◌}
 use Rattle.std.proofs.Common.{arith}
 use Rattle.rules.specs.Base.{List, ◌∷◌, ◌++◌, ℕ, ◌+◌, ◌^◌, length, sum}
-use Rattle.rules.specs.Refusal.{NoneHolds, none_first, none_rest}
+use Rattle.rules.specs.Refusal.{NoneHolds}
+use Rattle.rules.proofs.RefusalLaws.{none_first, none_rest}
 use Rattle.rules.specs.Ops.{Op, objects_of, file_bytes}
 use Rattle.rules.specs.Install.{room_tests, position_tests}
-use Rattle.rules.specs.InstallLaws.{Room, room-clear, positions-clear}
+use Rattle.rules.specs.InstallLaws.{Room}
+use Rattle.rules.proofs.InstallLaws.{room-clear, positions-clear}
 
 -- "T + 1"
 abbrev pub span : List Op → ℕ

@@ -6,9 +6,10 @@ use Rattle.std.proofs.Math.Seq.{take-append_seam, take-append-add, set_out}
 use Rattle.numbers.specs.Parts.{front}
 use Rattle.numbers.specs.GroupLaws.{either_way}
 use Rattle.rules.specs.Base.{Bool, true, false, List, [], ◌∷◌, ◌++◌, ℕ, zero, suc, ◌+◌, ◌^◌, length, get_or, set, take, drop, ltb, eqb, pick}
-use Rattle.rules.specs.BaseLaws.{All, same?, zero-or-more, replicate-at}
+use Rattle.rules.specs.BaseLaws.{All}
+use Rattle.rules.proofs.BaseLaws.{same?, zero-or-more, replicate-at}
 use Rattle.rules.specs.Ops.{Op, size_of, shard_for}
-use Rattle.rules.specs.OpsLaws.{shard-most}
+use Rattle.rules.proofs.OpsLaws.{shard-most}
 use Rattle.batch.specs.SizeLaws.{size-bound}
 use Rattle.gc_split.specs.Tally.{Tally, piece_no, closing, cutting, entering, taking, tally_from, tally_of, empty_tally, closed_of, rest_of, rests_from, order_of, Within}
 use Rattle.gc_split.specs.BoundLaws.{cut-within, take_within, empty-within}

@@ -4,7 +4,7 @@ use Rattle.std.proofs.Common.{◌∙◌, not-suc-le-zero, le_of_suc-le-suc, arit
 use Rattle.std.proofs.lemmas.List.{length-replicate}
 use Rattle.rules.specs.Base.{Bool, true, false, List, [], ◌∷◌, ◌++◌, map, ℕ, zero, suc, ◌+◌, ◌*◌, length, get_or, set, replicate, ltb, pick, keep, sum}
 use Rattle.rules.specs.Ops.{Op, size_of, objects_of, file_bytes, shard_for}
-use Rattle.rules.specs.OpsLaws.{file-length, shard-most}
+use Rattle.rules.proofs.OpsLaws.{file-length, shard-most}
 use Rattle.gc_split.specs.Tally.{totals_for}
 use Rattle.rules.specs.Maintenance.{Shard, no_entries, Split, cut_off, joining, split_from, has_entries, files_of}
 

@@ -5,7 +5,7 @@ use native.Mathlib.Omega.{arith}
 use lib.ListN.{length-set, take-append-drop}
 use lib.Seq.{get_or-drop}
 use Rattle.rules.specs.Base.{List, ◌++◌, ℕ, ◌+◌, length, get_or, set, take, drop, eqb, pick}
-use Rattle.rules.specs.BaseLaws.{zero-or-more}
+use Rattle.rules.proofs.BaseLaws.{zero-or-more}
 use mathlib.Core.Logic.{◌⊎◌, inl, inr}
 use borrow.Author.Tests.{eq-eqb, ne_eqb}
 use Rattle.rules.specs.Ops.{Op, size_of, shard_for}

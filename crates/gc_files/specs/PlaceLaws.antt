@@ -7,13 +7,13 @@ use Rattle.std.proofs.Math.Seq.{drop-set-lt}
 use Rattle.std.proofs.lemmas.List.{set-get_or}
 use Rattle.numbers.specs.Parts.{put_at, put_step, put-none}
 use Rattle.rules.specs.Base.{Bool, true, false, List, [], ◌∷◌, ◌++◌, ℕ, ◌+◌, ◌^◌, length, get_or, set, take, drop, eqb, pick, suc}
-use Rattle.rules.specs.TurnLaws.{left-next}
+use Rattle.rules.proofs.TurnLaws.{left-next}
 use Rattle.rules.specs.declared.Held.TheVariants.{Mapped}
 use Rattle.rules.specs.Table.{loaded_of}
 use Rattle.rules.specs.Ops.{put, delete, Op, size_of, shard_for}
 use Rattle.gc_split.specs.Tally.{Tally, taking, tally_from, piece_in, pieces_from, in_piece}
 use Rattle.disk_location.specs.Locations.{shard_of}
-use Rattle.rules.specs.BaseLaws.{same?, zero-or-more}
+use Rattle.rules.proofs.BaseLaws.{same?, zero-or-more}
 use Rattle.rules.specs.Layout.{used_entries}
 use Rattle.batch.specs.declared.Operation.{Operation}
 use Rattle.batch.specs.ReadingLaws.{piece-length}

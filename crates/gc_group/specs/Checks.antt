@@ -16,7 +16,8 @@ use Rattle.rules.specs.declared.Answer.TheVariants.{Done, Refused}
 use Rattle.disk_location.specs.declared.Located.{Located}
 use Rattle.disk_location.specs.Locations.{position_of, delete_of, told, located_at}
 use Rattle.disk_location.specs.LocationLaws.{located-large, located-at}
-use Rattle.rules.specs.Refusal.{Test, decide, NoneHolds, clear-when, decide-none, decide-early, decide-late}
+use Rattle.rules.specs.Refusal.{Test, decide, NoneHolds}
+use Rattle.rules.proofs.RefusalLaws.{clear-when, decide-none, decide-early, decide-late}
 use Rattle.rules.specs.declared.Held.{Held}
 use Rattle.rules.specs.declared.Loaded.{Loaded}
 use Rattle.rules.specs.Table.{load, loaded_of, never_written, no_entry}

@@ -2,13 +2,15 @@
 use Rattle.std.specs.Prelude.{◌≡◌, ◌⊎◌, Bool, true, ◌≤◌, ◌<◌}
 use Rattle.std.proofs.Common.{sym, ap, ◌∙◌, inl, inr, arith, leb-false}
 use Rattle.rules.specs.Base.{List, [], ◌∷◌, ◌++◌, ℕ, ◌+◌, ◌*◌, ◌^◌, length, pick, each}
-use Rattle.rules.specs.BaseLaws.{All, all_map}
+use Rattle.rules.specs.BaseLaws.{All}
+use Rattle.rules.proofs.BaseLaws.{all_map}
 use Rattle.rules.specs.declared.Entry.{Entry}
 use Rattle.rules.specs.declared.Label.{Label}
 use Rattle.rules.specs.declared.Refusal.{Refusal}
 use Rattle.rules.specs.declared.Answer.TheVariants.{Done, Refused}
 use Rattle.disk_location.specs.Locations.{position_of, delete_of}
-use Rattle.rules.specs.Refusal.{Test, decide, NoneHolds, clear-when, decide-early, decide-late, done-or-refused}
+use Rattle.rules.specs.Refusal.{Test, decide, NoneHolds}
+use Rattle.rules.proofs.RefusalLaws.{clear-when, decide-early, decide-late, done-or-refused}
 use Rattle.rules.specs.Object.{objects_in}
 use Rattle.rules.specs.Trailer.{count_in, trailer_tests, entries_in}
 use Rattle.rules.specs.SlotFile.{object_part, trailer_part}

@@ -4,7 +4,8 @@ use Rattle.std.proofs.Math.Path.{refl, ap}
 use Rattle.std.proofs.Common.{sym, ap₂, ◌∙◌, subst, inl, inr, le_of_suc-le-suc, not-suc-le-zero, arith, eq-eqb, ne_eqb}
 use Rattle.std.proofs.lemmas.List.{length-replicate}
 use Rattle.rules.specs.Base.{Bool, true, false, ◌||◌, List, [], ◌∷◌, ◌++◌, map, ℕ, zero, suc, ◌+◌, ◌-◌, ◌^◌, length, get_or, drop, set, replicate, eqb, pick, any, keep, each}
-use Rattle.rules.specs.BaseLaws.{All, all_map, same?, all_append, any_append}
+use Rattle.rules.specs.BaseLaws.{All}
+use Rattle.rules.proofs.BaseLaws.{all_map, same?, all_append, any_append}
 use Rattle.rules.specs.declared.Entry.{Entry}
 use Rattle.rules.specs.declared.Label.{Label}
 use Rattle.rules.specs.declared.Held.{Held}
@@ -19,10 +20,13 @@ use Rattle.rules.specs.Trailer.{absolute}
 use Rattle.rules.specs.SlotFile.{object_part, trailer_entries}
 use Rattle.rules.specs.Table.{lookup, load, mapped_to, current_at, no_entry}
 use Rattle.rules.specs.Ops.{Content, put, delete, Op, settled}
-use Rattle.rules.specs.OpsLaws.{RisingOps, ops-end, ops-rise, ops-lower}
-use Rattle.rules.specs.SettledLaws.{Last, silent, last, or_earlier, said_by, last_on, settled-rising, settled-last, last-below, ops-ext, or-silent, last-append, said-other, or_assoc}
+use Rattle.rules.specs.OpsLaws.{RisingOps, ops-end, ops-rise}
+use Rattle.rules.proofs.OpsLaws.{ops-lower}
+use Rattle.rules.specs.SettledLaws.{Last, silent, last, or_earlier, said_by, last_on}
+use Rattle.rules.proofs.SettledLaws.{settled-rising, settled-last, last-below, ops-ext, or-silent, last-append, said-other, or_assoc}
 use Rattle.rules.specs.Maintenance.{objects_found, deletes_of, deletes_found, found}
-use Rattle.rules.specs.TableLaws.{Rising, rise, lookup-here, lookup-next, current-mapped, current-is}
+use Rattle.rules.specs.TableLaws.{Rising, rise}
+use Rattle.rules.proofs.TableLaws.{lookup-here, lookup-next, current-mapped, current-is}
 use Rattle.rules.specs.World.{World, mappings}
 use Rattle.location_table.specs.EntryLaws.{rising-lt}
 use Rattle.gc_group.specs.Source.{Source, source_in, file_at, bytes_at}

@@ -7,7 +7,8 @@ use native.Mathlib.Omega.{arith}
 use Rattle.std.proofs.lemmas.List.{length-replicate}
 use borrow.Author.Tests.{eq-eqb, ne_eqb}
 use Rattle.rules.specs.Base.{Bool, true, false, List, [], ◌∷◌, ℕ, zero, suc, ◌+◌, ◌-◌, length, get_or, drop, replicate, eqb, pick, any}
-use Rattle.rules.specs.BaseLaws.{All, same?, all_both, replicate-at}
+use Rattle.rules.specs.BaseLaws.{All}
+use Rattle.rules.proofs.BaseLaws.{same?, all_both, replicate-at}
 use Rattle.rules.specs.declared.Entry.{Entry}
 use Rattle.rules.specs.declared.Held.TheVariants.{Mapped}
 use Rattle.rules.specs.declared.Loaded.{Loaded}
@@ -20,7 +21,8 @@ use Rattle.rules.specs.Object.{Stored, stored_at, objects_in}
 use Rattle.rules.specs.Trailer.{absolute}
 use Rattle.rules.specs.SlotFile.{object_part}
 use Rattle.rules.specs.Table.{lookup, loaded_of, load, current_at, no_entry}
-use Rattle.rules.specs.TableLaws.{Rising, mapped-one, current-is}
+use Rattle.rules.specs.TableLaws.{Rising}
+use Rattle.rules.proofs.TableLaws.{mapped-one, current-is}
 use Rattle.rules.specs.Ops.{put, delete, Op}
 use Rattle.rules.specs.Maintenance.{file_tests}
 use Rattle.location_table.specs.LoadLaws.{entry-lookup}

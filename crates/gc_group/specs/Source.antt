@@ -13,9 +13,9 @@ use Rattle.rules.specs.declared.Claims.{Claims}
 use Rattle.rules.specs.Layout.{Table}
 use Rattle.rules.specs.SlotFile.{bytes_of_slot, file_in, object_part}
 use Rattle.rules.specs.FileMap.{empty_label, record_at}
-use Rattle.rules.specs.FileMapLaws.{empty-is, empty-or-not}
+use Rattle.rules.proofs.FileMapLaws.{empty-is, empty-or-not}
 use Rattle.rules.specs.LabelLaws.{InBounds}
-use Rattle.rules.specs.SettingsLaws.{slot-within}
+use Rattle.rules.proofs.SettingsLaws.{slot-within}
 use Rattle.rules.specs.Condition1Laws.{Passed}
 use Rattle.rules.specs.World.{World, records_of, mappings}
 use Rattle.gc_candidates.specs.Plan.{plan_of, plan-length, plan-files}

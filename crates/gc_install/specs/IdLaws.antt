@@ -3,13 +3,16 @@ use Rattle.std.specs.Prelude.{◌≡◌, refl, ◌⊎◌, ◌≤◌, ◌<◌}
 use Rattle.std.proofs.Common.{sym, ap, ◌∙◌, subst, inl, inr, zero-le, arith}
 use Rattle.std.proofs.lemmas.List.{length-map}
 use Rattle.rules.specs.Base.{true, List, [], ◌∷◌, ℕ, suc, ◌+◌, length, padded}
-use Rattle.rules.specs.BaseLaws.{All, all_map, order}
+use Rattle.rules.specs.BaseLaws.{All}
+use Rattle.rules.proofs.BaseLaws.{all_map, order}
 use Rattle.rules.specs.declared.Entry.{Entry}
 use Rattle.rules.specs.Ops.{Op, size_of, entries_of}
 use Rattle.rules.specs.Table.{insert, insert_all}
-use Rattle.rules.specs.TableLaws.{Rising, rise, rising-insert, rising-insert-all, insert-next, insert-here}
+use Rattle.rules.specs.TableLaws.{Rising, rise}
+use Rattle.rules.proofs.TableLaws.{rising-insert, rising-insert-all, insert-next, insert-here}
 use Rattle.rules.specs.Layout.{Table, table_ids, in_form, capacity_of, used_entries, laid_out}
-use Rattle.rules.specs.LayoutLaws.{Used, used-located, used-length, form-rising, laid-out-used, laid-out-ids, laid-out-length, used-laid-out, form-laid-out}
+use Rattle.rules.specs.LayoutLaws.{Used}
+use Rattle.rules.proofs.LayoutLaws.{used-located, used-length, form-rising, laid-out-used, laid-out-ids, laid-out-length, used-laid-out, form-laid-out}
 use Rattle.rules.specs.FileMapLaws.{Among}
 use Rattle.location_table.specs.Tables.{Formed}
 use Rattle.location_table.specs.EntryLaws.{used-insert}

@@ -7,13 +7,14 @@ use Rattle.rules.specs.declared.Settings.{Settings}
 use Rattle.rules.specs.declared.State.{State}
 use Rattle.rules.specs.Claims.{no_claims}
 use Rattle.rules.specs.Settings.{slots_in}
-use Rattle.rules.specs.SettingsLaws.{slot-within}
+use Rattle.rules.proofs.SettingsLaws.{slot-within}
 use Rattle.rules.specs.Ops.{Op, objects_of, file_bytes}
 use Rattle.rules.specs.Label.{label_bytes}
 use Rattle.rules.specs.Layout.{Table, table_ids, used_entries}
-use Rattle.rules.specs.LayoutLaws.{ids-count}
+use Rattle.rules.proofs.LayoutLaws.{ids-count}
 use Rattle.rules.specs.FileMap.{is_empty, record_at, empty_slots, lowest_empty}
-use Rattle.rules.specs.FileMapLaws.{Lowest, lowest-empty}
+use Rattle.rules.specs.FileMapLaws.{Lowest}
+use Rattle.rules.proofs.FileMapLaws.{lowest-empty}
 use Rattle.rules.specs.Condition1Laws.{Passed}
 use Rattle.rules.specs.Stores.{Store, made, file_stores}
 use Rattle.rules.specs.Install.{new_label, new_lsn, installed, stores_for}

@@ -9,10 +9,11 @@ use Rattle.rules.specs.Base.{Bool, true, false, List, [], ◌∷◌, ℕ, zero, 
 use Rattle.rules.specs.declared.Label.{Label}
 use Rattle.rules.specs.declared.Record.{Record}
 use Rattle.rules.specs.declared.Settings.{Settings}
-use Rattle.rules.specs.LabelLaws.{InBounds, lsn-some}
+use Rattle.rules.specs.LabelLaws.{InBounds}
+use Rattle.rules.proofs.LabelLaws.{lsn-some}
 use Rattle.rules.specs.Layout.{Table, capacity_of}
 use Rattle.rules.specs.FileMap.{empty_record, is_empty, record_at, with_live, slots_where, empty_slots, lowest_empty}
-use Rattle.rules.specs.FileMapLaws.{empty-is, is-empty, not-empty, empty-or-not, lowest-empty}
+use Rattle.rules.proofs.FileMapLaws.{empty-is, is-empty, not-empty, empty-or-not, lowest-empty}
 use Rattle.rules.specs.Condition1Laws.{GoodRecord}
 
 -- ---- a record that may lose live ones: still a file's, or still empty

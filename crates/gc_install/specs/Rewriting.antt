@@ -3,20 +3,21 @@ use Rattle.std.specs.Prelude.{◌≡◌, refl, ◌⊎◌, ◌≤◌, ◌<◌}
 use Rattle.std.proofs.Common.{sym, ◌∙◌, inl, inr, zero-le, arith, get_or-set_same, get_or-set_other}
 use Rattle.std.proofs.Math.Path.{ap}
 use Rattle.rules.specs.Base.{false, List, ◌∷◌, ℕ, ◌+◌, ◌/◌, ◌^◌, length, set}
-use Rattle.rules.specs.BaseLaws.{same?}
+use Rattle.rules.proofs.BaseLaws.{same?}
 use Rattle.rules.specs.declared.Record.{Record}
 use Rattle.rules.specs.Ops.{Op, objects_of, file_bytes}
-use Rattle.rules.specs.OpsLaws.{file-length}
+use Rattle.rules.proofs.OpsLaws.{file-length}
 use Rattle.rules.specs.Settings.{slots_in}
 use Rattle.rules.specs.Layout.{table_ids, capacity_of}
 use Rattle.rules.specs.FileMap.{empty_record, is_empty, record_at, empty_slots}
-use Rattle.rules.specs.FileMapLaws.{not-empty, Lowest, lowest-empty}
+use Rattle.rules.specs.FileMapLaws.{Lowest}
+use Rattle.rules.proofs.FileMapLaws.{not-empty, lowest-empty}
 use Rattle.rules.specs.Condition1Laws.{GoodRecord, Passed}
-use Rattle.rules.specs.StoreLaws.{made-length}
+use Rattle.rules.proofs.StoreLaws.{made-length}
 use Rattle.rules.specs.Install.{new_label, new_record, new_lsn, new_slot, losing, records_with, stores_for, table_with, next_with, installed, empty_of}
-use Rattle.rules.specs.InstallLaws.{losing-length, plain-lsn, losing-record, installed-lsn}
+use Rattle.rules.proofs.InstallLaws.{losing-length, plain-lsn, losing-record, installed-lsn}
 use Rattle.rules.specs.World.{World, records_of, slots_of, mappings, state_with}
-use Rattle.rules.specs.LabelLaws.{lsn-some}
+use Rattle.rules.proofs.LabelLaws.{lsn-some}
 use Rattle.limits.specs.Settled.{passed-formed}
 use Rattle.gc_install.specs.IdLaws.{ids_in, There, SameIds, ids-stay}
 use Rattle.gc_install.specs.RecordLaws.{still, still-good, empty-rest}

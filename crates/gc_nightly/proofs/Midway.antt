@@ -3,7 +3,7 @@ use mathlib.Core.Path.{◌≡◌, refl, sym, ap, ◌∙◌, subst}
 use Prim.Native.Nat.{◌≤◌, ◌<◌}
 use native.Mathlib.Omega.{arith}
 use Rattle.rules.specs.Base.{true, false, List, [], ◌∷◌, ℕ, zero, suc, ◌+◌, ◌*◌, length}
-use Rattle.rules.specs.BaseLaws.{or-clear}
+use Rattle.rules.proofs.BaseLaws.{or-clear}
 use Rattle.rules.specs.declared.Settings.{Settings}
 use Rattle.rules.specs.declared.State.{State}
 use Rattle.rules.specs.declared.Claims.{Claims}
@@ -11,7 +11,8 @@ use Rattle.rules.specs.declared.Answer.{Answer}
 use Rattle.rules.specs.declared.Answer.TheVariants.{Done, Refused}
 use Rattle.rules.specs.Layout.{capacity_of}
 use Rattle.rules.specs.Condition1.{refused1}
-use Rattle.rules.specs.Condition1Laws.{Passed, passes}
+use Rattle.rules.specs.Condition1Laws.{Passed}
+use Rattle.rules.proofs.Condition1Laws.{passes}
 use Rattle.rules.specs.Maintenance.{Stop, Course}
 use Rattle.rules.specs.TwoCalls.{short, room_of, generation_rewritten, job_step, job_from, job_of, mark_of, count_of}
 use Rattle.rules.specs.World.{World, world}
@@ -21,7 +22,7 @@ use Rattle.gc_course.specs.declared.Halt.TheVariants.{Going}
 use Rattle.gc_course.specs.declared.Run.{Run}
 use Rattle.gc_course.specs.Runs.{is_going, stop_of, stop_by, standing, generations_from}
 use Rattle.gc_course.specs.Own.{OwnStop, own-generation}
-use Rattle.rules.specs.TwoCallsLaws.{rewrite-opens}
+use Rattle.rules.proofs.TwoCallsLaws.{rewrite-opens}
 use Rattle.gc_course.specs.RunLaws.{job-halted, job-rewritten}
 use Rattle.gc_rewrite.specs.Courses.{course_given}
 

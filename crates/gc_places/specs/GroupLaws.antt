@@ -11,7 +11,7 @@ use Rattle.numbers.specs.LittleEndian.{Bytes}
 use Rattle.numbers.specs.Parts.{front, front_length}
 use Rattle.disk_location.specs.Locations.{position_of}
 use Rattle.rules.specs.Base.{false, List, [], ◌∷◌, ◌++◌, ℕ, zero, suc, ◌+◌, ◌-◌, ◌*◌, ◌^◌, length, get_or, take, drop, replicate, each}
-use Rattle.rules.specs.TurnLaws.{left-next}
+use Rattle.rules.proofs.TurnLaws.{left-next}
 use Rattle.rules.specs.declared.Entry.{Entry}
 use Rattle.rules.specs.declared.Label.{Label}
 use Rattle.rules.specs.declared.Record.{Record}
@@ -23,14 +23,14 @@ use Rattle.rules.specs.declared.Loaded.TheVariants.{At, DeletedAt}
 use Rattle.rules.specs.Refusal.{decide}
 use Rattle.rules.specs.SettingsLaws.{InRanges}
 use Rattle.rules.specs.Object.{object_bytes, stored_at, bad_checksum}
-use Rattle.rules.specs.ObjectLaws.{object-length, stored-room}
+use Rattle.rules.proofs.ObjectLaws.{object-length, stored-room}
 use Rattle.rules.specs.SlotFile.{bytes_of_slot, object_part}
 use Rattle.rules.specs.FileMap.{empty_record, record_at}
 use Rattle.rules.specs.Ops.{Content, put, delete, Op, settled}
-use Rattle.rules.specs.BaseLaws.{replicate-at}
+use Rattle.rules.proofs.BaseLaws.{replicate-at}
 use Rattle.rules.specs.Table.{loaded_of, no_entry}
 use Rattle.rules.specs.Layout.{Table, table_ids, table_locations, used_entries}
-use Rattle.rules.specs.LayoutLaws.{ids-count, locations-count, used-length}
+use Rattle.rules.proofs.LayoutLaws.{ids-count, locations-count, used-length}
 use Rattle.stored_object.specs.Begins.{part_bytes, reads-begins}
 use Rattle.location_table.specs.Tables.{Formed}
 use Rattle.location_table.specs.LayoutLaws.{used-id, used-location, used-rising}

@@ -5,10 +5,11 @@ use Rattle.std.proofs.Common.{sym, ap, ◌∙◌, inl, inr, arith, eq-eqb, ne_eq
 use Rattle.std.proofs.lemmas.List.{length-map}
 use Rattle.std.proofs.Math.ListN.{get_or-map}
 use Rattle.rules.specs.Base.{Bool, true, false, List, [], ◌∷◌, ◌++◌, map, ℕ, suc, length, get_or, replicate, ltb, eqb, pick}
-use Rattle.rules.specs.BaseLaws.{same?}
+use Rattle.rules.proofs.BaseLaws.{same?}
 use Rattle.rules.specs.declared.Answer.TheVariants.{Done, Refused}
 use Rattle.rules.specs.declared.Refusal.TheVariants.{Limits}
-use Rattle.rules.specs.Refusal.{◌gives◌, after, decide, decide-none, decide-first, decide-next, after-refused, after-done}
+use Rattle.rules.specs.Refusal.{◌gives◌, after, decide}
+use Rattle.rules.proofs.RefusalLaws.{decide-none, decide-first, decide-next, after-refused, after-done}
 use Rattle.rules.specs.Maintenance.{Stop, going, stopped}
 use Rattle.rules.specs.TwoCalls.{refused_noting, mark_of, count_of, planned_slots, forecast_of, stop_given, counted, plan_values, plan_call, notes_left}
 use Rattle.rules.specs.World.{World, records_of, Given, accepted, refused}

@@ -3,7 +3,7 @@ use Rattle.std.specs.Prelude.{◌≡◌, refl, ◌≤◌, ◌<◌}
 use Rattle.std.proofs.Math.Path.{sym, ap}
 use Rattle.std.proofs.Common.{◌∙◌, subst, arith, length-drop}
 use Rattle.rules.specs.Base.{false, List, ◌∷◌, ℕ, ◌+◌, ◌^◌, length, get_or, drop}
-use Rattle.rules.specs.TurnLaws.{left-next, left-none}
+use Rattle.rules.proofs.TurnLaws.{left-next, left-none}
 use Rattle.rules.specs.declared.Settings.{Settings}
 use Rattle.rules.specs.declared.State.{State}
 use Rattle.rules.specs.declared.Claims.{Claims}
@@ -15,9 +15,9 @@ use Rattle.rules.specs.FileMap.{is_empty, record_at, lowest_empty}
 use Rattle.rules.specs.Condition1Laws.{Passed}
 use Rattle.rules.specs.Install.{installed, installed_all}
 use Rattle.rules.specs.World.{World, world, records_of}
-use Rattle.rules.specs.InstallLaws.{installed-lsn}
-use Rattle.rules.specs.LabelLaws.{lsn-some}
-use Rattle.rules.specs.FileMapLaws.{not-empty}
+use Rattle.rules.proofs.InstallLaws.{installed-lsn}
+use Rattle.rules.proofs.LabelLaws.{lsn-some}
+use Rattle.rules.proofs.FileMapLaws.{not-empty}
 use Rattle.gc_chains.specs.Chains.{chain_ops, first_in, chains_in, Leads, Linkable, Linked}
 use Rattle.gc_install.specs.Placing.{Placing}
 use Rattle.gc_decision.specs.Empties.{empties_in, empty_in, Listed, listed_at}

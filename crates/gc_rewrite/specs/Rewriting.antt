@@ -13,13 +13,13 @@ use Rattle.rules.specs.Refusal.{Test, decide}
 use Rattle.rules.specs.Settings.{slots_in}
 use Rattle.rules.specs.Ops.{Op}
 use Rattle.rules.specs.Layout.{table_ids, used_entries}
-use Rattle.rules.specs.LayoutLaws.{ids-count, used-length}
+use Rattle.rules.proofs.LayoutLaws.{ids-count, used-length}
 use Rattle.rules.specs.FileMap.{is_empty, record_at}
-use Rattle.rules.specs.FileMapLaws.{empty-most}
+use Rattle.rules.proofs.FileMapLaws.{empty-most}
 use Rattle.rules.specs.Condition1Laws.{Passed}
 use Rattle.rules.specs.Install.{installed_all}
 use Rattle.rules.specs.Maintenance.{files_of, found, group_tests, rewrite_group}
-use Rattle.rules.specs.MaintenanceLaws.{group-added, group-kept}
+use Rattle.rules.proofs.MaintenanceLaws.{group-added, group-kept}
 use Rattle.rules.specs.World.{World, world}
 use Rattle.gc_candidates.specs.Plan.{planned}
 use Rattle.gc_group.specs.Source.{Source, source}

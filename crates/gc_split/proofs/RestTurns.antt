@@ -9,7 +9,7 @@ use lib.ListN.{length, get_or, drop, length-append}
 use Rattle.numbers.specs.Choice.{pick}
 use Rattle.numbers.specs.Parts.{front, put_at, put_front, put-put, put-none, put-length}
 use Rattle.rules.specs.Base.{Bool, true, false}
-use Rattle.rules.specs.TurnLaws.{left-next, left-none}
+use Rattle.rules.proofs.TurnLaws.{left-next, left-none}
 use Rattle.gc_split.specs.declared.Totals.{Totals}
 use Rattle.gc_split.specs.Tally.{closing, closing_rests, rest_of, rests_from, piece_no}
 

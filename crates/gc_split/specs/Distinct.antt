@@ -2,7 +2,8 @@
 use Rattle.std.specs.Prelude.{◌≡◌, refl, ◌<◌}
 use Rattle.std.proofs.Common.{sym, ap, arith}
 use Rattle.rules.specs.Base.{List, [], ◌∷◌, ◌++◌, ℕ, zero, suc, length, get_or}
-use Rattle.rules.specs.BaseLaws.{All, all-at, all_append}
+use Rattle.rules.specs.BaseLaws.{All}
+use Rattle.rules.proofs.BaseLaws.{all-at, all_append}
 
 -- a number that none of a list is
 abbrev pub Other : List ℕ → ℕ → Type 0

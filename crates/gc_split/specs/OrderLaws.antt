@@ -2,7 +2,7 @@
 use Rattle.std.specs.Prelude.{◌≡◌, ◌≤◌}
 use Rattle.std.proofs.Common.{sym, ap, ◌∙◌, arith}
 use Rattle.std.proofs.lemmas.List.{length-map}
-use Rattle.rules.specs.Base.{Bool, true, false, List, [], ◌∷◌, ℕ, ◌-◌, length, eqb, pick}
+use Rattle.rules.specs.Base.{Bool, true, false, List, [], ◌∷◌, ℕ, length, eqb, pick}
 use Rattle.rules.specs.Ops.{Op}
 use Rattle.rules.specs.Maintenance.{files_of}
 use Rattle.gc_split.specs.declared.Totals.{Totals}

@@ -5,9 +5,10 @@ use Rattle.std.proofs.Math.Path.{fun_ext}
 use Rattle.std.proofs.lemmas.List.{map-append, length-replicate, get_or-replicate}
 use Rattle.std.proofs.Math.Seq.{set_out}
 use Rattle.rules.specs.Base.{Bool, true, false, List, [], ◌∷◌, ◌++◌, map, ℕ, suc, ◌+◌, ◌-◌, ◌/◌, ◌%◌, length, get_or, set, replicate, take, ltb, eqb, pick, keep}
-use Rattle.rules.specs.BaseLaws.{All, all_map, same?, all_append}
+use Rattle.rules.specs.BaseLaws.{All}
+use Rattle.rules.proofs.BaseLaws.{all_map, same?, all_append}
 use Rattle.rules.specs.Ops.{Op, size_of, shard_for}
-use Rattle.rules.specs.OpsLaws.{shard-most}
+use Rattle.rules.proofs.OpsLaws.{shard-most}
 use Rattle.rules.specs.Maintenance.{Shard, no_entries, Split, cut_off, joining, split_from, has_entries, files_of}
 use Rattle.numbers.specs.GroupLaws.{either_way}
 use Rattle.gc_split.specs.Distinct.{Distinct, distinct-both}

@@ -6,10 +6,10 @@ use Rattle.rules.specs.Base.{Bool, true, false, ◌&&◌, ◌||◌, List, [], �
 use Rattle.rules.specs.declared.Refusal.TheVariants.{SlotRoom, NoEmptySlot, PositionsSpent}
 use Rattle.rules.specs.Refusal.{Test, ◌gives◌}
 use Rattle.rules.specs.Ops.{Op, size_of, shard_for, objects_of, file_bytes}
-use Rattle.rules.specs.OpsLaws.{objects-nil, objects-length, file-length}
+use Rattle.rules.proofs.OpsLaws.{objects-nil, objects-length, file-length}
 use Rattle.rules.specs.Install.{room_tests, position_tests}
 use Rattle.rules.specs.Maintenance.{Shard, no_entries, Split, cut_off, joining, split_from, has_entries, files_of}
-use Rattle.rules.specs.BaseLaws.{any_append}
+use Rattle.rules.proofs.BaseLaws.{any_append}
 use Rattle.gc_split.specs.declared.Totals.{Totals}
 use Rattle.gc_split.specs.Tally.{Tally, closing, cutting, entering, taking, tally_from, tally_of, empty_tally, closing_rests, closed_of, totals_for}
 

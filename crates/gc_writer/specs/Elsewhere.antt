@@ -5,14 +5,15 @@ use Rattle.std.proofs.Common.{sym, ◌∙◌, inl, inr, ⊎_elim, mul-le-mul, ar
 use Rattle.std.proofs.lemmas.List.{take-set-le}
 use Rattle.numbers.specs.LittleEndian.{le_value}
 use Rattle.rules.specs.Base.{List, [], ◌∷◌, ◌++◌, ℕ, suc, ◌+◌, ◌-◌, ◌*◌, length, get_or, take, drop, set}
-use Rattle.rules.specs.BaseLaws.{All, order, same?, all_append, all_take}
-use Rattle.rules.specs.PartLaws.{drop-take}
+use Rattle.rules.specs.BaseLaws.{All}
+use Rattle.rules.proofs.BaseLaws.{order, same?, all_append, all_take}
+use Rattle.rules.proofs.PartLaws.{drop-take}
 use Rattle.rules.specs.Label.{label_bytes}
 use Rattle.rules.specs.Object.{object_bytes}
 use Rattle.rules.specs.Ops.{put}
 use Rattle.rules.specs.Stores.{Store, made, stores_of, file_stores}
 use Rattle.rules.specs.declared.Label.{Label}
-use Rattle.rules.specs.LabelLaws.{label-length}
+use Rattle.rules.proofs.LabelLaws.{label-length}
 use Rattle.stores.specs.Runs.{Made}
 use Rattle.gc_files.specs.Places.{length_at, moving_at, op_at, Whole, Stands, AllStand, InSlot}
 use Rattle.gc_chains.specs.Chains.{chain_ops}

@@ -2,7 +2,7 @@
 use Rattle.std.specs.Prelude.{◌≡◌, ◌⊎◌, ◌≤◌, ◌<◌}
 use Rattle.std.proofs.Common.{ap, ◌∙◌, inl, inr, arith, eq-eqb, ne_eqb}
 use Rattle.rules.specs.Base.{List, [], ℕ, suc, ◌-◌, ◌^◌, length, get_or, eqb, pick}
-use Rattle.rules.specs.BaseLaws.{zero-or-more}
+use Rattle.rules.proofs.BaseLaws.{zero-or-more}
 use Rattle.rules.specs.Layout.{table_ids}
 use Rattle.rules.specs.Ops.{Op}
 use Rattle.batch.specs.Sizes.{size_in}

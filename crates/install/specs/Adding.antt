@@ -9,9 +9,9 @@ use Rattle.rules.specs.declared.Held.{Held}
 use Rattle.rules.specs.declared.Held.TheVariants.{Mapped, Unmapped}
 use Rattle.rules.specs.Trailer.{absolute, count_in, entries_in}
 use Rattle.rules.specs.Table.{lookup, insert, insert_all, full}
-use Rattle.rules.specs.TableLaws.{insert-all-length, insert-new, full-mapped, full-room}
+use Rattle.rules.proofs.TableLaws.{insert-all-length, insert-new, full-mapped, full-room}
 use Rattle.rules.specs.Layout.{Table, used_entries, laid_out, capacity_of}
-use Rattle.rules.specs.TurnLaws.{left-next, left-none}
+use Rattle.rules.proofs.TurnLaws.{left-next, left-none}
 use Rattle.location_table.specs.Tables.{Formed}
 
 -- the entries of a file with this lsn, as the table has them

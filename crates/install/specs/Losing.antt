@@ -14,7 +14,7 @@ use Rattle.rules.specs.Ops.{Op, entries_of, size_of}
 use Rattle.rules.specs.Table.{load}
 use Rattle.rules.specs.FileMap.{Lead, less_live}
 use Rattle.rules.specs.Install.{file_holding, losing}
-use Rattle.rules.specs.TurnLaws.{left-next, left-none}
+use Rattle.rules.proofs.TurnLaws.{left-next, left-none}
 use Rattle.file_lists.specs.Lists.{lsns_of, lives_of, with_lives, leads_lsn, lead_lsn, slot_of, lsn_at, less_at}
 use Rattle.file_lists.specs.ListLaws.{file-for-with-lives, less-with-lives, length-less, lives-back}
 

@@ -16,18 +16,19 @@ use Rattle.rules.specs.declared.State.{State}
 use Rattle.rules.specs.declared.Claims.{Claims}
 use Rattle.rules.specs.Settings.{slots_in}
 use Rattle.rules.specs.Ops.{Op, is_delete, size_of, objects_of, entries_of, file_bytes}
-use Rattle.rules.specs.OpsLaws.{IdsFit, objects-length, entries-of-length, entries-of-fits, file-length}
+use Rattle.rules.specs.OpsLaws.{IdsFit}
+use Rattle.rules.proofs.OpsLaws.{objects-length, entries-of-length, entries-of-fits, file-length}
 use Rattle.rules.specs.Label.{label_bytes}
-use Rattle.rules.specs.LabelLaws.{label-length}
+use Rattle.rules.proofs.LabelLaws.{label-length}
 use Rattle.rules.specs.Trailer.{count_in, entries_in, trailer_bytes}
-use Rattle.rules.specs.TrailerLaws.{trailer-length, trailer-back, count-back}
+use Rattle.rules.proofs.TrailerLaws.{trailer-length, trailer-back, count-back}
 use Rattle.rules.specs.Table.{insert_all}
 use Rattle.rules.specs.Layout.{Table, used_entries, capacity_of}
-use Rattle.rules.specs.SettingsLaws.{slot-within}
+use Rattle.rules.proofs.SettingsLaws.{slot-within}
 use Rattle.rules.specs.FileMap.{lowest_empty}
 use Rattle.rules.specs.Condition1Laws.{Passed}
 use Rattle.rules.specs.Stores.{made, file_stores}
-use Rattle.rules.specs.StoreLaws.{made-length, file-made}
+use Rattle.rules.proofs.StoreLaws.{made-length, file-made}
 use Rattle.rules.specs.Install.{new_label, new_record, installed, records_with, stores_for, table_with, next_with, new_slot}
 use Rattle.rules.specs.World.{world, state_with}
 use Rattle.location_table.specs.Tables.{Formed}

@@ -2,7 +2,7 @@
 use Rattle.std.specs.Prelude.{◌≡◌, refl, ◌≤◌}
 use Rattle.std.proofs.Common.{⊎_elim, zero-le, arith}
 use Rattle.rules.specs.Base.{Bool, true, false, not, ◌&&◌, ◌||◌, List, ℕ, eqb, within}
-use Rattle.rules.specs.BaseLaws.{within-holds}
+use Rattle.rules.proofs.BaseLaws.{within-holds}
 use Rattle.rules.specs.declared.Settings.{Settings}
 use Rattle.rules.specs.declared.Record.{Record}
 use Rattle.rules.specs.declared.State.{State}
@@ -10,7 +10,7 @@ use Rattle.rules.specs.declared.FileMap.{FileMap}
 use Rattle.rules.specs.Settings.{same_settings}
 use Rattle.rules.specs.Layout.{Table, capacity_of}
 use Rattle.rules.specs.FileMap.{is_empty, record_at}
-use Rattle.rules.specs.FileMapLaws.{empty-is, empty-or-not}
+use Rattle.rules.proofs.FileMapLaws.{empty-is, empty-or-not}
 use Rattle.rules.specs.Condition1.{not_the_states, bad_from}
 use Rattle.rules.specs.Condition1Laws.{Passed}
 use Rattle.location_table.specs.Tables.{Formed}

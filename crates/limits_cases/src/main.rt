@@ -7,8 +7,10 @@ mod ranges;
 mod show;
 mod states;
 
-fn main() {
-    ranges::settings();
-    states::condition_one();
-    claiming::claims_and_releases();
+use std::io;
+
+fn main(rt: HostRuntime) -> io::Result<()> {
+    ranges::settings(&rt)?;
+    states::condition_one(&rt)?;
+    claiming::claims_and_releases(&rt)
 }

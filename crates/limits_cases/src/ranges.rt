@@ -1,5 +1,6 @@
 use crate::show::refused;
 use rules::Settings;
+use std::io;
 use test_host::text;
 
 // Whether settings, a heap of one slot and a table of one entry are outside the ranges.
@@ -8,13 +9,20 @@ fn out(s: Settings) -> bool {
 }
 
 // The four numbers at the ends of a range: below, lowest, highest, above.
-fn ends(word: &[u8], below: bool, lowest: bool, highest: bool, above: bool) {
-    text(word);
-    refused(below);
-    refused(lowest);
-    refused(highest);
-    refused(above);
-    text(b"\n");
+fn ends(
+    rt: &impl Print,
+    word: &[u8],
+    below: bool,
+    lowest: bool,
+    highest: bool,
+    above: bool,
+) -> io::Result<()> {
+    text(rt, word)?;
+    refused(rt, below)?;
+    refused(rt, lowest)?;
+    refused(rt, highest)?;
+    refused(rt, above)?;
+    text(rt, b"\n")
 }
 
 fn with_slot(n: u64) -> bool {
@@ -59,61 +67,69 @@ fn with_heap(n: u64) -> bool {
 }
 
 // "settings or buffer lengths outside the ranges", at the ends of each range; a range that begins with 0 has its lowest twice.
-pub fn settings() {
+pub fn settings(rt: &impl Print) -> io::Result<()> {
     ends(
+        rt,
         b"S",
         with_slot(127),
         with_slot(128),
         with_slot(1048576),
         with_slot(1048577),
-    );
+    )?;
     ends(
+        rt,
         b"percent",
         with_percent(0),
         with_percent(0),
         with_percent(100),
         with_percent(101),
-    );
+    )?;
     ends(
+        rt,
         b"files",
         with_files(0),
         with_files(1),
         with_files(256),
         with_files(257),
-    );
+    )?;
     ends(
+        rt,
         b"target",
         with_target(0),
         with_target(1),
         with_target(1048576),
         with_target(1048577),
-    );
+    )?;
     ends(
+        rt,
         b"threshold",
         with_threshold(0),
         with_threshold(0),
         with_threshold(256),
         with_threshold(257),
-    );
+    )?;
     ends(
+        rt,
         b"object",
         with_object(0),
         with_object(1),
         with_object(1048576),
         with_object(1048577),
-    );
+    )?;
     ends(
+        rt,
         b"heap",
         with_heap(0),
         with_heap(4096),
         with_heap(1048576),
         with_heap(1052672),
-    );
+    )?;
     ends(
+        rt,
         b"heap",
         with_heap(4095),
         with_heap(8192),
         with_heap(8193),
         with_heap(18446744073709551615),
-    );
+    )
 }

@@ -3,6 +3,7 @@ ghost use Rattle.std.specs.Prelude.{◌<◌};
 use crate::show::counted;
 use file_map::recorded;
 use rules::{Label, Record, Settings, State};
+use std::io;
 use test_host::text;
 
 // A store of two slots of 128 bytes: a table of two entries, a file of two entries in slot 1.
@@ -32,89 +33,118 @@ pub fn store() -> State {
 }
 
 // What counts answers for the store with this state.
-fn counts(word: &[u8], state: State) {
-    text(word);
-    counted(claims::counts(settings(), state, &[0u8; 256], &[3u64, 10, 7, 13]));
+fn counts(rt: &impl Print, word: &[u8], state: State) -> io::Result<()> {
+    text(rt, word)?;
+    counted(
+        rt,
+        claims::counts(settings(), state, &[0u8; 256], &[3u64, 10, 7, 13]),
+    )
 }
 
 // "lengths or settings not those of the state", and "next position 0"
-fn not_the_states() {
-    counts(b"whole:", store());
+fn not_the_states(rt: &impl Print) -> io::Result<()> {
+    counts(rt, b"whole:", store())?;
     let mut settings = store();
     settings.settings.max_object_size = 1025;
-    counts(b"other settings:", settings);
+    counts(rt, b"other settings:", settings)?;
     let mut heap = store();
     heap.heap_len = 128;
-    counts(b"other heap length:", heap);
+    counts(rt, b"other heap length:", heap)?;
     let mut table = store();
     table.table_len = 3;
-    counts(b"other table length:", table);
+    counts(rt, b"other table length:", table)?;
     let mut next = store();
     next.next_position = 0;
-    counts(b"next position 0:", next);
+    counts(rt, b"next position 0:", next)
 }
 
 // "a table not in the form above"
-fn tables() {
+fn tables(rt: &impl Print) -> io::Result<()> {
     let heap = [0u8; 256];
-    text(b"ids not rising:");
-    counted(claims::counts(settings(), store(), &heap, &[7u64, 10, 7, 13]));
-    text(b"used behind unused:");
-    counted(claims::counts(settings(), store(), &heap, &[0u64, 0, 7, 13]));
-    text(b"an id without a location:");
-    counted(claims::counts(settings(), store(), &heap, &[3u64, 10, 7, 0]));
-    text(b"odd length:");
-    counted(claims::counts(settings(), store(), &heap, &[3u64, 10, 7, 13, 0]));
-    text(b"nothing used:");
-    counted(claims::counts(settings(), store(), &heap, &[0u64; 4]));
+    text(rt, b"ids not rising:")?;
+    counted(
+        rt,
+        claims::counts(settings(), store(), &heap, &[7u64, 10, 7, 13]),
+    )?;
+    text(rt, b"used behind unused:")?;
+    counted(
+        rt,
+        claims::counts(settings(), store(), &heap, &[0u64, 0, 7, 13]),
+    )?;
+    text(rt, b"an id without a location:")?;
+    counted(
+        rt,
+        claims::counts(settings(), store(), &heap, &[3u64, 10, 7, 0]),
+    )?;
+    text(rt, b"odd length:")?;
+    counted(
+        rt,
+        claims::counts(settings(), store(), &heap, &[3u64, 10, 7, 13, 0]),
+    )?;
+    text(rt, b"nothing used:")?;
+    counted(rt, claims::counts(settings(), store(), &heap, &[0u64; 4]))
 }
 
 // "a non-empty record at slot N or above, outside 8's bounds, or with present over file_size or live over the table's length"
-fn records() {
-    counts(b"slot 0:", with(0, file()));
-    counts(b"slot N:", with(2, file()));
-    counts(b"slot 255:", with(255, file()));
+fn records(rt: &impl Print) -> io::Result<()> {
+    counts(rt, b"slot 0:", with(0, file()))?;
+    counts(rt, b"slot N:", with(2, file()))?;
+    counts(rt, b"slot 255:", with(255, file()))?;
     let mut large = label();
     large.file_size = 65;
-    counts(b"file_size over S - 64:", with(1, recorded(large, 2, 0)));
+    counts(
+        rt,
+        b"file_size over S - 64:",
+        with(1, recorded(large, 2, 0)),
+    )?;
     let mut offset = label();
     offset.trailer_offset = 65;
-    counts(b"T over file_size:", with(1, recorded(offset, 2, 0)));
+    counts(rt, b"T over file_size:", with(1, recorded(offset, 2, 0)))?;
     let mut present = label();
     present.present_objects = 65;
-    counts(b"present over file_size:", with(1, recorded(present, 2, 0)));
-    counts(b"live over the table:", with(1, recorded(label(), 3, 0)));
+    counts(
+        rt,
+        b"present over file_size:",
+        with(1, recorded(present, 2, 0)),
+    )?;
+    counts(
+        rt,
+        b"live over the table:",
+        with(1, recorded(label(), 3, 0)),
+    )?;
     let mut generation = label();
     generation.generation = 256;
-    counts(b"generation 256:", with(1, recorded(generation, 2, 0)));
+    counts(rt, b"generation 256:", with(1, recorded(generation, 2, 0)))
 }
 
 // "masked lsn 0, lsn of 2^63 or more, or masked lsn + T of 2^62 or more"
-fn lsn(word: &[u8], n: u64) {
+fn lsn(rt: &impl Print, word: &[u8], n: u64) -> io::Result<()> {
     let mut l = label();
     l.lsn = n;
-    counts(word, with(1, recorded(l, 2, 0)));
+    counts(rt, word, with(1, recorded(l, 2, 0)))
 }
 
-fn lsns() {
-    lsn(b"lsn 0:", 0);
-    lsn(b"the batch bit alone:", 4611686018427387904);
-    lsn(b"lsn 2^63:", 9223372036854775808);
-    lsn(b"masked lsn + T 2^62 - 1:", 4611686018427387883);
-    lsn(b"masked lsn + T 2^62:", 4611686018427387884);
+fn lsns(rt: &impl Print) -> io::Result<()> {
+    lsn(rt, b"lsn 0:", 0)?;
+    lsn(rt, b"the batch bit alone:", 4611686018427387904)?;
+    lsn(rt, b"lsn 2^63:", 9223372036854775808)?;
+    lsn(rt, b"masked lsn + T 2^62 - 1:", 4611686018427387883)?;
+    lsn(rt, b"masked lsn + T 2^62:", 4611686018427387884)
 }
 
 // "An empty record is all zeros.", and "has [the mark] clear": a record with one number is not empty.
-fn empty() {
-    counts(b"all zeros:", with(1, file_map::empty()));
+fn empty(rt: &impl Print) -> io::Result<()> {
+    counts(rt, b"all zeros:", with(1, file_map::empty()))?;
     counts(
+        rt,
         b"zeros but live 1:",
         with(1, recorded(file_map::no_label(), 1, 0)),
-    );
+    )?;
     counts(
+        rt,
         b"zeros but the mark:",
         with(1, recorded(file_map::no_label(), 0, 1)),
-    );
+    )
 }
 
 // A store whose file has a synced mark that is neither 0 nor 1.
@@ -123,16 +153,16 @@ pub fn marked_2() -> State {
 }
 
 // The mark: 0 clear, 1 set, and no other number.
-fn marks() {
-    counts(b"mark 1:", with(1, recorded(label(), 2, 1)));
-    counts(b"mark 2:", marked_2());
+fn marks(rt: &impl Print) -> io::Result<()> {
+    counts(rt, b"mark 1:", with(1, recorded(label(), 2, 1)))?;
+    counts(rt, b"mark 2:", marked_2())
 }
 
-pub fn condition_one() {
-    not_the_states();
-    tables();
-    records();
-    lsns();
-    empty();
-    marks();
+pub fn condition_one(rt: &impl Print) -> io::Result<()> {
+    not_the_states(rt)?;
+    tables(rt)?;
+    records(rt)?;
+    lsns(rt)?;
+    empty(rt)?;
+    marks(rt)
 }

@@ -2,51 +2,66 @@
 
 #![tactic(auto)]
 
-use libc::STDOUT_FILENO;
+ghost use Rattle.std.specs.Prelude.{◌≡◌, length};
+
 use rules::{FileMap, Record, Settings, State};
+use std::io;
 use test_host::{no_claims, no_state, text};
 
-fn number(n: u64, end: &[u8]) {
-    io::print_decimal(STDOUT_FILENO, n);
-    text(end);
+fn number(rt: &impl Print, n: u64, end: &[u8]) -> io::Result<()> {
+    print!(rt; "{n}")?;
+    text(rt, end)
 }
 
 // An empty record has no line.
-fn show_file(slot: u64, r: Record) {
+fn show_file(rt: &impl Print, slot: u64, r: Record) -> io::Result<()> {
     if file_map::is_empty(r) {
-        return;
+        return Ok(());
     }
-    number(slot, b" ");
-    number(r.label.lsn, b" ");
-    number(r.label.generation, b" ");
-    number(r.label.present_objects, b" ");
-    number(r.live, b" ");
-    number(r.label.file_size, b"\n");
+    number(rt, slot, b" ")?;
+    number(rt, r.label.lsn, b" ")?;
+    number(rt, r.label.generation, b" ")?;
+    number(rt, r.label.present_objects, b" ")?;
+    number(rt, r.live, b" ")?;
+    number(rt, r.label.file_size, b"\n")
 }
 
-fn show_files(files: FileMap) {
+fn show_files(rt: &impl Print, files: FileMap) -> io::Result<()> {
     let mut slot: usize = 0;
     while slot < 256 {
-        show_file(slot as u64, files.records[slot]);
+        show_file(rt, slot as u64, files.records[slot])?;
         slot += 1;
     }
+    Ok(())
 }
 
-fn show(files: FileMap, used: u64) {
-    text(b"slot lsn gen present live size\n");
-    show_files(files);
-    text(b"ids ");
-    number(used, b"\n");
+fn show(rt: &impl Print, files: FileMap, used: u64) -> io::Result<()> {
+    text(rt, b"slot lsn gen present live size\n")?;
+    show_files(rt, files)?;
+    text(rt, b"ids ")?;
+    number(rt, used, b"\n")
 }
 
 // A store that refusal 1 bars has no listing.
-fn list(settings: Settings, state: State, heap: &[u8], table: &[u64]) {
+fn list(
+    rt: &impl Print,
+    settings: Settings,
+    state: State,
+    heap: &[u8],
+    table: &[u64],
+) -> io::Result<()> {
     if marble::refused(settings, heap.len() as u64, table, state) {
-        return;
+        return Ok(());
     }
     let used = location_table::used(table) as u64;
     let files = state.files;
-    show(files, used);
+    show(rt, files, used)
+}
+
+fn heap_bytes() -> [u8; 4096]
+    ensures { 4096 ≡ length result }
+{
+    [0u8; 4096]
 }
 
 fn written(settings: Settings, heap: &mut [u8], table: &mut [u64], batch: &[u8]) -> State {
@@ -56,10 +71,10 @@ fn written(settings: Settings, heap: &mut [u8], table: &mut [u64], batch: &[u8])
     after.state
 }
 
-fn main() {
-    let mut heap = io::buffer();
+fn main(rt: HostRuntime) -> io::Result<()> {
+    let mut heap = heap_bytes();
     let mut table = [0u64; 8];
     let settings = marble::defaults();
     let state = written(settings, &mut heap, &mut table, b"\x07\x01\x01\x41\x09\x00");
-    list(settings, state, &heap, &table);
+    list(&rt, settings, state, &heap, &table)
 }

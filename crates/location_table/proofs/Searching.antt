@@ -9,7 +9,7 @@ use Rattle.disk_location.specs.Locations.{digits_in}
 use Rattle.disk_location.specs.LocationLaws.{digits-hold, digits-least}
 use Rattle.rules.specs.Table.{no_entry}
 use Rattle.rules.specs.Layout.{Table, table_ids, table_locations, capacity_of, used_entries}
-use Rattle.rules.specs.LayoutLaws.{used-length}
+use Rattle.rules.proofs.LayoutLaws.{used-length}
 use Rattle.location_table.specs.declared.Place.TheVariants.{Found, Gap}
 use Rattle.location_table.specs.Places.{place}
 use Rattle.location_table.specs.Tables.{Formed}

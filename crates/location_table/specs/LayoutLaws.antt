@@ -7,11 +7,12 @@ use Rattle.std.proofs.Math.Nat.{sub-zero, suc-sub-suc}
 use native.Mathlib.Omega.{arith}
 use Rattle.std.proofs.lemmas.List.{length-map}
 use Rattle.std.proofs.Math.ListN.{get_or-eq_default}
-use Rattle.rules.specs.BaseLaws.{order, and-true, zero-or-more, replicate-at}
+use Rattle.rules.proofs.BaseLaws.{order, and-true, zero-or-more, replicate-at}
 use Rattle.rules.specs.declared.Entry.{Entry}
 use Rattle.rules.specs.Layout.{Table, table_ids, table_locations, capacity_of, lengths_in_range, in_form, used_in, used_entries, laid_out}
 use Rattle.rules.specs.TableLaws.{Rising}
-use Rattle.rules.specs.LayoutLaws.{Used, lengths-in-range, used-located, form-rising, laid-out-used, laid-out-even, laid-out-locations, form-laid-out, used-more, used-stop}
+use Rattle.rules.specs.LayoutLaws.{Used}
+use Rattle.rules.proofs.LayoutLaws.{lengths-in-range, used-located, form-rising, laid-out-used, laid-out-even, laid-out-locations, form-laid-out, used-more, used-stop}
 use Rattle.rules.specs.Table.{no_entry}
 use Rattle.location_table.specs.Tables.{Formed, with_pair}
 use Rattle.location_table.specs.EntryLaws.{has-at}

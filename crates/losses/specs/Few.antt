@@ -3,9 +3,11 @@ use Rattle.std.specs.Prelude.{◌≡◌, refl, Bool, true, false, ◌≤◌, ◌
 use Rattle.std.proofs.Common.{ap, ◌∙◌, take_all, zero-le, arith, length-append}
 use Rattle.std.proofs.lemmas.List.{length-map}
 use Rattle.rules.specs.Base.{List, [], ◌∷◌, ◌++◌, map, ℕ, suc, ◌+◌, length, take, leb, ltb, pick}
-use Rattle.rules.specs.BaseLaws.{All, all_map, all_append}
+use Rattle.rules.specs.BaseLaws.{All}
+use Rattle.rules.proofs.BaseLaws.{all_map, all_append}
 use Rattle.rules.specs.Settings.{slots_in}
-use Rattle.rules.specs.SettingsLaws.{InRanges, HeapInRange, slot-within}
+use Rattle.rules.specs.SettingsLaws.{InRanges, HeapInRange}
+use Rattle.rules.proofs.SettingsLaws.{slot-within}
 use Rattle.rules.specs.SlotFile.{View, empty, damaged, holds}
 use Rattle.rules.specs.Stores.{Store, made}
 use Rattle.rules.specs.PruneLaws.{emptying}

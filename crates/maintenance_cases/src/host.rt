@@ -1,6 +1,7 @@
 // The host of every case: eight slots of 1,024 bytes, a table of eight.
 use crate::{batches, show};
 use rules::{Claims, Settings, State};
+use std::io;
 use test_host::{no_claims, no_state};
 
 // What is changed by hand before the maintenance: generations of the first three files and the next position, where not 0; a heap byte;
@@ -141,25 +142,33 @@ pub fn state_by_hand(state: State, hand: ByHand) -> State {
 }
 
 pub fn maintain(
+    rt: &impl Print,
     s: Settings,
     state: State,
     hand: ByHand,
     heap: &mut [u8],
     table: &mut [u64],
-) -> State {
+) -> io::Result<State> {
     let mut places = [0u32; 8];
     let mut pieces = [0u32; 8];
     let claims = claim_words(hand.claimed);
     let m = marble::nightly(s, state, claims, heap, table, &mut places, &mut pieces);
     let answer = m.answer;
     let after = m.state;
-    show::maintained(answer);
-    test_host::store(after, heap, table);
-    show::counted(marble::counts(s, after, heap, table));
-    after
+    show::maintained(rt, answer)?;
+    test_host::store(rt, after, heap, table)?;
+    show::counted(rt, marble::counts(s, after, heap, table))?;
+    Ok(after)
 }
 
-pub fn read(s: Settings, state: State, heap: &[u8], table: &[u64], id: u64) {
+pub fn read(
+    rt: &impl Print,
+    s: Settings,
+    state: State,
+    heap: &[u8],
+    table: &[u64],
+    id: u64,
+) -> io::Result<()> {
     let body = marble::read(s, state, heap, table, id);
-    show::body(id, body);
+    show::body(rt, id, body)
 }

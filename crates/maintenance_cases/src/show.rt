@@ -1,46 +1,47 @@
 // What a call answered.
 use rules::{Counts, CountsAnswer, MaintainAnswer};
+use std::io;
 use test_host::{number, refused, text};
 
 // Ids moved; or number, generation and ids moved before.
-pub fn maintained(a: MaintainAnswer) {
+pub fn maintained(rt: &impl Print, a: MaintainAnswer) -> io::Result<()> {
     match a {
         MaintainAnswer::Moved(moved) => {
-            text(b"maintain ok");
-            number(moved);
+            text(rt, b"maintain ok")?;
+            number(rt, moved)
         }
         MaintainAnswer::Stopped(refusal, generation, moved) => {
-            text(b"maintain");
-            refused(refusal);
-            number(generation);
-            number(moved);
+            text(rt, b"maintain")?;
+            refused(rt, refusal)?;
+            number(rt, generation)?;
+            number(rt, moved)
         }
     }
 }
 
-fn four(c: Counts) {
-    text(b"counts");
-    number(c.files);
-    number(c.bytes);
-    number(c.present);
-    number(c.live);
+fn four(rt: &impl Print, c: Counts) -> io::Result<()> {
+    text(rt, b"counts")?;
+    number(rt, c.files)?;
+    number(rt, c.bytes)?;
+    number(rt, c.present)?;
+    number(rt, c.live)
 }
 
-pub fn counted(a: CountsAnswer) {
+pub fn counted(rt: &impl Print, a: CountsAnswer) -> io::Result<()> {
     match a {
-        CountsAnswer::Counted(c) => four(c),
+        CountsAnswer::Counted(c) => four(rt, c)?,
         CountsAnswer::CountsRefused(r) => {
-            text(b"counts");
-            refused(r);
+            text(rt, b"counts")?;
+            refused(rt, r)?;
         }
     }
-    text(b"\n");
+    text(rt, b"\n")
 }
 
 // A body by its length and checksum.
-pub fn body(id: u64, s: &[u8]) {
-    text(b" id");
-    number(id);
-    number(s.len() as u64);
-    number(checksum::sum(s) as u64);
+pub fn body(rt: &impl Print, id: u64, s: &[u8]) -> io::Result<()> {
+    text(rt, b" id")?;
+    number(rt, id)?;
+    number(rt, s.len() as u64)?;
+    number(rt, checksum::sum(s) as u64)
 }

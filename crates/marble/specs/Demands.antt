@@ -1,7 +1,7 @@
--- Demands 2 and 3 in one place: the theorems that a reader should open first. They are of results that the calls' contracts admit (`Contracts`), so of the code.
+-- Demands 2 and 3 in one place: the theorems that a reader should open first. They are of results that the calls' contracts admit (`CallContracts`), so of the code.
 
 -- written files read back as given: the slot shows the file, no other slot changes, each object reads back
-pub use Rattle.rules.specs.WrittenLaws.{views-made, object-written, read-clear}
+pub use Rattle.rules.proofs.WrittenLaws.{views-made, object-written, read-clear}
 -- a write that says `Done`, and a reopening that does: each id at its entry of greatest masked position; live counts; the next position above every file
 pub use Rattle.marble.specs.Lives.{life-wrote, reopened-opens}
 -- the nightly job: as the old call; what it moves, and what it refuses with; a rewrite of one generation; what a plan says is what happens
@@ -12,7 +12,7 @@ pub use Rattle.marble.specs.Lives.{life-kept, life-answers, life-reads, life-res
 -- clean are the heaps of which `check` lists nothing, those that a life left, and those whose slots all begin with byte 0: there nothing is heard at the
 -- start, and no object is large
 pub use Rattle.marble.specs.Starts.{checked-clean, clean-checked, life-clean, blank-begun, blank-small}
-pub use Rattle.history_theory.specs.Clean.{blank-clean}
+pub use Rattle.history_theory.proofs.Clean.{blank-clean}
 -- a fresh heap opens, and a write in limits is accepted
-pub use Rattle.history_theory.specs.Fresh.{fresh-opens}
-pub use Rattle.history_theory.specs.Accepting.{fresh-write}
+pub use Rattle.history_theory.proofs.Fresh.{fresh-opens}
+pub use Rattle.history_theory.proofs.Accepting.{fresh-write}

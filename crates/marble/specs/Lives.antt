@@ -9,7 +9,8 @@ use Rattle.rules.specs.declared.ReadAnswer.{ReadAnswer}
 use Rattle.rules.specs.Refusal.{decide}
 use Rattle.rules.specs.Ops.{Op, put, delete}
 use Rattle.rules.specs.Batch.{batch_in, ops_of}
-use Rattle.rules.specs.SettledLaws.{Last, silent, last, or_earlier, last_on, last-append}
+use Rattle.rules.specs.SettledLaws.{Last, silent, last, or_earlier, last_on}
+use Rattle.rules.proofs.SettledLaws.{last-append}
 use Rattle.rules.specs.Read.{read_of, part_of}
 use Rattle.rules.specs.Write.{write_call}
 use Rattle.rules.specs.WriteLaws.{ops_in}
@@ -19,24 +20,32 @@ use Rattle.rules.specs.Sync.{is_unsynced, unsynced_in, too_long, unsynced_call, 
 use Rattle.rules.specs.declared.Record.{Record}
 use Rattle.as_numbers.specs.declared.answers.One.{One}
 use Rattle.as_numbers.specs.Shown.{given, shown}
-use Rattle.theory.specs.Marks.{any-counted}
+use Rattle.theory.proofs.Marks.{any-counted}
 use Rattle.rules.specs.World.{World, world, records_of, state_with, Given, accepted, After, answer_given}
 use Rattle.history_theory.specs.Writing.{engine, heard}
-use Rattle.history_theory.specs.Syncing.{sync-accepted, synced_from, sound-synced-from}
-use Rattle.history_theory.specs.MarksLeft.{Carries, rewrite-carries, nightly-carries, reopen-marks, sync-marks, write-marks}
+use Rattle.history_theory.specs.Syncing.{synced_from}
+use Rattle.history_theory.proofs.Syncing.{sync-accepted, sound-synced-from}
+use Rattle.history_theory.specs.MarksLeft.{Carries}
+use Rattle.history_theory.proofs.MarksLeft.{rewrite-carries, nightly-carries, reopen-marks, sync-marks, write-marks}
 use Rattle.history_theory.specs.Reading.{Reads}
-use Rattle.theory.specs.Reopened.{Opened, reopened-means}
+use Rattle.theory.specs.Reopened.{Opened}
+use Rattle.theory.proofs.Reopened.{reopened-means}
 use Rattle.history_theory.specs.Quiet.{claim, release, sync, plan}
-use Rattle.history_theory.specs.Nightly.{job_calls, job-lived}
-use Rattle.history_theory.specs.History.{Call, write, rewrite, prune, reopen, quiet, called, hears, Life, lived, Starts, Kept, sound-kept}
-use Rattle.history_theory.specs.Clean.{heard_at, resumed, clean-starts}
-use Rattle.history_theory.specs.Writes.{never, got_by, got, left_by, got_last, write-means}
+use Rattle.history_theory.specs.Nightly.{job_calls}
+use Rattle.history_theory.proofs.Nightly.{job-lived}
+use Rattle.history_theory.specs.History.{Call, write, rewrite, prune, reopen, quiet, called, hears, Life, lived, Starts, Kept}
+use Rattle.history_theory.proofs.History.{sound-kept}
+use Rattle.history_theory.specs.Clean.{heard_at, resumed}
+use Rattle.history_theory.proofs.Clean.{clean-starts}
+use Rattle.history_theory.specs.Writes.{never, got_by, got, left_by}
+use Rattle.history_theory.proofs.Writes.{got_last, write-means}
 use Rattle.through.specs.declared.ThroughAnswer.{ThroughAnswer}
-use Rattle.through_theory.specs.Saved.{got_through_by, got_through, sound-through, same_bytes}
+use Rattle.through_theory.specs.Saved.{got_through_by, got_through}
+use Rattle.through_theory.proofs.Saved.{sound-through, same_bytes}
 use Rattle.power_cuts.specs.Runs.{run_of}
 use Rattle.power_cuts.specs.Cuts.{CutAt, Survived, hears_cut, done, happened, lived_on}
 use Rattle.power_cuts.specs.Cuts as cuts
-use Rattle.power_cuts.specs.PowerCut.{cut-survived, sound-lived-on}
+use Rattle.power_cuts.proofs.PowerCut.{cut-survived, sound-lived-on}
 use Rattle.recovery.specs.declared.Reopened.{Reopened}
 use Rattle.writepath.specs.declared.Written.{Written}
 use Rattle.gc_course.specs.declared.Request.{Request}

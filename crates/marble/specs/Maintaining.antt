@@ -5,7 +5,7 @@ use Rattle.rules.specs.Base.{true, List, map, ℕ, sum}
 use Rattle.rules.specs.BaseLaws.{All}
 use Rattle.rules.specs.declared.Refusal.{Refusal}
 use Rattle.rules.specs.declared.MaintainAnswer.TheVariants.{Moved, Stopped}
-use Rattle.rules.specs.Answers.{maintain-one}
+use Rattle.rules.proofs.Answers.{maintain-one}
 use Rattle.rules.specs.Layout.{capacity_of}
 use Rattle.rules.specs.Table.{lookup}
 use Rattle.rules.specs.Maintenance.{group, start_group, maintain_call}
@@ -14,13 +14,16 @@ use Rattle.rules.specs.World.{World, After, accepted, leaving, rewrite_given, ma
 use Rattle.theory.specs.SoundWorld.{SmallWorld}
 use Rattle.maintenance_theory.specs.Stopping.{Spent, Refusable}
 use Rattle.history_theory.specs.History.{Life}
-use Rattle.history_theory.specs.Clean.{resumed, clean-starts}
+use Rattle.history_theory.specs.Clean.{resumed}
+use Rattle.history_theory.proofs.Clean.{clean-starts}
 use Rattle.maintenance_theory.specs.Finished.{live_of, before, AnswersAs}
 use Rattle.maintenance_theory.specs.FirstRefused.{generations}
 use Rattle.maintenance_theory.specs.Exactly.{Inside, rewritten, ids_moved}
-use Rattle.maintenance_theory.specs.AsBefore.{job-as-before, job-answer, small-lived-job, job-moves}
-use Rattle.maintenance_theory.specs.Rewrites.{RewriteEnds, rewrite-ends}
-use Rattle.maintenance_theory.specs.Foretold.{Foretells, plan-foretells}
+use Rattle.maintenance_theory.proofs.AsBefore.{job-as-before, job-answer, small-lived-job, job-moves}
+use Rattle.maintenance_theory.specs.Rewrites.{RewriteEnds}
+use Rattle.maintenance_theory.proofs.Rewrites.{rewrite-ends}
+use Rattle.maintenance_theory.specs.Foretold.{Foretells}
+use Rattle.maintenance_theory.proofs.Foretold.{plan-foretells}
 use Rattle.gc_course.specs.declared.Request.{Request}
 use Rattle.gc_plan.specs.declared.Planned.{Planned}
 use Rattle.gc_plan.specs.Plans.{plan_given}

@@ -4,23 +4,25 @@ use Rattle.std.proofs.Common.{sym, ap, ◌∙◌, arith}
 use Rattle.numbers.specs.LittleEndian.{Bytes}
 use Rattle.rules.specs.Base.{Bool, true, false, List, [], ℕ, length, map}
 use Rattle.rules.specs.Condition1.{out_of_range}
-use Rattle.rules.specs.Condition1Laws.{limits-in}
+use Rattle.rules.proofs.Condition1Laws.{limits-in}
 use Rattle.rules.specs.Layout.{capacity_of}
-use Rattle.rules.specs.LayoutLaws.{used-laid-out}
+use Rattle.rules.proofs.LayoutLaws.{used-laid-out}
 use Rattle.rules.specs.Ops.{Op}
 use Rattle.rules.specs.World.{World, After}
-use Rattle.theory.specs.Places.{not-empty}
+use Rattle.theory.proofs.Places.{not-empty}
 use Rattle.theory.specs.SoundWorld.{SmallWorld}
-use Rattle.theory.specs.Reopened.{passed}
-use Rattle.history_theory.specs.Fresh.{Blank, views-blank, fresh-opens}
+use Rattle.theory.proofs.Reopened.{passed}
+use Rattle.history_theory.specs.Fresh.{Blank}
+use Rattle.history_theory.proofs.Fresh.{views-blank, fresh-opens}
 use Rattle.history_theory.specs.Writing.{engine}
-use Rattle.history_theory.specs.Clean.{Clean, heard_at, sound-clean}
+use Rattle.history_theory.specs.Clean.{Clean, heard_at}
+use Rattle.history_theory.proofs.Clean.{sound-clean}
 use Rattle.recovery.specs.declared.Reopened.{Reopened}
 use Rattle.faults.specs.Faults.{Checked, check_call}
 use Rattle.checker.specs.declared.CheckAnswer.{CheckAnswer}
 use Rattle.checker.specs.declared.CheckAnswer.TheVariants.{Faults}
-use Rattle.check_theory.specs.CleanLists.{clean-list, list-clean}
-use Rattle.check_theory.specs.Calls.{check-limits, empty-checked, checked-empty}
+use Rattle.check_theory.proofs.CleanLists.{clean-list, list-clean}
+use Rattle.check_theory.proofs.Calls.{check-limits, empty-checked, checked-empty}
 use Rattle.marble.specs.Unique.{check-one}
 use Rattle.marble.specs.Results.{reopened, checked, left, Admitted, begun, Lived, reached}
 use Rattle.marble.specs.Lives.{life-sound}

@@ -10,7 +10,8 @@ use Rattle.rules.specs.declared.CountsAnswer.{CountsAnswer}
 use Rattle.rules.specs.declared.LoadAnswer.{LoadAnswer}
 use Rattle.rules.specs.declared.GreaterAnswer.{GreaterAnswer}
 use Rattle.rules.specs.declared.CompareAnswer.{CompareAnswer}
-use Rattle.rules.specs.Answers.{inverse-one, known, by_number, value_at, answer-one, counts-one, load_one, compare-one, greater-one}
+use Rattle.rules.specs.Answers.{by_number, value_at}
+use Rattle.rules.proofs.Answers.{inverse-one, known, answer-one, counts-one, load_one, compare-one, greater-one}
 use Rattle.rules.specs.Counts.{counts_call}
 use Rattle.rules.specs.World.{World, Given, After, world, leaving, answer_given, counts_given, load_given, compare_given, greater_given}
 use Rattle.rules.specs.TableCalls.{TableAfter}

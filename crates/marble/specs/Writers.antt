@@ -20,28 +20,30 @@ use Rattle.gc_writer.specs.declared.PieceFile.{PieceFile}
 use Rattle.gc_writer.proofs.write_piece.Reads as piece
 use Rattle.prune.proofs.prune_stores.Reads as labels
 use Rattle.history_theory.specs.History.{Call, called}
-use Rattle.power_cuts.specs.Runs.{run_of, run-made}
-use Rattle.power_cuts.specs.Jobs.{Job, file, empties, job_run, jobs_run, jobs_of, jobs-run}
+use Rattle.power_cuts.specs.Runs.{run_of}
+use Rattle.power_cuts.proofs.Runs.{run-made}
+use Rattle.power_cuts.specs.Jobs.{Job, file, empties, job_run, jobs_run, jobs_of}
+use Rattle.power_cuts.proofs.Jobs.{jobs-run}
 use Rattle.power_cuts.specs.Cuts.{Alike, CutAt, Survived}
-use Rattle.marble.specs.CallContracts.{Lent}
+use Rattle.marble.specs.CallContracts.{Lent, LentMut}
 use Rattle.marble.specs.Results.{Lived, reached}
 use Rattle.marble.specs.Lives.{life-survives}
 
 -- ---- the three contracts: of the run of its job each makes the first k stores
 -- `batch_file::write_file`: a batch's file
-pub write-file-contract : (κs : Lfts 3) (heap order batch : Lent) (start : ℕ) (begin : Cursor) (new : Label) (k rest : ℕ) (heap' order' : Lent)
+pub write-file-contract : (κs : Lfts 3) (heap order : LentMut) (batch : Lent) (start : ℕ) (begin : Cursor) (new : Label) (k rest : ℕ) (heap' order' : LentMut)
     → batch_file.Learnt κs (heap, (start, (order, (batch, (begin, (new, (k, tt))))))) rest (heap', (start, (order', (batch, (begin, (new, (k, tt)))))))
     ≡ Made k (job_run (file start new (settled (ops_in batch.now)))) heap.now heap'.now rest
 write-file-contract κs heap order batch start begin new k rest heap' order' = refl
 
 -- `gc_writer::write_piece`: a file that maintenance rewrites, its operations where their objects stand in the heap
-pub write-piece-contract : (κs : Lfts 4) (heap table places links : Lent) (f : PieceFile) (new : Label) (k rest : ℕ) (heap' : Lent)
+pub write-piece-contract : (κs : Lfts 4) (heap : LentMut) (table places links : Lent) (f : PieceFile) (new : Label) (k rest : ℕ) (heap' : LentMut)
     → piece.Learnt κs (heap, (table, (places, (links, (f, (new, (k, tt))))))) rest (heap', (table, (places, (links, (f, (new, (k, tt)))))))
     ≡ Made k (job_run (file f.start new (chain_ops f.first heap.now (table_ids table.now) places.now links.now))) heap.now heap'.now rest
 write-piece-contract κs heap table places links f new k rest heap' = refl
 
 -- `prune::prune_stores`, where it is due: it gives the records in the place of what is left
-pub prune-stores-contract : (κs : Lfts 1) (heap : Lent) (size : ℕ) (claims : Claims) (files : FileMap) (k : ℕ) (after : FileMap) (heap' : Lent)
+pub prune-stores-contract : (κs : Lfts 1) (heap : LentMut) (size : ℕ) (claims : Claims) (files : FileMap) (k : ℕ) (after : FileMap) (heap' : LentMut)
     → labels.Learnt κs (heap, (size, (claims, (files, (k, (true, tt)))))) after (heap', (size, (claims, (files, (k, (true, tt))))))
     ≡ ((after.records ≡ emptied_from claims 0 files.records) × (heap'.now ≡ made (take k (job_run (empties size claims files.records))) heap.now))
 prune-stores-contract κs heap size claims files k after heap' = refl

@@ -15,7 +15,8 @@ use Rattle.rules.specs.declared.Answer.TheVariants.{Done, Refused}
 use Rattle.rules.specs.declared.ReadAnswer.{ReadAnswer}
 use Rattle.rules.specs.declared.ReadAnswer.TheVariants.{Found, Deleted, NeverWritten, ReadRefused}
 use Rattle.rules.specs.declared.Refusal.TheVariants.{Limits}
-use Rattle.rules.specs.Answers.{known, read_values, load_values}
+use Rattle.rules.specs.Answers.{read_values, load_values}
+use Rattle.rules.proofs.Answers.{known}
 use Rattle.rules.specs.FileMap.{file_for}
 use Rattle.rules.specs.Layout.{Table, table_ids, table_locations, used_in, used_entries}
 use Rattle.rules.specs.Read.{object_tests, read_file, read_loaded, read_of, read_call}

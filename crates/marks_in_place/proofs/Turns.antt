@@ -1,12 +1,5 @@
--- The end of each of the two loops over a lent list: more than 256 records, of which none is looked at, or at most so many, of which all are.
-use mathlib.Core.Path.{◌≡◌, refl, sym, ap, ◌∙◌}
-use mathlib.Core.Bool.{Bool, true, false}
-use mathlib.Core.List.{List, [], ◌∷◌}
-use Prim.Native.Nat.{ℕ, zero, suc, ◌+◌, ◌≤◌}
-use native.Mathlib.Nat.{add-zero}
-use native.Mathlib.Omega.{arith}
-use lib.Dec.{ltb}
-use lib.ListN.{length, drop}
+-- The two loops over a lent list: how many records they look at, and what stands at their end: more than 256 records, of which none is looked at, or at most so many, of which all are.
+use Rattle.std.proofs.Common.{◌≡◌, refl, sym, ap, ◌∙◌, Bool, true, false, ltb, ltb-false, List, ◌∷◌, [], ℕ, ◌+◌, ◌≤◌, add-zero, arith, length, drop}
 use Rattle.rules.specs.Base.{any, pick}
 use Rattle.rules.specs.declared.Record.{Record}
 use Rattle.rules.specs.Refusal.{decide}
@@ -23,9 +16,10 @@ on-length {P} n long short = go (ltb 256 n) refl
     go true e = long e
     go false e = short e
 
-pub looked-le : (n : ℕ) → looked_at n ≤ n
+-- no more than there are, and at most 256
+pub looked-within : (n : ℕ) → (looked_at n ≤ n) × (looked_at n ≤ 256)
 unfolding looked_at
-looked-le n = on-length n (λ e. rw e (omega arith)) (λ e. rw e (omega arith))
+looked-within n = on-length n (λ e. rw e (omega arith, omega arith)) (λ e. rw e (omega arith, ltb-false 256 n e))
 
 none-looked : (n : ℕ) → ltb 256 n ≡ true → looked_at n ≡ 0
 unfolding looked_at
@@ -55,12 +49,3 @@ pub marked_all : (ys : List Record) → upto (looked_at (length ys)) ys ≡ (syn
 unfolding sync_call too_long decide
 marked_all ys =
     on-length (length ys) (λ long. rw (none-looked (length ys) long, long) refl) (λ short. rw short (upto-end (looked_at (length ys)) ys (all-looked (length ys) short)))
-
--- its length
-pub length-upto : (i : ℕ) (l : List Record) → length (upto i l) ≡ length l
-length-upto zero l = refl
-length-upto (suc i) [] = refl
-length-upto (suc i) (r ∷ l) = ap suc (length-upto i l)
-
-pub sync-length : (ys : List Record) → length (sync_call ys).records ≡ length ys
-sync-length ys = ap length (sym (marked_all ys)) ∙ length-upto (looked_at (length ys)) ys

@@ -6,7 +6,7 @@ use Rattle.std.proofs.lemmas.List.{length-map}
 use Rattle.rules.specs.declared.Record.{Record}
 use Rattle.rules.specs.declared.Slot.TheVariants.{Is, NoSlot}
 use Rattle.rules.specs.FileMap.{recorded, record_at, file_for}
-use Rattle.rules.specs.FileMapLaws.{file-at, file-none}
+use Rattle.rules.proofs.FileMapLaws.{file-at, file-none}
 use Rattle.file_lists.specs.Lists.{lsns_of, lsn_at}
 use Rattle.file_lists.specs.ListLaws.{file-for-lsns}
 

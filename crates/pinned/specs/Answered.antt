@@ -5,7 +5,7 @@ use Rattle.std.proofs.lemmas.Bool.{eqb-false}
 use Rattle.rules.specs.Base.{[]}
 use Rattle.theory.specs.Types.{Refusal, Answer, Done, Refused}
 use Rattle.rules.specs.Refusal.{number_of, after}
-use Rattle.rules.specs.Answers.{known}
+use Rattle.rules.proofs.Answers.{known}
 use Rattle.rules.specs.World.{World, Given, accepted, refused, After, unchanged}
 
 -- a refusal is not accepted

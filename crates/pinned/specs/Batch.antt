@@ -13,7 +13,7 @@ use Rattle.numbers.specs.declared.Number.{Number}
 use Rattle.numbers.specs.declared.Number.TheVariants.{Said, Malformed}
 use Rattle.rules.specs.Ops.{Content, put, delete, Op}
 use Rattle.rules.specs.Batch.{Parsed, malformed, parsed, put_operation, operation_at, Batch, not_as_above, operations, before, batch_from, batch_in}
-use Rattle.rules.specs.BatchLaws.{batch-end, batch-bad, batch-next}
+use Rattle.rules.proofs.BatchLaws.{batch-end, batch-bad, batch-next}
 use Rattle.pinned.specs.Parts.{front}
 
 -- "tag 0 (delete) or 1 (put); for a put its length in groups and the body"

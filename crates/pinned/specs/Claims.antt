@@ -4,14 +4,15 @@ use Rattle.std.specs.Prelude.{◌≡◌, refl, ◌<◌}
 use Rattle.std.proofs.Common.{ap, ◌∙◌, arith, leb-false}
 use Rattle.std.proofs.lemmas.Bool.{lt-leb, not-false}
 use Rattle.rules.specs.Base.{Bool, true, false, not, ◌||◌, List, [], ◌∷◌, ℕ, ◌+◌, ◌^◌, length, leb, ltb, pick}
-use Rattle.rules.specs.BaseLaws.{or-false, or-clear}
+use Rattle.rules.proofs.BaseLaws.{or-false, or-clear}
 use Rattle.theory.specs.Types.{Refusal, Answer, Done, Refused, Limits, Claim, Moved, Stopped}
-use Rattle.rules.specs.Refusal.{Test, ◌gives◌, decide, after, NoneHolds, decide-none, decide-first, decide-next, clear-when}
+use Rattle.rules.specs.Refusal.{Test, ◌gives◌, decide, after, NoneHolds}
+use Rattle.rules.proofs.RefusalLaws.{decide-none, decide-first, decide-next, clear-when}
 use Rattle.rules.specs.FileMap.{is_empty, record_at}
 use Rattle.rules.specs.Condition1.{refused1, out_of_range}
-use Rattle.rules.specs.Condition1Laws.{passed}
+use Rattle.rules.proofs.Condition1Laws.{passed}
 use Rattle.rules.specs.Claims.{no_claims, is_claimed, claim_set, claim_cleared, with_claims, not_a_file, claim_call, release_call}
-use Rattle.rules.specs.ClaimLaws.{claimed-set, claimed-set-other, claimed-cleared, claimed-cleared-other}
+use Rattle.rules.proofs.ClaimLaws.{claimed-set, claimed-set-other, claimed-cleared, claimed-cleared-other}
 use Rattle.rules.specs.Ops.{Op, settled}
 use Rattle.rules.specs.Batch.{batch_in, ops_of}
 use Rattle.rules.specs.Install.{installed, installed_all}

@@ -3,9 +3,9 @@ use Rattle.std.specs.Prelude.{◌≡◌, refl}
 use Rattle.std.proofs.Common.{ap, ◌∙◌, arith}
 use Rattle.rules.specs.Base.{Bool, true, false, not, List, [], ◌∷◌, ℕ, ◌+◌, length, pick, keep, sum}
 use Rattle.theory.specs.Types.{Record, Limits}
-use Rattle.rules.specs.Refusal.{decide-none, decide-first, decide-next}
+use Rattle.rules.proofs.RefusalLaws.{decide-none, decide-first, decide-next}
 use Rattle.rules.specs.FileMap.{empty_record, is_empty, file_count}
-use Rattle.rules.specs.FileMapLaws.{empty-is}
+use Rattle.rules.proofs.FileMapLaws.{empty-is}
 use Rattle.rules.specs.Condition1.{refused1}
 use Rattle.rules.specs.Counts.{counts_of, counts_call}
 use Rattle.rules.specs.World.{World, records_of, accepted, refused}

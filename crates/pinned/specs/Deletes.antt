@@ -6,19 +6,25 @@ use Rattle.theory.specs.Types.{Held, Mapped, Unmapped, ReadAnswer, Deleted, Neve
 use Rattle.rules.specs.BaseLaws.{All}
 use Rattle.rules.specs.Ops.{put, delete, Op}
 use Rattle.rules.specs.Batch.{batch_in, ops_of}
-use Rattle.rules.specs.SettledLaws.{Last, silent, last, or_earlier, said_by, said-other, last_on}
+use Rattle.rules.specs.SettledLaws.{Last, silent, last, or_earlier, said_by, last_on}
+use Rattle.rules.proofs.SettledLaws.{said-other}
 use Rattle.rules.specs.Table.{lookup}
 use Rattle.rules.specs.Read.{read_of}
 use Rattle.rules.specs.Reopen.{reopen_call}
 use Rattle.rules.specs.Write.{write_call}
 use Rattle.rules.specs.World.{World, mappings, accepted}
-use Rattle.theory.specs.SoundWorld.{sound-fine}
+use Rattle.theory.proofs.SoundWorld.{sound-fine}
 use Rattle.history_theory.specs.Writing.{engine}
-use Rattle.history_theory.specs.Reading.{Reads, sound-read}
-use Rattle.theory.specs.Reopened.{Mentioned, reopened-means}
-use Rattle.history_theory.specs.History.{Call, called, hears, Life, lived, Starts, sound-called, sound-lived}
-use Rattle.history_theory.specs.Writes.{deleted, got, left_by, Unheard, lived-write, reads-stay}
-use Rattle.history_theory.specs.Clean.{Clean, resumed, clean-starts}
+use Rattle.history_theory.specs.Reading.{Reads}
+use Rattle.history_theory.proofs.Reading.{sound-read}
+use Rattle.theory.specs.Reopened.{Mentioned}
+use Rattle.theory.proofs.Reopened.{reopened-means}
+use Rattle.history_theory.specs.History.{Call, called, hears, Life, lived, Starts}
+use Rattle.history_theory.proofs.History.{sound-called, sound-lived}
+use Rattle.history_theory.specs.Writes.{deleted, got, left_by, Unheard}
+use Rattle.history_theory.proofs.Writes.{lived-write, reads-stay}
+use Rattle.history_theory.specs.Clean.{Clean, resumed}
+use Rattle.history_theory.proofs.Clean.{clean-starts}
 use Rattle.pinned.specs.Read.{never-exactly}
 
 -- ---- no operation on an id

@@ -4,7 +4,7 @@ use Rattle.std.specs.Prelude.{◌≡◌, refl, ◌⊎◌, ◌<◌}
 use Rattle.std.proofs.Common.{ap, ◌∙◌, append_assoc, inl, inr, arith, length-append, eq-eqb}
 use Rattle.std.proofs.lemmas.Bool.{eqb-false}
 use Rattle.rules.specs.Base.{Bool, true, false, List, ◌++◌, ℕ, ◌+◌, ◌-◌, length, drop, get_or, replicate, eqb, pick, zeros, padded}
-use Rattle.rules.specs.BaseLaws.{zero-or-more, zeros-is}
+use Rattle.rules.proofs.BaseLaws.{zero-or-more, zeros-is}
 use Rattle.theory.specs.Types.{Label, LabelAnswer, Vacant, Five, Wrong}
 use Rattle.numbers.specs.LittleEndian.{Bytes}
 use Rattle.numbers.specs.Groups.{groups_of, number_in, saying}
@@ -12,7 +12,8 @@ use Rattle.numbers.specs.GroupLaws.{groups-last, Stands, number-stands}
 use Rattle.numbers.specs.declared.Number.{Number}
 use Rattle.numbers.specs.declared.Number.TheVariants.{Said, Malformed}
 use Rattle.rules.specs.Label.{label_bytes, five_in, label_in}
-use Rattle.rules.specs.LabelLaws.{LabelFits, label-back}
+use Rattle.rules.specs.LabelLaws.{LabelFits}
+use Rattle.rules.proofs.LabelLaws.{label-back}
 use Rattle.pinned.specs.Parts.{front}
 
 -- the bytes are those of a label whose lsn is not 0, each number of at most 64 bits

@@ -6,12 +6,14 @@ use Rattle.theory.specs.Types.{Record}
 use Rattle.rules.specs.Ops.{Op, objects_of, file_bytes}
 use Rattle.rules.specs.FileMap.{record_at, empty_record}
 use Rattle.rules.specs.Install.{new_slot, new_label, new_record, losing, records_with, next_with, installed}
-use Rattle.rules.specs.InstallLaws.{losing-length, losing-label, losing-record}
+use Rattle.rules.proofs.InstallLaws.{losing-length, losing-label, losing-record}
 use Rattle.rules.specs.World.{World, records_of, mappings}
 -- "(0 and 0 with 1)"; "A refusal stops the call, keeps finished groups .. nothing is pruned": the world left is the one in which the refused group's turn came
-pub use Rattle.maintenance_theory.specs.Halting.{limits-unchanged, KeepsFinished, stopped-keeps}
+pub use Rattle.maintenance_theory.specs.Halting.{KeepsFinished}
+pub use Rattle.maintenance_theory.proofs.Halting.{limits-unchanged, stopped-keeps}
 -- which files are candidates, as facts
-pub use Rattle.rules.specs.MaintenanceLaws.{Candidate, candidate, is-candidate}
+pub use Rattle.rules.specs.MaintenanceLaws.{Candidate}
+pub use Rattle.rules.proofs.MaintenanceLaws.{candidate, is-candidate}
 
 -- the record of a file of these operations: all its entries live, and the mark "clear on writing"
 abbrev pub record_for : ℕ → ℕ → List Op → Record

@@ -5,7 +5,8 @@ use Rattle.std.proofs.Common.{ap, ◌∙◌, arith, length-append}
 use Rattle.rules.specs.Base.{List, ℕ, length}
 use Rattle.numbers.specs.LittleEndian.{Bytes}
 use Rattle.rules.specs.Object.{object_bytes, Stored, stored_at, bad_checksum}
-use Rattle.rules.specs.ObjectLaws.{object-length, stored_object, stored_back, stored-good}
+use Rattle.rules.specs.ObjectLaws.{stored_object}
+use Rattle.rules.proofs.ObjectLaws.{object-length, stored_back, stored-good}
 use Rattle.stored_object.specs.Begins.{Reads, Begins, reads-begins}
 
 begins-reads : (position : ℕ) (bytes : List ℕ) (id : ℕ) (body : List ℕ) → Begins bytes id body → Reads position bytes id body

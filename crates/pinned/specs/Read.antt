@@ -9,18 +9,20 @@ use Rattle.numbers.specs.LittleEndian.{Bytes}
 use Rattle.disk_location.specs.Locations.{position_of, delete_of}
 use Rattle.rules.specs.Base.{Bool, true, false, not, List, [], ◌∷◌, ◌++◌, ℕ, ◌+◌, ◌-◌, ◌*◌, ◌^◌, length, take, drop, ltb, eqb}
 use Rattle.theory.specs.Types.{Refusal, Answer, Done, Refused, ReadAnswer, Found, Deleted, NeverWritten, ReadRefused, Held, Mapped, Unmapped, Slot, Is, NoSlot, Limits, NotThere, CutShort, Checksum, OtherId}
-use Rattle.rules.specs.Refusal.{◌gives◌, decide, after, NoneHolds, decide-none, decide-first, decide-next, decide-clear, clear-when}
-use Rattle.rules.specs.PartLaws.{drop-take}
+use Rattle.rules.specs.Refusal.{◌gives◌, decide, after, NoneHolds}
+use Rattle.rules.proofs.RefusalLaws.{decide-none, decide-first, decide-next, decide-clear, clear-when}
+use Rattle.rules.proofs.PartLaws.{drop-take}
 use Rattle.rules.specs.Object.{object_bytes, Stored, stored_at, bad_checksum}
-use Rattle.rules.specs.ObjectLaws.{stored-position, stored-room, object-length}
+use Rattle.rules.proofs.ObjectLaws.{stored-position, stored-room, object-length}
 use Rattle.rules.specs.SlotFile.{bytes_of_slot, file_in}
-use Rattle.rules.specs.SlotLaws.{slot-length}
+use Rattle.rules.proofs.SlotLaws.{slot-length}
 use Rattle.rules.specs.Table.{lookup, loaded_of}
 use Rattle.rules.specs.FileMap.{record_at, file_for}
-use Rattle.rules.specs.FileMapLaws.{IsFile, file-at, file-is, file-none, not-empty}
-use Rattle.rules.specs.SettingsLaws.{slot-within}
+use Rattle.rules.specs.FileMapLaws.{IsFile}
+use Rattle.rules.proofs.FileMapLaws.{file-at, file-is, file-none, not-empty}
+use Rattle.rules.proofs.SettingsLaws.{slot-within}
 use Rattle.rules.specs.Condition1.{refused1}
-use Rattle.rules.specs.Condition1Laws.{passed}
+use Rattle.rules.proofs.Condition1Laws.{passed}
 use Rattle.rules.specs.Read.{object_tests, object_in, read_object, read_file, read_loaded, read_of, read_call}
 use Rattle.rules.specs.World.{World, records_of, mappings, unchanged}
 use Rattle.stored_object.specs.Begins.{Reads, Begins, part_bytes}

@@ -3,9 +3,11 @@ use Rattle.std.specs.Prelude.{◌≡◌, refl, ◌⊎◌, ◌≤◌}
 use Rattle.std.proofs.Common.{ap, inl, inr, arith, leb-true, leb-false}
 use Rattle.disk_location.specs.Locations.{masked_of}
 use Rattle.rules.specs.Base.{Bool, true, false, List, [], ◌∷◌, ◌++◌, ℕ, ◌+◌, length, replicate, leb, pick, greatest}
-use Rattle.rules.specs.BaseLaws.{All, all_map}
+use Rattle.rules.specs.BaseLaws.{All}
+use Rattle.rules.proofs.BaseLaws.{all_map}
 use Rattle.theory.specs.Types.{Refusal, Answer, Done, Refused, Limits}
-use Rattle.rules.specs.Refusal.{decide, after, decide-none, decide-first, decide-next}
+use Rattle.rules.specs.Refusal.{decide, after}
+use Rattle.rules.proofs.RefusalLaws.{decide-none, decide-first, decide-next}
 use Rattle.rules.specs.SlotFile.{File, View, views_in}
 use Rattle.rules.specs.FileMap.{empty_record, no_files}
 use Rattle.rules.specs.Claims.{no_claims}
@@ -13,7 +15,7 @@ use Rattle.rules.specs.Condition1.{out_of_range}
 use Rattle.rules.specs.Reopen.{files_in, reopen_tests, next_after, given_up, opened, reopen_call}
 use Rattle.rules.specs.World.{World, slots_of, refused, accepted, unchanged}
 -- "Each id maps to its entry of greatest masked position"
-pub use Rattle.theory.specs.Newest.{newest-latest}
+pub use Rattle.theory.proofs.Newest.{newest-latest}
 
 -- the greatest that some file has
 pub record Greatest (f : File → ℕ) (files : List File) (n : ℕ) : Type 0 where

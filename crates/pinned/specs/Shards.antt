@@ -4,9 +4,10 @@ use Rattle.std.specs.Prelude.{◌≡◌, refl, ◌⊎◌, ◌≤◌, ◌<◌}
 use Rattle.std.proofs.Common.{sym, ap, ◌∙◌, inl, inr, arith, length-set, get_or-set_same, get_or-set_other, ltb-true, ltb-false}
 use Rattle.std.proofs.lemmas.List.{length-replicate}
 use Rattle.rules.specs.Base.{Bool, true, false, List, [], ◌∷◌, ◌++◌, map, ℕ, suc, ◌+◌, length, get_or, set, replicate, ltb, pick, keep, sum}
-use Rattle.rules.specs.BaseLaws.{All, all_append, same?, replicate-at}
+use Rattle.rules.specs.BaseLaws.{All}
+use Rattle.rules.proofs.BaseLaws.{all_append, same?, replicate-at}
 use Rattle.rules.specs.Ops.{Op, size_of, shard_for}
-use Rattle.rules.specs.OpsLaws.{shard-most}
+use Rattle.rules.proofs.OpsLaws.{shard-most}
 use Rattle.rules.specs.Maintenance.{Shard, no_entries, Split, cut_off, joining, split_from, has_entries, files_of}
 
 -- "an object adds 20 + length, a delete 0"

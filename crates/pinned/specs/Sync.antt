@@ -5,19 +5,20 @@ use Rattle.std.proofs.lemmas.List.{length-map}
 use Rattle.std.proofs.lemmas.Bool.{not-true}
 use Rattle.rules.specs.Base.{Bool, true, false, not, List, [], ◌∷◌, ℕ, ◌+◌, length, eqb, any, zeros, keep, sum, pick}
 use Rattle.disk_location.specs.Locations.{masked_of}
-use Rattle.rules.specs.BaseLaws.{and-true}
+use Rattle.rules.proofs.BaseLaws.{and-true}
 use Rattle.theory.specs.Types.{Record, Settings, Limits}
 use Rattle.rules.specs.Refusal.{decide}
 use Rattle.rules.specs.FileMap.{recorded, empty_label, is_empty, record_at}
 use Rattle.rules.specs.Layout.{Table}
 use Rattle.rules.specs.Condition1.{bad_record}
-use Rattle.rules.specs.Condition1Laws.{good-record}
+use Rattle.rules.proofs.Condition1Laws.{good-record}
 use Rattle.rules.specs.Sync.{is_unsynced, unsynced_in, too_long, unsynced_call, sync_call}
 use Rattle.rules.specs.World.{accepted, refused}
-use Rattle.theory.specs.Marks.{by-mark, marked-at, marked-label, marked-live, any-counted}
-use Rattle.history_theory.specs.Syncing.{sync-taken}
+use Rattle.theory.proofs.Marks.{by-mark, marked-at, marked-label, marked-live, any-counted}
+use Rattle.history_theory.proofs.Syncing.{sync-taken}
 -- what each call leaves of the marks
-pub use Rattle.history_theory.specs.MarksLeft.{Carried, Carries, write-carries, rewrite-carries, nightly-carries, prune-carries, reopen-marks, sync-marks, write-marks}
+pub use Rattle.history_theory.specs.MarksLeft.{Carried, Carries}
+pub use Rattle.history_theory.proofs.MarksLeft.{write-carries, rewrite-carries, nightly-carries, prune-carries, reopen-marks, sync-marks, write-marks}
 
 -- LAW: counted is exactly a file's record whose mark is clear; "an empty record has it clear and is never counted"
 pub unsynced-exactly : (r : Record) → is_unsynced r ≡ true → (is_empty r ≡ false) × (r.synced ≡ 0)

@@ -3,14 +3,16 @@ use Rattle.std.specs.Prelude.{◌≡◌, refl, ◌⊎◌, ◌≤◌, ◌<◌}
 use Rattle.std.proofs.Common.{sym, ap, ◌∙◌, inl, inr, arith, leb-true, leb-false, eq-eqb, ne_eqb, lt-ltb, le-ltb}
 use Rattle.std.proofs.lemmas.Bool.{not-false}
 use Rattle.rules.specs.Base.{Bool, true, false, ◌&&◌, ◌||◌, List, [], ◌∷◌, ℕ, length, leb, eqb, pick}
-use Rattle.rules.specs.BaseLaws.{and-true, and-holds, or-clear, same?}
+use Rattle.rules.proofs.BaseLaws.{and-true, and-holds, or-clear, same?}
 use Rattle.theory.specs.Types.{Entry, Held, Mapped, Unmapped, At, DeletedAt, Limits, TableRoom, NotThere, EqualLocation, Location}
-use Rattle.rules.specs.Refusal.{decide-none, decide-first, decide-next}
+use Rattle.rules.proofs.RefusalLaws.{decide-none, decide-first, decide-next}
 use Rattle.disk_location.specs.Locations.{delete_of}
 use Rattle.rules.specs.Table.{lookup, loaded_of, load, insert, unmapped, full}
-use Rattle.rules.specs.TableLaws.{Rising, mapped-one, mapped-not, lookup-insert-same, lookup-insert-other, rising-insert, lookup-has, has-lookup, insert-new, insert-old, full-when, full-mapped, full-room}
+use Rattle.rules.specs.TableLaws.{Rising}
+use Rattle.rules.proofs.TableLaws.{mapped-one, mapped-not, lookup-insert-same, lookup-insert-other, rising-insert, lookup-has, has-lookup, insert-new, insert-old, full-when, full-mapped, full-room}
 use Rattle.rules.specs.Layout.{Table, lengths_in_range, in_form, capacity_of, used_entries, laid_out}
-use Rattle.rules.specs.LayoutLaws.{lengths-in-range, range-lengths-in, laid-out-capacity, laid-out-even, Used, used-laid-out, form-laid-out, used-located, used-length, form-rising}
+use Rattle.rules.specs.LayoutLaws.{Used}
+use Rattle.rules.proofs.LayoutLaws.{lengths-in-range, range-lengths-in, laid-out-capacity, laid-out-even, used-laid-out, form-laid-out, used-located, used-length, form-rising}
 use Rattle.rules.specs.World.{accepted, refused, loaded_given}
 use Rattle.rules.specs.TableCalls.{TableAfter, not_form, same, with_stored, load_call, store_call, compare_call, greater_call}
 

@@ -8,10 +8,11 @@ use Rattle.theory.specs.Types.{Entry}
 use Rattle.numbers.specs.LittleEndian.{Bytes, le_bytes, le_value, le-length, le-round}
 use Rattle.checksum.specs.Checksum.{crc32}
 use Rattle.rules.specs.Refusal.{NoneHolds}
-use Rattle.rules.specs.PartLaws.{field}
-use Rattle.rules.specs.ObjectLaws.{crc-below}
+use Rattle.rules.proofs.PartLaws.{field}
+use Rattle.rules.proofs.ObjectLaws.{crc-below}
 use Rattle.rules.specs.Trailer.{entry_bytes, listed, count_in, trailer_tests, entries_from, entries_in}
-use Rattle.rules.specs.TrailerLaws.{Fits, entries-length, entries_next, entries-back}
+use Rattle.rules.specs.TrailerLaws.{Fits}
+use Rattle.rules.proofs.TrailerLaws.{entries-length, entries_next, entries-back}
 use Rattle.stored_object.specs.Begins.{number-bytes, cut}
 
 -- none of 9, 10, 11 holds, and these are the entries

@@ -5,11 +5,13 @@ use Rattle.std.proofs.Common.{sym, ◌∙◌, subst, inl, inr, ⊎_elim, arith, 
 use Rattle.std.proofs.lemmas.Bool.{lt-leb, eqb-false}
 use Rattle.numbers.specs.GroupLaws.{either_way}
 use Rattle.rules.specs.Base.{Bool, true, false, not, ◌&&◌, List, [], ◌∷◌, ◌++◌, ℕ, ◌^◌, length, take, leb, within, each}
-use Rattle.rules.specs.BaseLaws.{All, all_append, or-false, or-holds}
+use Rattle.rules.specs.BaseLaws.{All}
+use Rattle.rules.proofs.BaseLaws.{all_append, or-false, or-holds}
 use Rattle.theory.specs.Types.{Entry, Label, Refusal, Limits, Refused, Stopped, Generation}
 use Rattle.disk_location.specs.Locations.{masked_of}
-use Rattle.rules.specs.Answers.{known, answer-one}
-use Rattle.rules.specs.Refusal.{Test, ◌gives◌, decide, decide-none, decide-first, decide-next, after-refused, done-or-refused, number_of}
+use Rattle.rules.proofs.Answers.{known, answer-one}
+use Rattle.rules.specs.Refusal.{Test, ◌gives◌, decide, number_of}
+use Rattle.rules.proofs.RefusalLaws.{decide-none, decide-first, decide-next, after-refused, done-or-refused}
 use Rattle.rules.specs.Trailer.{trailer_tests}
 use Rattle.rules.specs.Ops.{Op}
 use Rattle.rules.specs.SlotFile.{trailer_part}
@@ -18,18 +20,21 @@ use Rattle.rules.specs.Claims.{is_claimed}
 use Rattle.rules.specs.FileMap.{is_empty, record_at, file_count}
 use Rattle.rules.specs.FileMapLaws.{Among}
 use Rattle.rules.specs.Condition1.{refused1}
-use Rattle.rules.specs.Condition1Laws.{passed}
+use Rattle.rules.proofs.Condition1Laws.{passed}
 use Rattle.rules.specs.Install.{room_tests, position_tests}
 use Rattle.rules.specs.Maintenance.{live_percent, new_generation, group, moved_tests, delete_tests, deletes_of, stored_objects, file_tests, slot_of, found, files_of, Course, source_tests, group_tests, rewrite_group}
-use Rattle.rules.specs.MaintenanceLaws.{WorthIt, group-added, group-kept}
+use Rattle.rules.specs.MaintenanceLaws.{WorthIt}
+use Rattle.rules.proofs.MaintenanceLaws.{group-added, group-kept}
 use Rattle.rules.specs.TwoCalls.{short, refused_noting, mark_of, count_of, planned_slots, plan_values, plan_call, rewrite_tests, rewrite_of, rewrite_call, nightly_call}
 use Rattle.rules.specs.World.{World, records_of, mappings, Given, accepted, refused, maintain_given, After, unchanged, leaving}
-use Rattle.maintenance_theory.specs.Groups.{in_group, group-has}
-use Rattle.maintenance_theory.specs.Stopping.{Stay, stay_all}
-use Rattle.maintenance_theory.specs.Rewrites.{answered_at, rewrite-picks}
+use Rattle.maintenance_theory.proofs.Groups.{in_group, group-has}
+use Rattle.maintenance_theory.specs.Stopping.{Stay}
+use Rattle.maintenance_theory.proofs.Stopping.{stay_all}
+use Rattle.maintenance_theory.specs.Rewrites.{answered_at}
+use Rattle.maintenance_theory.proofs.Rewrites.{rewrite-picks}
 -- a group stays while others are rewritten; the job is the old call
-pub use Rattle.maintenance_theory.specs.Persisting.{mark-above, group-persists}
-pub use Rattle.maintenance_theory.specs.AsBefore.{job-as-before, lived-job-as-before}
+pub use Rattle.maintenance_theory.proofs.Persisting.{mark-above, group-persists}
+pub use Rattle.maintenance_theory.proofs.AsBefore.{job-as-before, lived-job-as-before}
 
 -- ---- which files
 -- slot k's file is a candidate as document 01 says, with this file count, and of this new generation

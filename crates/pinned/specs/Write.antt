@@ -3,23 +3,27 @@ use Rattle.std.specs.Prelude.{◌≡◌, refl, ◌≤◌, ◌<◌}
 use Rattle.std.proofs.Common.{ap, ◌∙◌, zero-le, arith, leb-false, le-ltb}
 use Rattle.std.proofs.lemmas.Bool.{lt-leb}
 use Rattle.rules.specs.Base.{true, false, List, [], ◌∷◌, ℕ, suc, ◌+◌, ◌^◌, length, pick, any, keep, sum}
-use Rattle.rules.specs.BaseLaws.{All, all_map, any_false, any-clear, or-clear}
+use Rattle.rules.specs.BaseLaws.{All}
+use Rattle.rules.proofs.BaseLaws.{all_map, any_false, any-clear, or-clear}
 use Rattle.theory.specs.Types.{Entry, Held, Mapped, Unmapped, Limits, BatchBytes}
-use Rattle.rules.specs.Refusal.{decide, NoneHolds, none-append, decide-clear, decide-first, decide-next}
+use Rattle.rules.specs.Refusal.{decide, NoneHolds}
+use Rattle.rules.proofs.RefusalLaws.{none-append, decide-clear, decide-first, decide-next}
 use Rattle.rules.specs.Ops.{Content, put, delete, Op, is_delete, size_of, objects_of, entries_of, file_bytes, settled}
 use Rattle.disk_location.specs.Locations.{raw_of}
 use Rattle.rules.specs.OpsLaws.{RisingOps, ops-rise}
-use Rattle.rules.specs.SettledLaws.{settled-rising}
+use Rattle.rules.proofs.SettledLaws.{settled-rising}
 use Rattle.rules.specs.Batch.{not_as_above, operations, ops_of, batch_from, batch_in, too_large, any_too_large}
 use Rattle.rules.specs.Table.{lookup, insert, insert_all, unmapped}
-use Rattle.rules.specs.TableLaws.{Rising, rising-insert, lookup-insert-other, insert-new, insert-old}
+use Rattle.rules.specs.TableLaws.{Rising}
+use Rattle.rules.proofs.TableLaws.{rising-insert, lookup-insert-other, insert-new, insert-old}
 use Rattle.rules.specs.Layout.{capacity_of}
-use Rattle.rules.specs.LayoutLaws.{used-length, form-rising}
+use Rattle.rules.proofs.LayoutLaws.{used-length, form-rising}
 use Rattle.rules.specs.Condition1.{refused1}
-use Rattle.rules.specs.Condition1Laws.{passed}
+use Rattle.rules.proofs.Condition1Laws.{passed}
 use Rattle.rules.specs.Install.{installed_all, room_tests, empty_of, position_tests}
 use Rattle.rules.specs.Write.{new_files, too_many_ids, write_tests, written, write_call}
-use Rattle.rules.specs.WriteLaws.{Accepted, write-accepted}
+use Rattle.rules.specs.WriteLaws.{Accepted}
+use Rattle.rules.proofs.WriteLaws.{write-accepted}
 use Rattle.rules.specs.World.{World, mappings, accepted, unchanged}
 use Rattle.pinned.specs.Answered.{answered}
 

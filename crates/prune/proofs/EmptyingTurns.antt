@@ -11,7 +11,7 @@ use Rattle.numbers.specs.Choice.{pick}
 use Rattle.numbers.specs.LittleEndian.{le_bytes}
 use Rattle.rules.specs.declared.Record.{Record}
 use Rattle.rules.specs.declared.Claims.{Claims}
-use Rattle.rules.specs.TurnLaws.{left-next, left-none}
+use Rattle.rules.proofs.TurnLaws.{left-next, left-none}
 use Rattle.rules.specs.FileMap.{empty_record, is_empty, record_at, slots_where}
 use Rattle.rules.specs.Stores.{Store, made, stores_of}
 use Rattle.rules.specs.Prune.{is_dead, emptied_from}

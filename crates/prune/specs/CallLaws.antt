@@ -9,7 +9,7 @@ use Rattle.rules.specs.declared.Claims.{Claims}
 use Rattle.rules.specs.declared.Answer.TheVariants.{Refused, Done}
 use Rattle.rules.specs.declared.Refusal.TheVariants.{Limits}
 use Rattle.rules.specs.Refusal.{decide}
-use Rattle.rules.specs.Answers.{answer-one}
+use Rattle.rules.proofs.Answers.{answer-one}
 use Rattle.rules.specs.FileMap.{slots_where}
 use Rattle.rules.specs.Stores.{made}
 use Rattle.rules.specs.Condition1.{refused1}

@@ -7,7 +7,7 @@ use Rattle.rules.specs.declared.Record.{Record}
 use Rattle.rules.specs.declared.State.{State}
 use Rattle.rules.specs.FileMap.{is_empty, record_at}
 use Rattle.rules.specs.Layout.{Table}
-use Rattle.rules.specs.SettingsLaws.{slot-within}
+use Rattle.rules.proofs.SettingsLaws.{slot-within}
 use Rattle.rules.specs.Condition1Laws.{Passed}
 
 -- every file's label lies within the heap

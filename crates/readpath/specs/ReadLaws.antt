@@ -16,15 +16,16 @@ use Rattle.rules.specs.declared.Slot.TheVariants.{Is, NoSlot}
 use Rattle.rules.specs.declared.ReadAnswer.{ReadAnswer}
 use Rattle.rules.specs.declared.ReadAnswer.TheVariants.{Found, ReadRefused}
 use Rattle.disk_location.specs.Locations.{position_of}
-use Rattle.rules.specs.Refusal.{decide, after, NoneHolds, clear-when}
+use Rattle.rules.specs.Refusal.{decide, after, NoneHolds}
+use Rattle.rules.proofs.RefusalLaws.{clear-when}
 use Rattle.rules.specs.Claims.{no_claims}
 use Rattle.rules.specs.Object.{Stored, stored_at}
 use Rattle.rules.specs.SlotFile.{bytes_of_slot, file_in}
-use Rattle.rules.specs.PartLaws.{drop-take}
+use Rattle.rules.proofs.PartLaws.{drop-take}
 use Rattle.rules.specs.FileMap.{record_at, file_for}
 use Rattle.rules.specs.Table.{load}
 use Rattle.rules.specs.Layout.{Table}
-use Rattle.rules.specs.SettingsLaws.{slot-within}
+use Rattle.rules.proofs.SettingsLaws.{slot-within}
 use Rattle.rules.specs.Condition1.{refused1}
 use Rattle.rules.specs.Condition1Laws.{Passed}
 use Rattle.rules.specs.World.{World, world, records_of, mappings}

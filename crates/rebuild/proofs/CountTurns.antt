@@ -12,7 +12,7 @@ use lib.Seq.{take-suc, take_all}
 use Rattle.numbers.specs.GroupLaws.{either_way}
 use Rattle.rules.specs.Base.{larger, greatest}
 use Rattle.rules.specs.FileMap.{empty_label}
-use Rattle.rules.specs.TurnLaws.{left-next}
+use Rattle.rules.proofs.TurnLaws.{left-next}
 use Rattle.reopen_tests.specs.Labels.{label_at}
 use Rattle.rebuild.specs.Types.{Label}
 

@@ -7,12 +7,13 @@ use native.Mathlib.Omega.{arith}
 use lib.ListN.{length, get_or, take, drop, length-map, take-append-drop}
 use lib.Seq.{take_all}
 use Rattle.rules.specs.Base.{each}
-use Rattle.rules.specs.BaseLaws.{All, all_map, any_false, all_append, each_append}
-use Rattle.rules.specs.LabelLaws.{lsn-some}
+use Rattle.rules.specs.BaseLaws.{All}
+use Rattle.rules.proofs.BaseLaws.{all_map, any_false, all_append, each_append}
+use Rattle.rules.proofs.LabelLaws.{lsn-some}
 use Rattle.rules.specs.Layout.{Table}
 use Rattle.disk_location.specs.Locations.{masked_of, position_of}
 use Rattle.rules.specs.Trailer.{absolute, misplaced}
-use Rattle.rules.specs.TrailerLaws.{placed}
+use Rattle.rules.proofs.TrailerLaws.{placed}
 use Rattle.rules.specs.SlotFile.{View, empty, damaged, holds, trailer_entries, view_in}
 use Rattle.rules.specs.Reopen.{file_of, files_in}
 use Rattle.rules.specs.Table.{no_entry}

@@ -8,14 +8,14 @@ use Rattle.std.proofs.Math.ListN.{length-append, get_or-eq_default}
 use Rattle.std.proofs.Math.Seq.{take-suc}
 use Rattle.numbers.specs.GroupLaws.{either_way}
 use Rattle.rules.specs.Base.{Bool, true, false, List, [], ◌∷◌, ◌++◌, map, ℕ, zero, suc, ◌+◌, ◌-◌, ◌*◌, length, get_or, set, take, replicate, pick, any, keep}
-use Rattle.rules.specs.BaseLaws.{or-false, order, replicate-at, within-true}
+use Rattle.rules.proofs.BaseLaws.{or-false, order, replicate-at, within-true}
 use Rattle.rules.specs.declared.Slot.{Slot}
 use Rattle.rules.specs.declared.Slot.TheVariants.{Is, NoSlot}
 use Rattle.disk_location.specs.LocationLaws.{masked-pos}
 use Rattle.rules.specs.FileMap.{empty_label, recorded, empty_record}
 use Rattle.rules.specs.Table.{no_entry}
 use Rattle.rules.specs.SlotFile.{View, bytes_of_slot, views_in}
-use Rattle.rules.specs.SlotLaws.{views-length}
+use Rattle.rules.proofs.SlotLaws.{views-length}
 use Rattle.rules.specs.Reopen.{in_range, masked_position, mapped_into}
 use Rattle.file_lists.specs.Lists.{lsn_at}
 use Rattle.reopen_tests.specs.Labels.{no_file, label_at, label_of, labels_of, clash, overlaps}

@@ -4,18 +4,21 @@ use Rattle.std.proofs.Common.{ap, ap₂, ◌∙◌, arith}
 use Rattle.std.specs.Prelude.{◌≤◌, ◌<◌}
 use borrow.Author.Tests.{le-leb, lt-leb, leb-true, leb-false}
 use Rattle.rules.specs.Base.{Bool, true, false, List, [], ◌∷◌, ◌++◌, map, ℕ, ◌+◌, ◌^◌, length, replicate, leb, pick}
-use Rattle.rules.specs.BaseLaws.{All, and-true}
+use Rattle.rules.specs.BaseLaws.{All}
+use Rattle.rules.proofs.BaseLaws.{and-true}
 use Rattle.rules.specs.Table.{lookup, insert, unmapped, full}
 use Rattle.rules.specs.TableCalls.{with_stored}
 use Rattle.rules.specs.Layout.{Table, capacity_of, used_entries, laid_out, cleared}
-use Rattle.rules.specs.LayoutLaws.{Used, laid-out-capacity, laid-out-length, used-laid-out, used-located, used-length}
+use Rattle.rules.specs.LayoutLaws.{Used}
+use Rattle.rules.proofs.LayoutLaws.{laid-out-capacity, laid-out-length, used-laid-out, used-located, used-length}
 use Rattle.disk_location.specs.Locations.{position_of, raw_of, delete_of}
 use Rattle.rules.specs.Trailer.{absolute}
 use Rattle.rules.specs.SlotFile.{File}
 use Rattle.rules.specs.Reopen.{latest, latest_from}
 use Rattle.location_table.specs.Tables.{Formed}
-use Rattle.rules.specs.TableLaws.{Rising, insert-new}
-use Rattle.rules.specs.ReopenLaws.{from-rising}
+use Rattle.rules.specs.TableLaws.{Rising}
+use Rattle.rules.proofs.TableLaws.{insert-new}
+use Rattle.rules.proofs.ReopenLaws.{from-rising}
 use Rattle.location_table.specs.EntryLaws.{insert-fits}
 use Rattle.location_table.specs.LayoutLaws.{used-rising, laid_out_lem, laid-out-formed}
 pub use Rattle.rebuild.specs.Latest.{replaces}

@@ -2,13 +2,15 @@
 use Rattle.std.specs.Prelude.{◌≡◌, refl, ◌⊎◌, ◌≤◌, ◌<◌}
 use Rattle.std.proofs.Common.{sym, ap, ◌∙◌, true≢false, inl, inr, zero-le, suc-le-suc, arith}
 use Rattle.rules.specs.Base.{Bool, true, false, List, [], ◌∷◌, ◌++◌, ℕ, suc, length, ltb, pick}
-use Rattle.rules.specs.BaseLaws.{All, order}
+use Rattle.rules.specs.BaseLaws.{All}
+use Rattle.rules.proofs.BaseLaws.{order}
 use Rattle.rules.specs.Table.{lookup, insert}
 use Rattle.disk_location.specs.Locations.{masked_of, position_of}
 use Rattle.rules.specs.Reopen.{latest, latest_from}
-use Rattle.rules.specs.TableLaws.{Rising, rise, lookup-here, lookup-next, lookup-below, insert-next, insert-here, insert-before}
+use Rattle.rules.specs.TableLaws.{Rising, rise}
+use Rattle.rules.proofs.TableLaws.{lookup-here, lookup-next, lookup-below, insert-next, insert-here, insert-before}
 use Rattle.rules.specs.LayoutLaws.{Used}
-use Rattle.rules.specs.ReopenLaws.{latest-next, latest-here, latest-before, latest-rising}
+use Rattle.rules.proofs.ReopenLaws.{latest-next, latest-here, latest-before, latest-rising}
 use Rattle.location_table.specs.EntryLaws.{used-insert}
 use Rattle.rebuild.specs.Types.{Entry, Held, Mapped, Unmapped}
 

@@ -7,7 +7,8 @@ use Prim.Native.Nat.{◌≤◌, ◌<◌, zero-le}
 use Rattle.std.proofs.lemmas.Bool.{lt-leb}
 use Rattle.numbers.specs.GroupLaws.{either_way}
 use Rattle.rules.specs.Base.{List, [], ◌∷◌, ◌++◌, map, ℕ, zero, suc, ◌+◌, ◌-◌, ◌^◌, length, replicate, pick, each, larger, greatest}
-use Rattle.rules.specs.BaseLaws.{All, all_map}
+use Rattle.rules.specs.BaseLaws.{All}
+use Rattle.rules.proofs.BaseLaws.{all_map}
 use Rattle.rules.specs.FileMap.{empty_label, recorded, empty_record}
 use Rattle.disk_location.specs.Locations.{masked_of}
 use Rattle.rules.specs.SlotFile.{File, View, empty, damaged, holds}

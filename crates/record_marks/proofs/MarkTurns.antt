@@ -11,7 +11,7 @@ use Rattle.rules.specs.Base.{any, pick}
 use Rattle.rules.specs.declared.Record.{Record}
 use Rattle.rules.specs.FileMap.{empty_record}
 use Rattle.rules.specs.Sync.{is_unsynced, unsynced_in, marked, marked_all}
-use Rattle.rules.specs.TurnLaws.{left-next, sum-next, sum-end, any-end}
+use Rattle.rules.proofs.TurnLaws.{left-next, sum-next, sum-end, any-end}
 
 -- ---- counting: so many of the first i records, so many of the rest
 abbrev pub one : Record → ℕ

@@ -5,7 +5,8 @@ use Rattle.std.proofs.Common.{◌∙◌, append_assoc, zero-le, arith, le-ltb, l
 use Rattle.std.proofs.Math.Nat.{sub-zero}
 use Rattle.std.proofs.lemmas.List.{length-replicate}
 use Rattle.rules.specs.Base.{true, false, List, [], ◌∷◌, ◌++◌, ℕ, zero, suc, ◌*◌, ◌/◌, ◌%◌, length, replicate, leb, ltb, any, each, padded}
-use Rattle.rules.specs.Refusal.{Test, ◌gives◌, NoneHolds, decide, after, clear-when, none_rest, decide-early, decide-late, decide-first, decide-next, decide-none, after-refused, after-done}
+use Rattle.rules.specs.Refusal.{Test, ◌gives◌, NoneHolds, decide, after}
+use Rattle.rules.proofs.RefusalLaws.{clear-when, none_rest, decide-early, decide-late, decide-first, decide-next, decide-none, after-refused, after-done}
 use Rattle.rules.specs.Claims.{no_claims}
 use Rattle.rules.specs.Condition1.{out_of_range}
 use Rattle.rules.specs.Layout.{Table, alternating, capacity_of, used_entries, laid_out, cleared}
@@ -15,7 +16,7 @@ use Rattle.rules.specs.World.{World, world, After}
 use Rattle.file_map.specs.Records.{state_by}
 use Rattle.location_table.specs.Tables.{Formed}
 use Rattle.rules.specs.TableLaws.{rise-end}
-use Rattle.rules.specs.LayoutLaws.{used-laid-out}
+use Rattle.rules.proofs.LayoutLaws.{used-laid-out}
 use Rattle.location_table.specs.LayoutLaws.{laid-out-formed}
 use Rattle.reopen_tests.specs.Ascending.{file_falls}
 use Rattle.reopen_tests.specs.Labels.{overlaps}

@@ -2,7 +2,7 @@
 use Rattle.std.specs.Prelude.{◌≡◌}
 use Rattle.std.proofs.Common.{sym, ap, ◌∙◌}
 use Rattle.rules.specs.Base.{List, ℕ}
-use Rattle.rules.specs.Answers.{answer-one}
+use Rattle.rules.proofs.Answers.{answer-one}
 use Rattle.rules.specs.Layout.{Table}
 use Rattle.rules.specs.Reopen.{reopen_call}
 use Rattle.rules.specs.World.{World, After}

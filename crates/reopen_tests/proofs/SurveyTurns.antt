@@ -7,17 +7,18 @@ use native.Mathlib.Numerals.{add-one}
 use lib.ListN.{length, get_or, set, take, drop, replicate, length-map, drop_of_length-le}
 use lib.Seq.{take-suc, set_at, append_snoc, length-take-le, take_all}
 use Rattle.rules.specs.Base.{each}
-use Rattle.rules.specs.Refusal.{decide, decide-none, decide-early, decide-late}
+use Rattle.rules.specs.Refusal.{decide}
+use Rattle.rules.proofs.RefusalLaws.{decide-none, decide-early, decide-late}
 use Rattle.rules.specs.FileMap.{empty_label}
 use Rattle.rules.specs.SlotFile.{View, empty, damaged, holds, bytes_of_slot, view_in, views_in}
-use Rattle.rules.specs.SlotLaws.{views-at}
+use Rattle.rules.proofs.SlotLaws.{views-at}
 use Rattle.reopen_tests.specs.declared.Labels.{Labels}
 use Rattle.slot_file.specs.declared.SlotAnswer.{SlotAnswer}
 use Rattle.rules.specs.Reopen.{view_tests}
 use Rattle.slot_file.specs.Slots.{shown_by}
 use Rattle.reopen_tests.specs.Types.{Label, Refusal, Done, Refused}
 use Rattle.reopen_tests.specs.Labels.{no_labels, refusal_shown, label_shown, label_of, labels_of, survey_by, surveyed}
-use Rattle.rules.specs.TurnLaws.{left-next}
+use Rattle.rules.proofs.TurnLaws.{left-next}
 
 -- what a slot answers is what its view says
 pub refusal-shown : (v : View) → refusal_shown (shown_by v) ≡ decide (view_tests v)

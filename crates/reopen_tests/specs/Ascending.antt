@@ -2,7 +2,8 @@
 use Rattle.std.specs.Prelude.{◌≡◌, refl, ◌<◌}
 use Rattle.std.proofs.Common.{arith, ltb-true, ne_eqb}
 use Rattle.rules.specs.Base.{Bool, true, false, ◌&&◌, List, [], ◌∷◌, ℕ, leb, ltb, eqb, any}
-use Rattle.rules.specs.BaseLaws.{and-true, or-clear, All, all_map, any-clear}
+use Rattle.rules.specs.BaseLaws.{All}
+use Rattle.rules.proofs.BaseLaws.{and-true, or-clear, all_map, any-clear}
 use Rattle.reopen_tests.specs.Types.{Entry}
 use Rattle.rules.specs.SlotFile.{File}
 use Rattle.disk_location.specs.Locations.{position_of}

@@ -4,13 +4,15 @@ use Rattle.std.proofs.Common.{sym, ap, ◌∙◌, subst, true≢false, inl, inr,
 use Rattle.rules.specs.Base.{true, false, List, [], ◌∷◌, ◌++◌, map, ℕ, zero, suc, ◌+◌, ◌*◌, length, get_or, take, drop, any, each}
 use Rattle.rules.specs.BaseLaws.{All}
 use Rattle.reopen_tests.specs.Types.{Label, Refusal, Answer, Done, Refused, LabelAnswer, Vacant, Five, Wrong}
-use Rattle.rules.specs.Refusal.{decide, NoneHolds, clear-when, decide-clear, none_first, none_rest}
+use Rattle.rules.specs.Refusal.{decide, NoneHolds}
+use Rattle.rules.proofs.RefusalLaws.{clear-when, decide-clear, none_first, none_rest}
 use Rattle.rules.specs.Trailer.{count_in, trailer_tests, misplaced}
 use Rattle.rules.specs.Label.{label_in}
-use Rattle.rules.specs.LabelLaws.{InBounds, in_bounds, lsn-some}
+use Rattle.rules.specs.LabelLaws.{InBounds}
+use Rattle.rules.proofs.LabelLaws.{in_bounds, lsn-some}
 use Rattle.rules.specs.FileMap.{empty_label}
 use Rattle.rules.specs.SlotFile.{File, View, empty, damaged, holds, bytes_of_slot, slot_tests, trailer_part, object_part, trailer_entries, view_by, view_in, views_in}
-use Rattle.rules.specs.SlotLaws.{views-length, views-at}
+use Rattle.rules.proofs.SlotLaws.{views-length, views-at}
 use Rattle.rules.specs.Reopen.{view_tests, file_of}
 use Rattle.trailer.specs.Entries.{clear-fits}
 use Rattle.reopen_tests.specs.Labels.{no_file, label_at, label_of, labels_of}

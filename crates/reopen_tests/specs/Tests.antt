@@ -3,7 +3,8 @@ use Rattle.std.specs.Prelude.{◌≡◌}
 use Rattle.std.proofs.Common.{sym, ap, ◌∙◌}
 use Rattle.rules.specs.Base.{true, false, List, [], ◌∷◌, ◌++◌, any, each}
 use Rattle.rules.specs.declared.Refusal.TheVariants.{Overlap, NotRising}
-use Rattle.rules.specs.Refusal.{Test, ◌gives◌, decide, decide-none, decide-early, decide-late, decide-first, decide-next}
+use Rattle.rules.specs.Refusal.{Test, ◌gives◌, decide}
+use Rattle.rules.proofs.RefusalLaws.{decide-none, decide-early, decide-late, decide-first, decide-next}
 use Rattle.rules.specs.SlotFile.{View}
 use Rattle.rules.specs.Reopen.{view_tests, files_in, overlapping}
 use Rattle.reopen_tests.specs.declared.Survey.{Survey}

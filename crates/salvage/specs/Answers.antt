@@ -4,8 +4,9 @@ use Rattle.std.proofs.Math.Path.{refl}
 use Rattle.std.proofs.Common.{sym, ap, ◌∙◌}
 use Rattle.rules.specs.Base.{true, false, List, [], ◌∷◌, ℕ, length, each}
 use Rattle.numbers.specs.Parts.{front}
-use Rattle.rules.specs.Answers.{inverse-one, known, by_number, value_at}
-use Rattle.rules.specs.Refusal.{decide-none, decide-first, decide-next}
+use Rattle.rules.specs.Answers.{by_number, value_at}
+use Rattle.rules.proofs.Answers.{inverse-one, known}
+use Rattle.rules.proofs.RefusalLaws.{decide-none, decide-first, decide-next}
 use Rattle.rules.specs.Layout.{Table}
 use Rattle.rules.specs.Condition1.{out_of_range}
 use Rattle.rules.specs.Stores.{made}

@@ -9,9 +9,9 @@ mod from_front;
 ghost use Rattle.std.specs.Prelude.{◌≡◌, ◌*◌, ◌<◌, ◌≤◌, length};
 ghost use Rattle.location_table.specs.Tables.{Formed};
 
-use libc::{STDIN_FILENO, STDOUT_FILENO};
 use location_table::{Place, capacity, formed, search, set_pair};
 use script::words::{Parsed, Word, next_word, number};
+use std::io;
 use std::num::wrapping_add_u64;
 
 // So many ids are sought in a round.
@@ -129,53 +129,52 @@ fn all_sought(table: &[u64], entries: u64) -> Beside
     b
 }
 
-fn say(word: &[u8], n: u64) {
-    io::write_all(STDOUT_FILENO, word);
-    io::print_decimal(STDOUT_FILENO, n);
+fn say(rt: &impl Print, word: &[u8], n: u64) -> io::Result<()> {
+    rt.write_all(word)?;
+    print!(rt; "{n}")
 }
 
-fn say_looks(word: &[u8], looks: Looks) {
-    say(word, looks.most);
-    say(b" at most, ", looks.all);
-    io::write_all(STDOUT_FILENO, b" in all");
+fn say_looks(rt: &impl Print, word: &[u8], looks: Looks) -> io::Result<()> {
+    say(rt, word, looks.most)?;
+    say(rt, b" at most, ", looks.all)?;
+    rt.write_all(b" in all")
 }
 
-fn say_beside(entries: u64, b: Beside) {
-    say(b"", entries);
+fn say_beside(rt: &impl Print, entries: u64, b: Beside) -> io::Result<()> {
+    say(rt, b"", entries)?;
     let halving = b.halving;
-    say_looks(b" entries, 1000 ids sought: by halving ", halving);
+    say_looks(rt, b" entries, 1000 ids sought: by halving ", halving)?;
     let front = b.front;
-    say_looks(b"; from the front ", front);
-    say(b"; answers that differ: ", b.apart);
-    io::write_all(STDOUT_FILENO, b"\n");
+    say_looks(rt, b"; from the front ", front)?;
+    say(rt, b"; answers that differ: ", b.apart)?;
+    rt.write_all(b"\n")
 }
 
-fn compare(table: &[u64], entries: u64)
+fn compare(rt: &impl Print, table: &[u64], entries: u64) -> io::Result<()>
     requires { entries ≤ 65536 }
 {
     if !formed(table) {
-        io::write_all(STDOUT_FILENO, b"not in form\n");
-        return;
+        return rt.write_all(b"not in form\n");
     }
-    say_beside(entries, all_sought(table, entries));
+    say_beside(rt, entries, all_sought(table, entries))
 }
 
-fn compare_in(words: &mut [u64], entries: usize)
+fn compare_in(rt: &impl Print, words: &mut [u64], entries: usize) -> io::Result<()>
     requires { (entries ≤ 65536) × (length words.old ≡ 131072) }
 {
     let end = 2 * entries;
     fill(&mut words[0..end]);
-    compare(&words[0..end], entries as u64);
+    compare(rt, &words[0..end], entries as u64)
 }
 
-fn all_sizes(words: &mut [u64])
+fn all_sizes(rt: &impl Print, words: &mut [u64]) -> io::Result<()>
     requires { length words.old ≡ 131072 }
 {
-    compare_in(words, 1000);
-    compare_in(words, 4096);
-    compare_in(words, 16384);
-    compare_in(words, 40000);
-    compare_in(words, 65536);
+    compare_in(rt, words, 1000)?;
+    compare_in(rt, words, 4096)?;
+    compare_in(rt, words, 16384)?;
+    compare_in(rt, words, 40000)?;
+    compare_in(rt, words, 65536)
 }
 
 // ---- one search alone, for a clock outside
@@ -214,15 +213,14 @@ fn rounds(table: &[u64], entries: u64, halving: bool, n: u64) -> u64
     all
 }
 
-fn run_rounds(table: &[u64], entries: u64, halving: bool, n: u64)
+fn run_rounds(rt: &impl Print, table: &[u64], entries: u64, halving: bool, n: u64) -> io::Result<()>
     requires { entries ≤ 65536 }
 {
     if !formed(table) {
-        io::write_all(STDOUT_FILENO, b"not in form\n");
-        return;
+        return rt.write_all(b"not in form\n");
     }
-    say(b"", rounds(table, entries, halving, n));
-    io::write_all(STDOUT_FILENO, b" places\n");
+    say(rt, b"", rounds(table, entries, halving, n))?;
+    rt.write_all(b" places\n")
 }
 
 // The number that a word says, 0 for none.
@@ -237,7 +235,7 @@ fn number_in(text: &[u8], w: Word) -> u64
     }
 }
 
-fn alone(words: &mut [u64], line: &[u8])
+fn alone(rt: &impl Print, words: &mut [u64], line: &[u8]) -> io::Result<()>
     requires { (length words.old ≡ 131072) × (0 < length line.now) }
 {
     let kind = next_word(line, 0);
@@ -245,25 +243,25 @@ fn alone(words: &mut [u64], line: &[u8])
     let times = next_word(line, size.end);
     let entries = number_in(line, size);
     if MOST_ENTRIES < entries {
-        return;
+        return Ok(());
     }
     let end = 2 * entries as usize;
     fill(&mut words[0..end]);
     run_rounds(
+        rt,
         &words[0..end],
         entries,
         line[0] == b'h',
         number_in(line, times),
-    );
+    )
 }
 
-fn main() {
+fn main(rt: HostRuntime) -> io::Result<()> {
     let mut words = table_words();
-    let mut line = io::buffer();
-    let n = io::read_full(STDIN_FILENO, &mut line);
+    let mut line = standard_input::buffer();
+    let n = standard_input::read_full(&rt, &mut line);
     if n == 0 {
-        all_sizes(&mut words);
-        return;
+        return all_sizes(&rt, &mut words);
     }
-    alone(&mut words, &line[..n]);
+    alone(&rt, &mut words, &line[..n])
 }

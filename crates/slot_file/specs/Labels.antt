@@ -2,7 +2,7 @@
 use Rattle.std.specs.Prelude.{◌≡◌, false, ℕ, ◌-◌, ◌≤◌}
 use Rattle.rules.specs.declared.Label.{Label}
 use Rattle.rules.specs.Label.{out_of_bounds}
-use Rattle.rules.specs.LabelLaws.{in_bounds}
+use Rattle.rules.proofs.LabelLaws.{in_bounds}
 
 -- within 8's bounds the file lies in its slot, and its object bytes in the file
 pub record Inside (bytes_of_slot : ℕ) (l : Label) : Type 0 where

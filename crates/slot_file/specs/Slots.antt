@@ -7,7 +7,8 @@ use Rattle.rules.specs.declared.Label.{Label}
 use Rattle.rules.specs.declared.Refusal.TheVariants.{EntryPosition, PresentCount}
 use Rattle.rules.specs.declared.Refusal.{Refusal}
 use Rattle.rules.specs.declared.Answer.TheVariants.{Done, Refused}
-use Rattle.rules.specs.Refusal.{Test, ◌gives◌, decide, decide-append, clear-when, decide-early}
+use Rattle.rules.specs.Refusal.{Test, ◌gives◌, decide}
+use Rattle.rules.proofs.RefusalLaws.{decide-append, clear-when, decide-early}
 use Rattle.numbers.specs.Choice.{pick}
 use Rattle.rules.specs.Trailer.{trailer_tests, entries_in, count_in, misplaced}
 use Rattle.rules.specs.SlotFile.{View, empty, damaged, holds, file_in}

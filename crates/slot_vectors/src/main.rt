@@ -7,84 +7,84 @@ ghost use Rattle.std.specs.Prelude.{◌≤◌, ◌<◌, length};
 use as_numbers::answers::refusal_number;
 use rules::{Entry, Label};
 use slot_file::SlotAnswer;
+use std::io;
 use stored_object::{BodyAnswer, Step};
 
-fn word(text: &[u8]) {
-    io::write_all(1, text);
+fn word(rt: &impl Print, text: &[u8]) -> io::Result<()> {
+    rt.write_all(text)
 }
 
-fn number(n: u64) {
-    io::write_all(1, b" ");
-    io::print_decimal(1, n);
+fn number(rt: &impl Print, n: u64) -> io::Result<()> {
+    print!(rt; " {n}")
 }
 
-fn end_line() {
-    io::write_all(1, b"\n");
+fn end_line(rt: &impl Print) -> io::Result<()> {
+    rt.write_all(b"\n")
 }
 
-fn show_label(l: Label) {
-    word(b"holds");
-    number(l.lsn);
-    number(l.trailer_offset);
-    number(l.file_size);
-    number(l.present_objects);
-    number(l.generation);
+fn show_label(rt: &impl Print, l: Label) -> io::Result<()> {
+    word(rt, b"holds")?;
+    number(rt, l.lsn)?;
+    number(rt, l.trailer_offset)?;
+    number(rt, l.file_size)?;
+    number(rt, l.present_objects)?;
+    number(rt, l.generation)
 }
 
-fn show_slot(slot: &[u8]) {
+fn show_slot(rt: &impl Print, slot: &[u8]) -> io::Result<()> {
     match slot_file::slot::check(slot) {
-        SlotAnswer::Empty => word(b"empty"),
+        SlotAnswer::Empty => word(rt, b"empty")?,
         SlotAnswer::Damaged(refusal) => {
-            word(b"damaged");
-            number(refusal_number(refusal));
+            word(rt, b"damaged")?;
+            number(rt, refusal_number(refusal))?;
         }
-        SlotAnswer::Holds(l) => show_label(l),
+        SlotAnswer::Holds(l) => show_label(rt, l)?,
     }
-    end_line();
+    end_line(rt)
 }
 
-fn show_body(file: &[u8], position: u64, id: u64) {
+fn show_body(rt: &impl Print, file: &[u8], position: u64, id: u64) -> io::Result<()> {
     match stored_object::object::read(file, position, id) {
         BodyAnswer::Body(start, size) => {
-            word(b"body");
-            number(start);
-            number(size);
+            word(rt, b"body")?;
+            number(rt, start)?;
+            number(rt, size)?;
         }
         BodyAnswer::Unread(refusal) => {
-            word(b"refused");
-            number(refusal_number(refusal));
+            word(rt, b"refused")?;
+            number(rt, refusal_number(refusal))?;
         }
     }
-    end_line();
+    end_line(rt)
 }
 
-fn show_step(objects: &[u8], position: u64) {
+fn show_step(rt: &impl Print, objects: &[u8], position: u64) -> io::Result<()> {
     match stored_object::object::step(objects, position) {
-        Step::End => word(b"end"),
-        Step::HeaderCut => word(b"cut"),
+        Step::End => word(rt, b"end")?,
+        Step::HeaderCut => word(rt, b"cut")?,
         Step::Here(h) => {
-            word(b"object");
-            number(h.id);
-            number(h.size);
-            number(h.room);
+            word(rt, b"object")?;
+            number(rt, h.id)?;
+            number(rt, h.size)?;
+            number(rt, h.room)?;
         }
     }
-    end_line();
+    end_line(rt)
 }
 
-fn show_byte(b: u8) {
-    io::print_hex(1, b as u64, 2);
+fn show_byte(rt: &impl Print, b: u8) -> io::Result<()> {
+    print!(rt; "{b:02x}")
 }
 
-fn show_bytes(slot: &[u8], n: usize)
+fn show_bytes(rt: &impl Print, slot: &[u8], n: usize) -> io::Result<()>
     requires { n ≤ length slot.now }
 {
     let mut i: usize = 0;
     while i < n {
-        show_byte(slot[i]);
+        show_byte(rt, slot[i])?;
         i += 1;
     }
-    end_line();
+    end_line(rt)
 }
 
 // The file of object 7 ("A") and of the delete of 9: 65 bytes behind the label, 129 stores.
@@ -109,10 +109,10 @@ fn p10() -> Label {
     file_map::labelled(4611686018427387905, 21, 65, 2, 0)
 }
 
-fn show_written(count: u64, raw: u64, l: Label) {
+fn show_written(rt: &impl Print, count: u64, raw: u64, l: Label) -> io::Result<()> {
     let mut heap = [0u8; 192];
     write_file(&mut heap, count, raw, l, 129);
-    show_slot(&heap);
+    show_slot(rt, &heap)
 }
 
 fn poke(heap: &mut [u8], at: usize, b: u8)
@@ -122,76 +122,76 @@ fn poke(heap: &mut [u8], at: usize, b: u8)
 }
 
 // A body's byte, one of the trailer, one behind the label's numbers, the label's first.
-fn changed_by_hand(heap: &mut [u8])
+fn changed_by_hand(rt: &impl Print, heap: &mut [u8]) -> io::Result<()>
     requires { 192 ≤ length heap.old }
 {
     poke(heap, 84, 66);
-    show_slot(heap);
-    show_body(&heap[64..129], 0, 7);
+    show_slot(rt, heap)?;
+    show_body(rt, &heap[64..129], 0, 7)?;
     poke(heap, 128, 1);
-    show_slot(heap);
+    show_slot(rt, heap)?;
     poke(heap, 63, 1);
-    show_slot(heap);
+    show_slot(rt, heap)?;
     poke(heap, 0, 0);
-    show_slot(heap);
+    show_slot(rt, heap)
 }
 
-fn show_objects(slot: &[u8])
+fn show_objects(rt: &impl Print, slot: &[u8]) -> io::Result<()>
     requires { 192 ≤ length slot.now }
 {
-    show_body(&slot[64..129], 0, 7);
-    show_body(&slot[64..129], 0, 8);
-    show_body(&slot[64..129], 21, 7);
-    show_body(&slot[64..129], 46, 7);
-    show_body(&slot[64..129], 18446744073709551615, 7);
-    show_step(&slot[64..85], 0);
-    show_step(&slot[64..85], 2);
-    show_step(&slot[64..85], 21);
+    show_body(rt, &slot[64..129], 0, 7)?;
+    show_body(rt, &slot[64..129], 0, 8)?;
+    show_body(rt, &slot[64..129], 21, 7)?;
+    show_body(rt, &slot[64..129], 46, 7)?;
+    show_body(rt, &slot[64..129], 18446744073709551615, 7)?;
+    show_step(rt, &slot[64..85], 0)?;
+    show_step(rt, &slot[64..85], 2)?;
+    show_step(rt, &slot[64..85], 21)
 }
 
 // The whole file, byte for byte, and its objects.
-fn whole() {
+fn whole(rt: &impl Print) -> io::Result<()> {
     let mut heap = [0u8; 192];
-    show_slot(&heap);
-    number(write_file(&mut heap, 2, 43, p10(), 200));
-    end_line();
-    show_slot(&heap);
-    show_bytes(&heap, 129);
-    show_objects(&heap);
-    changed_by_hand(&mut heap);
+    show_slot(rt, &heap)?;
+    number(rt, write_file(&mut heap, 2, 43, p10(), 200))?;
+    end_line(rt)?;
+    show_slot(rt, &heap)?;
+    show_bytes(rt, &heap, 129)?;
+    show_objects(rt, &heap)?;
+    changed_by_hand(rt, &mut heap)
 }
 
-fn wrong_numbers() {
+fn wrong_numbers(rt: &impl Print) -> io::Result<()> {
     let l = p10();
-    show_written(3, 43, l);
-    show_written(2, 45, l);
+    show_written(rt, 3, 43, l)?;
+    show_written(rt, 2, 45, l)?;
     let mut s = l;
     s.present_objects = 3;
-    show_written(2, 43, s);
+    show_written(rt, 2, 43, s)?;
     s = l;
     s.file_size = 40;
-    show_written(2, 43, s);
+    show_written(rt, 2, 43, s)?;
     s.file_size = 128;
-    show_written(2, 43, s);
+    show_written(rt, 2, 43, s)?;
     s.file_size = 129;
-    show_written(2, 43, s);
+    show_written(rt, 2, 43, s)?;
     s = l;
     s.trailer_offset = 66;
-    show_written(2, 43, s);
+    show_written(rt, 2, 43, s)?;
     s = l;
     s.lsn = 4611686018427387904;
-    show_written(2, 43, s);
+    show_written(rt, 2, 43, s)?;
     s.lsn = 9223372036854775809;
-    show_written(2, 43, s);
+    show_written(rt, 2, 43, s)?;
     s.lsn = 9223372036854775787;
-    show_written(2, 43, s);
+    show_written(rt, 2, 43, s)?;
     s.lsn = 9223372036854775786;
-    show_written(2, 43, s);
+    show_written(rt, 2, 43, s)?;
     s = l;
     s.generation = 255;
-    show_written(2, 43, s);
+    show_written(rt, 2, 43, s)?;
     s.generation = 256;
-    show_written(2, 43, s);
+    show_written(rt, 2, 43, s)
 }
 
 // 1 where the first k stores leave the slot empty.
@@ -208,41 +208,42 @@ fn empty_after(k: u64) -> u64
 }
 
 // Power pulled after each of the 129 stores.
-fn cut_off() {
+fn cut_off(rt: &impl Print) -> io::Result<()> {
     let mut n: u64 = 0;
     let mut k: u64 = 0;
     while k < 200 {
         n += empty_after(k);
         k += 1;
     }
-    word(b"empty after");
-    number(n);
-    end_line();
+    word(rt, b"empty after")?;
+    number(rt, n)?;
+    end_line(rt)
 }
 
 // Slots of 192 bytes, one behind the other.
-fn show_slots(slots: &[u8]) {
+fn show_slots(rt: &impl Print, slots: &[u8]) -> io::Result<()> {
     let n = slots.len() / 192;
     let mut k: usize = 0;
     while k < n {
         let at = k * 192;
         let end = at + 192;
-        show_slot(&slots[at..end]);
+        show_slot(rt, &slots[at..end])?;
         k += 1;
     }
+    Ok(())
 }
 
 // Files that the original wrote, damaged copies of each, and entries around T: tests/oracle/slots.py made them,
 // with the answers of its model.
-fn made_slots() {
-    let mut slots = io::large_buffer();
-    let n = io::read_full(0, &mut slots);
-    show_slots(&slots[..n]);
+fn made_slots(rt: &(impl Print + Input)) -> io::Result<()> {
+    let mut slots = standard_input::large_buffer();
+    let n = standard_input::read_full(rt, &mut slots);
+    show_slots(rt, &slots[..n])
 }
 
-fn main() {
-    whole();
-    wrong_numbers();
-    cut_off();
-    made_slots();
+fn main(rt: HostRuntime) -> io::Result<()> {
+    whole(&rt)?;
+    wrong_numbers(&rt)?;
+    cut_off(&rt)?;
+    made_slots(&rt)
 }

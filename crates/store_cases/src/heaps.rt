@@ -3,6 +3,7 @@ ghost use Rattle.std.specs.Prelude.{◌+◌, ◌≤◌, length};
 
 use crate::{host, show};
 use rules::{Entry, Label};
+use std::io;
 
 // A file as its label and trailer say: two entries stand there whatever the count.
 #[derive(Clone, Copy)]
@@ -29,15 +30,15 @@ fn put(heap: &mut [u8], start: usize, f: TwoEntries)
     slot_writer::label::put(heap, start, label_of(f.lsn), 1000);
 }
 
-fn show_made(f: TwoEntries) {
-    test_host::text(b"file");
-    test_host::number(f.lsn);
-    test_host::number(f.count);
-    test_host::number(f.first.id);
-    test_host::number(f.first.location);
-    test_host::number(f.second.id);
-    test_host::number(f.second.location);
-    test_host::text(b"\n");
+fn show_made(rt: &impl Print, f: TwoEntries) -> io::Result<()> {
+    test_host::text(rt, b"file")?;
+    test_host::number(rt, f.lsn)?;
+    test_host::number(rt, f.count)?;
+    test_host::number(rt, f.first.id)?;
+    test_host::number(rt, f.first.location)?;
+    test_host::number(rt, f.second.id)?;
+    test_host::number(rt, f.second.location)?;
+    test_host::text(rt, b"\n")
 }
 
 pub fn made(lsn: u64, count: u64, first: Entry, second: Entry) -> TwoEntries {
@@ -56,22 +57,24 @@ pub fn entry(id: u64, location: u64) -> Entry {
     }
 }
 
-pub fn one(f: TwoEntries) {
+pub fn one(rt: &impl Print, f: TwoEntries) -> io::Result<()> {
     let mut heap = [0u8; 512];
     let mut table = [0u64; 8];
-    show_made(f);
+    show_made(rt, f)?;
     put(&mut heap, 0, f);
-    host::reopen(&heap, &mut table);
+    host::reopen(rt, &heap, &mut table)?;
+    Ok(())
 }
 
 // The table's length is the caller's.
-pub fn two(f: TwoEntries, g: TwoEntries, table: &mut [u64]) {
+pub fn two(rt: &impl Print, f: TwoEntries, g: TwoEntries, table: &mut [u64]) -> io::Result<()> {
     let mut heap = [0u8; 512];
-    show_made(f);
-    show_made(g);
+    show_made(rt, f)?;
+    show_made(rt, g)?;
     put(&mut heap, 0, f);
     put(&mut heap, 256, g);
-    host::reopen(&heap, table);
+    host::reopen(rt, &heap, table)?;
+    Ok(())
 }
 
 fn raised(b: u8) -> u8 {
@@ -95,7 +98,7 @@ fn damage(heap: &mut [u8], at: usize, flip: bool) {
 }
 
 // Label and trailer of line P10 with one byte changed.
-pub fn damaged(at: usize, flip: bool) {
+pub fn damaged(rt: &impl Print, at: usize, flip: bool) -> io::Result<()> {
     let mut heap = [0u8; 512];
     let mut table = [0u64; 8];
     put(
@@ -106,5 +109,5 @@ pub fn damaged(at: usize, flip: bool) {
     damage(&mut heap, at, flip);
     let r = host::opened(&heap, &mut table);
     let answer = r.answer;
-    show::answer(answer);
+    show::answer(rt, answer)
 }

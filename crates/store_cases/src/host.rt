@@ -2,6 +2,7 @@
 use crate::show;
 use recovery::Reopened;
 use rules::{Settings, State};
+use std::io;
 use test_host::{no_claims, no_state};
 
 fn settings() -> Settings {
@@ -26,32 +27,38 @@ pub fn fresh(heap: &[u8], table: &mut [u64]) -> State {
     state
 }
 
-pub fn reopen(heap: &[u8], table: &mut [u64]) -> State {
+pub fn reopen(rt: &impl Print, heap: &[u8], table: &mut [u64]) -> io::Result<State> {
     let r = opened(heap, table);
     let answer = r.answer;
     let state = r.state;
-    test_host::text(b"reopen");
-    show::answer(answer);
-    test_host::store(state, heap, table);
-    state
+    test_host::text(rt, b"reopen")?;
+    show::answer(rt, answer)?;
+    test_host::store(rt, state, heap, table)?;
+    Ok(state)
 }
 
-pub fn write(state: State, heap: &mut [u8], table: &mut [u64], batch: &[u8]) -> State {
+pub fn write(
+    rt: &impl Print,
+    state: State,
+    heap: &mut [u8],
+    table: &mut [u64],
+    batch: &[u8],
+) -> io::Result<State> {
     let w = writepath::write(settings(), state, heap, table, batch);
     let answer = w.answer;
     let after = w.state;
-    test_host::text(b"write ");
-    show::bytes(batch);
-    show::answer(answer);
-    test_host::store(after, heap, table);
-    after
+    test_host::text(rt, b"write ")?;
+    show::bytes(rt, batch)?;
+    show::answer(rt, answer)?;
+    test_host::store(rt, after, heap, table)?;
+    Ok(after)
 }
 
-pub fn read(state: State, heap: &[u8], table: &[u64], id: u64) {
+pub fn read(rt: &impl Print, state: State, heap: &[u8], table: &[u64], id: u64) -> io::Result<()> {
     let answer = readpath::read_answer(settings(), state, heap, table, id);
     let body = readpath::read(settings(), state, heap, table, id);
-    test_host::text(b"read");
-    test_host::number(id);
-    show::read(answer, body);
-    test_host::text(b"\n");
+    test_host::text(rt, b"read")?;
+    test_host::number(rt, id)?;
+    show::read(rt, answer, body)?;
+    test_host::text(rt, b"\n")
 }

@@ -1,43 +1,43 @@
 // What a call answered.
-use libc::STDOUT_FILENO;
 use rules::{Answer, ReadAnswer};
+use std::io;
 use test_host::{refused, text};
 
-fn byte(b: u8) {
-    io::print_hex(STDOUT_FILENO, b as u64, 2);
+fn byte(rt: &impl Print, b: u8) -> io::Result<()> {
+    print!(rt; "{b:02x}")
 }
 
-fn hex(s: &[u8]) {
+fn hex(rt: &impl Print, s: &[u8]) -> io::Result<()> {
     let mut i: usize = 0;
     while i < s.len() {
-        byte(s[i]);
+        byte(rt, s[i])?;
         i += 1;
     }
+    Ok(())
 }
 
-pub fn bytes(s: &[u8]) {
+pub fn bytes(rt: &impl Print, s: &[u8]) -> io::Result<()> {
     if s.len() == 0 {
-        text(b"-");
-        return;
+        return text(rt, b"-");
     }
-    hex(s);
+    hex(rt, s)
 }
 
-pub fn answer(a: Answer) {
+pub fn answer(rt: &impl Print, a: Answer) -> io::Result<()> {
     match a {
-        Answer::Done => text(b" ok"),
-        Answer::Refused(r) => refused(r),
+        Answer::Done => text(rt, b" ok"),
+        Answer::Refused(r) => refused(rt, r),
     }
 }
 
-pub fn read(a: ReadAnswer, body: &[u8]) {
+pub fn read(rt: &impl Print, a: ReadAnswer, body: &[u8]) -> io::Result<()> {
     match a {
         ReadAnswer::Found(_, _) => {
-            text(b" ok ");
-            bytes(body);
+            text(rt, b" ok ")?;
+            bytes(rt, body)
         }
-        ReadAnswer::Deleted => text(b" deleted"),
-        ReadAnswer::NeverWritten => text(b" never"),
-        ReadAnswer::ReadRefused(r) => refused(r),
+        ReadAnswer::Deleted => text(rt, b" deleted"),
+        ReadAnswer::NeverWritten => text(rt, b" never"),
+        ReadAnswer::ReadRefused(r) => refused(rt, r),
     }
 }

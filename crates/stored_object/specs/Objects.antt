@@ -5,7 +5,7 @@ use Rattle.numbers.specs.Choice.{pick}
 use Rattle.rules.specs.Refusal.{decide, after}
 use Rattle.rules.specs.Object.{Stored, stored_at, objects_from, objects_in}
 use Rattle.rules.specs.Read.{object_tests}
-use Rattle.rules.specs.ObjectLaws.{stored-room, objects-enough, objects-next as objects-cons}
+use Rattle.rules.proofs.ObjectLaws.{stored-room, objects-enough, objects-next as objects-cons}
 use Rattle.stored_object.specs.declared.Header.{Header}
 use Rattle.stored_object.specs.declared.Step.{Step}
 use Rattle.stored_object.specs.declared.Step.TheVariants.{End, HeaderCut, Here}

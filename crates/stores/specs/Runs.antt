@@ -6,7 +6,7 @@ use Rattle.std.proofs.Math.Seq.{take-nil}
 use Rattle.std.proofs.lemmas.List.{drop-set-add, take-set-le}
 use Rattle.numbers.specs.Parts.{put_at}
 use Rattle.rules.specs.Stores.{Store, made, stores_of}
-use Rattle.rules.specs.StoreLaws.{made-append, made-run, stores-length, stores-take, made-length as run_length}
+use Rattle.rules.proofs.StoreLaws.{made-append, made-run, stores-length, stores-take, made-length as run_length}
 
 -- k stores may be made: those of a run are made, in its order, as far as k reaches; left is what of k is left
 pub record Made (k : ℕ) (run : List Store) (before after : List ℕ) (left : ℕ) : Type 0 where

@@ -5,7 +5,8 @@ use Rattle.rules.specs.Base.{Bool, false, List, [], ◌∷◌, ◌++◌}
 use Rattle.rules.specs.declared.Refusal.{Refusal}
 use Rattle.rules.specs.declared.Refusal.TheVariants.{Limits, Location}
 use Rattle.rules.specs.declared.Answer.TheVariants.{Done, Refused}
-use Rattle.rules.specs.Refusal.{Test, ◌gives◌, decide, after, NoneHolds, clear-when, decide-early, after-refused}
+use Rattle.rules.specs.Refusal.{Test, ◌gives◌, decide, after, NoneHolds}
+use Rattle.rules.proofs.RefusalLaws.{clear-when, decide-early, after-refused}
 use Rattle.rules.specs.Layout.{Table}
 use Rattle.rules.specs.TableCalls.{TableAfter, not_form}
 use Rattle.location_table.specs.Tables.{Formed}

@@ -3,8 +3,8 @@
 #![tactic(auto)]
 
 use as_numbers::answers::refusal_number;
-use libc::STDOUT_FILENO;
 use rules::{Claims, FileMap, RECORDS, Record, Refusal, Settings, State};
+use std::io;
 
 // What a host has before its first reopening.
 pub fn no_state(settings: Settings) -> State {
@@ -20,64 +20,65 @@ pub fn no_claims() -> Claims {
     }
 }
 
-pub fn text(s: &[u8]) {
-    io::write_all(STDOUT_FILENO, s);
+pub fn text(rt: &impl Print, s: &[u8]) -> io::Result<()> {
+    rt.write_all(s)
 }
 
-pub fn number(n: u64) {
-    text(b" ");
-    io::print_decimal(STDOUT_FILENO, n);
+pub fn number(rt: &impl Print, n: u64) -> io::Result<()> {
+    print!(rt; " {n}")
 }
 
-pub fn refused(r: Refusal) {
-    text(b" refused");
-    number(refusal_number(r));
+pub fn refused(rt: &impl Print, r: Refusal) -> io::Result<()> {
+    text(rt, b" refused")?;
+    number(rt, refusal_number(r))
 }
 
 // An empty record shows nothing.
-fn file(slot: u64, r: Record) {
+fn file(rt: &impl Print, slot: u64, r: Record) -> io::Result<()> {
     if file_map::is_empty(r) {
-        return;
+        return Ok(());
     }
-    text(b" file");
-    number(slot);
-    number(r.label.lsn);
-    number(r.label.trailer_offset);
-    number(r.label.file_size);
-    number(r.label.present_objects);
-    number(r.label.generation);
-    number(r.live);
-    number(r.synced);
+    text(rt, b" file")?;
+    number(rt, slot)?;
+    number(rt, r.label.lsn)?;
+    number(rt, r.label.trailer_offset)?;
+    number(rt, r.label.file_size)?;
+    number(rt, r.label.present_objects)?;
+    number(rt, r.label.generation)?;
+    number(rt, r.live)?;
+    number(rt, r.synced)
 }
 
-fn files(m: FileMap) {
+fn files(rt: &impl Print, m: FileMap) -> io::Result<()> {
     let mut slot: usize = 0;
     while slot < RECORDS {
-        file(slot as u64, m.records[slot]);
+        file(rt, slot as u64, m.records[slot])?;
         slot += 1;
     }
+    Ok(())
 }
 
 // Every second word, from the first or the next one on.
-fn every_second(table: &[u64], from: usize) {
+fn every_second(rt: &impl Print, table: &[u64], from: usize) -> io::Result<()> {
     let mut i = from;
     while i < table.len() {
-        number(table[i]);
+        number(rt, table[i])?;
         i += 2;
     }
+    Ok(())
 }
 
 // Next position, files, table, and the checksum of the whole heap.
-pub fn store(state: State, heap: &[u8], table: &[u64]) {
-    text(b" next");
-    number(state.next_position);
+pub fn store(rt: &impl Print, state: State, heap: &[u8], table: &[u64]) -> io::Result<()> {
+    text(rt, b" next")?;
+    number(rt, state.next_position)?;
     let m = state.files;
-    files(m);
-    text(b" ids");
-    every_second(table, 0);
-    text(b" locations");
-    every_second(table, 1);
-    text(b" heap");
-    number(checksum::sum(heap) as u64);
-    text(b"\n");
+    files(rt, m)?;
+    text(rt, b" ids")?;
+    every_second(rt, table, 0)?;
+    text(rt, b" locations")?;
+    every_second(rt, table, 1)?;
+    text(rt, b" heap")?;
+    number(rt, checksum::sum(heap) as u64)?;
+    text(rt, b"\n")
 }

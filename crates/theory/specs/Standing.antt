@@ -1,29 +1,23 @@
 -- W: a file that a call adds stands in the lowest empty slot as it was meant, and nothing else of the heap changes.
-use Rattle.std.specs.Prelude.{◌≡◌, ◌<◌}
-use Rattle.std.proofs.Common.{arith}
-use Rattle.rules.specs.Base.{false, List, [], ◌∷◌, ℕ, ◌*◌, ◌^◌, length, set, drop}
+use Rattle.std.specs.Prelude.{◌≡◌}
+use Rattle.rules.specs.Base.{false, List, [], ◌∷◌, ℕ, ◌*◌, length, set, drop}
 use Rattle.numbers.specs.Parts.{put_at}
 use Rattle.rules.specs.Refusal.{NoneHolds}
-use Rattle.rules.specs.SettingsLaws.{slot-within}
 use Rattle.rules.specs.Object.{stored_at}
 use Rattle.rules.specs.ObjectLaws.{stored_object}
 use Rattle.rules.specs.TrailerLaws.{WellPlaced}
 use Rattle.rules.specs.Ops.{put, Op, objects_of, entries_of, file_bytes}
-use Rattle.rules.specs.OpsLaws.{Stands, stands-entry, stands-inside, entries-of-placed}
+use Rattle.rules.specs.OpsLaws.{Stands}
 use Rattle.rules.specs.Batch.{any_too_large}
 use Rattle.rules.specs.SlotFile.{empty, holds}
 use Rattle.rules.specs.TableLaws.{Has}
-use Rattle.rules.specs.WrittenLaws.{slot_file, file_of_ops, slot-made, object-written, read-clear}
+use Rattle.rules.specs.WrittenLaws.{slot_file, file_of_ops}
 use Rattle.rules.specs.Read.{object_tests}
-use Rattle.rules.specs.Install.{new_slot, new_lsn, stores_for, installed}
+use Rattle.rules.specs.Install.{new_slot, new_lsn, installed}
 use Rattle.rules.specs.World.{World}
 use Rattle.theory.specs.Places.{view_at}
-use Rattle.theory.specs.Picture.{views_of, Said}
+use Rattle.theory.specs.Picture.{views_of}
 use Rattle.theory.specs.Sound.{SmallFile}
-use Rattle.theory.specs.Whole.{small-written}
-use Rattle.theory.specs.Told.{ids-fit}
-use Rattle.theory.specs.SoundWorld.{SoundWorld}
-use Rattle.theory.specs.Adding.{Fitting, free-slot, writable, views_after}
 
 -- the file of these operations, added to w: bit is the batch bit or 0, g the generation
 pub record Stood (bit g : ℕ) (w : World) (os : List Op) : Type 0 where
@@ -45,27 +39,3 @@ pub record Stood (bit g : ℕ) (w : World) (os : List Op) : Type 0 where
 abbrev pub AllStood : ℕ → ℕ → World → List (List Op) → Type 0
 AllStood bit g w [] = Unit {0}
 AllStood bit g w (f ∷ fs) = Stood bit g w f × AllStood bit g (installed bit g w f) fs
-
-module _ (w : World) (told : ℕ → Said) (s : SoundWorld w told) (bit g : ℕ) (os : List Op) (f : Fitting bit g w os) where
-  heap-after : (installed bit g w os).heap ≡ put_at w.heap (new_slot w * w.settings.slot_bytes) (slot_file (new_lsn bit w) g os)
-  unfolding installed stores_for
-  heap-after =
-      slot-made w.settings.slot_bytes w.heap (new_slot w) (new_lsn bit w) g os
-      (slot-within w.settings (length w.heap) (new_slot w) s.tidy.limits.heap (free-slot w told s f.free).0) (writable w told s bit g os f)
-
-  -- LAW: a file that fits stands so
-  pub fitting-stands : Stood bit g w os
-  fitting-stands = record {
-    free = (free-slot w told s f.free).1;
-    views = views_after w told s bit g os f;
-    heap = heap-after;
-    inside = entries-of-placed os;
-    objects = λ x body p h.
-        let a = stands-inside 0 os x (put body) p h in
-        let b = a.1 in
-        let c = f.positions in
-        let n : length body < 2 ^ 64 = omega arith in
-        let o = object-written os x body p h (ids-fit os f.ids 0 x _ (stands-entry 0 os x (put body) p h)) n in
-        (o.0, o.1, read-clear p x body o.0);
-    small = λ limit h. let c = f.positions in small-written limit (new_lsn bit w) g os f.ids (omega arith) h;
-  }

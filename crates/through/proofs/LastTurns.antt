@@ -5,7 +5,7 @@ use native.Mathlib.Omega.{arith}
 use Rattle.rules.specs.Base.{Bool, true, false, List, ℕ, zero, suc, ◌+◌, ◌-◌, length, pick}
 use Rattle.rules.specs.Ops.{Op}
 use Rattle.rules.specs.Batch.{malformed, parsed, operation_at, Batch, operations, not_as_above, before, batch_from, batch_in, is_malformed}
-use Rattle.rules.specs.BatchLaws.{batch-end, batch-bad, batch-next}
+use Rattle.rules.proofs.BatchLaws.{batch-end, batch-bad, batch-next}
 use Rattle.batch.specs.declared.Operation.{Operation}
 use Rattle.batch.specs.Reading.{op_in}
 use Rattle.through.specs.declared.LastOperation.{LastOperation}

@@ -18,7 +18,8 @@ use Rattle.rules.specs.declared.Slot.TheVariants.{Is, NoSlot}
 use Rattle.rules.specs.declared.ReadAnswer.{ReadAnswer}
 use Rattle.rules.specs.declared.ReadAnswer.TheVariants.{Found, Deleted, NeverWritten, ReadRefused}
 use Rattle.rules.specs.Refusal.{◌gives◌, decide, after}
-use Rattle.rules.specs.Answers.{inverse-one, known, by_number, value_at}
+use Rattle.rules.specs.Answers.{by_number, value_at}
+use Rattle.rules.proofs.Answers.{inverse-one, known}
 use Rattle.rules.specs.Claims.{no_claims}
 use Rattle.rules.specs.Ops.{Content, put, delete, Op}
 use Rattle.rules.specs.Object.{Stored, bad_checksum}

@@ -6,9 +6,10 @@ use Rattle.std.proofs.Math.ListN.{length-drop}
 use Rattle.numbers.specs.LittleEndian.{le_value}
 use Rattle.rules.specs.declared.Entry.{Entry}
 use Rattle.rules.specs.declared.Answer.TheVariants.{Done}
-use Rattle.rules.specs.Refusal.{decide, clear-when, NoneHolds}
+use Rattle.rules.specs.Refusal.{decide, NoneHolds}
+use Rattle.rules.proofs.RefusalLaws.{clear-when}
 use Rattle.rules.specs.Trailer.{count_in, trailer_tests, entries_from, entries_in}
-use Rattle.rules.specs.TrailerLaws.{entries_next}
+use Rattle.rules.proofs.TrailerLaws.{entries_next}
 use Rattle.rules.specs.Table.{no_entry}
 
 -- "id 8 and raw relative location 8"

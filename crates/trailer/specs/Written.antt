@@ -7,7 +7,7 @@ use Rattle.rules.specs.Base.{each}
 use Rattle.rules.specs.declared.Entry.{Entry}
 use Rattle.rules.specs.Trailer.{entry_bytes, listed, trailer_bytes}
 use Rattle.rules.specs.Stores.{stores_of}
-use Rattle.rules.specs.TurnLaws.{each_next}
+use Rattle.rules.proofs.TurnLaws.{each_next}
 use Rattle.rules.specs.Table.{no_entry}
 use Rattle.stores.specs.Runs.{Made, made-behind}
 

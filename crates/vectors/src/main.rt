@@ -2,6 +2,8 @@
 
 #![tactic(auto)]
 
-fn main() {
-    bench::run();
+use std::io;
+
+fn main(rt: HostRuntime) -> io::Result<()> {
+    bench::run(&rt)
 }

@@ -1,3 +1,2 @@
--- a life worked out, and a heap that another wrote
 pub mod Witness
 pub mod Foreign

@@ -8,17 +8,18 @@ use Rattle.rules.specs.declared.Refusal.{Refusal}
 use Rattle.rules.specs.declared.Refusal.TheVariants.{Limits, SlotRoom, NoEmptySlot, TableRoom, PositionsSpent}
 use Rattle.rules.specs.declared.Record.{Record}
 use Rattle.rules.specs.declared.Answer.TheVariants as answer
-use Rattle.rules.specs.Refusal.{Test, ◌gives◌, decide, NoneHolds, clear-when, decide-none, decide-first, decide-next, decide-early, decide-late}
+use Rattle.rules.specs.Refusal.{Test, ◌gives◌, decide, NoneHolds}
+use Rattle.rules.proofs.RefusalLaws.{clear-when, decide-none, decide-first, decide-next, decide-early, decide-late}
 use Rattle.rules.specs.Ops.{Op, objects_of, entries_of, file_bytes, settled}
-use Rattle.rules.specs.OpsLaws.{objects-nil, file-length}
+use Rattle.rules.proofs.OpsLaws.{objects-nil, file-length}
 use Rattle.rules.specs.Batch.{batch_in, ops_of}
 use Rattle.rules.specs.Layout.{capacity_of}
-use Rattle.rules.specs.LayoutLaws.{used-length}
+use Rattle.rules.proofs.LayoutLaws.{used-length}
 use Rattle.rules.specs.Table.{insert_all}
 use Rattle.rules.specs.FileMap.{empty_slots, lowest_empty}
-use Rattle.rules.specs.FileMapLaws.{lowest-empty}
+use Rattle.rules.proofs.FileMapLaws.{lowest-empty}
 use Rattle.rules.specs.Condition1.{refused1}
-use Rattle.rules.specs.Condition1Laws.{passed}
+use Rattle.rules.proofs.Condition1Laws.{passed}
 use Rattle.rules.specs.Install.{new_slot, empty_of, room_tests, position_tests}
 use Rattle.rules.specs.Write.{new_files, too_many_ids, write_tests}
 use Rattle.rules.specs.World.{World, records_of, slots_of, mappings}

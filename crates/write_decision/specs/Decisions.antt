@@ -6,7 +6,8 @@ use Rattle.rules.specs.declared.Refusal.TheVariants.{BatchBytes, ObjectSize}
 use Rattle.rules.specs.declared.Settings.{Settings}
 use Rattle.rules.specs.declared.State.{State}
 use Rattle.rules.specs.declared.Answer.TheVariants as answer
-use Rattle.rules.specs.Refusal.{Test, ◌gives◌, decide, after, after-refused, after-done}
+use Rattle.rules.specs.Refusal.{Test, ◌gives◌, decide, after}
+use Rattle.rules.proofs.RefusalLaws.{after-refused, after-done}
 use Rattle.rules.specs.Ops.{Op, objects_of, settled}
 use Rattle.rules.specs.Batch.{batch_in, is_malformed, ops_of, any_too_large}
 use Rattle.rules.specs.Layout.{Table}

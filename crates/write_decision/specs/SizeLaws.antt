@@ -4,7 +4,7 @@ use Rattle.std.proofs.Common.{arith, lt-ltb, le-ltb, ltb-true, ltb-false}
 use Rattle.rules.specs.Base.{Bool, true, false, List, ℕ, ◌+◌, length, ltb, pick}
 use Rattle.rules.specs.declared.Entry.{Entry}
 use Rattle.rules.specs.Ops.{Op, objects_of, file_bytes}
-use Rattle.rules.specs.OpsLaws.{file-length}
+use Rattle.rules.proofs.OpsLaws.{file-length}
 use Rattle.table_merge.specs.NewIds.{new_ids}
 use Rattle.write_decision.specs.NewIds.{ids_of}
 use Rattle.write_decision.specs.Sizes.{sizes_of}

@@ -8,18 +8,21 @@ use Rattle.rules.specs.declared.Settings.{Settings}
 use Rattle.rules.specs.declared.State.{State}
 use Rattle.rules.specs.declared.Refusal.{Refusal}
 use Rattle.rules.specs.declared.Answer.TheVariants as answer
-use Rattle.rules.specs.Refusal.{decide, done-or-refused, after-refused, after-done}
+use Rattle.rules.specs.Refusal.{decide}
+use Rattle.rules.proofs.RefusalLaws.{done-or-refused, after-refused, after-done}
 use Rattle.rules.specs.Settings.{slots_in}
 use Rattle.rules.specs.Ops.{Op, objects_of, entries_of, file_bytes, settled}
 use Rattle.rules.specs.Batch.{batch_in, ops_of}
 use Rattle.rules.specs.Table.{insert_all}
 use Rattle.rules.specs.Layout.{Table, used_entries, capacity_of}
 use Rattle.rules.specs.FileMap.{lowest_empty}
-use Rattle.rules.specs.FileMapLaws.{lowest-empty}
-use Rattle.rules.specs.Condition1Laws.{Passed, passed}
+use Rattle.rules.proofs.FileMapLaws.{lowest-empty}
+use Rattle.rules.specs.Condition1Laws.{Passed}
+use Rattle.rules.proofs.Condition1Laws.{passed}
 use Rattle.rules.specs.Install.{installed, installed_all, new_slot}
 use Rattle.rules.specs.Write.{write_tests, written, write_call}
-use Rattle.rules.specs.WriteLaws.{Accepted, write-accepted}
+use Rattle.rules.specs.WriteLaws.{Accepted}
+use Rattle.rules.proofs.WriteLaws.{write-accepted}
 use Rattle.rules.specs.World.{World, leaving, answer_given, accepted, unchanged}
 use Rattle.batch.specs.Reading.{ops_in}
 use Rattle.batch.specs.ReadingLaws.{ops-of}

@@ -5,11 +5,11 @@ use Rattle.rules.specs.Base.{List, ℕ, ◌^◌, length}
 use Rattle.rules.specs.declared.Settings.{Settings}
 use Rattle.rules.specs.declared.State.{State}
 use Rattle.rules.specs.Ops.{entries_of, settled}
-use Rattle.rules.specs.OpsLaws.{entries-of-rising}
-use Rattle.rules.specs.SettledLaws.{settled-rising}
+use Rattle.rules.proofs.OpsLaws.{entries-of-rising}
+use Rattle.rules.proofs.SettledLaws.{settled-rising}
 use Rattle.rules.specs.Table.{insert_all}
 use Rattle.rules.specs.Layout.{Table, used_entries, capacity_of}
-use Rattle.rules.specs.LayoutLaws.{form-rising}
+use Rattle.rules.proofs.LayoutLaws.{form-rising}
 use Rattle.batch.specs.Reading.{ops_in}
 use Rattle.batch.specs.ReadingLaws.{settled-fit}
 use Rattle.install.specs.Adding.{taken}

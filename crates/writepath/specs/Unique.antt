@@ -6,7 +6,7 @@ use Rattle.rules.specs.declared.Settings.{Settings}
 use Rattle.rules.specs.declared.State.{State}
 use Rattle.rules.specs.declared.Claims.{Claims}
 use Rattle.rules.specs.declared.Answer.{Answer}
-use Rattle.rules.specs.Answers.{answer-one}
+use Rattle.rules.proofs.Answers.{answer-one}
 use Rattle.rules.specs.Layout.{Table}
 use Rattle.rules.specs.Write.{write_call}
 use Rattle.rules.specs.World.{World, After, world, leaving, answer_given}

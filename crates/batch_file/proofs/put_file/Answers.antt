@@ -3,7 +3,7 @@ use native.Mathlib.Nat.{zero-add}
 use native.Mathlib.Omega.{arith}
 use borrow.Author.Rules.{rules}
 use Rattle.rules.specs.Ops.{objects_of, entries_of, file_bytes, settled}
-use Rattle.rules.specs.OpsLaws.{file-length}
+use Rattle.rules.proofs.OpsLaws.{file-length}
 use Rattle.rules.specs.Trailer.{trailer_bytes}
 use Rattle.stores.specs.Runs.{made-behind, made-length}
 use Rattle.batch.specs.Reading.{ops_in}

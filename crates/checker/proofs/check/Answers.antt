@@ -1,8 +1,9 @@
 use mathlib.Core.Path.{sym, ap, ◌∙◌}
 use native.Mathlib.Nat.{zero-add}
 use lib.ListN.{length}
-use Rattle.rules.specs.SettingsLaws.{heap-whole}
-use Rattle.rules.specs.Condition1Laws.{InLimits, in-limits}
+use Rattle.rules.proofs.SettingsLaws.{heap-whole}
+use Rattle.rules.specs.Condition1Laws.{InLimits}
+use Rattle.rules.proofs.Condition1Laws.{in-limits}
 use Rattle.file_faults.specs.Telling.{told-listing}
 use Rattle.rules.specs.Base.{List, ℕ}
 use Rattle.rules.specs.Settings.{slots_in}

@@ -3,7 +3,7 @@ use lib.ListN.{length}
 use Rattle.rules.specs.Counts.{counts_call}
 use Rattle.rules.specs.Refusal.{decide}
 use Rattle.rules.specs.Condition1.{condition_one}
-use Rattle.rules.specs.Condition1Laws.{passed}
+use Rattle.rules.proofs.Condition1Laws.{passed}
 use Rattle.limits.specs.Settled.{passed-bounded}
 use Rattle.claims.proofs.counts.Goals as goal
 

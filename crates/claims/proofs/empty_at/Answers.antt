@@ -3,7 +3,7 @@ use native.Mathlib.Omega.{arith}
 use borrow.Author.Rules.{rules}
 use lib.ListN.{length, get_or-eq_default}
 use Rattle.rules.specs.FileMap.{empty_record, is_empty}
-use Rattle.rules.specs.FileMapLaws.{is-empty}
+use Rattle.rules.proofs.FileMapLaws.{is-empty}
 use Rattle.file_map.proofs.RecordTurns.{mapped-length}
 use Rattle.claims.proofs.empty_at.Goals as goal
 

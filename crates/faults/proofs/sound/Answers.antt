@@ -5,7 +5,7 @@ use native.Mathlib.Omega.{arith}
 use lib.ListN.{length, set, length-map}
 use Rattle.rules.specs.declared.Label.{Label}
 use Rattle.rules.specs.SlotFile.{View, view_in, views_in}
-use Rattle.rules.specs.SlotLaws.{slots_apart, views-length, views-at}
+use Rattle.rules.proofs.SlotLaws.{slots_apart, views-length, views-at}
 use Rattle.reopen_tests.specs.Labels.{label_shown, label_of}
 use Rattle.reopen_tests.proofs.SurveyTurns.{labels-start, labels_next, labels-end, label-shown}
 use Rattle.faults.specs.Faults.{judged}

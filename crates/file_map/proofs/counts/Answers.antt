@@ -1,16 +1,15 @@
-use Prim.Native.Nat.{◌+◌, ◌-◌}
+use Prim.Native.Nat.{◌+◌}
 use mathlib.Core.Path.{◌≡◌, sym, ap, ◌∙◌}
 use native.Mathlib.Omega.{arith}
 use borrow.Author.Rules.{rules}
 use lib.ListN.{length}
 use mathlib.Core.Bool.{Bool}
-use mathlib.Core.Logic.{⊎_elim}
-use borrow.Author.Tests.{not-true, not-false}
 use Rattle.numbers.specs.Choice.{pick}
 use Rattle.rules.specs.FileMap.{is_empty, record_at}
 use Rattle.file_map.proofs.RecordTurns.{mapped-length, counts_start, counts-next, counts_end}
 use native.Mathlib.Nat.{add-zero}
 use Rattle.file_map.proofs.counts.Goals as goal
+use Rattle.file_map.proofs.counts.Goals.{then-not-is_empty, else-not-is_empty}
 
 pub loop-i-init : goal.loop-i-init
 loop-i-init c =
@@ -40,12 +39,12 @@ loop-i-preserved c =
     let w = c.requires c.loop-i.i in
     let i = c.loop-i.i in
     let f : c.if-not-is_empty.files ≡ c.loop-i.files + pick (is_empty (record_at rs i)) 0 1 =
-    ⊎_elim
-    (λ v. v.1 ∙ ap (λ (t : Bool). c.loop-i.files + pick t 0 1) (sym (sym c.is_empty.ensures ∙ not-true _ v.0.taken)))
-    (λ v. v.1 ∙ sym (add-zero c.loop-i.files) ∙ ap (λ (t : Bool). c.loop-i.files + pick t 0 1) (sym (sym c.is_empty.ensures ∙ not-false _ v.0.left)))
-    c.if-not-is_empty.branch-raw in (
+    elim c.if-not-is_empty.branch [
+      | then-not-is_empty w ↦ w.files-is ∙ ap (λ (t : Bool). c.loop-i.files + pick t 0 1) (sym (sym c.is_empty.ensures ∙ w.if-not-is_empty.true))
+      | else-not-is_empty w ↦ w.files-is ∙ sym (add-zero c.loop-i.files) ∙ ap (λ (t : Bool). c.loop-i.files + pick t 0 1) (sym (sym c.is_empty.ensures ∙ w.if-not-is_empty.false))
+    ] in (
       omega arith,
-      ⊎_elim (λ v. omega arith) (λ v. omega arith) c.if-not-is_empty.branch-raw,
+      elim c.if-not-is_empty.branch [ then-not-is_empty w ↦ omega arith | else-not-is_empty w ↦ omega arith ],
       omega arith,
       omega arith,
       omega arith,

@@ -4,10 +4,10 @@ use Prim.Native.Nat.{ℕ}
 use native.Mathlib.Omega.{arith}
 use borrow.Author.Tests.{ltb-true, ltb-false}
 use lib.ListN.{length}
-use Rattle.rules.specs.BaseLaws.{or-holds, or-clear}
+use Rattle.rules.proofs.BaseLaws.{or-holds, or-clear}
 use Rattle.rules.specs.declared.RewriteAnswer.{RewriteAnswer}
 use Rattle.rules.specs.Condition1.{refused1}
-use Rattle.rules.specs.Condition1Laws.{passed}
+use Rattle.rules.proofs.Condition1Laws.{passed}
 use Rattle.rules.specs.TwoCalls.{room_of, short}
 use Rattle.rules.specs.World.{World, world, leaving, rewrite_given}
 use Rattle.as_numbers.specs.StateWords.{state_in}

@@ -1,5 +1,5 @@
 use mathlib.Core.Path.{sym, ◌∙◌}
-use borrow.Author.Tests.{eq-eqb, ne_eqb, not-true, not-false}
+use borrow.Author.Tests.{eq-eqb, ne_eqb}
 use Rattle.rules.specs.Maintenance.{is_candidate}
 use Rattle.gc_candidates.proofs.is_candidate.Goals as goal
 
@@ -26,12 +26,12 @@ unfolding is_candidate
 returns-then-not-worth_it c =
     let e = sym c.is_empty.ensures ∙ c.if-is_empty.false in
     let f = sym c.is_claimed.ensures ∙ c.if-is_claimed.false in
-    rw (e, f, ne_eqb _ 0 c.if-r-eq0.false, sym c.worth_it.ensures ∙ not-true c.worth_it.result c.if-not-worth_it.true-raw)
+    rw (e, f, ne_eqb _ 0 c.if-r-eq0.false, sym c.worth_it.ensures ∙ c.if-not-worth_it.true)
 
 pub returns : goal.returns
 unfolding is_candidate
 returns c =
     let e = sym c.is_empty.ensures ∙ c.if-is_empty.false in
     let f = sym c.is_claimed.ensures ∙ c.if-is_claimed.false in
-    let g = sym c.worth_it.ensures ∙ not-false c.worth_it.result c.if-not-worth_it.false-raw in
+    let g = sym c.worth_it.ensures ∙ c.if-not-worth_it.false in
     rw (e, f, ne_eqb _ 0 c.if-r-eq0.false, g, c.masked.ensures)

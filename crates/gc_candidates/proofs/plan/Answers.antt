@@ -9,9 +9,6 @@ use Rattle.gc_candidates.specs.Plan.{plan_of, plan_for, plan-length, plan-at}
 use Rattle.gc_candidates.proofs.PlanTurns.{filled-start, filled_next, filled-end}
 use Rattle.gc_candidates.proofs.plan.Goals as goal
 
-all-records : (start : goal.Start) → length start.args.m.records ≡ 256
-all-records start = search (mapped-length, rules)
-
 pub loop-i-init : goal.loop-i-init
 loop-i-init c =
     let a = c.args in
@@ -29,7 +26,7 @@ pub loop-i-preserved : goal.loop-i-preserved
 unfolding plan_for
 loop-i-preserved c =
     let rs = c.args.m.records in
-    let l : length rs ≡ 256 = all-records c.before.before.before.before in
+    let l : length rs ≡ 256 = search (mapped-length, rules) in
     let to = plan_of c.args.s c.args.claims c.args.mark c.args.count rs in
     let n : length to ≡ 256 = plan-length c.args.s c.args.claims c.args.mark c.args.count rs ∙ l in
     let i = c.loop-i.i in
@@ -44,7 +41,7 @@ loop-i-preserved c =
 pub returns : goal.returns
 returns c =
     let rs = c.args.m.records in
-    let l : length rs ≡ 256 = all-records c.before.before in
+    let l : length rs ≡ 256 = search (mapped-length, rules) in
     let to = plan_of c.args.s c.args.claims c.args.mark c.args.count rs in
     let n : length to ≡ 256 = plan-length c.args.s c.args.claims c.args.mark c.args.count rs ∙ l in
     let z : length (replicate {A = ℕ} 256 0) ≡ 256 = length-replicate {A = ℕ} 256 0 in

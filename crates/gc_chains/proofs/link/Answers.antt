@@ -5,10 +5,6 @@ use Rattle.rules.specs.Layout.{table_ids}
 use Rattle.gc_chains.specs.Linking.{Linking, linking-start, linking-end}
 use Rattle.gc_chains.proofs.link.Goals as goal
 
--- ---- the call, as each place has it
-abbrev begun : goal.At-loop-i → goal.Start
-begun l = l.before.before.before.before.before.before
-
 pub loop-i-init : goal.loop-i-init
 loop-i-init c =
     let a = c.args in
@@ -18,12 +14,12 @@ loop-i-init c =
 
 pub bounds-places-i : goal.bounds-places-i
 bounds-places-i c =
-    let w = (begun c.before.before).requires.1 in
+    let w = c.requires.linkable in
     omega (arith, c.loop-i.invariant.0, c.loop-i-test.true, w.low, w.wide)
 
 pub link_entry-requires : goal.link_entry-requires
 link_entry-requires c =
-    let w = (begun c.before.before.before.before.before).requires.1 in
+    let w = c.requires.linkable in
     let more = c.loop-i-test.true in
     record {
       i_in_bounds = omega (arith, c.loop-i.invariant.0, c.loop-i.invariant.1.long, more, w.low, w.numbered);
@@ -32,8 +28,8 @@ link_entry-requires c =
 
 pub loop-i-preserved : goal.loop-i-preserved
 loop-i-preserved c =
-    let a = (begun c.before.before.before.before.before.before.before.before.before.before).args in
-    let w = (begun c.before.before.before.before.before.before.before.before.before.before).requires.1 in
+    let a = c.args in
+    let w = c.requires.linkable in
     let inv = c.loop-i.invariant in
     let more = c.loop-i-test.true in
     let on : c.loop-i.i ≡ suc (c.loop-i.i - 1) = omega (arith, more) in
@@ -48,7 +44,7 @@ shape_of-words c = c.loop-i.invariant.1.many
 
 pub returns : goal.returns
 returns c =
-    let a = (begun c.before).args in
+    let a = c.args in
     let last : c.loop-i.i ≡ 0 = omega (arith, c.loop-i-test.false) in
-    linking-end (table_ids a.table.now) a.places.now a.links.now a.words.now _ (begun c.before).requires.1 c.loop-i.links c.loop-i.words
+    linking-end (table_ids a.table.now) a.places.now a.links.now a.words.now _ c.requires.linkable c.loop-i.links c.loop-i.words
     (subst (λ (n : ℕ). Linking (table_ids a.table.now) a.places.now a.links.now a.words.now n c.loop-i.links c.loop-i.words) last c.loop-i.invariant.1)

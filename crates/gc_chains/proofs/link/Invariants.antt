@@ -1,4 +1,4 @@
-use Prim.Native.Nat.{◌≤◌, ◌-◌}
+use Prim.Native.Nat.{◌≤◌}
 use lib.ListN.{length}
 use Rattle.rules.specs.Layout.{table_ids, used_entries}
 use Rattle.gc_chains.specs.Linking.{Linking}

@@ -1,6 +1,5 @@
 use mathlib.Core.Path.{sym, ◌∙◌}
 use native.Mathlib.Omega.{arith}
-use borrow.Author.Rules.{rules}
 use Rattle.gc_chains.specs.Linking.{linking-passed, linking-none, linking-joined}
 use Rattle.gc_chains.proofs.link_entry.Goals as goal
 
@@ -12,21 +11,6 @@ pub returns-then-words-j : goal.returns-then-words-j
 returns-then-words-j c =
     let moved = c.if-place-eq0.false in
     λ ids places numbers order used w low is l. linking-none ids places numbers order used w _ _ _ l low (omega (arith, is, moved)) c.file_of-j.result c.file_of-j.ensures c.if-words-j.true
-
-pub overflow_cast-links : goal.overflow_cast-links
-overflow_cast-links c =
-    let fits = (c.slice_known-4-1.given c.file_of-j.result).fits in
-    search (fits, rules)
-
-pub overflow_cast-words : goal.overflow_cast-words
-overflow_cast-words c =
-    let fits = (c.type_inv.links c.args.i).fits in
-    search (fits, rules)
-
-pub overflow_add-words-2 : goal.overflow_add-words-2
-overflow_add-words-2 c =
-    let fits = (c.type_inv.links c.args.i).fits in
-    search (fits, rules)
 
 pub returns : goal.returns
 returns c =

@@ -4,7 +4,7 @@ use native.Mathlib.Omega.{arith}
 use borrow.Author.Rules.{rules}
 use mathlib.Core.List.{List}
 use lib.ListN.{length, get_or, replicate, length-replicate}
-use Rattle.rules.specs.LayoutLaws.{ids-count}
+use Rattle.rules.proofs.LayoutLaws.{ids-count}
 use Rattle.rules.specs.World.{world}
 use Rattle.as_numbers.specs.StateWords.{state_in}
 use Rattle.limits.specs.Settled.{passed-bounded}

@@ -2,7 +2,7 @@ use Prim.Native.Nat.{◌*◌}
 use native.Mathlib.Omega.{arith}
 use Rattle.rules.specs.Claims.{no_claims}
 use Rattle.rules.specs.Layout.{table_ids}
-use Rattle.rules.specs.LayoutLaws.{ids-count}
+use Rattle.rules.proofs.LayoutLaws.{ids-count}
 use Rattle.location_table.specs.LayoutLaws.{id-word}
 use Rattle.gc_chains.specs.Chains.{chain_ops}
 use Rattle.gc_install.specs.Placing.{Fits, placing-walking, piece-writing, piece-addable, piece-left}

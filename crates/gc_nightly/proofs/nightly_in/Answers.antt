@@ -2,10 +2,10 @@ use mathlib.Core.Path.{◌≡◌, refl, sym, ap, ◌∙◌, subst}
 use mathlib.Core.Logic.{inl, inr}
 use Prim.Native.Nat.{ℕ}
 use lib.ListN.{length}
-use Rattle.rules.specs.BaseLaws.{or-holds, or-clear}
+use Rattle.rules.proofs.BaseLaws.{or-holds, or-clear}
 use Rattle.rules.specs.declared.MaintainAnswer.{MaintainAnswer}
 use Rattle.rules.specs.Condition1.{refused1}
-use Rattle.rules.specs.Condition1Laws.{passed, passes}
+use Rattle.rules.proofs.Condition1Laws.{passed, passes}
 use Rattle.rules.specs.Maintenance.{Course}
 use Rattle.rules.specs.TwoCalls.{room_of, short, job_ended}
 use Rattle.rules.specs.World.{World, world, maintain_given}

@@ -2,10 +2,10 @@ use mathlib.Core.Path.{sym, ◌∙◌}
 use mathlib.Core.Logic.{inl, inr}
 use Prim.Native.Nat.{ℕ}
 use lib.ListN.{length}
-use Rattle.rules.specs.BaseLaws.{or-holds, or-clear}
+use Rattle.rules.proofs.BaseLaws.{or-holds, or-clear}
 use Rattle.rules.specs.declared.Answer.TheVariants.{Done}
 use Rattle.rules.specs.Condition1.{refused1}
-use Rattle.rules.specs.Condition1Laws.{passed}
+use Rattle.rules.proofs.Condition1Laws.{passed}
 use Rattle.rules.specs.TwoCalls.{room_of, short}
 use Rattle.rules.specs.World.{World, world}
 use Rattle.as_numbers.specs.StateWords.{state_in}

@@ -4,8 +4,8 @@ use native.Mathlib.Omega.{arith}
 use borrow.Author.Rules.{rules}
 use lib.ListN.{length}
 use Rattle.rules.specs.Settings.{slots_in}
-use Rattle.rules.specs.FileMapLaws.{empty-most}
-use Rattle.rules.specs.LayoutLaws.{ids-count}
+use Rattle.rules.proofs.FileMapLaws.{empty-most}
+use Rattle.rules.proofs.LayoutLaws.{ids-count}
 use Rattle.rules.specs.TwoCalls as calls
 use Rattle.rules.specs.World.{World, world}
 use Rattle.limits.specs.Settled.{passed-bounded, passed-formed}

@@ -6,7 +6,7 @@ use lib.ListN.{length}
 use Rattle.rules.specs.declared.FileMap.{FileMap}
 use Rattle.rules.specs.Refusal.{decide}
 use Rattle.rules.specs.Layout.{table_ids, used_entries}
-use Rattle.rules.specs.LayoutLaws.{ids-count}
+use Rattle.rules.proofs.LayoutLaws.{ids-count}
 use Rattle.limits.specs.Settled.{passed-formed}
 use Rattle.as_numbers.specs.StateWords.{state_in}
 use Rattle.gc_candidates.specs.Plan.{planned}

@@ -3,7 +3,7 @@ use mathlib.Core.Path.{◌≡◌, refl, ap}
 use native.Mathlib.Omega.{arith}
 use borrow.Author.Rules.{rules}
 use lib.ListN.{length, get_or}
-use Rattle.rules.specs.LayoutLaws.{ids-count}
+use Rattle.rules.proofs.LayoutLaws.{ids-count}
 use Rattle.rules.specs.Settings.{slots_in}
 use Rattle.rules.specs.FileMap.{lowest_empty}
 use Rattle.gc_rewrite.specs.Putting.{put-start, put-asks, put-slot, put-turn, put-end}

@@ -1,6 +1,5 @@
 use mathlib.Core.Path.{refl}
 use Rattle.gc_split.specs.Tally.{closing}
-use Prim.Native.Nat.{◌-◌}
 use Rattle.gc_split.proofs.closed.Goals as goal
 
 pub returns : goal.returns

@@ -1,6 +1,5 @@
 use mathlib.Core.Path.{refl}
 use borrow.Author.Tests.{eq-eqb, ne_eqb}
-use Prim.Native.Nat.{◌-◌}
 use Rattle.gc_split.proofs.closed_rest.Goals as goal
 
 pub returns-then-count-eq0 : goal.returns-then-count-eq0

@@ -1,5 +1,5 @@
 use Rattle.gc_split.proofs.RestTurns.{placing-start, placing-turn, placing-end}
-use Prim.Native.Nat.{◌≤◌, ◌<◌, ◌-◌}
+use Prim.Native.Nat.{◌≤◌, ◌<◌}
 use native.Mathlib.Omega.{arith}
 use lib.ListN.{length}
 use Rattle.gc_split.proofs.rests.Goals as goal
@@ -35,8 +35,9 @@ loop-n-preserved c =
     let p = c.loop-n.invariant.1 in
     let fits = p.fits in
     let low : n < 65 = omega arith in
-    let got = rw c.piece.ensures c.before.before.before.before.before.before.before.before c.put_rest-left.ensures in
-    (omega arith, placing-turn _ _ c.args.counts.now c.args.rounds.now c.loop-n.rests _ c.loop-n.left _ n (omega arith) (omega arith) (omega arith) p got.0 got.1)
+    let counts = rw c.piece.ensures at c.put_rest-left.ensures.counts in
+    let writes = rw c.piece.ensures at c.put_rest-left.ensures.writes in
+    (omega arith, placing-turn _ _ c.args.counts.now c.args.rounds.now c.loop-n.rests _ c.loop-n.left _ n (omega arith) (omega arith) (omega arith) p counts writes)
 
 pub returns : goal.returns
 returns c =

@@ -9,19 +9,15 @@ pub returns-then-o : goal.returns-then-o
 unfolding stores_of
 returns-then-o c = rw c.if-o.true (made_none _ _)
 
--- an object stands there
-stands : (c : goal.Else-o) → let a = c.args in Movable a.heap.now a.o
-stands c = c.requires.movable c.if-o.false
-
 pub overflow_sub-o : goal.overflow_sub-o
-overflow_sub-o c = omega (arith, (stands c.before.before).header)
+overflow_sub-o c = omega (arith, (c.requires.movable c.if-o.false).header)
 
 pub move_bytes-requires : goal.move_bytes-requires
 move_bytes-requires c =
     let asked = rw c.if-o.false at c.requires.o_in_bounds in
-    let header = (stands c.before.before.before).header in
+    let header = (c.requires.movable c.if-o.false).header in
     (omega (arith, asked.0), omega (arith, asked.1), ⊎_elim (λ h. inl (omega arith)) (λ h. inr (omega arith)) asked.2)
 
 pub returns : goal.returns
 returns c =
-    rw c.if-o.false (rw (stands c.before.before.before.before.before.before).bytes at c.move_bytes.ensures)
+    rw c.if-o.false (rw (c.requires.movable c.if-o.false).bytes at c.move_bytes.ensures)

@@ -2,20 +2,13 @@ use mathlib.Core.Path.{refl, ap}
 use Prim.Native.Nat.{ℕ, ◌+◌}
 use native.Mathlib.Omega.{arith}
 use Rattle.rules.specs.Trailer.{entry_bytes}
-use Rattle.rules.specs.TrailerLaws.{entry_length}
+use Rattle.rules.proofs.TrailerLaws.{entry_length}
 use Rattle.batch.specs.SizeLaws.{total-next}
 use Rattle.batch_file.specs.Putting.{entries_from, putting-start, entry-fits, entry-put, entries-put}
 use Rattle.rules.specs.Layout.{table_ids}
 use Rattle.gc_writer.specs.Walk.{walk_end}
 use Rattle.gc_writer.specs.Writing.{free-walking, free-put}
 use Rattle.gc_writer.proofs.put_entries.Goals as goal
-
--- ---- the call, as each place has it
-abbrev begun : goal.At-loop-i → goal.Start
-begun l = l.before.before.before.before.before
-
-abbrev turning : goal.After-turn_at-t → goal.At-loop-i
-turning t = t.before.before.before
 
 pub loop-i-init : goal.loop-i-init
 loop-i-init c =
@@ -32,36 +25,33 @@ turn_at-t-requires c =
 
 pub entry_of-e-requires : goal.entry_of-e-requires
 entry_of-e-requires c =
-    let l = turning c.before in
-    omega (arith, l.loop.inv.2.bound, (begun l).pre.1.1)
+    omega (arith, c.loop-i.invariant.2.bound, c.requires.links_len_bound)
 
 pub put_entry-rest-requires : goal.put_entry-rest-requires
 put_entry-rest-requires c =
-    let inv = (turning c.before.before.before).loop.invariant in
+    let inv = c.loop-i.invariant in
     omega (arith, entry-fits inv.2 c.turn_at-t.ensures.step, inv.1.inside)
 
 pub overflow_add-to : goal.overflow_add-to
 overflow_add-to c =
-    let start = begun (turning c.before.before.before.before.before.before) in
-    omega (arith, entry-fits (turning c.before.before.before.before.before.before).loop.invariant.2 c.turn_at-t.ensures.step, start.pre.0.inside, start.good)
+    omega (arith, entry-fits c.loop-i.invariant.2 c.turn_at-t.ensures.step, c.requires.free.inside)
 
 pub overflow_add-position : goal.overflow_add-position
 overflow_add-position c =
-    let l = turning c.before.before.before.before.before.before.before in
     let turn = c.turn_at-t.ensures in
-    omega (arith, turn.long, total-next turn.step, l.loop.inv.2.bound, (begun l).pre.1.1)
+    omega (arith, turn.long, total-next turn.step, c.loop-i.invariant.2.bound, c.requires.links_len_bound)
 
 pub loop-i-smaller : goal.loop-i-smaller
 loop-i-smaller c = c.turn_at-t.ensures.less
 
 pub loop-i-preserved : goal.loop-i-preserved
 loop-i-preserved c =
-    let l = (turning c.before.before.before.before.before.before.before).loop in
+    let l = c.loop-i in
     let turn = c.turn_at-t.ensures in
     let put = c.put_entry-rest.ensures in
-    let w = l.inv.2 in
+    let w = l.invariant.2 in
     let bytes = entry_bytes c.entry_of-e.result in
-    let kept = free-put l.inv.1 l.to bytes w.low (omega (arith, entry_length c.entry_of-e.result, entry-fits w turn.step)) put in (
+    let kept = free-put l.invariant.1 l.to bytes w.low (omega (arith, entry_length c.entry_of-e.result, entry-fits w turn.step)) put in (
       turn.leads,
       kept.0,
       rw (kept.1 c.turn_at-t.result.next) (entry-put w turn.step c.entry_of-e.ensures (ap (λ (n : ℕ). l.position + n) turn.long) put),
@@ -72,5 +62,5 @@ shape_of-heap c = c.loop-i.invariant.2.way.size
 
 pub returns : goal.returns
 returns c =
-    let a = (begun c.before).args in
+    let a = c.args in
     entries-put c.loop-i.invariant.2 (walk_end c.loop-i.heap (table_ids a.table.now) a.places.now a.links.now c.loop-i.i c.loop-i-test.false)

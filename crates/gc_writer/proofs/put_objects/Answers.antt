@@ -12,17 +12,9 @@ use Rattle.gc_writer.specs.Walk.{walk_end}
 use Rattle.gc_writer.specs.Writing.{free-walking, free-put, turned-off, turned-movable}
 use Rattle.gc_writer.proofs.put_objects.Goals as goal
 
--- ---- the call, as each place has it
-abbrev begun : goal.At-loop-i → goal.Start
-begun l = l.before.before.before.before.before.before
-
-abbrev turning : goal.After-turn_at-t → goal.At-loop-i
-turning t = t.before.before.before
-
 pub loop-i-init : goal.loop-i-init
 loop-i-init c =
-    let asked = c.requires.1.1 in
-    (c.requires.leads, c.requires.free, summing_start refl asked.0 asked.1 c.sum_count-register.ensures, putting-start objects_from _ _ _ _ _ refl)
+    (c.requires.leads, c.requires.free, summing_start refl c.requires.count_value c.requires.links_len_bound c.sum_count-register.ensures, putting-start objects_from _ _ _ _ _ refl)
 
 pub turn_at-t-requires : goal.turn_at-t-requires
 turn_at-t-requires c =
@@ -34,44 +26,43 @@ turn_at-t-requires c =
     }
 
 pub entry_of-e-requires : goal.entry_of-e-requires
-entry_of-e-requires c = omega (arith, (turning c.before).loop.invariant.2.low)
+entry_of-e-requires c = omega (arith, c.loop-i.invariant.2.low)
 
 pub put_content-rest-requires : goal.put_content-rest-requires
 put_content-rest-requires c =
-    let l = (turning c.before.before.before.before.before).loop in
+    let l = c.loop-i in
     let turn = c.turn_at-t.ensures in
-    let free = l.inv.1 in
-    let fits = object-fits l.inv.3 turn.step in
+    let free = l.invariant.1 in
+    let fits = object-fits l.invariant.3 turn.step in
     record {
-      o_in_bounds = (omega (arith, fits, free.inside), turn.step.inside, turned-off free turn l.to l.inv.3.low fits);
+      o_in_bounds = (omega (arith, fits, free.inside), turn.step.inside, turned-off free turn l.to l.invariant.3.low fits);
       movable = turned-movable free turn;
     }
 
 pub overflow_add-to : goal.overflow_add-to
 overflow_add-to c =
     let turn = c.turn_at-t.ensures in
-    let start = begun (turning c.before.before.before.before.before.before.before.before) in
-    omega (arith, object-fits (turning c.before.before.before.before.before.before.before.before).loop.invariant.3 turn.step, turn.long, start.pre.0.inside, start.good)
+    omega (arith, object-fits c.loop-i.invariant.3 turn.step, turn.long, c.requires.free.inside)
 
 pub overflow_add-position : goal.overflow_add-position
 overflow_add-position c =
-    omega (arith, c.turn_at-t.ensures.long, total-next c.turn_at-t.ensures.step, (turning c.before.before.before.before.before.before.before.before.before).loop.invariant.2.low)
+    omega (arith, c.turn_at-t.ensures.long, total-next c.turn_at-t.ensures.step, c.loop-i.invariant.2.low)
 
 pub loop-i-smaller : goal.loop-i-smaller
 loop-i-smaller c = c.turn_at-t.ensures.less
 
 pub loop-i-preserved : goal.loop-i-preserved
 loop-i-preserved c =
-    let l = (turning c.before.before.before.before.before.before.before.before.before).loop in
+    let l = c.loop-i in
     let turn = c.turn_at-t.ensures in
     let o = c.turn_at-t.result.operation in
     let put = c.put_content-rest.ensures in
-    let w = l.inv.3 in
+    let w = l.invariant.3 in
     let next = c.turn_at-t.result.next in
-    let kept = free-put l.inv.1 l.to (content_bytes o.id (op_in l.heap o).content) w.low (omega (arith, object-fits w turn.step, content-size turn.step)) put in (
+    let kept = free-put l.invariant.1 l.to (content_bytes o.id (op_in l.heap o).content) w.low (omega (arith, object-fits w turn.step, content-size turn.step)) put in (
       turn.leads,
       kept.0,
-      rw (kept.1 next) (summing-next l.inv.2 turn.step c.entry_of-e.ensures c.sum_entry-register.ensures (ap (λ (n : ℕ). l.position + n) turn.long)),
+      rw (kept.1 next) (summing-next l.invariant.2 turn.step c.entry_of-e.ensures c.sum_entry-register.ensures (ap (λ (n : ℕ). l.position + n) turn.long)),
       rw (kept.1 next) (object-put w turn.step (ap (λ (n : ℕ). l.to + n) turn.long) (omega arith) put),
     )
 
@@ -80,7 +71,7 @@ shape_of-heap c = c.loop-i.invariant.3.way.size
 
 pub returns : goal.returns
 returns c =
-    let a = (begun c.before.before).args in
+    let a = c.args in
     let none = walk_end c.loop-i.heap (table_ids a.table.now) a.places.now a.links.now c.loop-i.i c.loop-i-test.false in
     record {
       made = objects-put c.loop-i.invariant.3 none;

@@ -4,22 +4,18 @@ use native.Mathlib.Omega.{arith}
 use borrow.Author.Rules.{rules}
 use lib.ListN.{length, get_or}
 use Rattle.rules.specs.Layout.{table_ids}
-use Rattle.rules.specs.LayoutLaws.{ids-count}
+use Rattle.rules.proofs.LayoutLaws.{ids-count}
 use Rattle.gc_files.specs.PlaceLaws.{moving-told}
 use Rattle.gc_writer.specs.Walk.{turned}
 use Rattle.gc_writer.proofs.turn_at.Goals as goal
 
--- the entry is one of the table's
-within : (start : goal.Start) → start.args.i ≤ length (table_ids start.args.table.now)
-within start = start.requires.leads.low start.requires.i_nonzero
-
 pub id_at-id-requires : goal.id_at-id-requires
 id_at-id-requires c =
-    search (within c.before.before.before.before, ids-count c.args.table.now, rules)
+    search ((c.requires.leads.low c.requires.i_nonzero), ids-count c.args.table.now, rules)
 
 pub bounds-places-k : goal.bounds-places-k
 bounds-places-k c =
-    omega (arith, within c.before.before.before.before.before.before, c.requires.walking.wide, c.requires.i_nonzero)
+    omega (arith, (c.requires.leads.low c.requires.i_nonzero), c.requires.walking.wide, c.requires.i_nonzero)
 
 pub moving_at-o-requires : goal.moving_at-o-requires
 moving_at-o-requires c =
@@ -37,8 +33,8 @@ size_of-size-requires c =
 
 pub bounds-links-k : goal.bounds-links-k
 bounds-links-k c =
-    omega (arith, within c.before.before.before.before.before.before.before.before.before, c.requires.walking.linked, c.requires.i_nonzero)
+    omega (arith, (c.requires.leads.low c.requires.i_nonzero), c.requires.walking.linked, c.requires.i_nonzero)
 
 pub returns : goal.returns
 returns c =
-    turned c.requires.walking c.requires.i_nonzero c.requires.leads (rw c.id_at-id.ensures at c.moving_at-o.ensures) size.type_size.ensures refl
+    turned c.requires.walking c.requires.i_nonzero c.requires.leads (rw c.id_at-id.ensures at c.moving_at-o.ensures) c.size_of-size.ensures refl

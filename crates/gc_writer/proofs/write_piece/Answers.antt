@@ -30,10 +30,13 @@ put_trailer-behind_trailer-requires c =
     let away = objects-elsewhere w made.made in
     let same = chain-elsewhere away a.file.first (table_ids a.table.now) a.places.now a.links.now w.apart in
     let room = writing-room w in
-    rw same (
-      free_part (free-elsewhere (writing-free w) away) (a.file.start + 64 + a.file.total) (12 + 16 * a.file.count) (omega arith) (omega arith),
-      (w.leads, (w.entries, (made.summed, omega (arith, room, w.objects, w.small)))),
-    )
+    rw same (record {
+      free = free_part (free-elsewhere (writing-free w) away) (a.file.start + 64 + a.file.total) (12 + 16 * a.file.count) (omega arith) (omega arith);
+      leads = w.leads;
+      count_value = w.entries;
+      checksum_value = made.summed;
+      links_len_bound = omega (arith, room, w.objects, w.small);
+    })
 
 pub returns : goal.returns
 returns c =

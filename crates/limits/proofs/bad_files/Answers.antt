@@ -4,7 +4,7 @@ use native.Mathlib.Omega.{arith}
 use borrow.Author.Rules.{rules}
 use borrow.Author.Tests.{not-true, not-false}
 use lib.ListN.{length}
-use Rattle.rules.specs.BaseLaws.{within-true}
+use Rattle.rules.proofs.BaseLaws.{within-true}
 use Rattle.file_map.proofs.RecordTurns.{mapped-length}
 use Rattle.limits.specs.Settled.{bad_files, bad-files}
 use Rattle.limits.proofs.BadFileTurns.{bad-here, bad-next, bad-end}

@@ -1,6 +1,6 @@
 use mathlib.Core.Path.{refl, sym, ◌∙◌}
 use borrow.Author.Tests.{not-true, not-false}
-use Rattle.rules.specs.SettingsLaws.{in-ranges}
+use Rattle.rules.proofs.SettingsLaws.{in-ranges}
 use Rattle.rules.specs.Condition1.{out_of_range}
 use Rattle.limits.proofs.out_of_range.Goals as goal
 

@@ -5,7 +5,8 @@ use borrow.Author.Tests.{not-true, not-false, eq-eqb, ne_eqb}
 use Rattle.rules.specs.declared.FileMap.{FileMap}
 use Rattle.rules.specs.Layout.{capacity_of, Table, in_form}
 use Rattle.rules.specs.Condition1.{condition_one, out_of_range, not_the_states}
-use Rattle.rules.specs.Condition1Laws.{InLimits, in-limits}
+use Rattle.rules.specs.Condition1Laws.{InLimits}
+use Rattle.rules.proofs.Condition1Laws.{in-limits}
 use Rattle.limits.specs.Settled.{state_of, the_states, the-states, bad-files}
 use Rattle.limits.proofs.refused_apart.Goals as goal
 

@@ -1,11 +1,11 @@
 use mathlib.Core.Path.{sym, ◌∙◌}
 use lib.ListN.{length}
-use Rattle.rules.specs.Condition1Laws.{passed}
+use Rattle.rules.proofs.Condition1Laws.{passed}
 use Rattle.limits.specs.Settled.{passed-formed}
 use Rattle.listing.proofs.list.Goals as goal
 
 pub used-used-requires : goal.used-used-requires
-used-used-requires c =
+used-used-requires g c =
     let a = c.args in
     let n = length a.heap.now in
     let clear = sym c.refused.ensures ∙ c.if-refused.false in

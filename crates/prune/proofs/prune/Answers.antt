@@ -3,7 +3,7 @@ use borrow.Author.Tests.{not-true}
 use lib.ListN.{length}
 use Rattle.rules.specs.declared.Answer.{Answer}
 use Rattle.rules.specs.Condition1.{condition_one}
-use Rattle.rules.specs.Condition1Laws.{passed}
+use Rattle.rules.proofs.Condition1Laws.{passed}
 use Rattle.rules.specs.World.{World, world, leaving, answer_given}
 use Rattle.prune.specs.Labels.{passed-labels}
 use Rattle.prune.specs.CallLaws.{prune-decided}

@@ -8,7 +8,7 @@ use lib.Seq.{drop-set-lt}
 use Rattle.numbers.specs.Choice.{pick}
 use Rattle.rules.specs.declared.Record.{Record}
 use Rattle.rules.specs.FileMap.{empty_record, record_at}
-use Rattle.rules.specs.PruneLaws.{dead}
+use Rattle.rules.proofs.PruneLaws.{dead}
 use Rattle.stores.specs.Runs.{made_then, made_none, made-length}
 use Rattle.file_map.proofs.RecordTurns.{mapped-length}
 use Rattle.prune.proofs.EmptyingTurns.{emptied_on, emptied-start, emptied-next, emptied-end, stores-start, stores-next, stores-end, labels-start, labels_next}

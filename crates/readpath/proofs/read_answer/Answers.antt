@@ -15,9 +15,10 @@ use Rattle.rules.specs.declared.Loaded.TheVariants.{At}
 use Rattle.rules.specs.Table.{load}
 use Rattle.rules.specs.Layout.{Table, used_entries}
 use Rattle.rules.specs.Condition1.{condition_one}
-use Rattle.rules.specs.Condition1Laws.{passed}
+use Rattle.rules.proofs.Condition1Laws.{passed}
 use Rattle.rules.specs.FileMap.{record_at, file_for}
-use Rattle.rules.specs.FileMapLaws.{IsFile, file-at, not-empty}
+use Rattle.rules.specs.FileMapLaws.{IsFile}
+use Rattle.rules.proofs.FileMapLaws.{file-at, not-empty}
 use Rattle.rules.specs.Object.{stored_at}
 use Rattle.rules.specs.Read.{object_in, read_file, read_loaded, read_of}
 use Rattle.rules.specs.SlotFile.{bytes_of_slot, file_in}

@@ -4,7 +4,7 @@ use Rattle.rules.specs.Base.{each}
 use Rattle.rules.specs.Refusal.{decide}
 use Rattle.rules.specs.Reopen.{view_tests}
 use Rattle.rules.specs.Settings.{slots_in}
-use Rattle.rules.specs.SettingsLaws.{heap-whole}
+use Rattle.rules.proofs.SettingsLaws.{heap-whole}
 use Rattle.rules.specs.SlotFile.{views_in}
 use Rattle.reopen_tests.specs.Labels.{surveyed}
 use Rattle.reopen_tests.specs.Tests.{told-refused, told-clear, told-labels, slots-refuse}

@@ -1,5 +1,5 @@
 use mathlib.Core.Path.{sym, ◌∙◌}
-use Rattle.rules.specs.Condition1Laws.{in-limits}
+use Rattle.rules.proofs.Condition1Laws.{in-limits}
 use Rattle.recovery.specs.Steps.{at-limits, past-limits}
 use lib.ListN.{length}
 use Rattle.recovery.proofs.reopen.Goals as goal

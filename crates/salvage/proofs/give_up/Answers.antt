@@ -4,7 +4,7 @@ use Prim.Native.Nat.{ℕ}
 use native.Mathlib.Nat.{zero-add}
 use native.Mathlib.Omega.{arith}
 use lib.ListN.{length, take}
-use Rattle.rules.specs.SettingsLaws.{heap-whole}
+use Rattle.rules.proofs.SettingsLaws.{heap-whole}
 use Rattle.rules.specs.Stores.{Store, made}
 use Rattle.rules.specs.PruneLaws.{emptying}
 use Rattle.losses.specs.Salvage.{report_of}

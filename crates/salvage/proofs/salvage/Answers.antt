@@ -2,7 +2,8 @@ use mathlib.Core.Path.{◌≡◌, sym, ◌∙◌}
 use native.Mathlib.Omega.{arith}
 use borrow.Author.Rules.{rules}
 use lib.ListN.{length}
-use Rattle.rules.specs.Condition1Laws.{InLimits, in-limits}
+use Rattle.rules.specs.Condition1Laws.{InLimits}
+use Rattle.rules.proofs.Condition1Laws.{in-limits}
 use Rattle.salvage.specs.Answers.{salvage-refused, salvage-done}
 use Rattle.losses.specs.Few.{all-emptied}
 use Rattle.salvage.proofs.salvage.Goals as goal

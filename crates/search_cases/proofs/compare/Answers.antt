@@ -4,6 +4,6 @@ use Rattle.location_table.specs.LayoutLaws.{formed-of}
 use Rattle.search_cases.proofs.compare.Goals as goal
 
 pub all_sought-requires : goal.all_sought-requires
-all_sought-requires c =
+all_sought-requires g c =
     let a = c.args in
     (formed-of a.table.now (sym c.formed.ensures ∙ not-false _ c.if-not-formed.false-raw), omega arith)

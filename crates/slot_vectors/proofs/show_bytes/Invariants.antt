@@ -3,7 +3,7 @@ use lib.ListN.{length}
 use Rattle.slot_vectors.proofs.show_bytes.Given as goal
 
 abbrev pub invariant-loop-i : goal.invariant-loop-i
-invariant-loop-i l = (l.i ≤ l.n) × (l.n ≤ length l.slot)
+invariant-loop-i g l = (l.i ≤ l.n) × (l.n ≤ length l.slot)
 
 abbrev pub decreases-loop-i : goal.decreases-loop-i
-decreases-loop-i l = l.n - l.i
+decreases-loop-i g l = l.n - l.i

@@ -3,8 +3,9 @@ use Prim.Native.Nat.{ℕ, zero-le, ◌+◌, ◌*◌, ◌<◌, ◌≤◌}
 use mathlib.Core.Bool.{Bool}
 use mathlib.Core.List.{List}
 use Rattle.rules.specs.declared.Entry.{Entry}
-use lib.ListN.{length, get_or}
-use Rattle.rules.specs.TurnLaws.{any_here, any-later, any-end}
+use lib.ListN.{drop, length, get_or}
+use Rattle.rules.specs.Base.{any}
+use Rattle.rules.proofs.TurnLaws.{any_here, any-later, any-end}
 use Rattle.rules.specs.Trailer.{count_in, entries_in, misplaced}
 use Rattle.rules.specs.Table.{no_entry}
 use Rattle.trailer.specs.Entries.{entries-count}

@@ -6,14 +6,15 @@ use lib.Dec.{ltb}
 use lib.ListN.{length}
 use Rattle.rules.specs.declared.Claims.{Claims}
 use Rattle.rules.specs.declared.State.{State}
-use Rattle.rules.specs.Condition1Laws.{Passed, passed}
+use Rattle.rules.specs.Condition1Laws.{Passed}
+use Rattle.rules.proofs.Condition1Laws.{passed}
 use Rattle.rules.specs.Install.{new_slot}
 use Rattle.rules.specs.Ops.{Op, settled}
 use Rattle.rules.specs.Layout.{used_entries, capacity_of}
 use Rattle.rules.specs.declared.Entry.{Entry}
 use Rattle.rules.specs.Write.{too_many_ids}
-use Rattle.rules.specs.SettledLaws.{settled-rising}
-use Rattle.rules.specs.OpsLaws.{file-length}
+use Rattle.rules.proofs.SettledLaws.{settled-rising}
+use Rattle.rules.proofs.OpsLaws.{file-length}
 use Rattle.rules.specs.World.{World, world, slots_of}
 use Rattle.limits.specs.Settled.{state_of, passed-formed}
 use Rattle.batch.specs.Reading.{ops_in}

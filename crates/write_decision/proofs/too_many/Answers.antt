@@ -4,7 +4,7 @@ use native.Mathlib.Omega.{arith}
 use lib.ListN.{length}
 use lib.Dec.{ltb}
 use Rattle.rules.specs.Layout.{used_entries}
-use Rattle.rules.specs.LayoutLaws.{used-length}
+use Rattle.rules.proofs.LayoutLaws.{used-length}
 use Rattle.write_decision.proofs.too_many.Goals as goal
 
 pub overflow_add-result : goal.overflow_add-result

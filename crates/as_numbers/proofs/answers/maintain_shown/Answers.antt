@@ -3,7 +3,7 @@ use Rattle.rules.specs.Base.{padded}
 use Rattle.rules.specs.declared.MaintainAnswer.{MaintainAnswer}
 use Rattle.rules.specs.World.{maintain_given}
 use Rattle.as_numbers.specs.Shown.{stop_shown}
-use Rattle.rules.specs.Answers.{known}
+use Rattle.rules.proofs.Answers.{known}
 use Rattle.as_numbers.proofs.answers.maintain_shown.Goals as goal
 
 pub returns-in-Moved : goal.returns-in-Moved

@@ -5,11 +5,11 @@ use Rattle.bench.proofs.Answers.{ran-order}
 use Rattle.bench.proofs.commands.after_line.Goals as goal
 
 pub shape_of-decoded : goal.shape_of-decoded
-shape_of-decoded c =
+shape_of-decoded g c =
     c.order_of-order.auto.bytes
 
 pub returns : goal.returns
-returns c =
+returns g c =
     let a = c.args in
     let asked = c.order_of-order.ensures in
     record {

@@ -7,7 +7,7 @@ use Rattle.bench.proofs.Answers.{waits, too_long, ran-held, runs}
 use Rattle.bench.proofs.lines.answered.Goals as goal
 
 pub returns-then-not-s : goal.returns-then-not-s
-returns-then-not-s c =
+returns-then-not-s g c =
     let a = c.args in
     record {
       taken = refl;
@@ -15,7 +15,7 @@ returns-then-not-s c =
     }
 
 pub returns-then-s : goal.returns-then-s
-returns-then-s c =
+returns-then-s g c =
     let a = c.args in
     record {
       taken = ap (λ (x : Reading). x.taken) c.next_line-t.ensures;
@@ -23,9 +23,9 @@ returns-then-s c =
     }
 
 pub returns : goal.returns
-returns c =
+returns g c =
     let a = c.args in
     record {
       taken = ap (λ (x : Reading). x.taken) c.next_line-t.ensures;
-      answers = runs (length a.decoded.now) a.s.whole a.s.long a.s c.next_line-t.result (take a.s.held a.line.now) _ _ (not-false a.s.whole c.if-not-s.false) c.if-s.false c.next_line-t.ensures (ran-held (length a.decoded.now) a.s.held c.least-n.result a.line.now _ _ c.least-n.ensures.answers w.after_Line.ensures.0);
+      answers = runs (length a.decoded.now) a.s.whole a.s.long a.s c.next_line-t.result (take a.s.held a.line.now) _ _ (not-false a.s.whole c.if-not-s.false) c.if-s.false c.next_line-t.ensures (ran-held (length a.decoded.now) a.s.held c.least-n.result a.line.now _ _ c.least-n.ensures.answers c.after_line.ensures.runs);
     }

@@ -1,7 +1,7 @@
 use native.Mathlib.Nat.{zero-add}
 use Rattle.rules.specs.Layout.{table_ids, table_locations, used_entries}
-use Rattle.rules.specs.LayoutLaws.{ids-count, locations-count}
-use Rattle.rules.specs.ListingLaws.{written-length}
+use Rattle.rules.proofs.LayoutLaws.{ids-count, locations-count}
+use Rattle.rules.proofs.ListingLaws.{written-length}
 use Rattle.bench.proofs.Entries.{used-end, unused, used-more}
 use Prim.Native.Nat.{◌-◌}
 use mathlib.Core.Path.{sym, ◌∙◌}

@@ -3,7 +3,7 @@ use mathlib.Core.List.{List}
 use Prim.Native.Nat.{ℕ, ◌+◌, ◌-◌, ◌≤◌, ◌<◌, zero-le}
 use lib.ListN.{length, get_or, length-append, length-map}
 use Rattle.rules.specs.SlotFile.{empty, view_in, views_in}
-use Rattle.rules.specs.SlotLaws.{slots_apart, views-length}
+use Rattle.rules.proofs.SlotLaws.{slots_apart, views-length}
 use Rattle.faults.specs.Faults.{judged, slot_faults}
 use Rattle.faults.specs.Judging.{judges-at}
 use Rattle.file_faults.specs.Telling.{tells_none, tells_as, going_start, going-as, going_on, going-last}

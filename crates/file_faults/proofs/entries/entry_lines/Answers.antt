@@ -1,7 +1,7 @@
 use mathlib.Core.Path.{refl, sym, ap, ap₂, ◌∙◌}
 use Prim.Native.Nat.{ℕ, ◌-◌, ◌<◌, zero-le}
 use lib.ListN.{length}
-use Rattle.rules.specs.TurnLaws.{each_next, each-end}
+use Rattle.rules.proofs.TurnLaws.{each_next, each-end}
 use Rattle.rules.specs.Table.{no_entry}
 use Rattle.rules.specs.Trailer.{entries_in}
 use Rattle.trailer.specs.Entries.{entries-count}

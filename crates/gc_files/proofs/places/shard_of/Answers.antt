@@ -1,4 +1,3 @@
-use Prim.Native.Nat.{◌-◌}
 use Rattle.gc_files.proofs.places.shard_of.Goals as goal
 
 pub returns : goal.returns

@@ -1,8 +1,8 @@
 use mathlib.Core.Path.{◌≡◌, refl}
 use Rattle.rules.specs.Layout.{table_ids}
-use Rattle.rules.specs.LayoutLaws.{ids-count, used-length}
+use Rattle.rules.proofs.LayoutLaws.{ids-count, used-length}
 use Rattle.gc_files.proofs.EntryTurns.{along-start, along-turn, along-end}
-use Prim.Native.Nat.{ℕ, ◌≤◌, ◌<◌, ◌-◌}
+use Prim.Native.Nat.{ℕ, ◌≤◌, ◌<◌}
 use native.Mathlib.Omega.{arith}
 use borrow.Author.Rules.{rules}
 use lib.ListN.{length, get_or}
@@ -59,7 +59,7 @@ loop-i-preserved c =
     let room : i < length c.loop-i.pieces = omega (arith, asked.pieces, along.long) in (
       search (c.loop-i.invariant.0, rules),
       along-turn c.args.settings.target_file_size c.args.settings.slot_bytes c.args.heap.now (table_ids c.args.table.now) c.args.places.now c.args.pieces.now _ _ _ c.loop-i.pieces _ i
-          low (omega (arith, asked.places)) room (asked.standing i) (omega (arith, along.entries, asked.room)) along (rw c.id_at.ensures c.before.before.before.before.before.before.before.before.before.before.before.before.before done.tallies) (rw c.id_at.ensures c.before.before.before.before.before.before.before.before.before.before.before.before.before done.pieces),
+          low (omega (arith, asked.places)) room (asked.standing i) (omega (arith, along.entries, asked.room)) along (rw c.id_at.ensures at done.tallies) (rw c.id_at.ensures at done.pieces),
     )
 
 pub shape_of-shards : goal.shape_of-shards

@@ -6,7 +6,7 @@ use Rattle.rules.specs.Base.{each}
 use Rattle.rules.specs.Trailer.{entries_in}
 use Rattle.rules.specs.declared.Entry.{Entry}
 use Rattle.rules.specs.Table.{no_entry}
-use Rattle.rules.specs.BaseLaws.{all-at}
+use Rattle.rules.proofs.BaseLaws.{all-at}
 use Rattle.trailer.specs.Entries.{entries-count}
 use Rattle.rules.specs.Layout.{used_entries}
 use Rattle.gc_group.specs.Clear.{SumFits}

@@ -4,7 +4,7 @@ use native.Mathlib.Omega.{arith}
 use lib.ListN.{length, get_or, set, length-set, replicate, length-replicate}
 use mathlib.Core.List.{List}
 use Rattle.gc_candidates.proofs.PlanTurns.{filled-start, filled_next, filled-end}
-use Rattle.rules.specs.BaseLaws.{replicate-at}
+use Rattle.rules.proofs.BaseLaws.{replicate-at}
 use Rattle.gc_group.proofs.marks.unmark.Goals as goal
 
 pub loop-i-init : goal.loop-i-init

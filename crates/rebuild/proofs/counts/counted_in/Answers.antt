@@ -9,7 +9,7 @@ use lib.ListN.{length, get_or, take, set, replicate, length-map}
 use lib.Seq.{length-take-le}
 use Rattle.disk_location.specs.Locations.{masked_of, position_of}
 use Rattle.rules.specs.Layout.{used_entries}
-use Rattle.rules.specs.LayoutLaws.{used-length}
+use Rattle.rules.proofs.LayoutLaws.{used-length}
 use Rattle.location_table.specs.LayoutLaws.{used-location}
 use Rattle.ordered_files.specs.OrderLaws.{order-formed, order-finds}
 use Rattle.rebuild.specs.Records.{masked_lsn}

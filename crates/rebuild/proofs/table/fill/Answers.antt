@@ -6,9 +6,9 @@ use borrow.Author.Tests.{not-true, not-false}
 use lib.ListN.{take, drop}
 use Rattle.rules.specs.Base.{each}
 use Rattle.rules.specs.SlotFile.{View, view_in, views_in}
-use Rattle.rules.specs.SlotLaws.{slots_apart, views-length, views-at}
+use Rattle.rules.proofs.SlotLaws.{slots_apart, views-length, views-at}
 use Rattle.rules.specs.Reopen.{file_of, files_in}
-use Rattle.rules.specs.BaseLaws.{all_take}
+use Rattle.rules.proofs.BaseLaws.{all_take}
 use Rattle.reopen_tests.specs.Shown.{Sound, shown-at, sound-views}
 use Rattle.rebuild.specs.Filled.{rows_of, filled_none, filled-formed}
 use Rattle.rebuild.proofs.FillTurns.{rows_in, filled-as, chunk_in, chunk_out, slot-in, slot-out, slot-end, views-in-use}

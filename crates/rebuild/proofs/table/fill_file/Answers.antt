@@ -6,12 +6,12 @@ use native.Mathlib.Omega.{arith}
 use lib.ListN.{length}
 use Rattle.disk_location.specs.Locations.{position_of}
 use Rattle.rules.specs.declared.Entry.{Entry}
-use Rattle.rules.specs.BaseLaws.{all-at}
+use Rattle.rules.proofs.BaseLaws.{all-at}
 use Rattle.rules.specs.Trailer.{absolute, entries_in}
 use Rattle.rules.specs.Table.{no_entry}
 use Rattle.rules.specs.TableLaws.{Rising}
 use Rattle.rules.specs.Layout.{laid_out, used_entries, capacity_of}
-use Rattle.rules.specs.LayoutLaws.{used-length}
+use Rattle.rules.proofs.LayoutLaws.{used-length}
 use Rattle.rules.specs.Reopen.{latest_from}
 use Rattle.location_table.specs.LayoutLaws.{used-rising}
 use Rattle.table_merge.specs.NewIds.{new_ids, ids_in}

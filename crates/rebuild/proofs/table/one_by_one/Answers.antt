@@ -12,7 +12,7 @@ use mathlib.Core.Bool.{true}
 use lib.ListN.{take, length}
 use Rattle.rules.specs.Trailer.{absolute, entries_in}
 use Rattle.rules.specs.Table.{no_entry}
-use Rattle.rules.specs.BaseLaws.{all-at, all_take}
+use Rattle.rules.proofs.BaseLaws.{all-at, all_take}
 use native.Mathlib.Omega.{arith}
 use Rattle.rebuild.proofs.table.one_by_one.Goals as goal
 

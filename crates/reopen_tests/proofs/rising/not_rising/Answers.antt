@@ -1,7 +1,7 @@
 use mathlib.Core.Path.{sym, refl, ◌∙◌}
 use Prim.Native.Nat.{zero-le}
 use Rattle.rules.specs.SlotFile.{views_in}
-use Rattle.rules.specs.SlotLaws.{slots_apart, views-length}
+use Rattle.rules.proofs.SlotLaws.{slots_apart, views-length}
 use Rattle.reopen_tests.specs.Ascending.{file_falls}
 use Rattle.reopen_tests.specs.Shown.{shown-at}
 use Rattle.reopen_tests.proofs.TestTurns.{slot-here, slot-later, slot-end, slot_read}

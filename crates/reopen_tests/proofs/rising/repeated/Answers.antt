@@ -5,7 +5,7 @@ use lib.ListN.{drop}
 use Rattle.rules.specs.Base.{any}
 use Rattle.rules.specs.Trailer.{entries_in}
 use Rattle.rules.specs.Table.{no_entry}
-use Rattle.rules.specs.TurnLaws.{any_here, any-later, any-end}
+use Rattle.rules.proofs.TurnLaws.{any_here, any-later, any-end}
 use Rattle.reopen_tests.specs.Ascending.{repeats}
 use Prim.Native.Nat.{◌+◌}
 use native.Mathlib.Omega.{arith}

@@ -1,6 +1,6 @@
 use mathlib.Core.Path.{sym, ap, refl, ◌∙◌}
-use Prim.Native.Nat.{zero-le}
-use Rattle.rules.specs.SlotLaws.{slots_apart, views-length}
+use Prim.Native.Nat.{zero-le, ◌-◌}
+use Rattle.rules.proofs.SlotLaws.{slots_apart, views-length}
 use Rattle.reopen_tests.proofs.SurveyTurns.{labels-start, labels_next, labels-end, survey-here, survey-later, survey-end, said-refusal, said-label, surveyed-refused, surveyed-clear}
 use lib.ListN.{set}
 use mathlib.Core.List.{List}

@@ -1,7 +1,7 @@
 use mathlib.Core.Path.{refl, sym, ap, ◌∙◌, subst, ◌≡◌}
 use Prim.Native.Nat.{zero-le, ◌^◌, ℕ, ◌≤◌, ◌<◌, ◌-◌}
 use Rattle.rules.specs.SlotFile.{empty, view_in}
-use Rattle.rules.specs.SlotLaws.{slots_apart}
+use Rattle.rules.proofs.SlotLaws.{slots_apart}
 use Rattle.slot_file.specs.Slots.{shown_by}
 use Rattle.faults.specs.Faults.{judged}
 use Rattle.salvage.specs.Types.{SlotAnswer}

@@ -1,5 +1,6 @@
 use mathlib.Core.Path.{sym, ◌∙◌}
-use Rattle.rules.specs.TurnLaws.{zeros-more, zeros-not, zeros-end}
+use Rattle.rules.proofs.TurnLaws.{zeros-more, zeros-not, zeros-end}
+use Prim.Native.Nat.{◌-◌}
 use Rattle.slot_file.proofs.label.rest_zero.Goals as goal
 
 pub returns-then-s-i-ne0 : goal.returns-then-s-i-ne0

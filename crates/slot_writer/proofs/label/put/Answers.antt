@@ -5,7 +5,7 @@ use native.Mathlib.Numerals.{add-one}
 use Rattle.stores.specs.Runs.{made_then}
 use Rattle.slot_writer.specs.Labels.{label_stores}
 use native.Mathlib.Omega.{arith}
-use Rattle.rules.specs.LabelLaws.{label-length}
+use Rattle.rules.proofs.LabelLaws.{label-length}
 use Rattle.slot_writer.proofs.label.put.Goals as goal
 
 pub returns : goal.returns

@@ -1,0 +1,15 @@
+pub mod Lists
+pub mod Passing
+pub mod Objects
+pub mod Ids
+pub mod Wrong
+pub mod Accepting
+pub mod Own
+pub mod CleanLists
+pub mod Bytewise
+pub mod Lives
+pub mod Order
+pub mod Listed
+pub mod Calls
+pub mod Walks
+pub mod Witness

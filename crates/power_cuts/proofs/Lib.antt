@@ -1,0 +1,11 @@
+pub mod Runs
+pub mod Jobs
+pub mod Enduring
+pub mod Reopening
+pub mod FirstByte
+pub mod HiddenBytes
+pub mod Emptying
+pub mod Rewriting
+pub mod Calls
+pub mod PowerCut
+pub mod Witness

@@ -1,0 +1,14 @@
+pub mod InOrder
+pub mod Kinds
+pub mod Next
+pub mod Nothing
+pub mod Lost
+pub mod Emptied
+pub mod Cut
+pub mod Reopens
+pub mod Reported
+pub mod KeptFiles
+pub mod FirstBytes
+pub mod Rescued
+pub mod Witness
+pub mod Hazard

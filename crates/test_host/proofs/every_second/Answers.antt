@@ -1,8 +1,0 @@
-use Prim.Native.Nat.{◌-◌}
-use Rattle.test_host.proofs.every_second.Goals as goal
-
-pub loop-i-init : goal.loop-i-init
-loop-i-init c = tt
-
-pub loop-i-preserved : goal.loop-i-preserved
-loop-i-preserved c = tt
