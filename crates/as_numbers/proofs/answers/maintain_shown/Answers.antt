@@ -12,6 +12,4 @@ returns-in-Moved c = ap (λ (x : MaintainAnswer). stop_shown (maintain_given x))
 
 pub returns-in-Stopped : goal.returns-in-Stopped
 unfolding padded
-returns-in-Stopped c =
-    let a = c.a-in-Stopped-1.given in
-    rw (c.refusal_number.ensures, a.1, (known a.0.0).some) refl
+returns-in-Stopped c = rw (c.refusal_number.ensures, c.in-Stopped.is, (known c.in-Stopped.r).some) refl

@@ -1,4 +1,5 @@
-use mathlib.Core.Path.{◌≡◌, sym, ◌∙◌}
+use mathlib.Core.Path.{◌≡◌, ◌∙◌}
+use Prim.Native.Nat.{ℕ}
 use native.Mathlib.Omega.{arith}
 use borrow.Author.Rules.{rules}
 use lib.ListN.{length, length-set}
@@ -11,11 +12,11 @@ put_files-requires c = simp length-set (c.put_settings.auto.words ∙ c.requires
 
 pub bounds-words-1800 : goal.bounds-words-1800
 bounds-words-1800 c =
-    omega (arith, c.put_files.auto.words ∙ simp length-set (c.put_settings.auto.words ∙ c.requires))
+    omega (arith, length-set {A = ℕ}, c.put_files.auto.words, c.put_settings.auto.words, c.requires)
 
 pub shape_of-words : goal.shape_of-words
 shape_of-words c =
-    simp length-set (c.put_files.auto.words ∙ simp length-set (c.put_settings.auto.words ∙ c.requires) ∙ sym c.requires)
+    omega (arith, length-set {A = ℕ}, c.put_files.auto.words, c.put_settings.auto.words, c.requires)
 
 pub returns : goal.returns
 returns c =
