@@ -1,14 +1,10 @@
 use mathlib.Core.Path.{◌≡◌}
-use mathlib.Core.List.{List}
-use mathlib.Core.Bool.{false}
-use Prim.Native.Nat.{ℕ, ◌+◌, ◌-◌, ◌^◌, ◌≤◌, ◌<◌}
+use Prim.Native.Nat.{◌-◌, ◌≤◌}
 use lib.ListN.{drop}
-use Rattle.rules.specs.declared.Entry.{Entry}
-use Rattle.rules.specs.Trailer.{count_in, entries_in, absolute}
-use Rattle.rules.specs.Table.{insert, insert_all, full}
+use Rattle.rules.specs.Trailer.{count_in, entries_in}
+use Rattle.rules.specs.Table.{insert_all}
 use Rattle.rules.specs.Layout.{used_entries, capacity_of}
 use Rattle.location_table.specs.Tables.{Formed}
-use Rattle.disk_location.specs.Locations.{position_of}
 use Rattle.install.specs.Adding.{taken}
 use Rattle.install.proofs.one_by_one.Given as goal
 

@@ -12,5 +12,4 @@ returns-in-Moved c = ap (λ (x : MaintainAnswer). stop_shown (maintain_given x))
 
 pub returns-in-Stopped : goal.returns-in-Stopped
 unfolding padded
-returns-in-Stopped c =
-    rw (c.refusal_number.ensures, c.in-Stopped.is, (known c.in-Stopped.r).some) refl
+returns-in-Stopped c = rw (c.refusal_number.ensures, c.in-Stopped.is, (known c.in-Stopped.r).some) refl

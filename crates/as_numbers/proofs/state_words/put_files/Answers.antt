@@ -1,6 +1,6 @@
 use mathlib.Core.Path.{refl, sym, ap, ◌∙◌, ◌≡◌}
 use mathlib.Core.List.{List}
-use Prim.Native.Nat.{◌*◌, zero-le, ℕ, ◌+◌, ◌-◌}
+use Prim.Native.Nat.{◌*◌, zero-le, ℕ, ◌+◌}
 use lib.ListN.{drop, length, get_or}
 use Rattle.numbers.specs.Parts.{put_at, put-length}
 use Rattle.rules.specs.FileMap.{empty_record}

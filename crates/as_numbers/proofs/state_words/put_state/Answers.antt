@@ -1,7 +1,8 @@
-use mathlib.Core.Path.{◌≡◌, sym, ◌∙◌}
+use mathlib.Core.Path.{◌≡◌, ◌∙◌}
+use Prim.Native.Nat.{ℕ}
 use native.Mathlib.Omega.{arith}
 use borrow.Author.Rules.{rules}
-use lib.ListN.{length, set, length-set}
+use lib.ListN.{length, length-set}
 use Rattle.file_map.proofs.RecordTurns.{mapped-length}
 use Rattle.as_numbers.specs.StateLaws.{put_all}
 use Rattle.as_numbers.proofs.state_words.put_state.Goals as goal
@@ -11,13 +12,11 @@ put_files-requires c = simp length-set (c.put_settings.auto.words ∙ c.requires
 
 pub bounds-words-1800 : goal.bounds-words-1800
 bounds-words-1800 c =
-    let s = c.args.s in
-    let long : length (set (set c.put_settings.new.words 6 s.heap_len) 7 s.table_len) ≡ 1801 = simp length-set (c.put_settings.auto.words ∙ c.requires) in
-    omega (arith, c.put_files.auto.words, long)
+    omega (arith, length-set {A = ℕ}, c.put_files.auto.words, c.put_settings.auto.words, c.requires)
 
 pub shape_of-words : goal.shape_of-words
 shape_of-words c =
-    simp length-set (c.put_files.auto.words ∙ simp length-set (c.put_settings.auto.words ∙ c.requires) ∙ sym c.requires)
+    omega (arith, length-set {A = ℕ}, c.put_files.auto.words, c.put_settings.auto.words, c.requires)
 
 pub returns : goal.returns
 returns c =
