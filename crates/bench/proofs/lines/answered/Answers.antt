@@ -27,5 +27,5 @@ returns g c =
     let a = c.args in
     record {
       taken = ap (λ (x : Reading). x.taken) c.next_line-t.ensures;
-      answers = runs (length a.decoded.now) a.s.whole a.s.long a.s c.next_line-t.result (take a.s.held a.line.now) _ _ (not-false a.s.whole c.if-not-s.false) c.if-s.false c.next_line-t.ensures (ran-held (length a.decoded.now) a.s.held c.least-n.result a.line.now _ _ c.least-n.ensures.answers c.after_line.ensures.runs);
+      answers = runs (length a.decoded.now) a.s.whole a.s.long a.s c.next_line-t.result (take a.s.held a.line.now) _ _ (not-false a.s.whole c.if-not-s.false) c.if-s.false c.next_line-t.ensures (ran-held (length a.decoded.now) a.s.held c.least-n.result a.line.now _ _ c.least-n.ensures.answers c.after_line-said.ensures.runs);
     }

@@ -14,4 +14,4 @@ returns-then-not-s g c =
 pub returns : goal.returns
 returns g c =
     let a = c.args in
-    λ text h. last_some (length a.decoded.now) a.s c.taken_to-last.result c.answered-t.result a.line.now text a.heap.now a.table.now _ (λ e f. ⊎_elim (λ v. true≢false (sym (not-false a.s.long v.2.left) ∙ f)) (λ v. v.left e) c.else-s-eq0.branch-raw) c.taken_to-last.ensures c.answered-t.ensures.answers h
+    λ text h. last_some (length a.decoded.now) a.s c.taken_to-last.result c.answered-t.result a.line.now text a.heap.now a.table.now _ (λ e f. ⊎_elim (λ v. true≢false (sym (not-false a.s.long v.if-not-s.false) ∙ f)) (λ v. v.if-s-eq0.false e) c.else-s-eq0.branch-raw) c.taken_to-last.ensures c.answered-t.ensures.answers h
