@@ -21,9 +21,8 @@ use Rattle.rules.specs.TwoCalls.{refused_noting, job_of, job_ended, nightly_call
 use Rattle.rules.specs.World.{World, Given, accepted, refused, held_given, records_of, slots_of, state_with, After}
 use Rattle.location_table.specs.Tables.{with_pair}
 use Rattle.numbers.specs.Parts.{put_at}
-use Rattle.history_theory.specs.History.{Call, write, rewrite, prune, quiet}
+use Rattle.history_theory.specs.History.{Call, write, rewrite, prune, quiet, called as calling}
 use Rattle.history_theory.specs.Quiet.{claim, release}
-use Rattle.history_theory.specs.History.{called as calling}
 use Rattle.history_theory.proofs.Writes.{refused-unchanged}
 use Rattle.history_theory.specs.Writes.{Plain as PlainCall}
 use Rattle.losses.specs.Salvage.{Salvaged, salvage_call}

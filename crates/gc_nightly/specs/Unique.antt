@@ -4,7 +4,7 @@ use Rattle.std.proofs.Common.{ap₂}
 use Rattle.rules.specs.Base.{List, ℕ, length}
 use Rattle.rules.specs.declared.State.{State}
 use Rattle.rules.specs.declared.MaintainAnswer.{MaintainAnswer}
-use Rattle.rules.specs.Answers as answers
+use Rattle.rules.proofs.Answers as answers
 use Rattle.rules.specs.TwoCalls.{nightly_call}
 use Rattle.rules.specs.World.{maintain_given}
 use Rattle.as_numbers.specs.StateWords.{state_in}

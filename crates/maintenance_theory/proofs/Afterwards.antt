@@ -28,7 +28,7 @@ use Rattle.rules.specs.Reopen.{in_range, mapped_into}
 use Rattle.rules.specs.World.{World, records_of, mappings, maintain_given}
 use Rattle.theory.proofs.Counting.{count_none}
 use Rattle.theory.specs.Newest.{masked_at}
-use Rattle.theory.specs.Places as places
+use Rattle.theory.proofs.Places as places
 use Rattle.theory.specs.Places.{view_at, Stands}
 use Rattle.theory.proofs.Places.{own-file, found-in-range}
 use Rattle.theory.specs.Picture.{views_of, picture_of}
@@ -169,12 +169,14 @@ within-three : (g : ℕ) → Among generations g → (0 < g) × (g < 4)
 within-three g (inl e) = (omega arith, omega arith)
 within-three g (inr (inl e)) = (omega arith, omega arith)
 within-three g (inr (inr (inl e))) = (omega arith, omega arith)
+within-three g (inr (inr (inr x))) = elim x [ ]
 
 one_more : (w : World) (g : ℕ) → Among generations g → with_finished w (before (suc g)) ≡ finishing w g (with_finished w (before g))
 unfolding keep finished_from
 one_more w g (inl e) = subst (λ (m : ℕ). with_finished w (before (suc m)) ≡ finishing w m (with_finished w (before m))) e refl
 one_more w g (inr (inl e)) = subst (λ (m : ℕ). with_finished w (before (suc m)) ≡ finishing w m (with_finished w (before m))) e refl
 one_more w g (inr (inr (inl e))) = subst (λ (m : ℕ). with_finished w (before (suc m)) ≡ finishing w m (with_finished w (before m))) e refl
+one_more w g (inr (inr (inr x))) = elim x [ ]
 
 -- ---- pruning at last
 module _ (history : List Op) (v : World) (s : SoundWorld v (engine history)) where

@@ -114,6 +114,7 @@ module _ (history : List Op) (start : World) (st : SoundWorld start (engine hist
   turn-group g (inr (inr (inl e))) = subst (λ (h : ℕ). group (turn start h).world h (mark_of start) (count_of start) ≡ start_group start h) e
       (waiting-later (1 ∷ 2 ∷ []) (3 ∷ []) (omega arith, (omega arith, tt)) (((λ z. omega arith), ((λ z. omega arith), tt)), (((λ z. omega arith), tt), (tt, tt)))
       (record { stop = going; moved = 0; world = start }) (waiting-first (1 ∷ 2 ∷ 3 ∷ []))).same.0
+  turn-group g (inr (inr (inr x3))) = elim x3 [ ]
 
   module _ (room : ℕ) (enough : capacity_of start.table ≤ room) where
     -- a step of the job is a turn of the call
@@ -161,6 +162,7 @@ module _ (history : List Op) (start : World) (st : SoundWorld start (engine hist
     job-turn g (inr (inr (inl e))) = subst (λ (h : ℕ). job_from (before h) room (mark_of start) (count_of start) (record { stop = going; moved = 0; world = start }) ≡ turn start h) e
         (steps-same (1 ∷ 2 ∷ []) ((omega arith, omega arith), ((omega arith, omega arith), tt)) (((λ z. omega arith), tt), (tt, tt))
         (record { stop = going; moved = 0; world = start }) (waiting-first (1 ∷ 2 ∷ [])))
+    job-turn g (inr (inr (inr x3))) = elim x3 [ ]
 
     -- LAW: the job's rewrites are the call's groups
     pub job-course : job_of start room ≡ course_of start

@@ -27,7 +27,7 @@ use Rattle.rules.specs.Prune.{pruned}
 use Rattle.rules.specs.Reopen.{in_range}
 use Rattle.rules.specs.World.{World, records_of, mappings, maintain_given}
 use Rattle.theory.specs.Newest.{masked_at}
-use Rattle.theory.specs.Places as places
+use Rattle.theory.proofs.Places as places
 use Rattle.theory.specs.Places.{view_at}
 use Rattle.theory.proofs.Places.{record-holds, found-in-range}
 use Rattle.theory.specs.Picture.{views_of, picture_of, held_says, picture_says, last_says}

@@ -221,6 +221,7 @@ module _ (history : List Op) (w : World) (s : SoundWorld w (engine history)) whe
           none h (inl e) l = absurd (omega arith)
           none h (inr (inl e)) l = absurd (omega arith)
           none h (inr (inr (inl e))) l = absurd (omega arith)
+          none h (inr (inr (inr x5))) l = elim x5 [ ]
 
       t2 : At w 2 c2.stop c2.world
       t2 = one-turn 1 (inl refl) refl c1 u1 x.0 going refl t1
@@ -280,6 +281,7 @@ module _ (history : List Op) (w : World) (s : SoundWorld w (engine history)) whe
           low g (inl e) = omega arith
           low g (inr (inl e)) = omega arith
           low g (inr (inr (inl e))) = omega arith
+          low g (inr (inr (inr x6))) = elim x6 [ ]
 
           counted : AnswersBut (λ r g. Refusable w (start_group w g) r) w → (maintain_call w).answer ≡ maintain_given (Moved (sum (live_of w) generations))
           counted (inl a) = a

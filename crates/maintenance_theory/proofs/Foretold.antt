@@ -214,6 +214,7 @@ module _ (history : List Op) (w : World) (s : SoundWorld w (engine history)) whe
     steps g (inl e) = subst Step e (job-turn history w s room enough 2 (inr (inl refl)))
     steps g (inr (inl e)) = subst Step e (sym (ap (λ (c : Course). job_step c.stop room 2 (mark_of w) (count_of w) c) (job-turn history w s room enough 2 (inr (inl refl)))) ∙ job-turn history w s room enough 3 (inr (inr (inl refl))))
     steps g (inr (inr (inl e))) = subst Step e (sym (ap (λ (c : Course). job_step c.stop room 3 (mark_of w) (count_of w) c) (job-turn history w s room enough 3 (inr (inr (inl refl))))) ∙ job-course history w s room enough)
+    steps g (inr (inr (inr x3))) = elim x3 [ ]
 
     -- the generations behind one
     abbrev behind : ℕ → List ℕ
@@ -225,6 +226,7 @@ module _ (history : List Op) (w : World) (s : SoundWorld w (engine history)) whe
     goes_on g (inl e) = subst (λ (h : ℕ). forecast_of w ≡ foretold_from (h ∷ behind h) w (foreseen h)) e refl
     goes_on g (inr (inl e)) = subst (λ (h : ℕ). forecast_of w ≡ foretold_from (h ∷ behind h) w (foreseen h)) e refl
     goes_on g (inr (inr (inl e))) = subst (λ (h : ℕ). forecast_of w ≡ foretold_from (h ∷ behind h) w (foreseen h)) e refl
+    goes_on g (inr (inr (inr x3))) = elim x3 [ ]
 
     -- LAW: a rewrite alone, in its turn
     alone-so : (g : ℕ) → Among generations g → NoneBefore g (forecast_of w).stop → AnswersSo (forecast_of w).stop g (rewrite_call (turn w g).world room g (mark_of w) (count_of w)).answer

@@ -11,7 +11,7 @@ use Rattle.rules.specs.BaseLaws.{All}
 use Rattle.rules.proofs.BaseLaws.{all_map, same?, or-true, or-holds}
 use Rattle.rules.specs.Refusal.{decide, after, NoneHolds}
 use Rattle.rules.proofs.RefusalLaws.{clear-when, none_first, none_rest}
-use Rattle.rules.specs.Ops.{Content, Op, objects_of, entries_of, file_bytes}
+use Rattle.rules.specs.Ops.{Content, size_of, Op, objects_of, entries_of, file_bytes}
 use Rattle.rules.specs.OpsLaws.{Stands}
 use Rattle.rules.proofs.OpsLaws.{entries-of-rising, entry-stands}
 use Rattle.rules.specs.SettledLaws.{Last, silent, last, last_on}
@@ -52,7 +52,7 @@ use Rattle.maintenance_theory.specs.Relocated.{Left, Anew}
 stands-heard : (q : ℕ) (os : List Op) (x : ℕ) (c : Content) (p : ℕ) → Stands q os x c p → heard_in os x ≡ true
 stands-heard q [] x c p h = absurd h
 stands-heard q (o ∷ os) x c p (inl h) = heard-cons o os x (inl h.0)
-stands-heard q (o ∷ os) x c p (inr h) = heard-cons o os x (inr (stands-heard _ os x c p h))
+stands-heard q (o ∷ os) x c p (inr h) = heard-cons o os x (inr (stands-heard (q + size_of o.content) os x c p h))
 
 all-heard : (os : List Op) → All (λ (o : Op). heard_in os o.id ≡ true) os
 all-heard [] = tt

@@ -56,6 +56,7 @@ unfolding keep sum
 up_to f g (inl e) = subst (λ (h : ℕ). sum f (before h) + f h ≤ sum f generations) e (omega arith)
 up_to f g (inr (inl e)) = subst (λ (h : ℕ). sum f (before h) + f h ≤ sum f generations) e (omega arith)
 up_to f g (inr (inr (inl e))) = subst (λ (h : ℕ). sum f (before h) + f h ≤ sum f generations) e (omega arith)
+up_to f g (inr (inr (inr x3))) = elim x3 [ ]
 
 none-refused : (w : World) → Suffices w → NoneRefused w
 none-refused w h g a due =

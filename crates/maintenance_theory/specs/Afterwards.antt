@@ -8,7 +8,6 @@ use Rattle.rules.specs.FileMap.{empty_record, record_at}
 use Rattle.rules.specs.FileMapLaws.{Among}
 use Rattle.rules.specs.Maintenance.{found, start_group, maintain_call}
 use Rattle.rules.specs.World.{World, records_of, maintain_given, After}
-use Rattle.theory.specs.Places as places
 use Rattle.theory.specs.Places.{view_at}
 use Rattle.theory.specs.Picture.{views_of}
 use Rattle.maintenance_theory.specs.Tally.{heard_in}

@@ -11,7 +11,6 @@ use Rattle.rules.specs.FileMapLaws.{Among}
 use Rattle.rules.specs.InstallLaws.{is_at}
 use Rattle.rules.specs.Maintenance.{found, Stop, going, stopped, Course, start_group, rewrite_group, groups_from, maintain_call}
 use Rattle.rules.specs.World.{World, records_of, mappings, maintain_given, After}
-use Rattle.theory.specs.Places as places
 use Rattle.maintenance_theory.specs.Tally.{heard_in}
 use Rattle.maintenance_theory.specs.Finished.{before}
 

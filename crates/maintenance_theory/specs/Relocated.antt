@@ -7,7 +7,6 @@ use Rattle.rules.specs.SlotFile.{empty}
 use Rattle.rules.specs.Table.{lookup}
 use Rattle.rules.specs.FileMap.{file_for}
 use Rattle.rules.specs.World.{World, records_of, mappings}
-use Rattle.theory.specs.Places as places
 use Rattle.theory.specs.Places.{view_at}
 use Rattle.theory.specs.Picture.{views_of}
 

@@ -7,7 +7,6 @@ use Rattle.rules.specs.SlotFile.{File, holds}
 use Rattle.rules.specs.FileMap.{record_at}
 use Rattle.rules.specs.Maintenance.{Stop, going, stopped, Course, group, start_group}
 use Rattle.rules.specs.World.{World, records_of}
-use Rattle.theory.specs.Places as places
 use Rattle.theory.specs.Places.{view_at}
 use Rattle.theory.specs.Picture.{views_of}
 use Rattle.theory.specs.SoundWorld.{SoundWorld}

@@ -1,4 +1,4 @@
--- Demands 2 and 3 in one place: the theorems that a reader should open first. They are of results that the calls' contracts admit (`Contracts`), so of the code.
+-- Demands 2 and 3 in one place: the theorems that a reader should open first. They are of results that the calls' contracts admit (`CallContracts`), so of the code.
 
 -- written files read back as given: the slot shows the file, no other slot changes, each object reads back
 pub use Rattle.rules.proofs.WrittenLaws.{views-made, object-written, read-clear}

@@ -24,7 +24,7 @@ use Rattle.power_cuts.proofs.Runs.{run-made}
 use Rattle.power_cuts.specs.Cuts.{Alike}
 use Rattle.power_cuts.specs.Enduring.{StandsOn}
 use Rattle.power_cuts.proofs.Enduring.{alike_self, endured-none}
-use Rattle.power_cuts.proofs.Hidden.{file-hidden}
+use Rattle.power_cuts.proofs.HiddenBytes.{file-hidden}
 use Rattle.power_cuts.proofs.Emptying.{prune-endured}
 use Rattle.power_cuts.proofs.Rewriting.{alike-installed, rewrite-endured}
 

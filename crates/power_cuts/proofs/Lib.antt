@@ -3,7 +3,7 @@ pub mod Jobs
 pub mod Enduring
 pub mod Reopening
 pub mod FirstByte
-pub mod Hidden
+pub mod HiddenBytes
 pub mod Emptying
 pub mod Rewriting
 pub mod Calls

@@ -36,7 +36,7 @@ use Rattle.power_cuts.specs.Runs.{files_run, unless_refused, group_run, generati
 use Rattle.power_cuts.specs.Cuts.{Alike}
 use Rattle.power_cuts.specs.Enduring.{StandsOn, Endured}
 use Rattle.power_cuts.proofs.Enduring.{endured-none, endured-on}
-use Rattle.power_cuts.proofs.Hidden.{file-hidden}
+use Rattle.power_cuts.proofs.HiddenBytes.{file-hidden}
 
 -- ---- one file
 module _ (w : World) (told : ℕ → Said) (s : SoundWorld w told) (bit g : ℕ) (os : List Op) (f : Fitting bit g w os) where

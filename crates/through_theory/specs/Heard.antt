@@ -2,7 +2,6 @@
 use Rattle.rules.specs.Base.{List, [], ◌∷◌, ℕ, take, drop}
 use Rattle.rules.specs.Ops.{put, delete}
 use Rattle.rules.specs.SettledLaws.{Last, silent, last}
-use Rattle.rules.specs.SettledLaws as settled
 use Rattle.through.specs.declared.LastOperation.{LastOperation}
 use Rattle.through.specs.declared.LastOperation.TheVariants.{Puts, Deletes, NoOperation}
 

@@ -2,16 +2,16 @@
 -- entries, the generation is 255, a body is of max_object_size, and the next position comes over 2^62.
 use Rattle.std.specs.Prelude.{◌≡◌, refl}
 use Rattle.std.proofs.Common.{sym, ap, ◌∙◌, subst, true≢false, inl, inr, arith, leb-false}
-use Rattle.rules.specs.Base.{false, List, [], ◌∷◌, ℕ, zero, suc, leb, any}
+use Rattle.rules.specs.Base.{false, List, [], ◌∷◌, ℕ, zero, suc, leb, any, zeros, keep, each, sum, greatest, padded}
 use Rattle.theory.specs.Types.{ObjectSize, PositionsSpent, Stopped}
 use Rattle.numbers.specs.LittleEndian.{Bytes, le_bytes, le_value}
-use Rattle.disk_location.specs.Locations.{masked_of, position_of, delete_of}
+use Rattle.disk_location.specs.Locations.{masked_of, position_of, delete_of, digits_in}
 use Rattle.rules.proofs.BaseLaws.{or-false}
 use Rattle.rules.specs.Refusal.{NoneHolds, decide}
 use Rattle.rules.specs.Object.{object_bytes, stored_at, objects_from, objects_in, bad_checksum}
 use Rattle.rules.specs.Trailer.{listed, trailer_bytes, trailer_tests, entries_from, entries_in, misplaced}
 use Rattle.rules.specs.TableLaws.{Has}
-use Rattle.rules.specs.SlotFile.{File, View, empty, holds}
+use Rattle.rules.specs.SlotFile.{File, View, empty, holds, slot_tests, view_in, views_in, bytes_of_slot}
 use Rattle.rules.specs.Read.{object_tests, read_of}
 use Rattle.rules.specs.World.{accepted, refused, maintain_given}
 use Rattle.theory.specs.Places.{view_at}
@@ -21,9 +21,7 @@ use Rattle.theory.specs.Sound.{StartsAt, WholeFile}
 use Rattle.history_theory.specs.Clean.{Clean}
 use Rattle.history_theory.specs.Writes.{never, deleted, bytes, got}
 use Rattle.checksum.specs.Checksum.{shift_bit, shifts, crc_from, crc32, object_sum}
-use Rattle.disk_location.specs.Locations.{digits_in}
 use Rattle.numbers.specs.Groups.{groups_of, read_groups, number_in}
-use Rattle.rules.specs.Base.{zeros, keep, each, sum, greatest, padded}
 use Rattle.rules.specs.Batch.{operation_at, batch_from, batch_in, any_too_large}
 use Rattle.rules.specs.Claims.{is_claimed}
 use Rattle.rules.specs.Condition1.{out_of_range, not_the_states, bad_record, bad_from, condition_one}
@@ -36,7 +34,6 @@ use Rattle.rules.specs.TwoCalls.{mark_of, count_of, rewrite_tests, generation_re
 use Rattle.rules.specs.Ops.{objects_of, entries_of, file_bytes, joined, settled}
 use Rattle.rules.specs.Reopen.{files_in, overlapping, not_rising, latest, latest_from, table_of, reopen_tests, mapped_into, records_from, next_after, opened, reopen_call, given_up}
 use Rattle.rules.specs.Settings.{in_ranges, heap_in_range, same_settings}
-use Rattle.rules.specs.SlotFile.{slot_tests, view_in, views_in, bytes_of_slot}
 use Rattle.rules.specs.Table.{lookup, insert, insert_all}
 use Rattle.rules.specs.Write.{too_many_ids, write_tests, write_call}
 use Rattle.worked_out.specs.Foreign.{objects, entries, foreign, file}

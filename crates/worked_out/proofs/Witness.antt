@@ -2,7 +2,7 @@
 -- claimed file, then that file's other id by the nightly job; an id is put again, the file that it leaves is pruned, and the store reopened. Each
 -- file's mark is seen.
 use Rattle.std.specs.Prelude.{◌≡◌, refl}
-use Rattle.rules.specs.Base.{[], ◌∷◌}
+use Rattle.rules.specs.Base.{[], ◌∷◌, any, zeros, keep, each, sum, greatest, padded}
 use Rattle.rules.specs.Sync.{is_unsynced, marked, too_long, sync_call, sync_state}
 use Rattle.theory.specs.Types.{Claim, Moved, Generation}
 use Rattle.rules.specs.World.{accepted, refused, maintain_given}
@@ -12,7 +12,6 @@ use Rattle.checksum.specs.Checksum.{shift_bit, shifts, crc_from, crc32, object_s
 use Rattle.disk_location.specs.Locations.{masked_of, digits_in}
 use Rattle.numbers.specs.Groups.{groups_of, read_groups, number_in}
 use Rattle.numbers.specs.LittleEndian.{le_bytes, le_value}
-use Rattle.rules.specs.Base.{any, zeros, keep, each, sum, greatest, padded}
 use Rattle.rules.specs.Batch.{put_operation, operation_at, batch_from, batch_in, any_too_large}
 use Rattle.rules.specs.Claims.{is_claimed, claim_set, claim_cleared, claim_call, release_call}
 use Rattle.rules.specs.Condition1.{out_of_range, not_the_states, bad_record, bad_from, condition_one}

@@ -1,13 +1,12 @@
 -- A life that was worked out, every call of demand 3 in it: a delete is moved by a rewrite while the put that it deletes still stands in a
 -- claimed file, then that file's other id by the nightly job; an id is put again, the file that it leaves is pruned, and the store reopened. Each
 -- file's mark is seen.
-use Rattle.rules.specs.Base.{List, [], ◌∷◌, ℕ, map, take, replicate, pick}
+use Rattle.rules.specs.Base.{List, [], ◌∷◌, ℕ, map, take, replicate, pick, zeros}
 use Rattle.rules.specs.Sync.{is_unsynced}
 use Rattle.theory.specs.Types.{Record}
 use Rattle.rules.specs.Claims.{no_claims}
 use Rattle.rules.specs.World.{World, records_of, no_state, Given, After}
 use Rattle.history_theory.specs.History.{Call, called}
-use Rattle.rules.specs.Base.{zeros}
 use Rattle.rules.specs.FileMap.{is_empty}
 use Rattle.rules.specs.TwoCalls.{nightly_call}
 use Rattle.rules.specs.Stores.{made}

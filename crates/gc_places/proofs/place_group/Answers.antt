@@ -12,12 +12,8 @@ use Rattle.file_map.proofs.RecordTurns.{mapped-length}
 use Rattle.gc_candidates.specs.Plan.{planned}
 use Rattle.gc_group.specs.Source.{source}
 use Rattle.gc_files.specs.Places.{places_for}
-use Rattle.gc_places.specs.Group.{Checked}
 use Rattle.gc_places.specs.GroupLaws.{group-checked, marks-used, placeables, places-told}
 use Rattle.gc_places.proofs.place_group.Goals as goal
-
-all-records : (start : goal.Start) → length start.args.m.records ≡ 256
-all-records start = search (mapped-length, rules)
 
 pub returns-in-Refused : goal.returns-in-Refused
 returns-in-Refused c =
@@ -26,27 +22,20 @@ returns-in-Refused c =
       places = λ e. absurd (let z : ◌≡◌ {A = ℕ} 0 1 = cc in omega arith);
     }
 
--- none of the checks refuses the group
-cleared : (c : goal.In-Done) → let a = c.args in
-    Checked a.group.settings.max_object_size a.group.settings.slot_bytes a.heap.now a.m.records a.plan.now a.group.generation a.table.now (length a.marks.now)
-cleared c =
-    let a = c.args in
-    let asked = c.requires in
-    group-checked a.group.settings a.heap.now a.m.records a.plan.now a.group.generation a.table.now (length a.marks.now) asked.in_ranges asked.ready
-    (sym c.mark_group.ensures.answers ∙ c.in-Done.is) asked.formed asked.table_in_bounds.0 (λ i. (c.type_inv.heap i).fits)
-
 pub place_all-requires : goal.place_all-requires
 place_all-requires c =
     let a = c.args in
     let done = c.in-Done.is in
     let lsns = c.mark_group.ensures.lsns done in
     let marks = c.mark_group.ensures.marks done in
-    let checked = cleared c.before.before in
+    let checked = group-checked a.group.settings a.heap.now a.m.records a.plan.now a.group.generation a.table.now (length a.marks.now) c.requires.in_ranges c.requires.ready
+    (sym c.mark_group.ensures.answers ∙ done) c.requires.formed c.requires.table_in_bounds.0 (λ i. (c.type_inv.heap i).fits) in
+    let all : length a.m.records ≡ 256 = search (mapped-length, rules) in
     let from = source a.group.settings.slot_bytes a.heap.now a.m.records (used_entries a.table.now) in
     let marked = marks-used from (length a.marks.now) (planned a.plan.now a.group.generation) in record {
       slot_bytes_bound = checked.high;
       placeables = placeables a.group.settings.max_object_size a.group.settings.slot_bytes a.heap.now a.m.records a.plan.now a.group.generation a.table.now (length a.marks.now) checked
-          _ _ a.places.now (ap length lsns ∙ length-map a.m.records (λ (r : Record). r.label.lsn) ∙ all-records c.before.before.before.before.before.before.before.before.before.before.before.before.before.before.before) lsns marks c.requires.table_in_bounds.1;
+          _ _ a.places.now (ap length lsns ∙ length-map a.m.records (λ (r : Record). r.label.lsn) ∙ all) lsns marks c.requires.table_in_bounds.1;
       formed = (
         checked.formed,
         λ i some. marked i (subst (λ (ms : List ℕ). 0 < get_or ms i 0) marks some),
@@ -59,10 +48,12 @@ returns c =
     let a = c.args in
     let done = c.in-Done.is in
     let lsns = c.mark_group.ensures.lsns done in
-    let marks = c.mark_group.ensures.marks done in record {
+    let marks = c.mark_group.ensures.marks done in
+    let checked = group-checked a.group.settings a.heap.now a.m.records a.plan.now a.group.generation a.table.now (length a.marks.now) c.requires.in_ranges c.requires.ready
+    (sym c.mark_group.ensures.answers ∙ done) c.requires.formed c.requires.table_in_bounds.0 (λ i. (c.type_inv.heap i).fits) in record {
       answers = sym done ∙ c.mark_group.ensures.answers;
       places = λ e.
-          places-told a.group.settings.max_object_size a.group.settings.slot_bytes a.heap.now a.m.records a.plan.now a.group.generation a.table.now (length a.marks.now) (cleared c.before.before.before.before.before)
+          places-told a.group.settings.max_object_size a.group.settings.slot_bytes a.heap.now a.m.records a.plan.now a.group.generation a.table.now (length a.marks.now) checked
           a.places.now _ c.requires.table_in_bounds.1 c.requires.table_in_bounds.2
           (c.place_all.ensures ∙ ap₂ (λ (ns ms : List ℕ). front (places_for a.group.settings.slot_bytes ns (table_locations a.table.now) ms) a.places.now) lsns marks);
     }

@@ -1,7 +1,6 @@
-use Prim.Native.Nat.{◌*◌, ◌^◌}
+use Prim.Native.Nat.{◌*◌, ◌^◌, ◌+◌, ◌≤◌, ◌-◌}
 use lib.ListN.{drop}
 use Rattle.gc_split.specs.Tally.{closing_rests}
-use Prim.Native.Nat.{◌+◌, ◌≤◌, ◌-◌}
 use mathlib.Core.Path.{◌≡◌}
 use Rattle.gc_split.proofs.close_rests.Given as goal
 

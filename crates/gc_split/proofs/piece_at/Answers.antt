@@ -1,11 +1,9 @@
-use mathlib.Core.Path.{sym, ap, ◌∙◌}
+use mathlib.Core.Path.{sym, ap, ◌∙◌, ◌≡◌}
 use mathlib.Core.List.{◌++◌}
-use lib.ListN.{take, get_or-append}
+use lib.ListN.{take, get_or-append, length, get_or}
 use lib.Seq.{get_or-take, get_or-append-add, length-take-le}
 use Prim.Native.Nat.{ℕ, ◌+◌, ◌≤◌, ◌<◌, ◌-◌}
-use mathlib.Core.Path.{◌≡◌}
 use native.Mathlib.Omega.{arith}
-use lib.ListN.{length, get_or}
 use Rattle.gc_split.proofs.piece_at.Goals as goal
 
 pub returns-then-file-left : goal.returns-then-file-left

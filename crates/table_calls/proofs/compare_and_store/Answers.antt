@@ -3,12 +3,11 @@ use mathlib.Core.Bool.{Bool, ◌||◌}
 use borrow.Author.Tests.{eq-eqb, ne_eqb}
 use lib.Dec.{eqb}
 use Rattle.rules.specs.declared.Held.TheVariants.{Mapped}
-use Rattle.rules.specs.Layout.{Table}
+use Rattle.rules.specs.Layout.{Table, capacity_of, used_entries}
 use Rattle.rules.specs.Table.{lookup}
 use Rattle.rules.proofs.TableLaws.{full-mapped}
 use Rattle.rules.specs.TableCalls.{compare_call}
 use Rattle.rules.specs.Refusal.{decide}
-use Rattle.rules.specs.Layout.{capacity_of, used_entries}
 use Rattle.location_table.specs.StoreLaws.{stored_is}
 use Rattle.table_calls.specs.Front.{front_tests, FrontClear, front-clear, front-refused}
 use Rattle.table_calls.proofs.compare_and_store.Goals as goal

@@ -3,12 +3,11 @@ use mathlib.Core.Bool.{false}
 use borrow.Author.Tests.{not-true, not-false, eq-eqb, ne_eqb, lt-ltb, le-ltb}
 use lib.Dec.{eqb}
 use Rattle.rules.specs.declared.Held.TheVariants.{Mapped, Unmapped}
-use Rattle.rules.specs.Layout.{Table}
+use Rattle.rules.specs.Layout.{Table, capacity_of, used_entries}
 use Rattle.rules.specs.Table.{lookup, full}
 use Rattle.rules.proofs.TableLaws.{full-mapped}
 use Rattle.rules.specs.TableCalls.{greater_call}
 use Rattle.rules.specs.Refusal.{decide}
-use Rattle.rules.specs.Layout.{capacity_of, used_entries}
 use Rattle.location_table.specs.StoreLaws.{room-tells, no-room-tells, stored_is}
 use Rattle.table_calls.specs.Front.{FrontClear, front-clear, front-refused}
 use Rattle.table_calls.proofs.store_if_greater.Goals as goal

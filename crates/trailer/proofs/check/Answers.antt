@@ -3,10 +3,9 @@ use mathlib.Core.List.{List}
 use borrow.Author.Tests.{lt-ltb, le-ltb, eq-eqb, ne_eqb}
 use lib.ListN.{take, drop, length-drop, length}
 use lib.Seq.{take_all}
-use Rattle.numbers.specs.LittleEndian.{le_value}
 use Rattle.checksum.specs.Checksum.{crc32}
 use Rattle.rules.specs.Refusal.{decide}
-use Prim.Native.Nat.{◌*◌, ℕ, ◌+◌, ◌≤◌, ◌-◌}
+use Prim.Native.Nat.{◌*◌, ℕ, ◌+◌, ◌-◌}
 use Rattle.rules.specs.Trailer.{trailer_tests, count_in}
 use native.Mathlib.Omega.{arith}
 use borrow.Author.Rules.{rules}

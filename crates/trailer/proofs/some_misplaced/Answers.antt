@@ -1,5 +1,5 @@
 use mathlib.Core.Path.{sym, ap, refl, ◌∙◌, ◌≡◌}
-use Prim.Native.Nat.{ℕ, zero-le, ◌+◌, ◌*◌, ◌<◌, ◌≤◌, ◌-◌}
+use Prim.Native.Nat.{ℕ, zero-le, ◌+◌, ◌*◌, ◌<◌, ◌≤◌}
 use mathlib.Core.Bool.{Bool}
 use mathlib.Core.List.{List}
 use Rattle.rules.specs.declared.Entry.{Entry}

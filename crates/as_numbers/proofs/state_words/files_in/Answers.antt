@@ -1,16 +1,13 @@
-use mathlib.Core.Path.{refl, sym, ap, ◌∙◌}
+use mathlib.Core.Path.{refl, sym, ap, ◌∙◌, ◌≡◌}
 use mathlib.Core.List.{List, ◌++◌}
-use Prim.Native.Nat.{◌*◌, zero-le}
-use lib.ListN.{take}
+use Prim.Native.Nat.{◌*◌, zero-le, ◌+◌, ◌-◌}
+use lib.ListN.{take, length, set, length-set}
 use Rattle.rules.specs.declared.Record.{Record}
 use Rattle.file_map.proofs.RecordTurns.{mapped-length}
 use Rattle.as_numbers.specs.StateWords.{records_from, state_in}
 use Rattle.as_numbers.proofs.StateWordTurns.{read_next, read-end}
-use Prim.Native.Nat.{◌+◌, ◌-◌}
-use mathlib.Core.Path.{◌≡◌}
 use native.Mathlib.Omega.{arith}
 use borrow.Author.Rules.{rules}
-use lib.ListN.{length, set, length-set}
 use Rattle.as_numbers.proofs.state_words.files_in.Goals as goal
 
 pub loop-k-init : goal.loop-k-init

@@ -1,10 +1,8 @@
 use mathlib.Core.List.{◌++◌}
-use Prim.Native.Nat.{◌*◌}
-use lib.ListN.{take}
+use Prim.Native.Nat.{◌*◌, ◌+◌, ◌≤◌, ◌-◌}
+use lib.ListN.{take, length}
 use Rattle.as_numbers.specs.StateWords.{records_from}
-use Prim.Native.Nat.{◌+◌, ◌≤◌, ◌-◌}
 use mathlib.Core.Path.{◌≡◌}
-use lib.ListN.{length}
 use Rattle.as_numbers.proofs.state_words.files_in.Given as goal
 
 abbrev pub invariant-loop-k : goal.invariant-loop-k

@@ -1,18 +1,15 @@
-use mathlib.Core.Path.{refl, sym, ap, ◌∙◌}
+use mathlib.Core.Path.{refl, sym, ap, ◌∙◌, ◌≡◌}
 use mathlib.Core.List.{List}
-use Prim.Native.Nat.{◌*◌, zero-le}
-use lib.ListN.{drop}
+use Prim.Native.Nat.{◌*◌, zero-le, ℕ, ◌+◌, ◌-◌}
+use lib.ListN.{drop, length, get_or}
 use Rattle.numbers.specs.Parts.{put_at, put-length}
 use Rattle.rules.specs.FileMap.{empty_record}
 use Rattle.file_map.proofs.RecordTurns.{mapped-length}
 use Rattle.as_numbers.specs.StateWords.{record_words, records_words}
 use Rattle.as_numbers.specs.StateLaws.{record-length}
 use Rattle.as_numbers.proofs.StateWordTurns.{write-next, write-end}
-use Prim.Native.Nat.{ℕ, ◌+◌, ◌-◌}
-use mathlib.Core.Path.{◌≡◌}
 use native.Mathlib.Omega.{arith}
 use borrow.Author.Rules.{rules}
-use lib.ListN.{length, get_or}
 use Rattle.as_numbers.proofs.state_words.put_files.Goals as goal
 
 pub loop-k-init : goal.loop-k-init

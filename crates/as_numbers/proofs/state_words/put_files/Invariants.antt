@@ -1,10 +1,8 @@
-use Prim.Native.Nat.{◌*◌}
-use lib.ListN.{drop}
+use Prim.Native.Nat.{◌*◌, ◌+◌, ◌≤◌, ◌-◌}
+use lib.ListN.{drop, length}
 use Rattle.numbers.specs.Parts.{put_at}
 use Rattle.as_numbers.specs.StateWords.{records_words}
-use Prim.Native.Nat.{◌+◌, ◌≤◌, ◌-◌}
 use mathlib.Core.Path.{◌≡◌}
-use lib.ListN.{length}
 use Rattle.as_numbers.proofs.state_words.put_files.Given as goal
 
 abbrev pub invariant-loop-k : goal.invariant-loop-k

@@ -1,10 +1,9 @@
 use mathlib.Core.Path.{refl, ap}
-use Prim.Native.Nat.{◌+◌, ◌≤◌}
+use Prim.Native.Nat.{◌+◌, ◌≤◌, ℕ}
 use native.Mathlib.Omega.{arith}
 use borrow.Author.Tests.{lt-ltb, le-ltb}
 use lib.ListN.{length}
 use mathlib.Core.List.{List}
-use Prim.Native.Nat.{ℕ}
 use Rattle.numbers.proofs.Lent.{lent}
 use Rattle.desk.specs.Desk.{desk, changed}
 use Rattle.desk.proofs.by_hand.poke.Goals as goal

@@ -1,14 +1,12 @@
-use mathlib.Core.Path.{refl, sym, ap, ◌∙◌}
-use lib.ListN.{drop}
+use mathlib.Core.Path.{refl, sym, ap, ◌∙◌, ◌≡◌}
+use lib.ListN.{drop, length, get_or, length-set, length-drop}
 use Rattle.numbers.specs.Parts.{put_at, put_front, put_step}
 use Rattle.rules.specs.Layout.{table_locations}
 use Rattle.rules.proofs.LayoutLaws.{locations-count, used-length}
 use Rattle.gc_files.specs.Places.{places_for}
 use Rattle.gc_files.specs.PlaceLaws.{none-behind, places-next, places-none}
 use Prim.Native.Nat.{ℕ, ◌+◌, ◌≤◌, ◌<◌}
-use mathlib.Core.Path.{◌≡◌}
 use native.Mathlib.Omega.{arith}
-use lib.ListN.{length, get_or, length-set, length-drop}
 use lib.Seq.{get_or-drop, get_or-set_other}
 use Rattle.gc_files.proofs.marked.place_all.Goals as goal
 

@@ -1,10 +1,9 @@
-use lib.ListN.{drop}
+use lib.ListN.{drop, length, get_or}
 use Rattle.numbers.specs.Parts.{front, put_at}
 use Rattle.rules.specs.Layout.{table_locations}
 use Rattle.gc_files.specs.Places.{places_for}
 use Prim.Native.Nat.{ℕ, ◌≤◌, ◌-◌}
 use mathlib.Core.Path.{◌≡◌}
-use lib.ListN.{length, get_or}
 use Rattle.gc_files.proofs.marked.place_all.Given as goal
 
 abbrev pub invariant-loop-i : goal.invariant-loop-i

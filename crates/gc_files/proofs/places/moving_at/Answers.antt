@@ -1,11 +1,10 @@
 use mathlib.Core.Path.{refl}
 use borrow.Author.Tests.{eq-eqb, ne_eqb}
-use lib.ListN.{drop, length-take, length-drop}
+use lib.ListN.{drop, length-take, length-drop, length}
 use Rattle.numbers.proofs.Lent.{read-in}
 use Rattle.gc_files.specs.Places.{moving_at}
 use Prim.Native.Nat.{◌+◌, ◌-◌}
 use native.Mathlib.Omega.{arith}
-use lib.ListN.{length}
 use Rattle.gc_files.proofs.places.moving_at.Goals as goal
 
 pub returns-then-place-eq1 : goal.returns-then-place-eq1

@@ -1,10 +1,11 @@
-use Prim.Native.Nat.{◌+◌, ◌<◌, ◌-◌, zero-le}
+use Prim.Native.Nat.{ℕ, ◌+◌, ◌<◌, ◌-◌, zero-le}
 use mathlib.Core.Path.{◌≡◌, refl, sym, ap, ◌∙◌}
-use mathlib.Core.List.{◌++◌}
+use mathlib.Core.List.{List, ◌++◌}
 use native.Mathlib.Omega.{arith}
 use lib.ListN.{length, get_or, drop}
 use Rattle.rules.specs.Base.{each}
 use Rattle.rules.proofs.TurnLaws.{each_next, each-end}
+use Rattle.rules.specs.declared.Answer.{Answer}
 use Rattle.rules.specs.declared.Entry.{Entry}
 use Rattle.rules.specs.Refusal.{decide}
 use Rattle.rules.proofs.RefusalLaws.{decide-none, decide-early, decide-late}
@@ -19,28 +20,27 @@ pub loop-k-init : goal.loop-k-init
 loop-k-init c = (c.count-n.ensures, zero-le, refl)
 
 -- what a turn looks at: the entry, what is left, and what is decided of the entry
-looked : (c : goal.After-check_entry) → let l = c.loop-k in
-    let es = entries_in c.args.trailer.now in
-    let f = entry_tests c.args.lsn (used_entries c.args.table.now) in
-    (l.k < length es) × (each f (drop l.k es) ≡ f (get_or es l.k no_entry) ++ each f (drop (l.k + 1) es))
-    × (decide (f (get_or es l.k no_entry)) ≡ c.check_entry.result) × (decide (each f (drop l.k es)) ≡ decide (each f es))
-looked c =
-    let l = c.loop-k in
-    let es = entries_in c.args.trailer.now in
-    let f = entry_tests c.args.lsn (used_entries c.args.table.now) in
-    let inside : l.k < length es = omega (arith, l.invariant.0, entries-count c.args.trailer.now c.requires.trailer_in_bounds, c.loop-k-test.true) in
-    (inside, each_next es l.k no_entry inside f, ap (λ (e : Entry). decide (f e)) (sym c.entry.ensures) ∙ sym c.check_entry.ensures, l.invariant.2)
+looked : (trailer t : List ℕ) (lsn k : ℕ) (e : Entry) (answer : Answer) → k < length (entries_in trailer)
+    → e ≡ get_or (entries_in trailer) k no_entry → answer ≡ decide (entry_tests lsn (used_entries t) e)
+    → (each (entry_tests lsn (used_entries t)) (drop k (entries_in trailer))
+    ≡ entry_tests lsn (used_entries t) (get_or (entries_in trailer) k no_entry) ++ each (entry_tests lsn (used_entries t)) (drop (k + 1) (entries_in trailer)))
+    × (decide (entry_tests lsn (used_entries t) (get_or (entries_in trailer) k no_entry)) ≡ answer)
+looked trailer t lsn k e answer inside is decided =
+    (each_next (entries_in trailer) k no_entry inside (entry_tests lsn (used_entries t)), ap (λ (x : Entry). decide (entry_tests lsn (used_entries t) x)) (sym is) ∙ sym decided)
 
 pub returns-in-Refused : goal.returns-in-Refused
 returns-in-Refused c =
-    let w = looked c.before.before.before in
-    sym (ap decide w.1 ∙ decide-early _ _ _ (w.2 ∙ c.in-Refused.is)) ∙ w.3
+    let l = c.loop-k in
+    let inside : l.k < length (entries_in c.args.trailer.now) = omega (arith, l.invariant.0, entries-count c.args.trailer.now c.requires.trailer_in_bounds, c.loop-k-test.true) in
+    let w = looked c.args.trailer.now c.args.table.now c.args.lsn l.k _ _ inside c.entry.ensures c.check_entry.ensures in
+    sym (ap decide w.0 ∙ decide-early _ _ _ (w.1 ∙ c.in-Refused.is)) ∙ l.invariant.2
 
 pub loop-k-preserved : goal.loop-k-preserved
 loop-k-preserved c =
-    let w = looked c.before.before in
     let l = c.loop-k in
-    (l.invariant.0, omega arith, sym (decide-late _ _ (w.2 ∙ c.in-Done.is)) ∙ ap decide (sym w.1) ∙ w.3)
+    let inside : l.k < length (entries_in c.args.trailer.now) = omega (arith, l.invariant.0, entries-count c.args.trailer.now c.requires.trailer_in_bounds, c.loop-k-test.true) in
+    let w = looked c.args.trailer.now c.args.table.now c.args.lsn l.k _ _ inside c.entry.ensures c.check_entry.ensures in
+    (l.invariant.0, omega arith, sym (decide-late _ _ (w.1 ∙ c.in-Done.is)) ∙ ap decide (sym w.0) ∙ l.invariant.2)
 
 pub returns : goal.returns
 returns c =

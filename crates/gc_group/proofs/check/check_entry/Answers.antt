@@ -1,7 +1,6 @@
-use Prim.Native.Nat.{◌+◌, ◌-◌}
+use Prim.Native.Nat.{ℕ, ◌+◌}
 use mathlib.Core.Path.{◌≡◌, sym, ap, ◌∙◌}
 use mathlib.Core.Bool.{Bool, true}
-use borrow.Author.Tests.{not-true, not-false}
 use Rattle.numbers.specs.Choice.{pick}
 use Rattle.disk_location.specs.declared.Located.{Located}
 use Rattle.disk_location.specs.Locations.{position_of, delete_of, told, located_at}
@@ -14,34 +13,35 @@ use Rattle.gc_group.proofs.check.check_entry.Goals as goal
 pub returns-then-not-is_delete : goal.returns-then-not-is_delete
 returns-then-not-is_delete c =
     let a = c.args in
-    sym (entry-object a.lsn (used_entries a.table.now) a.e (sym c.is_delete.ensures ∙ not-true _ c.if-not-is_delete.true-raw))
+    sym (entry-object a.lsn (used_entries a.table.now) a.e (sym c.is_delete.ensures ∙ c.if-not-is_delete.true))
 
--- a delete, and whether its sum is too great
-looked : (c : goal.After-number) → let a = c.args in
-    (delete_of a.e.location ≡ true) × (c.number.result ≡ (told (located_at (position_of a.e.location + a.lsn) true)).number)
-looked c =
-    let a = c.args in
-    let d : delete_of a.e.location ≡ true = sym c.is_delete.ensures ∙ not-false _ c.if-not-is_delete.false-raw in
-    (d, c.number.ensures ∙ ap (λ (l : Located). (told l).number) (c.to_absolute.ensures ∙ ap (located_at (position_of a.e.location + a.lsn)) d))
+-- a delete: whether its sum is too great
+number-is : (at lsn number : ℕ) (located : Located) → located ≡ located_at (position_of at + lsn) (delete_of at) → number ≡ (told located).number → delete_of at ≡ true
+    → number ≡ (told (located_at (position_of at + lsn) true)).number
+number-is at lsn number located is told_is d =
+    told_is ∙ ap (λ (l : Located). (told l).number) (is ∙ ap (located_at (position_of at + lsn)) d)
 
 pub returns-then-number-ne0 : goal.returns-then-number-ne0
 returns-then-number-ne0 c =
-    let w = looked c.before in
     let a = c.args in
-    sym (entry-great a.lsn (used_entries a.table.now) a.e w.0 ((located-number _).1 (λ z. c.if-number-ne0.true (w.1 ∙ z))))
+    let d = sym c.is_delete.ensures ∙ c.if-not-is_delete.false in
+    let w = number-is a.e.location a.lsn _ _ c.to_absolute.ensures c.number.ensures d in
+    sym (entry-great a.lsn (used_entries a.table.now) a.e d ((located-number _).1 (λ z. c.if-number-ne0.true (w ∙ z))))
 
 pub returns-then-never_written : goal.returns-then-never_written
 returns-then-never_written c =
-    let w = looked c.before.before.before in
     let a = c.args in
+    let d = sym c.is_delete.ensures ∙ c.if-not-is_delete.false in
+    let w = number-is a.e.location a.lsn _ _ c.to_absolute.ensures c.number.ensures d in
     sym (
-    entry-mapped a.lsn (used_entries a.table.now) a.e w.0 ((located-number _).0 (sym w.1 ∙ c.if-number-ne0.false))
+    entry-mapped a.lsn (used_entries a.table.now) a.e d ((located-number _).0 (sym w ∙ c.if-number-ne0.false))
     ∙ ap (λ (t : Bool). pick t (Refused NotThere) Done) (sym c.never_written.ensures ∙ c.if-never_written.true))
 
 pub returns : goal.returns
 returns c =
-    let w = looked c.before.before.before in
     let a = c.args in
+    let d = sym c.is_delete.ensures ∙ c.if-not-is_delete.false in
+    let w = number-is a.e.location a.lsn _ _ c.to_absolute.ensures c.number.ensures d in
     sym (
-    entry-mapped a.lsn (used_entries a.table.now) a.e w.0 ((located-number _).0 (sym w.1 ∙ c.if-number-ne0.false))
+    entry-mapped a.lsn (used_entries a.table.now) a.e d ((located-number _).0 (sym w ∙ c.if-number-ne0.false))
     ∙ ap (λ (t : Bool). pick t (Refused NotThere) Done) (sym c.never_written.ensures ∙ c.if-never_written.false))

@@ -14,13 +14,6 @@ use Rattle.stored_object.specs.Objects.{header-fits}
 use Rattle.gc_group.specs.Checks.{never_at, never-at, moved-large, moved-never, moved-short, moved_sum}
 use Rattle.gc_group.proofs.check.check_object.Goals as goal
 
--- what the place says of the id
-told : (n : goal.After-never_at) → let a = n.args in (table : List Entry) → Rising 0 table → a.found ≡ place table a.h.id
-    → never_written (load table a.h.id) ≡ n.never_at.result
-told n table r e =
-    let a = n.args in
-    sym (n.never_at.ensures ∙ ap never_at e ∙ never-at table r a.h.id)
-
 pub returns-then-limit-h : goal.returns-then-limit-h
 returns-then-limit-h c table r e =
     let a = c.args in
@@ -29,7 +22,7 @@ returns-then-limit-h c table r e =
 pub returns-then-never_at : goal.returns-then-never_at
 returns-then-never_at c table r e =
     let a = c.args in
-    sym (moved-never a.limit table a.objects.now a.position a.h c.requires c.if-limit-h.false (told c.before table r e ∙ c.if-never_at.true))
+    sym (moved-never a.limit table a.objects.now a.position a.h c.requires c.if-limit-h.false (sym (c.never_at.ensures ∙ ap never_at e ∙ never-at table r a.h.id) ∙ c.if-never_at.true))
 
 pub overflow_sub-h : goal.overflow_sub-h
 overflow_sub-h c =
@@ -39,7 +32,7 @@ overflow_sub-h c =
 pub returns-then-h : goal.returns-then-h
 returns-then-h c table r e =
     let a = c.args in
-    sym (moved-short a.limit table a.objects.now a.position a.h c.requires c.if-limit-h.false (told c.before.before.before.before table r e ∙ c.if-never_at.false)
+    sym (moved-short a.limit table a.objects.now a.position a.h c.requires c.if-limit-h.false (sym (c.never_at.ensures ∙ ap never_at e ∙ never-at table r a.h.id) ∙ c.if-never_at.false)
     (omega (arith, (header-fits a.objects.now a.position a.h c.requires).0)))
 
 pub bad_checksum-requires : goal.bad_checksum-requires
@@ -54,7 +47,7 @@ pub returns-then-bad_checksum : goal.returns-then-bad_checksum
 returns-then-bad_checksum c table r e =
     let a = c.args in
     sym (
-    moved_sum a.limit table a.objects.now a.position a.h c.requires c.if-limit-h.false (told c.before.before.before.before.before.before table r e ∙ c.if-never_at.false)
+    moved_sum a.limit table a.objects.now a.position a.h c.requires c.if-limit-h.false (sym (c.never_at.ensures ∙ ap never_at e ∙ never-at table r a.h.id) ∙ c.if-never_at.false)
     (omega (arith, (header-fits a.objects.now a.position a.h c.requires).0))
     ∙ ap (λ (t : Bool). pick t (Refused Checksum) Done) (sym c.bad_checksum.ensures ∙ c.if-bad_checksum.true))
 
@@ -62,6 +55,6 @@ pub returns : goal.returns
 returns c table r e =
     let a = c.args in
     sym (
-    moved_sum a.limit table a.objects.now a.position a.h c.requires c.if-limit-h.false (told c.before.before.before.before.before.before table r e ∙ c.if-never_at.false)
+    moved_sum a.limit table a.objects.now a.position a.h c.requires c.if-limit-h.false (sym (c.never_at.ensures ∙ ap never_at e ∙ never-at table r a.h.id) ∙ c.if-never_at.false)
     (omega (arith, (header-fits a.objects.now a.position a.h c.requires).0))
     ∙ ap (λ (t : Bool). pick t (Refused Checksum) Done) (sym c.bad_checksum.ensures ∙ c.if-bad_checksum.false))

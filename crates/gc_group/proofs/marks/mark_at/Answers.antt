@@ -11,31 +11,43 @@ use Rattle.gc_group.specs.Marks.{marked}
 use Rattle.gc_group.specs.MarkLaws.{current-here, current-other, current-none, mark-first, mark-none}
 use Rattle.gc_group.proofs.marks.mark_at.Goals as goal
 
--- what the place says of the table
-tells : (c : goal.In-Found) → let a = c.args in
-    IsFound (used_entries a.table.now) (record { id = a.id; location = 0 }) c.in-Found.i
-tells c =
-    let a = c.args in
-    found-tells (used_entries a.table.now) (used-rising a.table.now c.requires.formed.0) (record { id = a.id; location = 0 }) _
-    (sym c.requires.formed.1 ∙ c.in-Found.is)
-
 pub location_at-requires : goal.location_at-requires
 location_at-requires c =
-    omega (arith, (tells c).within, used-length c.args.table.now)
+    let tells : (let a = c.args in
+    IsFound (used_entries a.table.now) (record { id = a.id; location = 0 }) c.in-Found.i) =
+    let a = c.args in
+    found-tells (used_entries a.table.now) (used-rising a.table.now c.requires.formed.0) (record { id = a.id; location = 0 }) _
+    (sym c.requires.formed.1 ∙ c.in-Found.is) in
+    omega (arith, tells.within, used-length c.args.table.now)
 
 pub offset_bounds-marks-i : goal.offset_bounds-marks-i
 offset_bounds-marks-i c =
-    omega (arith, (tells c.before.before).within, used-length c.args.table.now, ids-count c.args.table.now, c.requires.table_in_bounds)
+    let tells : (let a = c.args in
+    IsFound (used_entries a.table.now) (record { id = a.id; location = 0 }) c.in-Found.i) =
+    let a = c.args in
+    found-tells (used_entries a.table.now) (used-rising a.table.now c.requires.formed.0) (record { id = a.id; location = 0 }) _
+    (sym c.requires.formed.1 ∙ c.in-Found.is) in
+    omega (arith, tells.within, used-length c.args.table.now, ids-count c.args.table.now, c.requires.table_in_bounds)
 
 pub bounds-marks-i : goal.bounds-marks-i
 bounds-marks-i c =
-    omega (arith, (tells c.before.before).within, used-length c.args.table.now, ids-count c.args.table.now, c.requires.table_in_bounds)
+    let tells : (let a = c.args in
+    IsFound (used_entries a.table.now) (record { id = a.id; location = 0 }) c.in-Found.i) =
+    let a = c.args in
+    found-tells (used_entries a.table.now) (used-rising a.table.now c.requires.formed.0) (record { id = a.id; location = 0 }) _
+    (sym c.requires.formed.1 ∙ c.in-Found.is) in
+    omega (arith, tells.within, used-length c.args.table.now, ids-count c.args.table.now, c.requires.table_in_bounds)
 
 pub returns-then-location_at-location : goal.returns-then-location_at-location
 returns-then-location_at-location c =
+    let tells : (let a = c.args in
+    IsFound (used_entries a.table.now) (record { id = a.id; location = 0 }) c.in-Found.i) =
+    let a = c.args in
+    found-tells (used_entries a.table.now) (used-rising a.table.now c.requires.formed.0) (record { id = a.id; location = 0 }) _
+    (sym c.requires.formed.1 ∙ c.in-Found.is) in
     let a = c.args in
     let table = used_entries a.table.now in
-    let t = tells c.before.before in
+    let t = tells in
     let here = t.lookup-is ∙ ap Mapped (sym (c.location_at.ensures ∙ used-location a.table.now _ t.within) ∙ c.if-location_at-location.true) in
     sym (
     ap (λ (ids : List ℕ). marked a.mark ids table a.marks.now) (current-here table a.id a.location here)
@@ -44,9 +56,14 @@ returns-then-location_at-location c =
 
 pub returns-else-location_at-location : goal.returns-else-location_at-location
 returns-else-location_at-location c =
+    let tells : (let a = c.args in
+    IsFound (used_entries a.table.now) (record { id = a.id; location = 0 }) c.in-Found.i) =
+    let a = c.args in
+    found-tells (used_entries a.table.now) (used-rising a.table.now c.requires.formed.0) (record { id = a.id; location = 0 }) _
+    (sym c.requires.formed.1 ∙ c.in-Found.is) in
     let a = c.args in
     let table = used_entries a.table.now in
-    let t = tells c.before.before in
+    let t = tells in
     let other = current-other table a.id a.location _ t.lookup-is
     (λ q. c.if-location_at-location.false (c.location_at.ensures ∙ used-location a.table.now _ t.within ∙ q)) in
     sym (ap (λ (ids : List ℕ). marked a.mark ids table a.marks.now) other ∙ mark-none a.mark table a.marks.now)

@@ -3,9 +3,9 @@ use mathlib.Core.Path.{◌≡◌, refl, sym, ap, ap₂, ◌∙◌, subst}
 use native.Mathlib.Omega.{arith}
 use borrow.Author.Rules.{rules}
 use lib.ListN.{length, drop, set, length-set, length-replicate}
-use mathlib.Core.Logic.{⊎_elim}
 use mathlib.Core.List.{List}
 use native.Mathlib.Numerals.{add-one}
+use Rattle.rules.specs.declared.Label.{Label}
 use Rattle.rules.specs.declared.Answer.{Answer}
 use Rattle.rules.specs.declared.Record.{Record}
 use Rattle.rules.specs.Refusal.{decide}
@@ -21,9 +21,7 @@ use Rattle.gc_group.specs.Checks.{group_checks, group-refused, group-on, group-n
 use Rattle.gc_group.specs.Marks.{found_file, ids_of, marked, marks_from, marks_of}
 use Rattle.gc_group.specs.MarkLaws.{marked-length, marks-next, marks-end, marks-start}
 use Rattle.gc_group.proofs.marks.mark_group.Goals as goal
-
-all-records : (start : goal.Start) → length start.args.m.records ≡ 256
-all-records start = search (mapped-length, rules)
+use Rattle.gc_group.proofs.marks.mark_group.Goals.{then-plan-i+in-Done, else-plan-i}
 
 pub loop-i-init : goal.loop-i-init
 loop-i-init c =
@@ -55,17 +53,15 @@ mark_file-requires c =
       table_in_bounds = omega (arith, c.requires.table_in_bounds.0, c.loop-i.invariant.1, ap length c.unmark.ensures ∙ length-replicate {A = ℕ} (length a.marks.now) 0);
     }
 
--- what is decided of the file in a slot
-checked : (c : goal.After-mark_file) → let a = c.args in
-    decide (file_tests a.group.settings.max_object_size (used_entries a.table.now) (record_at a.m.records c.loop-i.i).label (bytes_of_slot a.group.settings.slot_bytes a.heap.now c.loop-i.i)) ≡ c.mark_file.result
-checked c =
-    let a = c.args in
-    ap (λ (bytes : List ℕ). decide (file_tests a.group.settings.max_object_size (used_entries a.table.now) (record_at a.m.records c.loop-i.i).label bytes)) (sym c.slot_at-slot.ensures)
-    ∙ sym c.mark_file.ensures.answers
-
 pub shape_of-lsns-in-Refused : goal.shape_of-lsns-in-Refused
 shape_of-lsns-in-Refused c =
     length-set c.loop-i.lsns c.loop-i.i _ ∙ c.loop-i.invariant.2 ∙ sym c.requires.table_in_bounds.1
+
+-- what is decided of the file in a slot
+checked : (limit size i : ℕ) (t heap : List ℕ) (l : Label) (slot : List ℕ) (answer : Answer) → slot ≡ bytes_of_slot size heap i
+    → answer ≡ decide (file_tests limit (used_entries t) l slot)
+    → decide (file_tests limit (used_entries t) l (bytes_of_slot size heap i)) ≡ answer
+checked limit size i t heap l slot answer is decided = ap (λ (bytes : List ℕ). decide (file_tests limit (used_entries t) l bytes)) (sym is) ∙ sym decided
 
 pub returns-in-Refused : goal.returns-in-Refused
 returns-in-Refused c =
@@ -74,7 +70,7 @@ returns-in-Refused c =
     let i = c.loop-i.i in record {
       answers = sym (
           ap (λ (ks : List ℕ). decide (group_checks a.group.settings.max_object_size from ks)) (planned-here a.plan.now a.group.generation i (omega (arith, c.requires.ready.slots, c.loop-i-test.true)) c.if-plan-i.true)
-          ∙ group-refused a.group.settings.max_object_size from i _ _ (checked c.before.before.before.before.before ∙ c.in-Refused.is))
+          ∙ group-refused a.group.settings.max_object_size from i _ _ (checked c.args.group.settings.max_object_size c.args.group.settings.slot_bytes c.loop-i.i c.args.table.now c.args.heap.now (record_at c.args.m.records c.loop-i.i).label _ _ c.slot_at-slot.ensures c.mark_file.ensures.answers ∙ c.in-Refused.is))
           ∙ c.loop-i.invariant.3;
       marks = (λ e. absurd (let z : ◌≡◌ {A = ℕ} 0 1 = cc in omega arith));
       lsns = (λ e. absurd (let z : ◌≡◌ {A = ℕ} 0 1 = cc in omega arith));
@@ -91,43 +87,43 @@ loop-i-preserved c =
     let rest = planned_from (i + 1) (drop (i + 1) a.plan.now) a.group.generation in
     let inside : i < length a.plan.now = omega (arith, c.requires.ready.slots) in
     let f : List ℕ → Answer = λ ks. decide (group_checks a.group.settings.max_object_size from ks) in
-    let all = all-records c.before.before.before.before.before.before.before.before.before.before.before.before.before.before.before.before in
+    let all : length rs ≡ 256 = search (mapped-length, rules) in
     let long = length-set c.loop-i.lsns i l.lsn ∙ c.loop-i.invariant.2 in
     let read =
     ap (λ (ns : List ℕ). set ns i l.lsn) c.loop-i.invariant.5 ∙ copied_next (λ (q : Record). q.label.lsn) rs i a.lsns.now (omega arith) (omega (arith, c.requires.table_in_bounds.1)) in
-    ⊎_elim
-    (λ w.
-    let here = planned-here a.plan.now a.group.generation i inside w.0.taken in
-    let ids = ids_of (found_file table l (bytes_of_slot a.group.settings.slot_bytes a.heap.now i)) in
-    let after : c.if-plan-i.marks ≡ marked (suc i) ids table c.loop-i.marks =
-    w.8 ∙ w.3.ensures.1 w.7.given.1 ∙ ap₂ (λ (m : ℕ) (bytes : List ℕ). marked m (ids_of (found_file table l bytes)) table c.loop-i.marks) (add-one i) w.1.ensures in (
-      omega arith,
-      ap length after ∙ marked-length (suc i) ids table c.loop-i.marks ∙ c.loop-i.invariant.1,
-      long,
-      sym (
-          ap f here
-          ∙ group-on a.group.settings.max_object_size from i _ (checked (record { before = record { before = record { before = record { before = c.before; if1 = w.0 }; slot_at = w.1 }; mark-file-arg = w.2 }; mark-file = w.3 }) ∙ w.7.given.1))
-          ∙ c.loop-i.invariant.3,
-      ap (marks_from from rest) after ∙ sym (marks-next from i rest c.loop-i.marks) ∙ sym (ap (λ (ks : List ℕ). marks_from from ks c.loop-i.marks) here) ∙ c.loop-i.invariant.4,
-      read,
-    ))
-    (λ w.
-    let past = planned-next a.plan.now a.group.generation i inside w.0.left in (
-      omega arith,
-      ap length w.1 ∙ c.loop-i.invariant.1,
-      long,
-      sym (ap f past) ∙ c.loop-i.invariant.3,
-      ap (marks_from from rest) w.1 ∙ sym (ap (λ (ks : List ℕ). marks_from from ks c.loop-i.marks) past) ∙ c.loop-i.invariant.4,
-      read,
-    ))
-    c.if-plan-i.branch-raw
+    elim c.if-plan-i.branch [
+      | then-plan-i+in-Done w ↦
+          let here = planned-here a.plan.now a.group.generation i inside w.if-plan-i.true in
+          let ids = ids_of (found_file table l (bytes_of_slot a.group.settings.slot_bytes a.heap.now i)) in
+          let after : c.if-plan-i.marks ≡ marked (suc i) ids table c.loop-i.marks =
+          w.marks-is ∙ w.mark_file.ensures.marks w.in-Done.is ∙ ap₂ (λ (m : ℕ) (bytes : List ℕ). marked m (ids_of (found_file table l bytes)) table c.loop-i.marks) (add-one i) w.slot_at-slot.ensures in (
+            omega arith,
+            ap length after ∙ marked-length (suc i) ids table c.loop-i.marks ∙ c.loop-i.invariant.1,
+            long,
+            sym (
+                ap f here
+                ∙ group-on a.group.settings.max_object_size from i _ (checked c.args.group.settings.max_object_size c.args.group.settings.slot_bytes c.loop-i.i c.args.table.now c.args.heap.now (record_at c.args.m.records c.loop-i.i).label _ _ w.slot_at-slot.ensures w.mark_file.ensures.answers ∙ w.in-Done.is))
+                ∙ c.loop-i.invariant.3,
+            ap (marks_from from rest) after ∙ sym (marks-next from i rest c.loop-i.marks) ∙ sym (ap (λ (ks : List ℕ). marks_from from ks c.loop-i.marks) here) ∙ c.loop-i.invariant.4,
+            read,
+          )
+      | else-plan-i w ↦
+          let past = planned-next a.plan.now a.group.generation i inside w.if-plan-i.false in (
+            omega arith,
+            ap length w.marks-is ∙ c.loop-i.invariant.1,
+            long,
+            sym (ap f past) ∙ c.loop-i.invariant.3,
+            ap (marks_from from rest) w.marks-is ∙ sym (ap (λ (ks : List ℕ). marks_from from ks c.loop-i.marks) past) ∙ c.loop-i.invariant.4,
+            read,
+          )
+    ]
 
 pub returns : goal.returns
 returns c =
     let a = c.args in
     let from = source a.group.settings.slot_bytes a.heap.now a.m.records (used_entries a.table.now) in
     let rs = a.m.records in
-    let all = all-records c.before.before.before.before.before.before.before.before.before.before.before in
+    let all : length rs ≡ 256 = search (mapped-length, rules) in
     let past = planned-end a.plan.now a.group.generation c.loop-i.i (omega (arith, c.requires.ready.slots)) in record {
       answers = sym (ap (λ (ks : List ℕ). decide (group_checks a.group.settings.max_object_size from ks)) past ∙ group-none a.group.settings.max_object_size from) ∙ c.loop-i.invariant.3;
       marks = (λ e.

@@ -5,7 +5,7 @@ use Rattle.reopen_tests.proofs.TestTurns.{ascending-none, ascending-start, ascen
 use lib.ListN.{drop}
 use Rattle.rules.specs.Trailer.{entries_in}
 use Rattle.reopen_tests.specs.Ascending.{ascending_from}
-use Prim.Native.Nat.{ℕ, ◌+◌, ◌-◌}
+use Prim.Native.Nat.{ℕ, ◌+◌}
 use native.Mathlib.Omega.{arith}
 use Rattle.reopen_tests.proofs.rising.ascending.Goals as goal
 

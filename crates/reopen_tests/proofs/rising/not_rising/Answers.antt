@@ -1,5 +1,5 @@
 use mathlib.Core.Path.{sym, refl, ◌∙◌}
-use Prim.Native.Nat.{zero-le, ◌-◌}
+use Prim.Native.Nat.{zero-le}
 use Rattle.rules.specs.SlotFile.{views_in}
 use Rattle.rules.proofs.SlotLaws.{slots_apart, views-length}
 use Rattle.reopen_tests.specs.Ascending.{file_falls}

@@ -7,7 +7,7 @@ use Rattle.rules.specs.Trailer.{entries_in}
 use Rattle.rules.specs.Table.{no_entry}
 use Rattle.rules.proofs.TurnLaws.{any_here, any-later, any-end}
 use Rattle.reopen_tests.specs.Ascending.{repeats}
-use Prim.Native.Nat.{◌+◌, ◌-◌}
+use Prim.Native.Nat.{◌+◌}
 use native.Mathlib.Omega.{arith}
 use Rattle.reopen_tests.proofs.rising.repeated.Goals as goal
 

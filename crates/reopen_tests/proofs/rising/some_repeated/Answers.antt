@@ -1,5 +1,5 @@
 use mathlib.Core.Path.{sym, refl, ◌∙◌}
-use Prim.Native.Nat.{zero-le, ◌-◌}
+use Prim.Native.Nat.{zero-le}
 use Rattle.rules.specs.Trailer.{entries_in}
 use Rattle.trailer.specs.Entries.{entries-count}
 use Rattle.reopen_tests.proofs.TestTurns.{rising-here, rising-later, rising-end}

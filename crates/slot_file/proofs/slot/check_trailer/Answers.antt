@@ -1,8 +1,6 @@
-use mathlib.Core.Path.{◌≡◌, refl, sym, ◌∙◌}
+use mathlib.Core.Path.{refl, sym, ◌∙◌}
 use borrow.Author.Tests.{eq-eqb, ne_eqb}
-use Rattle.rules.specs.declared.Answer.TheVariants.{Done}
-use Rattle.rules.specs.Refusal.{decide}
-use Rattle.rules.specs.Trailer.{trailer_tests, count_in}
+use Rattle.rules.specs.Trailer.{count_in}
 use Rattle.trailer.specs.Entries.{clear-fits}
 use Rattle.slot_file.specs.Slots.{entry-refused, entry-clear}
 use native.Mathlib.Omega.{arith}
