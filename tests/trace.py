@@ -3,7 +3,7 @@
 
     `crate::module::f`    crates/CRATE/src/MODULE.rt; without a module lib.rt, which may pass it on (`pub use`)
     `module::f`, `T::f`   a module of that name; the file that declares the type T
-    `crate/Module`        crates/CRATE/specs/Module.antt; `crate/Module.x`: x stands in it
+    `crate/Module`        crates/CRATE/specs/Module.antt and proofs/Module.antt, of which one may be missing; `crate/Module.x`: x stands in one
     `Module.x`            in that module of the page's own crates, the first that has one; else of the one crate that has one
     `Record.x`            a field of a record of the page's own crates
     `crate/label`         crates/CRATE/must-fail/LABEL.edit
@@ -43,8 +43,12 @@ def found(pattern):
 
 
 CRATES = {os.path.basename(c): c for c in found('crates/*')}
-SPECS = {c: {os.path.relpath(f, os.path.join(p, 'specs'))[:-5].replace(os.sep, '/'): read(f) for f in found(f'crates/{c}/specs/**/*.antt')}
-         for c, p in CRATES.items()}
+# a module's definitions stand in specs/, its laws there or in proofs/
+SPECS = {c: {} for c in CRATES}
+for c in CRATES:
+    for f in found(f'crates/{c}/specs/*.antt') + found(f'crates/{c}/proofs/*.antt'):
+        SPECS[c].setdefault(os.path.basename(f)[:-5], '')
+        SPECS[c][os.path.basename(f)[:-5]] += read(f)
 SOURCES = {c: {os.path.relpath(f, os.path.join(p, 'src'))[:-3].replace(os.sep, '/'): read(f) for f in found(f'crates/{c}/src/**/*.rt')}
            for c, p in CRATES.items()}
 EDITS = {c: {os.path.basename(f)[:-5].replace('-', '_') for f in found(f'crates/{c}/must-fail/*.edit')} for c in CRATES}
