@@ -6,7 +6,7 @@ use Rattle.rules.specs.Base.{Bool, true, false, not, ◌&&◌, List, [], ◌∷�
 use Rattle.rules.specs.BaseLaws.{All}
 use Rattle.rules.proofs.BaseLaws.{all_map, all_append, all-at, or-false, or-clear, or-true, or-holds, and-true, and-holds, any_false, any-clear, same?}
 use Rattle.disk_location.specs.Locations.{position_of, delete_of, raw_of}
-use Rattle.disk_location.specs.LocationLaws.{position-raw, delete-raw}
+use Rattle.disk_location.proofs.LocationLaws.{position-raw, delete-raw}
 use Rattle.rules.specs.Object.{Stored, bad_checksum, objects_in}
 use Rattle.rules.specs.SlotFile.{File}
 use Rattle.rules.specs.TableLaws.{Has}

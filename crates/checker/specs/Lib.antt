@@ -1,4 +1,3 @@
 pub mod Types
 pub mod Answers
 pub mod SlotLines
-pub mod Few

@@ -1,4 +1,3 @@
 pub mod Types
 pub mod Telling
-pub mod Search
 pub mod Walks

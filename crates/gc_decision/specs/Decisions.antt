@@ -17,7 +17,8 @@ use Rattle.gc_group.specs.Checks.{group_checks}
 use Rattle.gc_group.specs.Marks.{found_at}
 use Rattle.gc_split.specs.declared.Totals.{Totals}
 use Rattle.gc_split.specs.Tally.{tally_of, closed_of, totals_for}
-use Rattle.gc_split.specs.TotalLaws.{totals_tests, split-totals, tests-told}
+use Rattle.gc_split.specs.TotalLaws.{totals_tests}
+use Rattle.gc_split.proofs.TotalLaws.{split-totals, tests-told}
 use Rattle.gc_decision.specs.Fitting.{Fitting, fitting-clear}
 
 -- "Objects and deletes at their id's current location are rewritten, ascending by id (one found twice only once, as last found)"

@@ -12,9 +12,9 @@ use Rattle.rules.specs.Ops.{Op, size_of, shard_for}
 use Rattle.rules.proofs.OpsLaws.{shard-most}
 use Rattle.batch.specs.SizeLaws.{size-bound}
 use Rattle.gc_split.specs.Tally.{Tally, piece_no, closing, cutting, entering, taking, tally_from, tally_of, empty_tally, closed_of, rest_of, rests_from, order_of, Within}
-use Rattle.gc_split.specs.BoundLaws.{cut-within, take_within, empty-within}
-use Rattle.gc_split.specs.PieceLaws.{take-cuts}
-use Rattle.gc_split.specs.OrderLaws.{fragments-among, order-counted}
+use Rattle.gc_split.proofs.BoundLaws.{cut-within, take_within, empty-within}
+use Rattle.gc_split.proofs.PieceLaws.{take-cuts}
+use Rattle.gc_split.proofs.OrderLaws.{fragments-among, order-counted}
 use Rattle.gc_files.specs.Places.{Standing, moving_at, op_at, placed_ops}
 use Rattle.gc_files.specs.PlaceLaws.{moving-told}
 

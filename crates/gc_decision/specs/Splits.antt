@@ -9,7 +9,7 @@ use Rattle.rules.specs.Ops.{Op}
 use Rattle.rules.specs.Maintenance.{files_of}
 use Rattle.gc_split.specs.declared.Totals.{Totals}
 use Rattle.gc_split.specs.Tally.{Tally, tally_from, tally_of, empty_tally, closing_rests, closed_of, rests_from, order_of, Within, Closable, Numbered}
-use Rattle.gc_split.specs.BoundLaws.{closable, numbered}
+use Rattle.gc_split.proofs.BoundLaws.{closable, numbered}
 use Rattle.gc_files.specs.Places.{placed_ops, filed_ops, pieces_along, Splitting}
 use Rattle.gc_files.specs.FileLaws.{files-filed}
 use Rattle.gc_decision.specs.Orders.{Tallied, placed-short, placed-count, tallied, order_in, order-read, at_most, at-most-all, in_order}

@@ -11,8 +11,8 @@ use borrow.Author.Tests.{eq-eqb, ne_eqb}
 use Rattle.rules.specs.Ops.{Op, size_of, shard_for}
 use Rattle.batch.specs.SizeLaws.{size-bound}
 use Rattle.gc_split.specs.Tally.{Tally, entering, taking, tally_from, Within}
-use Rattle.gc_split.specs.BoundLaws.{cut-within, take_within}
-use Rattle.gc_split.specs.PieceLaws.{take-cuts}
+use Rattle.gc_split.proofs.BoundLaws.{cut-within, take_within}
+use Rattle.gc_split.proofs.PieceLaws.{take-cuts}
 use Rattle.gc_files.specs.Places.{moving_at, op_at, placed_ops, Whole, entry_taken, entry_piece, pieces_along}
 use Rattle.gc_files.specs.PlaceLaws.{moving-told, along-tally, along-pieces, placed-none, pieces_none}
 

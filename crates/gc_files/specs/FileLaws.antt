@@ -6,7 +6,7 @@ use Rattle.rules.specs.Base.{List, map, ℕ, length}
 use Rattle.rules.specs.Ops.{Op}
 use Rattle.rules.specs.Maintenance.{files_of}
 use Rattle.gc_split.specs.Tally.{tally_of, empty_tally, order_of, pieces_of}
-use Rattle.gc_split.specs.PieceLaws.{split-files}
+use Rattle.gc_split.proofs.PieceLaws.{split-files}
 use Rattle.gc_files.specs.Places.{placed_ops, filed_ops, pieces_along}
 use Rattle.gc_files.specs.PlaceLaws.{filed-piece}
 

@@ -11,7 +11,7 @@ use Rattle.rules.specs.Table.{no_entry}
 use Rattle.stored_object.specs.declared.Header.{Header}
 use Rattle.stored_object.specs.Objects.{objects_at, objects-next, objects-end, Walked}
 use Rattle.gc_group.specs.Marks.{current, object_id, delete_id, marked}
-use Rattle.gc_group.specs.MarkLaws.{mark-append, mark-none}
+use Rattle.gc_group.proofs.MarkLaws.{mark-append, mark-none}
 
 -- ---- the objects from a position on
 module _ (mark lsn : ℕ) (table : List Entry) (objects : List ℕ) (position : ℕ) (ms : List ℕ) where

@@ -9,7 +9,8 @@ use Rattle.rules.specs.TwoCalls.{nightly_call}
 use Rattle.rules.specs.World.{maintain_given}
 use Rattle.as_numbers.specs.StateWords.{state_in}
 use Rattle.as_numbers.specs.StateLaws.{state-one}
-use Rattle.gc.specs.Unique.{Lent, Asked, world_of, notes_room, Leaves, leaves-one}
+use Rattle.gc.specs.Unique.{Lent, Asked, world_of, notes_room, Leaves}
+use Rattle.gc.proofs.Unique.{leaves-one}
 use Rattle.gc_nightly.specs.declared.Maintained.{Maintained}
 
 -- what the contract of nightly says of a result and the buffers

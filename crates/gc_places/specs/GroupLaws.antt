@@ -37,11 +37,13 @@ use Rattle.location_table.specs.LayoutLaws.{used-id, used-location, used-rising}
 use Rattle.location_table.specs.LoadLaws.{either-kind}
 use Rattle.file_lists.specs.Lists.{lsns_of}
 use Rattle.gc_candidates.specs.Plan.{planned, planned-all}
-use Rattle.gc_group.specs.Source.{Source, source, Ready, part_length}
+use Rattle.gc_group.specs.Source.{Source, source, Ready}
+use Rattle.gc_group.proofs.Source.{part_length}
 use Rattle.gc_group.specs.Checks.{group_checks}
 use Rattle.gc_group.specs.Marks.{found_at, ids_of, marked, marks_from, marks_of, loaded_content, content_at, marked_ops}
-use Rattle.gc_group.specs.MarkLaws.{marked-length, marked-settled, from_past}
-use Rattle.gc_group.specs.MovedLaws.{Moves, marks-backed, marked-here, marked_next, marked-end}
+use Rattle.gc_group.proofs.MarkLaws.{marked-length, marked-settled, from_past}
+use Rattle.gc_group.specs.MovedLaws.{Moves}
+use Rattle.gc_group.proofs.MovedLaws.{marks-backed, marked-here, marked_next, marked-end}
 use Rattle.gc_files.specs.Places.{length_at, op_at, placed_ops, InSlot, Standing, Stands, AllStand, OfUsed, place_for, places_for, InFile, Placeable, Placeables}
 use Rattle.gc_files.specs.PlaceLaws.{placed-none}
 use Rattle.gc_files.specs.MarkedLaws.{object-there, object-part-stands, place-delete, place-object}

@@ -25,10 +25,10 @@ use Rattle.gc_candidates.specs.Plan.{planned}
 use Rattle.gc_group.specs.Source.{Source, source}
 use Rattle.gc_split.specs.declared.Totals.{Totals}
 use Rattle.gc_split.specs.Tally.{Tally, tally_of, closed_of, order_of, totals_for}
-use Rattle.gc_split.specs.TotalLaws.{split-totals}
-use Rattle.gc_split.specs.Distinct.{distinct-at}
-use Rattle.gc_split.specs.PieceLaws.{order-distinct}
-use Rattle.gc_split.specs.OrderLaws.{fragments-among, files-counted}
+use Rattle.gc_split.proofs.TotalLaws.{split-totals}
+use Rattle.gc_split.proofs.Distinct.{distinct-at}
+use Rattle.gc_split.proofs.PieceLaws.{order-distinct}
+use Rattle.gc_split.proofs.OrderLaws.{fragments-among, files-counted}
 use Rattle.gc_files.specs.Places.{placed_ops}
 use Rattle.gc_chains.specs.Chains.{Linkable, Linked}
 use Rattle.gc_places.specs.Group.{GroupPlaced}

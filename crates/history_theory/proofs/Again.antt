@@ -3,7 +3,7 @@
 use Rattle.std.specs.Prelude.{◌≡◌, refl, ◌≤◌}
 use Rattle.std.proofs.Common.{sym, ap, ◌∙◌, subst, arith, ext_get_or}
 use Rattle.std.proofs.lemmas.List.{length-map}
-use Rattle.disk_location.specs.LocationLaws.{masked-pos}
+use Rattle.disk_location.proofs.LocationLaws.{masked-pos}
 use borrow.Author.Tests.{le-ltb}
 use Rattle.rules.specs.Base.{List, [], ℕ, length, each}
 use Rattle.theory.specs.Types.{Label, Record, Entry, Held, Mapped, Unmapped, Slot, Is, NoSlot}

@@ -5,7 +5,7 @@ use Rattle.std.proofs.Common.{◌∙◌, subst, arith, length-take, length-drop,
 use Rattle.rules.specs.Base.{true, false, List, [], ◌∷◌, ℕ, zero, suc, ◌+◌, ◌-◌, ◌*◌, ◌%◌, ◌^◌, length, drop, eqb, keep, each}
 use Rattle.theory.specs.Types.{Entry, Label, Record, Answer, Done, Refused, Held, Mapped, Slot, Is}
 use Rattle.disk_location.specs.Locations.{position_of, delete_of, raw_of}
-use Rattle.disk_location.specs.LocationLaws.{delete-raw}
+use Rattle.disk_location.proofs.LocationLaws.{delete-raw}
 use Rattle.rules.specs.BaseLaws.{All}
 use Rattle.rules.proofs.BaseLaws.{all_append}
 use Rattle.rules.specs.Refusal.{decide, after}

@@ -6,7 +6,7 @@ use Rattle.std.proofs.Math.ListN.{length-append}
 use Rattle.std.proofs.lemmas.List.{length-map}
 use Rattle.numbers.specs.Parts.{put_at, put-field}
 use Rattle.disk_location.specs.Locations.{position_of}
-use Rattle.disk_location.specs.LocationLaws.{position-raw}
+use Rattle.disk_location.proofs.LocationLaws.{position-raw}
 use Rattle.rules.specs.Base.{List, [], ◌∷◌, ◌++◌, ℕ, zero, suc, ◌+◌, ◌*◌, ◌^◌, length, get_or, set}
 use Rattle.rules.specs.declared.Settings.{Settings}
 use Rattle.rules.specs.declared.Entry.{Entry}

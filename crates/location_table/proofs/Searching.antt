@@ -6,7 +6,7 @@ use native.Mathlib.Nat.{not-suc-le-zero, eq-or-lt_of_le, lt_irrefl, pow-suc}
 use native.Mathlib.Omega.{arith}
 use lib.ListN.{length, get_or}
 use Rattle.disk_location.specs.Locations.{digits_in}
-use Rattle.disk_location.specs.LocationLaws.{digits-hold, digits-least}
+use Rattle.disk_location.proofs.LocationLaws.{digits-hold, digits-least}
 use Rattle.rules.specs.Table.{no_entry}
 use Rattle.rules.specs.Layout.{Table, table_ids, table_locations, capacity_of, used_entries}
 use Rattle.rules.proofs.LayoutLaws.{used-length}

@@ -2,7 +2,7 @@
 use Rattle.std.specs.Prelude.{◌≡◌, true, ℕ, ◌≤◌}
 use Rattle.std.proofs.Common.{arith}
 use Rattle.disk_location.specs.Locations.{digits_in}
-use Rattle.disk_location.specs.LocationLaws.{digits-least}
+use Rattle.disk_location.proofs.LocationLaws.{digits-least}
 use Rattle.rules.specs.Layout.{Table, capacity_of, lengths_in_range, used_entries}
 use Rattle.rules.proofs.LayoutLaws.{lengths-in-range}
 use Rattle.location_table.specs.declared.Searched.{Searched}

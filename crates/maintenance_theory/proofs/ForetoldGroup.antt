@@ -21,7 +21,7 @@ use Rattle.rules.specs.InstallLaws.{Less}
 use Rattle.rules.proofs.InstallLaws.{room-clear, positions-clear, losing-length, losing-record, losing-label}
 use Rattle.rules.specs.Maintenance.{found, files_of, source_tests, group_tests}
 use Rattle.rules.specs.World.{World, records_of, mappings, slots_of}
-use Rattle.disk_location.specs.LocationLaws.{masked-pos}
+use Rattle.disk_location.proofs.LocationLaws.{masked-pos}
 use Rattle.theory.specs.Places.{view_at}
 use Rattle.theory.proofs.Places.{record-holds, record-empty, no-damage}
 use Rattle.theory.specs.Picture.{views_of, file_says}

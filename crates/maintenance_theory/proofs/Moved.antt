@@ -6,7 +6,7 @@ use borrow.Author.Tests.{le-leb, lt-leb, leb-true, eq-eqb, eqb-false}
 use Rattle.rules.specs.Base.{Bool, true, false, ◌&&◌, ◌||◌, List, [], ◌∷◌, ◌++◌, map, ℕ, ◌+◌, ◌*◌, ◌%◌, length, leb, pick, any, keep, each, sum}
 use Rattle.theory.specs.Types.{Entry, Record, Held, Mapped, Unmapped}
 use Rattle.disk_location.specs.Locations.{masked_of, position_of, delete_of, raw_of}
-use Rattle.disk_location.specs.LocationLaws.{masked_plain}
+use Rattle.disk_location.proofs.LocationLaws.{masked_plain}
 use Rattle.rules.specs.BaseLaws.{All}
 use Rattle.rules.proofs.BaseLaws.{all_map, and-true, all_append}
 use Rattle.rules.specs.Object.{Stored, objects_in}

@@ -4,7 +4,7 @@ use Rattle.std.proofs.Common.{sym, ap, ◌∙◌, subst, inl, inr, ⊎_elim, add
 use Rattle.rules.specs.Base.{false, List, [], ◌∷◌, ◌++◌, ℕ, ◌+◌, ◌^◌, length, sum}
 use Rattle.theory.specs.Types.{Label, Record, Settings, Claims, Refusal, Answer, Done, Refused}
 use Rattle.disk_location.specs.Locations.{masked_of}
-use Rattle.disk_location.specs.LocationLaws.{masked_plain}
+use Rattle.disk_location.proofs.LocationLaws.{masked_plain}
 use Rattle.rules.proofs.BaseLaws.{same?}
 use Rattle.rules.specs.Refusal.{decide, after, NoneHolds}
 use Rattle.rules.proofs.RefusalLaws.{clear-when, none_first, none_rest}

@@ -17,7 +17,7 @@ use Rattle.rules.specs.Maintenance.{found, files_of, Stop, going, stopped, Cours
 use Rattle.rules.proofs.MaintenanceLaws.{candidate}
 use Rattle.rules.specs.World.{World, records_of}
 use Rattle.rules.proofs.InstallLaws.{installed-lsn}
-use Rattle.disk_location.specs.LocationLaws.{masked-pos}
+use Rattle.disk_location.proofs.LocationLaws.{masked-pos}
 use Rattle.theory.proofs.Places as places
 use Rattle.theory.specs.Places.{view_at}
 use Rattle.theory.proofs.Places.{holds-inj, record-holds}

@@ -2,7 +2,6 @@ pub mod Unique
 pub mod Results
 pub mod CallContracts
 pub mod Lives
-pub mod Starts
 pub mod Maintaining
 pub mod Writers
 pub mod Demands

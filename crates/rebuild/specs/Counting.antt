@@ -11,7 +11,7 @@ use Rattle.rules.specs.Base.{Bool, true, false, List, [], ◌∷◌, ◌++◌, m
 use Rattle.rules.proofs.BaseLaws.{or-false, order, replicate-at, within-true}
 use Rattle.rules.specs.declared.Slot.{Slot}
 use Rattle.rules.specs.declared.Slot.TheVariants.{Is, NoSlot}
-use Rattle.disk_location.specs.LocationLaws.{masked-pos}
+use Rattle.disk_location.proofs.LocationLaws.{masked-pos}
 use Rattle.rules.specs.FileMap.{empty_label, recorded, empty_record}
 use Rattle.rules.specs.Table.{no_entry}
 use Rattle.rules.specs.SlotFile.{View, bytes_of_slot, views_in}

@@ -17,7 +17,7 @@ use Rattle.rebuild.specs.Filled.{rows_of, Filled, filled-formed, filled-used}
 use Rattle.rebuild.proofs.FillTurns.{views-in-use}
 use Rattle.recovery.specs.Types.{Entry}
 use Rattle.recovery.specs.Reopening.{Blank}
-use Rattle.recovery.specs.Steps.{blank-formed, blank-used, filled-table}
+use Rattle.recovery.proofs.Steps.{blank-formed, blank-used, filled-table}
 
 module _ (b : Table) (blank : Blank b) (views : List View) (room : Bool) (after : Table) (w : Filled b (each rows_of (files_in views)) room after) where
   answer : leb (length (table_of (files_in views))) (capacity_of b) ≡ room

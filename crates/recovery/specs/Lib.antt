@@ -1,4 +1,2 @@
 pub mod Types
 pub mod Reopening
-pub mod Steps
-pub mod Unique

@@ -9,7 +9,7 @@ use Rattle.rules.specs.Types.{Entry, Label, Record, Slot, Is, NoSlot, Mapped, At
 use Rattle.rules.proofs.BaseLaws.{all_map, any_false, same?}
 use Rattle.numbers.specs.GroupLaws.{either_way}
 use Rattle.disk_location.specs.Locations.{masked_of, bit_of, delete_of}
-use Rattle.disk_location.specs.LocationLaws.{masked_plain, masked-batch}
+use Rattle.disk_location.proofs.LocationLaws.{masked_plain, masked-batch}
 use Rattle.rules.specs.Refusal.{NoneHolds}
 use Rattle.rules.specs.Table.{load, loaded_of}
 use Rattle.rules.specs.FileMap.{empty_record, record_at, with_live, less_live, file_for}

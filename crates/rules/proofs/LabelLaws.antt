@@ -8,7 +8,7 @@ use Rattle.numbers.specs.LittleEndian.{Bytes}
 use Rattle.numbers.specs.Groups.{groups_of}
 use Rattle.numbers.specs.GroupLaws.{groups-length, groups-bytes, groups-first, number-back}
 use Rattle.disk_location.specs.Locations.{masked_of}
-use Rattle.disk_location.specs.LocationLaws.{masked-pos}
+use Rattle.disk_location.proofs.LocationLaws.{masked-pos}
 use Rattle.rules.proofs.BaseLaws.{or-false, zeros-replicate, padded-length}
 use Rattle.rules.proofs.PartLaws.{bytes-append, bytes-zeros}
 use Rattle.rules.specs.Label.{label_bytes, five_in, label_in, out_of_bounds}

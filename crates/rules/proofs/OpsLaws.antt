@@ -5,7 +5,7 @@ use Rattle.std.proofs.Math.Seq.{drop-append-add}
 use Rattle.rules.specs.Base.{Bool, true, false, List, [], ◌∷◌, ◌++◌, map, ℕ, zero, suc, ◌+◌, ◌-◌, ◌*◌, ◌/◌, ◌^◌, length, drop, each}
 use Rattle.rules.specs.Types.{Entry}
 use Rattle.disk_location.specs.Locations.{position_of, delete_of, raw_of, digits_in}
-use Rattle.disk_location.specs.LocationLaws.{position-raw, delete-raw}
+use Rattle.disk_location.proofs.LocationLaws.{position-raw, delete-raw}
 use Rattle.rules.specs.TableLaws.{Rising, rise, rise-end, Has}
 use Rattle.rules.specs.Object.{object_bytes, Stored, objects_from, objects_in}
 use Rattle.rules.specs.ObjectLaws.{stored_object}

@@ -6,7 +6,7 @@ use native.Mathlib.Omega.{arith}
 use Rattle.rules.specs.Base.{true, List, ℕ, ◌+◌, ◌-◌, ◌^◌, length, set}
 use Rattle.theory.specs.Types.{Record}
 use Rattle.disk_location.specs.Locations.{masked_of}
-use Rattle.disk_location.specs.LocationLaws.{masked_plain, masked-batch, masked-pos}
+use Rattle.disk_location.proofs.LocationLaws.{masked_plain, masked-batch, masked-pos}
 use Rattle.rules.specs.Settings.{slots_in}
 use Rattle.rules.specs.SettingsLaws.{HeapInRange}
 use Rattle.rules.proofs.SettingsLaws.{heap-whole}

@@ -5,7 +5,7 @@ use Rattle.std.proofs.lemmas.Bool.{lt-leb}
 use Rattle.rules.specs.Base.{Bool, true, false, ◌&&◌, List, [], ◌∷◌, ◌++◌, ℕ, zero, suc, ◌+◌, ◌-◌, ◌*◌, ◌/◌, ◌%◌, ◌^◌, length, ltb, leb, eqb, each}
 use Rattle.theory.specs.Types.{Entry, Record, Refusal, Is}
 use Rattle.disk_location.specs.Locations.{masked_of, position_of}
-use Rattle.disk_location.specs.LocationLaws.{masked-pos}
+use Rattle.disk_location.proofs.LocationLaws.{masked-pos}
 use Rattle.rules.specs.SlotFile.{File, View, empty, damaged, holds}
 use Rattle.rules.specs.FileMap.{recorded, empty_record, record_at, file_for}
 use Rattle.rules.specs.Reopen.{file_of, files_in, in_range}

@@ -5,7 +5,7 @@ use Rattle.std.proofs.Math.Nat.{sub-zero}
 use Rattle.rules.specs.Base.{Bool, true, false, List, [], ◌∷◌, ℕ, suc, ◌+◌, ◌-◌, ◌^◌, length, drop, pick}
 use Rattle.theory.specs.Types.{Answer, Held, Mapped, Unmapped}
 use Rattle.disk_location.specs.Locations.{position_of, delete_of, raw_of}
-use Rattle.disk_location.specs.LocationLaws.{delete-raw}
+use Rattle.disk_location.proofs.LocationLaws.{delete-raw}
 use Rattle.rules.proofs.BaseLaws.{same?}
 use Rattle.rules.specs.Refusal.{after}
 use Rattle.rules.proofs.RefusalLaws.{decide-clear}

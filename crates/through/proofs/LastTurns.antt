@@ -14,7 +14,7 @@ use Rattle.through.specs.declared.Pass.{Pass}
 use Rattle.through.specs.declared.Pass.TheVariants.{Whole, BadBatch}
 use Rattle.through.specs.Through.{said_by, or_earlier, last_from, last_in}
 use Rattle.through.specs.Pieces.{said_in}
-use Rattle.through.specs.ThroughLaws.{or-none, or_assoc, last_end, last-next, said_in_lem}
+use Rattle.through.proofs.ThroughLaws.{or-none, or_assoc, last_end, last-next, said_in_lem}
 
 -- what the rest from `at` on says of x, with what was said before it
 unfoldable pub telling : ℕ → List ℕ → ℕ → ℕ → LastOperation → Pass

@@ -1,1 +1,2 @@
 pub mod LastTurns
+pub mod ThroughLaws

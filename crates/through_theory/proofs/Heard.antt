@@ -12,7 +12,8 @@ use Rattle.rules.proofs.BatchLaws.{batch-end, batch-bad, batch-next}
 use Rattle.through.specs.declared.LastOperation.{LastOperation}
 use Rattle.through.specs.declared.LastOperation.TheVariants.{Puts, Deletes, NoOperation}
 use Rattle.through.specs.Through.{content_at, said_by, or_earlier, last_from, last_in}
-use Rattle.through.specs.ThroughLaws.{Ends, ends, last_end, last-next}
+use Rattle.through.specs.ThroughLaws.{Ends}
+use Rattle.through.proofs.ThroughLaws.{ends, last_end, last-next}
 use Rattle.through_theory.specs.Heard.{heard_in, worked}
 
 -- of two words, the later

@@ -26,7 +26,7 @@ use Rattle.through.specs.declared.ThroughAnswer.TheVariants.{InBatch, InHeap, Th
 use Rattle.through.specs.declared.LastOperation.{LastOperation}
 use Rattle.through.specs.declared.LastOperation.TheVariants.{Puts, Deletes, NoOperation}
 use Rattle.through.specs.Through.{last_in, as_read, answer_by, through_of, through_part}
-use Rattle.through.specs.ThroughLaws.{last_within, through-refused, through-bad, through-last}
+use Rattle.through.proofs.ThroughLaws.{last_within, through-refused, through-bad, through-last}
 use Rattle.through.specs.Pieces.{PutWithin}
 use Rattle.through_theory.specs.Heard.{heard_in}
 use Rattle.through_theory.proofs.Heard.{last-heard}

@@ -4,13 +4,14 @@ use lib.ListN.{length}
 use Rattle.rules.proofs.SettingsLaws.{heap-whole}
 use Rattle.rules.specs.Condition1Laws.{InLimits}
 use Rattle.rules.proofs.Condition1Laws.{in-limits}
-use Rattle.file_faults.specs.Telling.{told-listing}
+use Rattle.file_faults.proofs.Telling.{told-listing}
 use Rattle.rules.specs.Base.{List, ℕ}
 use Rattle.rules.specs.Settings.{slots_in}
 use Rattle.faults.specs.Faults.{listing}
 use Rattle.checker.specs.Types.{Fault}
 use Rattle.checker.specs.SlotLines.{slots_judged}
-use Rattle.checker.specs.Answers.{list_of, check-refused, check-listed}
+use Rattle.checker.specs.Answers.{list_of}
+use Rattle.checker.proofs.Answers.{check-refused, check-listed}
 use native.Mathlib.Omega.{arith}
 use Rattle.checker.proofs.check.Goals as goal
 

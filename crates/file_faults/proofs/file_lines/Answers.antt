@@ -10,8 +10,9 @@ use Rattle.reopen_tests.specs.Shown.{file_seen}
 use Rattle.faults.specs.Faults.{object_faults, entry_faults, file_faults}
 use Rattle.rules.specs.declared.Label.{Label}
 use Rattle.file_faults.specs.Types.{Fault}
-use Rattle.file_faults.specs.Telling.{tells_as, tells-then}
-use Rattle.file_faults.specs.Walks.{walked_from, file-lines}
+use Rattle.file_faults.proofs.Telling.{tells_as, tells-then}
+use Rattle.file_faults.specs.Walks.{walked_from}
+use Rattle.file_faults.proofs.Walks.{file-lines}
 use native.Mathlib.Omega.{arith}
 use Rattle.file_faults.proofs.file_lines.Goals as goal
 

@@ -12,7 +12,7 @@ use Rattle.rules.specs.TwoCalls.{room_of, short}
 use Rattle.rules.specs.World.{World, world, leaving, rewrite_given}
 use Rattle.as_numbers.specs.StateWords.{state_in}
 use Rattle.gc_notes.specs.Notes.{long-enough, notes-cleared}
-use Rattle.gc.specs.Rewrites.{rewrite-limits, rewrite-outside, rewrite-given, answered-own}
+use Rattle.gc.proofs.Rewrites.{rewrite-limits, rewrite-outside, rewrite-given, answered-own}
 use Rattle.gc.proofs.rewrite_in.Goals as goal
 
 -- the world that the call is given

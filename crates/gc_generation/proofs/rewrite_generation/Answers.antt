@@ -9,7 +9,7 @@ use Rattle.rules.specs.World.{world}
 use Rattle.as_numbers.specs.StateWords.{state_in}
 use Rattle.limits.specs.Settled.{passed-bounded}
 use Rattle.gc_candidates.specs.Plan.{plan-files, plan-length}
-use Rattle.gc_group.specs.Source.{ready}
+use Rattle.gc_group.proofs.Source.{ready}
 use Rattle.gc_generation.specs.Generations.{generation-left, generation-rewritten}
 use Rattle.gc_generation.proofs.rewrite_generation.Goals as goal
 

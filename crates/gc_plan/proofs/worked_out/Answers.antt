@@ -11,7 +11,7 @@ use Rattle.rules.specs.World.{World, world}
 use Rattle.limits.specs.Settled.{passed-bounded, passed-formed}
 use Rattle.as_numbers.specs.StateWords.{state_in}
 use Rattle.gc_candidates.specs.Plan.{plan_of, plan-length}
-use Rattle.gc_group.specs.Source.{ready}
+use Rattle.gc_group.proofs.Source.{ready}
 use Rattle.gc_plan.specs.Plans.{candidates_of, due_in, plan-made, planned_generations}
 use Rattle.gc_plan.proofs.Turns.{foretelling-start, foretelling-turn, foretelling-end}
 use Rattle.gc_plan.proofs.worked_out.Goals as goal

@@ -1,5 +1,5 @@
 use borrow.Author.Rules.{rules}
-use Rattle.gc_split.specs.ShardLaws.{counts-long}
+use Rattle.gc_split.proofs.ShardLaws.{counts-long}
 use Rattle.gc_split.proofs.close_shards.Goals as goal
 
 pub slice_bounds-counts-end : goal.slice_bounds-counts-end

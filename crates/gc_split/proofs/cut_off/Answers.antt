@@ -1,7 +1,7 @@
 use mathlib.Core.Path.{refl, ◌∙◌}
 use borrow.Author.Tests.{le-ltb, lt-ltb}
 use Rattle.gc_split.specs.Tally.{sizes_in, cutting}
-use Rattle.gc_split.specs.ShardLaws.{shards-long, size-at, count_at, round-at, restarted}
+use Rattle.gc_split.proofs.ShardLaws.{shards-long, size-at, count_at, round-at, restarted}
 use Prim.Native.Nat.{◌+◌, ◌<◌}
 use native.Mathlib.Omega.{arith}
 use borrow.Author.Rules.{rules}

@@ -2,7 +2,7 @@ use Prim.Native.Nat.{◌+◌}
 use native.Mathlib.Omega.{arith}
 use borrow.Author.Rules.{rules}
 use lib.ListN.{get_or, length-set}
-use Rattle.gc_split.specs.ShardLaws.{shards-long, size-at, count_at, entered}
+use Rattle.gc_split.proofs.ShardLaws.{shards-long, size-at, count_at, entered}
 use Rattle.gc_split.proofs.enter.Goals as goal
 
 pub bounds-shards-shard : goal.bounds-shards-shard

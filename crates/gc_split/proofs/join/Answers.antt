@@ -1,6 +1,6 @@
 use mathlib.Core.Path.{ap, ◌∙◌}
 use Rattle.gc_split.specs.Tally.{Tally, entering, taking}
-use Rattle.gc_split.specs.BoundLaws.{cut-within}
+use Rattle.gc_split.proofs.BoundLaws.{cut-within}
 use native.Mathlib.Omega.{arith}
 use lib.ListN.{length, get_or}
 use Rattle.gc_split.proofs.join.Goals as goal

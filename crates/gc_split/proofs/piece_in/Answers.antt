@@ -2,7 +2,7 @@ use mathlib.Core.Path.{sym, ap, ◌∙◌}
 use native.Mathlib.Omega.{arith}
 use borrow.Author.Rules.{rules}
 use Rattle.gc_split.specs.Tally.{piece_no}
-use Rattle.gc_split.specs.ShardLaws.{shards-long, round-at}
+use Rattle.gc_split.proofs.ShardLaws.{shards-long, round-at}
 use Rattle.gc_split.proofs.piece_in.Goals as goal
 
 pub offset_bounds-shards-shard : goal.offset_bounds-shards-shard

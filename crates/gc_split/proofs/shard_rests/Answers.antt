@@ -5,7 +5,7 @@ use borrow.Author.Rules.{rules}
 use lib.ListN.{length}
 use Rattle.numbers.specs.Parts.{front}
 use Rattle.gc_split.specs.Tally.{counts_in, rests_from, Numbered}
-use Rattle.gc_split.specs.ShardLaws.{shards-long, all-rounds}
+use Rattle.gc_split.proofs.ShardLaws.{shards-long, all-rounds}
 use Rattle.gc_split.proofs.shard_rests.Goals as goal
 
 pub slice_bounds-counts-end : goal.slice_bounds-counts-end

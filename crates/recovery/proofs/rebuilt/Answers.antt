@@ -8,7 +8,7 @@ use Rattle.reopen_tests.specs.Shown.{sound-views}
 use Rattle.rebuild.specs.Counting.{surveyed-apart}
 use Rattle.rebuild.specs.Records.{counted, next_from, records-counted, next-labels, next_low}
 use Rattle.recovery.specs.Types.{Entry, TableRoom}
-use Rattle.recovery.specs.Steps.{blank-formed, gives_up, past-full, past_room}
+use Rattle.recovery.proofs.Steps.{blank-formed, gives_up, past-full, past_room}
 use Rattle.recovery.proofs.Handing.{no_room, has_room, room-formed, room-used}
 use Rattle.recovery.proofs.rebuilt.Goals as goal
 

@@ -9,7 +9,7 @@ use Rattle.rules.specs.SlotFile.{views_in}
 use Rattle.reopen_tests.specs.Labels.{surveyed}
 use Rattle.reopen_tests.specs.Tests.{told-refused, told-clear, told-labels, slots-refuse}
 use Rattle.recovery.specs.Reopening.{bare}
-use Rattle.recovery.specs.Steps.{tests-refuse, cleared-blank, blank-same, gives_up}
+use Rattle.recovery.proofs.Steps.{tests-refuse, cleared-blank, blank-same, gives_up}
 use native.Mathlib.Omega.{arith}
 use lib.ListN.{length}
 use Rattle.recovery.proofs.recovered.Goals as goal

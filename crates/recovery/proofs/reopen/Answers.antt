@@ -1,6 +1,6 @@
 use mathlib.Core.Path.{sym, ◌∙◌}
 use Rattle.rules.proofs.Condition1Laws.{in-limits}
-use Rattle.recovery.specs.Steps.{at-limits, past-limits}
+use Rattle.recovery.proofs.Steps.{at-limits, past-limits}
 use lib.ListN.{length}
 use Rattle.recovery.proofs.reopen.Goals as goal
 

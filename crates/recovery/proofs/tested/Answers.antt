@@ -1,7 +1,7 @@
 use mathlib.Core.Path.{sym, ◌∙◌}
 use Rattle.rules.specs.SlotFile.{views_in}
 use Rattle.recovery.specs.Reopening.{bare}
-use Rattle.recovery.specs.Steps.{tests-refuse, tests-clear, tests-apart, gives_up}
+use Rattle.recovery.proofs.Steps.{tests-refuse, tests-clear, tests-apart, gives_up}
 use Rattle.recovery.proofs.tested.Goals as goal
 
 pub rebuilt-requires : goal.rebuilt-requires

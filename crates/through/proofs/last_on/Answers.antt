@@ -6,7 +6,7 @@ use Rattle.batch.specs.Behind.{operation-behind}
 use Rattle.batch.specs.ReadingLaws.{held, held_none}
 use Rattle.through.specs.declared.LastOperation.{LastOperation}
 use Rattle.through.specs.Through.{or_earlier}
-use Rattle.through.specs.ThroughLaws.{len-behind}
+use Rattle.through.proofs.ThroughLaws.{len-behind}
 use Rattle.through.proofs.LastTurns.{telling-all, telling-end, telling-bad, telling-turn}
 use Rattle.through.proofs.last_on.Goals as goal
 

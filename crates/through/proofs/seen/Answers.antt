@@ -8,7 +8,7 @@ use Rattle.rules.specs.Read.{read_of}
 use Rattle.rules.specs.World.{World}
 use Rattle.through.specs.Through.{last_in, as_read, answer_by}
 use Rattle.through.specs.Pieces.{refused_first}
-use Rattle.through.specs.ThroughLaws.{read_first, through-refused, through-bad, through-last}
+use Rattle.through.proofs.ThroughLaws.{read_first, through-refused, through-bad, through-last}
 use Rattle.through.proofs.LastTurns.{pass-bad, pass-whole}
 use Rattle.through.proofs.seen.Goals as goal
 

@@ -4,7 +4,7 @@ use Rattle.rules.specs.World.{world}
 use Rattle.through.specs.declared.ThroughAnswer.{ThroughAnswer}
 use Rattle.through.specs.Through.{through_part}
 use Rattle.through.specs.Pieces.{through_place}
-use Rattle.through.specs.ThroughLaws.{through-named}
+use Rattle.through.proofs.ThroughLaws.{through-named}
 use Rattle.through.proofs.through.Goals as goal
 
 pub piece-requires : goal.piece-requires

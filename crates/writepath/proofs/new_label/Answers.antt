@@ -1,6 +1,6 @@
 use mathlib.Core.Path.{ap, ◌∙◌}
 use Prim.Native.Nat.{ℕ, ◌+◌, ◌*◌}
-use Rattle.disk_location.specs.LocationLaws.{batch-plain}
+use Rattle.disk_location.proofs.LocationLaws.{batch-plain}
 use Rattle.file_map.specs.Records.{labelled}
 use Rattle.writepath.proofs.new_label.Goals as goal
 

@@ -6,8 +6,9 @@ use Rattle.rules.specs.SlotFile.{empty, view_in, views_in}
 use Rattle.rules.proofs.SlotLaws.{slots_apart, views-length}
 use Rattle.faults.specs.Faults.{judged, slot_faults}
 use Rattle.faults.specs.Judging.{judges-at}
-use Rattle.file_faults.specs.Telling.{tells_none, tells_as, going_start, going-as, going_on, going-last}
-use Rattle.checker.specs.SlotLines.{slot_lines, slots_judged, earlier_to, lines_from, slot-lines, view-is, meets-by-label, lines-all, lines_next, lines_none}
+use Rattle.file_faults.proofs.Telling.{tells_none, tells_as, going_start, going-as, going_on, going-last}
+use Rattle.checker.specs.SlotLines.{slot_lines, slots_judged, earlier_to, lines_from}
+use Rattle.checker.proofs.SlotLines.{slot-lines, view-is, meets-by-label, lines-all, lines_next, lines_none}
 use native.Mathlib.Omega.{arith}
 use Rattle.checker.proofs.slots.all_lines.Goals as goal
 

@@ -4,9 +4,10 @@ use Prim.Native.Nat.{◌+◌, ◌^◌, ◌<◌}
 use lib.ListN.{length, length-append}
 use Rattle.faults.specs.Faults.{line_if, faults_from, closing}
 use Rattle.faults.specs.Judging.{Judged}
-use Rattle.file_faults.specs.Telling.{tells_as, tells-then}
-use Rattle.checker.specs.SlotLines.{slots_judged, closing-line}
-use Rattle.checker.specs.Few.{list-fits}
+use Rattle.file_faults.proofs.Telling.{tells_as, tells-then}
+use Rattle.checker.specs.SlotLines.{slots_judged}
+use Rattle.checker.proofs.SlotLines.{closing-line}
+use Rattle.checker.proofs.Few.{list-fits}
 use native.Mathlib.Omega.{arith}
 use Rattle.checker.proofs.slots.listed.Goals as goal
 

@@ -4,7 +4,7 @@ use lib.ListN.{length}
 use Rattle.rules.specs.FileMap.{empty_label}
 use Rattle.file_map.proofs.RecordTurns.{mapped-length}
 use Rattle.reopen_tests.specs.Labels.{label_at, clash}
-use Rattle.file_faults.specs.Search.{part-here, part-later, part_end}
+use Rattle.file_faults.proofs.Search.{part-here, part-later, part_end}
 use Rattle.checker.specs.Types.{Label}
 use borrow.Author.Rules.{rules}
 use native.Mathlib.Omega.{arith}

@@ -1,6 +1,6 @@
 use mathlib.Core.Path.{sym, ap, ◌∙◌}
 use mathlib.Core.List.{[], ◌∷◌}
-use Rattle.file_faults.specs.Telling.{tells_none, tells_as}
+use Rattle.file_faults.proofs.Telling.{tells_none, tells_as}
 use Rattle.checker.specs.Types.{Fault}
 use Rattle.checker.specs.SlotLines.{own_line}
 use Rattle.checker.proofs.slots.own_line.Goals as goal

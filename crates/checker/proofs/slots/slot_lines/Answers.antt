@@ -6,9 +6,10 @@ use Rattle.rules.specs.SlotFile.{view_in}
 use Rattle.reopen_tests.specs.Shown.{file_seen}
 use Rattle.faults.specs.Faults.{judged, line, line_if, file_faults}
 use Rattle.faults.specs.Judging.{SoundFile, judges-file}
-use Rattle.file_faults.specs.Telling.{tells_as, tells-then}
+use Rattle.file_faults.proofs.Telling.{tells_as, tells-then}
 use Rattle.checker.specs.Types.{Overlap, Nowhere, Fault}
-use Rattle.checker.specs.SlotLines.{slot_lines, judges-none, own-lines, file-slot-lines}
+use Rattle.checker.specs.SlotLines.{slot_lines}
+use Rattle.checker.proofs.SlotLines.{judges-none, own-lines, file-slot-lines}
 use native.Mathlib.Omega.{arith}
 use Rattle.checker.proofs.slots.slot_lines.Goals as goal
 

@@ -1,7 +1,7 @@
 use mathlib.Core.Path.{sym, ap, ◌∙◌}
 use Prim.Native.Nat.{ℕ}
 use Rattle.disk_location.specs.declared.Located.TheVariants.{At}
-use Rattle.disk_location.specs.LocationLaws.{located-at, located-none, located-large}
+use Rattle.disk_location.proofs.LocationLaws.{located-at, located-none, located-large}
 use Rattle.disk_location.proofs.DiskLocation.new.Goals as goal
 
 pub returns-then-raw-eq0 : goal.returns-then-raw-eq0

@@ -1,7 +1,7 @@
 use mathlib.Core.Path.{sym, ap, ◌∙◌}
 use Prim.Native.Nat.{ℕ}
 use Rattle.disk_location.specs.declared.RelativeLocated.TheVariants as relative
-use Rattle.disk_location.specs.LocationLaws.{relative-at, relative-large}
+use Rattle.disk_location.proofs.LocationLaws.{relative-at, relative-large}
 use Rattle.disk_location.proofs.RelativeDiskLocation.new.Goals as goal
 
 pub returns-then-position-lt-POSITIONS : goal.returns-then-position-lt-POSITIONS

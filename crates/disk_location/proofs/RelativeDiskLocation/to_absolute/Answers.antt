@@ -2,7 +2,7 @@ use Prim.Native.Nat.{◌+◌, ◌/◌, ◌^◌, ◌≤◌}
 use native.Mathlib.Omega.{arith}
 use mathlib.Core.Path.{sym}
 use Rattle.disk_location.specs.Locations.{delete_of}
-use Rattle.disk_location.specs.LocationLaws.{located-large}
+use Rattle.disk_location.proofs.LocationLaws.{located-large}
 use Rattle.disk_location.proofs.RelativeDiskLocation.to_absolute.Goals as goal
 
 pub returns-then-lsn-at : goal.returns-then-lsn-at

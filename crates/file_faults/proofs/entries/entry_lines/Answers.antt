@@ -7,8 +7,9 @@ use Rattle.rules.specs.Trailer.{entries_in}
 use Rattle.trailer.specs.Entries.{entries-count}
 use Rattle.faults.specs.Faults.{line, line_if, entry_faults}
 use Rattle.file_faults.specs.Types.{OtherId, Object}
-use Rattle.file_faults.specs.Telling.{tells_none, tells_as, going_start, going-as, going_on, going-last}
-use Rattle.file_faults.specs.Walks.{walked_from, start-front, entry-line}
+use Rattle.file_faults.proofs.Telling.{tells_none, tells_as, going_start, going-as, going_on, going-last}
+use Rattle.file_faults.specs.Walks.{walked_from}
+use Rattle.file_faults.proofs.Walks.{start-front, entry-line}
 use native.Mathlib.Omega.{arith}
 use Rattle.file_faults.proofs.entries.entry_lines.Goals as goal
 

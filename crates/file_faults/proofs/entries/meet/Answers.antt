@@ -1,5 +1,5 @@
 use mathlib.Core.Path.{refl, sym, ◌∙◌}
-use Rattle.file_faults.specs.Walks.{unmet-delete, unmet-object, start-front}
+use Rattle.file_faults.proofs.Walks.{unmet-delete, unmet-object, start-front}
 use native.Mathlib.Omega.{arith}
 use Rattle.file_faults.proofs.entries.meet.Goals as goal
 

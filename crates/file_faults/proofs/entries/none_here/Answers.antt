@@ -1,7 +1,7 @@
 use mathlib.Core.Path.{sym, ap, ◌∙◌}
 use mathlib.Core.Bool.{not}
 use Rattle.stored_object.specs.Objects.{Walked, told-by, header-begins, header-fits}
-use Rattle.file_faults.specs.Walks.{cut-passes, short-passes, walked_end, walked-cut, gone-ended, gone-here}
+use Rattle.file_faults.proofs.Walks.{cut-passes, short-passes, walked_end, walked-cut, gone-ended, gone-here}
 use native.Mathlib.Omega.{arith}
 use Rattle.file_faults.proofs.entries.none_here.Goals as goal
 

@@ -1,6 +1,6 @@
 use mathlib.Core.Path.{sym, ap, ◌∙◌}
 use mathlib.Core.Bool.{not}
-use Rattle.file_faults.specs.Walks.{gone-elsewhere}
+use Rattle.file_faults.proofs.Walks.{gone-elsewhere}
 use Rattle.file_faults.proofs.entries.none_there.Goals as goal
 
 pub returns : goal.returns

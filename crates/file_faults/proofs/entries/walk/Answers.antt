@@ -4,7 +4,7 @@ use Rattle.stored_object.specs.declared.Header.{Header}
 use Prim.Native.Nat.{ℕ, ◌+◌, ◌-◌, ◌≤◌}
 use lib.ListN.{length}
 use Rattle.stored_object.specs.Objects.{Walked, told-by, header-begins, header-fits}
-use Rattle.file_faults.specs.Walks.{cut-passes, short-passes, walked_end, walked-cut, start-next, same_next}
+use Rattle.file_faults.proofs.Walks.{cut-passes, short-passes, walked_end, walked-cut, start-next, same_next}
 use native.Mathlib.Omega.{arith}
 use Rattle.file_faults.proofs.entries.walk.Goals as goal
 

@@ -5,7 +5,7 @@ use lib.ListN.{length}
 use Rattle.rules.specs.Table.{no_entry}
 use Rattle.rules.specs.Trailer.{entries_in}
 use Rattle.trailer.specs.Entries.{entries-count}
-use Rattle.file_faults.specs.Search.{part-here, part-later, part_end}
+use Rattle.file_faults.proofs.Search.{part-here, part-later, part_end}
 use Rattle.file_faults.specs.Walks.{entered_as}
 use native.Mathlib.Omega.{arith}
 use Rattle.file_faults.proofs.objects.find.Goals as goal

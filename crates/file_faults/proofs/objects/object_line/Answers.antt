@@ -1,7 +1,7 @@
 use mathlib.Core.Path.{ap, ap₂}
 use Rattle.faults.specs.declared.Fault.{Fault}
 use Rattle.faults.specs.Faults.{line_if}
-use Rattle.file_faults.specs.Telling.{tells_as, tells-then}
+use Rattle.file_faults.proofs.Telling.{tells_as, tells-then}
 use Rattle.file_faults.proofs.objects.object_line.Goals as goal
 
 pub bad_checksum-bad-requires : goal.bad_checksum-bad-requires

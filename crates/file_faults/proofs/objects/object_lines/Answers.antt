@@ -10,8 +10,9 @@ use Rattle.rules.specs.Trailer.{entries_in}
 use Rattle.stored_object.specs.Objects.{Walked, CutOff, told-by, header-begins, header-fits}
 use Rattle.faults.specs.Faults.{line}
 use Rattle.file_faults.specs.Types.{CutShort, Object, Fault}
-use Rattle.file_faults.specs.Telling.{tells_none, tells_as, going_start, going-as, going_on, going-last}
-use Rattle.file_faults.specs.Walks.{object_lines, entered_as, cut-passes, short-passes, lines_from, lines_start, lines_end, lines_cut, lines-on}
+use Rattle.file_faults.proofs.Telling.{tells_none, tells_as, going_start, going-as, going_on, going-last}
+use Rattle.file_faults.specs.Walks.{object_lines, entered_as}
+use Rattle.file_faults.proofs.Walks.{cut-passes, short-passes, lines_from, lines_start, lines_end, lines_cut, lines-on}
 use native.Mathlib.Omega.{arith}
 use Rattle.file_faults.proofs.objects.object_lines.Goals as goal
 

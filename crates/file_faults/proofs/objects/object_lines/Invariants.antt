@@ -6,7 +6,7 @@ use Rattle.rules.specs.Object.{objects_in}
 use Rattle.rules.specs.Trailer.{count_in, entries_in}
 use Rattle.faults.specs.Faults.{object_faults}
 use Rattle.file_faults.specs.Telling.{Going}
-use Rattle.file_faults.specs.Walks.{lines_from}
+use Rattle.file_faults.proofs.Walks.{lines_from}
 use Rattle.file_faults.proofs.objects.object_lines.Given as goal
 
 abbrev pub invariant-loop-listing : goal.invariant-loop-listing

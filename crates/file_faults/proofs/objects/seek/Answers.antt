@@ -10,7 +10,7 @@ use Rattle.rules.specs.Base.{any}
 use Rattle.rules.specs.declared.Entry.{Entry}
 use Rattle.rules.specs.Trailer.{count_in, entries_in}
 use Rattle.trailer.specs.Entries.{entries-count}
-use Rattle.file_faults.specs.Search.{around-behind, around-before, around-none}
+use Rattle.file_faults.proofs.Search.{around-behind, around-before, around-none}
 use Rattle.file_faults.specs.Walks.{entered_as}
 use native.Mathlib.Omega.{arith}
 use Rattle.file_faults.proofs.objects.seek.Goals as goal

@@ -1,4 +1,4 @@
-use Rattle.file_faults.specs.Telling.{tells-here, tells-past}
+use Rattle.file_faults.proofs.Telling.{tells-here, tells-past}
 use Rattle.file_faults.proofs.tell.note.Goals as goal
 
 pub returns-then-room-count : goal.returns-then-room-count

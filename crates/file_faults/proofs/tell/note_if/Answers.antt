@@ -1,4 +1,4 @@
-use Rattle.file_faults.specs.Telling.{tells-if, tells-if-not}
+use Rattle.file_faults.proofs.Telling.{tells-if, tells-if-not}
 use native.Mathlib.Omega.{arith}
 use Rattle.file_faults.proofs.tell.note_if.Goals as goal
 

@@ -1,7 +1,7 @@
 use mathlib.Core.Path.{ap, ◌∙◌}
 use lib.ListN.{length-set}
 use Rattle.numbers.specs.Parts.{put_at}
-use Rattle.file_faults.specs.Telling.{put_four, line-words}
+use Rattle.file_faults.proofs.Telling.{put_four, line-words}
 use native.Mathlib.Omega.{arith}
 use Rattle.file_faults.proofs.tell.put_line.Goals as goal
 

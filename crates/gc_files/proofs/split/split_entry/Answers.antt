@@ -6,7 +6,7 @@ use lib.ListN.{get_or, set}
 use lib.Seq.{set-get_or}
 use Rattle.gc_split.specs.Tally.{Tally, tally, taking, piece_no}
 use Rattle.rules.proofs.OpsLaws.{shard-most}
-use Rattle.gc_split.specs.BoundLaws.{take_within}
+use Rattle.gc_split.proofs.BoundLaws.{take_within}
 use Rattle.gc_files.specs.Places.{op_at, entry_taken, entry_piece}
 use Rattle.gc_files.specs.PlaceLaws.{moving-told, measured}
 use Rattle.gc_files.proofs.split.split_entry.Goals as goal

@@ -7,7 +7,7 @@ use Rattle.disk_location.specs.Locations.{position_of, delete_of, told, located_
 use Rattle.rules.specs.declared.Answer.TheVariants.{Done, Refused}
 use Rattle.rules.specs.declared.Refusal.TheVariants.{NotThere}
 use Rattle.rules.specs.Layout.{used_entries}
-use Rattle.gc_group.specs.Checks.{entry-object, entry-great, entry-mapped, located-number}
+use Rattle.gc_group.proofs.Checks.{entry-object, entry-great, entry-mapped, located-number}
 use Rattle.gc_group.proofs.check.check_entry.Goals as goal
 
 pub returns-then-not-is_delete : goal.returns-then-not-is_delete

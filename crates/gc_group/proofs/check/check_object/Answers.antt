@@ -11,7 +11,8 @@ use Rattle.rules.specs.Table.{load, never_written}
 use Rattle.rules.specs.TableLaws.{Rising}
 use Rattle.location_table.specs.Places.{place}
 use Rattle.stored_object.specs.Objects.{header-fits}
-use Rattle.gc_group.specs.Checks.{never_at, never-at, moved-large, moved-never, moved-short, moved_sum}
+use Rattle.gc_group.specs.Checks.{never_at}
+use Rattle.gc_group.proofs.Checks.{never-at, moved-large, moved-never, moved-short, moved_sum}
 use Rattle.gc_group.proofs.check.check_object.Goals as goal
 
 pub returns-then-limit-h : goal.returns-then-limit-h

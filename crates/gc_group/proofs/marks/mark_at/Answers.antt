@@ -8,7 +8,7 @@ use Rattle.rules.specs.Layout.{used_entries}
 use Rattle.location_table.specs.LayoutLaws.{used-location, used-rising}
 use Rattle.location_table.specs.EntryLaws.{IsFound, found-tells, gap-tells}
 use Rattle.gc_group.specs.Marks.{marked}
-use Rattle.gc_group.specs.MarkLaws.{current-here, current-other, current-none, mark-first, mark-none}
+use Rattle.gc_group.proofs.MarkLaws.{current-here, current-other, current-none, mark-first, mark-none}
 use Rattle.gc_group.proofs.marks.mark_at.Goals as goal
 
 pub location_at-requires : goal.location_at-requires

@@ -6,7 +6,7 @@ use Rattle.disk_location.specs.declared.Located.{Located}
 use Rattle.disk_location.specs.Locations.{position_of, delete_of, raw_of, told}
 use Rattle.rules.specs.Layout.{used_entries}
 use Rattle.gc_group.specs.Marks.{current, marked}
-use Rattle.gc_group.specs.MarkLaws.{located-raw, delete-here, delete-not, mark-none}
+use Rattle.gc_group.proofs.MarkLaws.{located-raw, delete-here, delete-not, mark-none}
 use Rattle.gc_group.proofs.marks.mark_delete.Goals as goal
 
 pub returns-then-is_delete : goal.returns-then-is_delete

@@ -11,7 +11,7 @@ use Rattle.trailer.specs.Entries.{entries-count}
 use Rattle.rules.specs.Layout.{used_entries}
 use Rattle.gc_group.specs.Clear.{SumFits}
 use Rattle.gc_group.specs.Marks.{delete_id, marked}
-use Rattle.gc_group.specs.MarkLaws.{marked-length}
+use Rattle.gc_group.proofs.MarkLaws.{marked-length}
 use Rattle.gc_group.proofs.MarkTurns.{entries-mark, entries-done}
 use mathlib.Core.List.{List}
 use Rattle.gc_group.proofs.marks.mark_deletes.Goals as goal

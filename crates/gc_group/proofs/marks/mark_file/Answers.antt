@@ -15,11 +15,13 @@ use Rattle.rules.specs.SlotFile.{object_part, trailer_part}
 use Rattle.rules.specs.Maintenance.{moved_tests, file_tests}
 use Rattle.rules.specs.Layout.{used_entries}
 use Rattle.trailer.specs.Entries.{clear-fits}
-use Rattle.gc_group.specs.Checks.{entry_tests, file-trailer, file-object, file-deletes}
-use Rattle.gc_group.specs.Source.{part_length}
-use Rattle.gc_group.specs.Clear.{SumFits, file-clear}
+use Rattle.gc_group.specs.Checks.{entry_tests}
+use Rattle.gc_group.proofs.Checks.{file-trailer, file-object, file-deletes}
+use Rattle.gc_group.proofs.Source.{part_length}
+use Rattle.gc_group.specs.Clear.{SumFits}
+use Rattle.gc_group.proofs.Clear.{file-clear}
 use Rattle.gc_group.specs.Marks.{object_id, delete_id, marked}
-use Rattle.gc_group.specs.MarkLaws.{marked-length, mark-file}
+use Rattle.gc_group.proofs.MarkLaws.{marked-length, mark-file}
 use Rattle.gc_group.proofs.marks.mark_file.Goals as goal
 
 -- ---- what is decided of the trailer, of the objects

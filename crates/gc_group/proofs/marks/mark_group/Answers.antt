@@ -17,9 +17,10 @@ use Rattle.rules.specs.Layout.{used_entries}
 use Rattle.file_map.proofs.RecordTurns.{mapped-length, copied-start, copied_next, copied-end}
 use Rattle.gc_candidates.specs.Plan.{planned, planned_from, planned-here, planned-next, planned-start, planned-end}
 use Rattle.gc_group.specs.Source.{source, Lies}
-use Rattle.gc_group.specs.Checks.{group_checks, group-refused, group-on, group-none}
+use Rattle.gc_group.specs.Checks.{group_checks}
+use Rattle.gc_group.proofs.Checks.{group-refused, group-on, group-none}
 use Rattle.gc_group.specs.Marks.{found_file, ids_of, marked, marks_from, marks_of}
-use Rattle.gc_group.specs.MarkLaws.{marked-length, marks-next, marks-end, marks-start}
+use Rattle.gc_group.proofs.MarkLaws.{marked-length, marks-next, marks-end, marks-start}
 use Rattle.gc_group.proofs.marks.mark_group.Goals as goal
 use Rattle.gc_group.proofs.marks.mark_group.Goals.{then-plan-i+in-Done, else-plan-i}
 

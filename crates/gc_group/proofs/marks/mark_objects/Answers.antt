@@ -16,9 +16,9 @@ use Rattle.rules.specs.Maintenance.{moved_tests}
 use Rattle.rules.specs.Layout.{used_entries}
 use Rattle.location_table.specs.LayoutLaws.{used-rising}
 use Rattle.stored_object.specs.Objects.{Walked, objects_at, objects-start, told-by}
-use Rattle.gc_group.specs.Checks.{walk_end, walk-cut, walk_refused, walk-on, walk_inside}
+use Rattle.gc_group.proofs.Checks.{walk_end, walk-cut, walk_refused, walk-on, walk_inside}
 use Rattle.gc_group.specs.Marks.{object_id, marked, current}
-use Rattle.gc_group.specs.MarkLaws.{located-raw, marked-length}
+use Rattle.gc_group.proofs.MarkLaws.{located-raw, marked-length}
 use Rattle.gc_group.proofs.MarkTurns.{objects-done, objects-mark}
 use Rattle.gc_group.proofs.marks.mark_objects.Goals as goal
 

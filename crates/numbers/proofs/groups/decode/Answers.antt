@@ -25,7 +25,7 @@ returns-then-shift-eq63 c =
 
 pub returns-then-shift-gt0 : goal.returns-then-shift-gt0
 returns-then-shift-gt0 c =
-    padded c.loop-i.invariant c.loop-i-test.true c.if-b-eq0.true c.if-shift-gt0.true
+    padded c.loop-i.invariant c.loop-i-test.true (omega arith) (omega arith)
 
 pub overflow_add-result-then-b-lt128 : goal.overflow_add-result-then-b-lt128
 overflow_add-result-then-b-lt128 c =

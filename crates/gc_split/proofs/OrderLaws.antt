@@ -7,8 +7,8 @@ use Rattle.rules.specs.Ops.{Op}
 use Rattle.rules.specs.Maintenance.{files_of}
 use Rattle.gc_split.specs.declared.Totals.{Totals}
 use Rattle.gc_split.specs.Tally.{Tally, closing, tally_of, closing_rests, closed_of, totals_for, order_of, pieces_of, in_piece}
-use Rattle.gc_split.specs.TotalLaws.{split-totals}
-use Rattle.gc_split.specs.PieceLaws.{split-files}
+use Rattle.gc_split.proofs.TotalLaws.{split-totals}
+use Rattle.gc_split.proofs.PieceLaws.{split-files}
 
 -- the fragments are among the files
 closing-files : (slot_size : ℕ) (cs zs : List ℕ) (t : Totals) → t.files ≤ (closing_rests slot_size cs zs t).files

@@ -23,9 +23,9 @@ use Rattle.checker.specs.declared.CheckAnswer.{CheckAnswer}
 use Rattle.checker.specs.declared.CheckAnswer.TheVariants.{Faults}
 use Rattle.check_theory.proofs.CleanLists.{clean-list, list-clean}
 use Rattle.check_theory.proofs.Calls.{check-limits, empty-checked, checked-empty}
-use Rattle.marble.specs.Unique.{check-one}
+use Rattle.marble.proofs.Unique.{check-one}
 use Rattle.marble.specs.Results.{reopened, checked, left, Admitted, begun, Lived, reached}
-use Rattle.marble.specs.Lives.{life-sound}
+use Rattle.marble.proofs.Lives.{life-sound}
 
 -- ---- clean is: "P5's checker lists nothing"
 -- where the result of `check` says so

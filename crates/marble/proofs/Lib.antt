@@ -1,0 +1,6 @@
+pub mod Unique
+pub mod CallContracts
+pub mod Lives
+pub mod Starts
+pub mod Maintaining
+pub mod Writers
