@@ -6,16 +6,6 @@ use Rattle.batch_file.specs.Putting.{objects_from, putting-start, object-fits, o
 use Rattle.batch_file.specs.Summing.{summing_start, summing-next, summing-end}
 use Rattle.batch_file.proofs.put_objects.Goals as goal
 
--- ---- the call, as each place has it
-abbrev begun : goal.At-loop-o → goal.Start
-begun l = l.before.before.before.before.before
-
-abbrev called : goal.In-Next-2 → goal.After-next
-called o = o.before.before.before.before
-
-abbrev turn : goal.In-Next-2 → goal.At-loop-o
-turn o = (called o).before.before
-
 pub loop-o-init : goal.loop-o-init
 loop-o-init c =
     let e = c.requires.1.all in
@@ -23,7 +13,7 @@ loop-o-init c =
 
 pub returns-in_default : goal.returns-in_default
 returns-in_default c =
-    let none = stepped-end (begun c.before.before.before.before.before.before.before).args.batch.now _ c.next.ensures.steps c.in_default.is in
+    let none = stepped-end c.args.batch.now _ c.next.ensures.steps c.in_default.is in
     record {
       made = objects-put c.loop-o.invariant.3 none;
       summed = c.sum_end.ensures ∙ summing-end c.loop-o.invariant.2 none;
@@ -31,31 +21,29 @@ returns-in_default c =
     }
 
 pub entry_of-e-requires : goal.entry_of-e-requires
-entry_of-e-requires c = omega (arith, (turn c.before).loop.inv.2.low)
+entry_of-e-requires c = omega (arith, c.loop-o.invariant.2.low)
 
 pub put_content-rest-requires : goal.put_content-rest-requires
 put_content-rest-requires c =
-    let l = turn c.before.before.before.before in
-    let e = stepped _ (called c.before.before.before.before).next.ensures.0 (called c.before.before.before.before).next.ensures.1.0 c.in-Next.is in
+    let e = stepped _ c.next.ensures.steps c.next.ensures.within c.in-Next.is in
     record {
-      o_in_bounds = omega (arith, object-fits l.loop.inv.3 e, (begun l).pre.3, l.loop.inv.3.way.size);
+      o_in_bounds = omega (arith, object-fits c.loop-o.invariant.3 e, c.requires.3, c.loop-o.invariant.3.way.size);
       len_in_bounds = e.inside;
     }
 
 pub behind-position-requires : goal.behind-position-requires
 behind-position-requires c =
-    let start = begun (turn c.before.before.before.before.before.before.before) in
-    omega (arith, object-fits (turn c.before.before.before.before.before.before.before).loop.invariant.3 (stepped _ (called c.before.before.before.before.before.before.before).next.ensures.0 (called c.before.before.before.before.before.before.before).next.ensures.1.0 c.in-Next.is), start.pre.3, start.good)
+    omega (arith, object-fits c.loop-o.invariant.3 (stepped _ c.next.ensures.steps c.next.ensures.within c.in-Next.is), c.requires.3)
 
 pub loop-o-smaller : goal.loop-o-smaller
 loop-o-smaller c =
-    omega (arith, ap length (stepped _ (called c.before.before.before.before.before.before.before.before).next.ensures.0 (called c.before.before.before.before.before.before.before.before).next.ensures.1.0 c.in-Next.is).next)
+    omega (arith, ap length (stepped _ c.next.ensures.steps c.next.ensures.within c.in-Next.is).next)
 
 pub loop-o-preserved : goal.loop-o-preserved
 loop-o-preserved c =
-    let inv = (turn c.before.before.before.before.before.before.before.before).loop.invariant in
-    let e = stepped _ (called c.before.before.before.before.before.before.before.before).next.ensures.0 (called c.before.before.before.before.before.before.before.before).next.ensures.1.0 c.in-Next.is in (
-      walk-next inv.0 (called c.before.before.before.before.before.before.before.before).next.ensures.1.1 c.in-Next.is,
+    let inv = c.loop-o.invariant in
+    let e = stepped _ c.next.ensures.steps c.next.ensures.within c.in-Next.is in (
+      walk-next inv.0 c.next.ensures.keeps c.in-Next.is,
       omega arith,
       summing-next inv.2 e c.entry_of-e.ensures c.sum_entry-register.ensures c.behind-position.ensures,
       object-put inv.3 e c.behind-position.ensures (omega (arith, c.behind-position.ensures)) c.put_content-rest.ensures,
