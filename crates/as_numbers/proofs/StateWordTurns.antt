@@ -7,7 +7,8 @@ use native.Mathlib.Numerals.{add-one}
 use lib.ListN.{drop_of_length-le}
 use lib.Seq.{append_snoc, take-suc-set, take_all, drop-cons}
 use Rattle.numbers.specs.Parts.{put_at, put-none, put-put}
-use Rattle.rules.specs.Base.{List, [], ◌∷◌, ◌++◌, ℕ, suc, ◌+◌, length, get_or, set, take, drop}
+use Rattle.std.specs.Prelude.{◌∷◌, ◌++◌, ◌+◌}
+use Rattle.rules.specs.Base.{List, [], ℕ, suc, length, get_or, set, take, drop}
 use Rattle.rules.specs.FileMap.{empty_record}
 use Rattle.rules.specs.declared.Record.{Record}
 use Rattle.as_numbers.specs.StateWords.{record_at, records_from, record_words, records_words}

@@ -1,7 +1,7 @@
 -- "a claim record of the host's" as four words.
-use Rattle.std.specs.Prelude.{◌≡◌, refl}
+use Rattle.std.specs.Prelude.{◌≡◌, refl, ◌∷◌}
 use Rattle.std.proofs.Common.{sym, ap, ◌∙◌, arith}
-use Rattle.rules.specs.Base.{List, [], ◌∷◌, ℕ, length, get_or}
+use Rattle.rules.specs.Base.{List, [], ℕ, length, get_or}
 use Rattle.rules.specs.declared.Claims.{Claims}
 
 -- the claim record that four words hold

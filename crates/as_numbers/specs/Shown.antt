@@ -1,5 +1,6 @@
 -- An answer in a host's out-parameters: the number, and a place for each value; a place that no value comes to is 0.
-use Rattle.rules.specs.Base.{List, ◌∷◌, ℕ, eqb, pick, padded}
+use Rattle.std.specs.Prelude.{◌∷◌}
+use Rattle.rules.specs.Base.{List, ℕ, eqb, pick, padded}
 use Rattle.rules.specs.World.{Given, After}
 use Rattle.rules.specs.TableCalls.{TableAfter}
 

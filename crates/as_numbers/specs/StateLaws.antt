@@ -1,10 +1,10 @@
 -- Words and state, each from the other; and what writing a state piece by piece leaves.
-use Rattle.std.specs.Prelude.{◌≡◌, refl, ◌≤◌, ◌<◌, ◌*◌}
+use Rattle.std.specs.Prelude.{◌≡◌, refl, ◌≤◌, ◌<◌, ◌*◌, ◌∷◌, ◌++◌, ◌+◌}
 use Rattle.std.proofs.Common.{sym, ap, ap₂, ◌∙◌, append_assoc, append-nil, zero-le, arith, zero-add, length-append, length-set, drop_of_length-le, take-append-drop, get_or-append-add, drop-cons, drop-drop}
 use Rattle.std.proofs.lemmas.List.{get_or_at}
 use Rattle.std.proofs.Math.Seq.{get_or-append_seam}
 use Rattle.numbers.specs.Parts.{front, put_at, put_front, put_step, put-put, put-length}
-use Rattle.rules.specs.Base.{List, [], ◌∷◌, ◌++◌, ℕ, zero, suc, ◌+◌, length, get_or, set, take, drop}
+use Rattle.rules.specs.Base.{List, [], ℕ, zero, suc, length, get_or, set, take, drop}
 use Rattle.rules.proofs.PartLaws.{put_one}
 use Rattle.rules.specs.declared.Settings.{Settings}
 use Rattle.rules.specs.declared.Record.{Record}

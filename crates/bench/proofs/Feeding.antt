@@ -7,7 +7,8 @@ use native.Mathlib.Omega.{arith}
 use borrow.Author.Tests.{lt-ltb, le-ltb, ltb-true, ltb-false}
 use lib.ListN.{length-append, length-drop}
 use lib.Seq.{take_all, take-length, take_at, take-add}
-use Rattle.rules.specs.Base.{Bool, true, false, List, [], ◌∷◌, ◌++◌, ℕ, suc, ◌+◌, ◌-◌, length, take, drop, ltb, eqb, pick}
+use Rattle.std.specs.Prelude.{◌∷◌, ◌++◌, ◌+◌, ◌-◌}
+use Rattle.rules.specs.Base.{Bool, true, false, List, [], ℕ, suc, length, take, drop, ltb, eqb, pick}
 use Rattle.byte_parts.specs.Bytes.{index_of, index_after, slice}
 use Rattle.numbers.specs.Parts.{put_at, put-length}
 use Rattle.desk.specs.Desk.{Desk, desk}

@@ -1,6 +1,6 @@
 -- What bytes on standard input do to the desk, line by line.
-use Rattle.std.specs.Prelude.{◌≡◌, refl, ◌<◌}
-use Rattle.rules.specs.Base.{Bool, true, false, List, [], ◌∷◌, ◌++◌, ℕ, suc, ◌+◌, length, take, drop, ltb, eqb, pick}
+use Rattle.std.specs.Prelude.{◌≡◌, refl, ◌<◌, ◌∷◌, ◌++◌, ◌+◌}
+use Rattle.rules.specs.Base.{Bool, true, false, List, [], ℕ, suc, length, take, drop, ltb, eqb, pick}
 use Rattle.byte_parts.specs.Bytes.{index_of}
 use Rattle.desk.specs.Desk.{Desk}
 use Rattle.bench.specs.declared.lines.Reading.{Reading}

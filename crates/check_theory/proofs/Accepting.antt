@@ -1,7 +1,7 @@
 -- Request P5: every line has a position exactly if reopening accepts.
-use Rattle.std.specs.Prelude.{◌≡◌, refl}
+use Rattle.std.specs.Prelude.{◌≡◌, refl, ◌&&◌, ◌∷◌, ◌++◌, ◌+◌}
 use Rattle.std.proofs.Common.{subst, arith, le-ltb}
-use Rattle.rules.specs.Base.{Bool, true, false, not, ◌&&◌, [], ◌∷◌, ◌++◌, ℕ, ◌+◌, length, pick, any, each}
+use Rattle.rules.specs.Base.{Bool, true, false, not, [], ℕ, length, pick, any, each}
 use Rattle.rules.specs.BaseLaws.{All}
 use Rattle.rules.proofs.BaseLaws.{all_append}
 use Rattle.disk_location.specs.Locations.{position_of, delete_of}

@@ -1,5 +1,5 @@
 -- A call stores bytes: of any world whose heap is bytes every call leaves a heap of bytes, where the batch of a write is bytes.
-use Rattle.std.specs.Prelude.{◌≡◌, refl, ◌⊎◌, ◌<◌, ◌≤◌}
+use Rattle.std.specs.Prelude.{◌≡◌, refl, ◌⊎◌, ◌<◌, ◌≤◌, ◌∷◌, ◌++◌, ◌+◌, ◌-◌, ◌*◌, ◌^◌}
 use Rattle.std.proofs.Common.{sym, subst, inl, inr, arith}
 use Rattle.numbers.specs.LittleEndian.{Bytes, le_bytes, le-bytes}
 use Rattle.numbers.specs.Groups.{groups_of, number_in, saying}
@@ -8,7 +8,7 @@ use Rattle.disk_location.specs.Locations.{raw_of}
 use Rattle.numbers.specs.declared.Number.{Number}
 use Rattle.numbers.specs.declared.Number.TheVariants.{Said, Malformed}
 use Rattle.numbers.specs.GroupLaws.{groups-bytes, either_way}
-use Rattle.rules.specs.Base.{Bool, true, false, List, [], ◌∷◌, ◌++◌, map, ℕ, zero, suc, ◌+◌, ◌-◌, ◌*◌, ◌^◌, length, get_or, take, drop, set, replicate, leb, eqb, pick, each, padded}
+use Rattle.rules.specs.Base.{Bool, true, false, List, [], map, ℕ, zero, suc, length, get_or, take, drop, set, replicate, leb, eqb, pick, each, padded}
 use Rattle.rules.specs.BaseLaws.{All}
 use Rattle.rules.proofs.BaseLaws.{all_map, all_append, all_take}
 use Rattle.rules.specs.Refusal.{◌gives◌, decide, after}

@@ -1,9 +1,9 @@
 -- Request P5: what the call answers.
-use Rattle.std.specs.Prelude.{◌≡◌}
+use Rattle.std.specs.Prelude.{◌≡◌, ◌∷◌, ◌/◌}
 use Rattle.std.proofs.Math.Path.{refl}
 use Rattle.std.proofs.Common.{sym, ap, ◌∙◌, arith}
 use Rattle.std.proofs.Math.Seq.{take-nil}
-use Rattle.rules.specs.Base.{Bool, true, false, List, [], ◌∷◌, ℕ, ◌/◌, length, get_or, each}
+use Rattle.rules.specs.Base.{Bool, true, false, List, [], ℕ, length, get_or, each}
 use Rattle.numbers.specs.Parts.{front}
 use Rattle.rules.specs.Refusal.{number_of, ◌gives◌, decide, after}
 use Rattle.rules.specs.Answers.{refusal_at}

@@ -1,9 +1,9 @@
 -- Request P5: a heap is clean exactly if its list is empty.
-use Rattle.std.specs.Prelude.{◌≡◌, refl, ◌≤◌}
+use Rattle.std.specs.Prelude.{◌≡◌, refl, ◌≤◌, ◌+◌}
 use Rattle.std.proofs.Common.{sym, ap, subst, arith, ltb-false, le-ltb, eqb-true, eq-eqb}
 use Rattle.std.proofs.lemmas.Bool.{not-false}
 use Rattle.numbers.specs.LittleEndian.{Bytes}
-use Rattle.rules.specs.Base.{false, not, List, [], ℕ, ◌+◌, length}
+use Rattle.rules.specs.Base.{false, not, List, [], ℕ, length}
 use Rattle.rules.specs.BaseLaws.{All}
 use Rattle.rules.proofs.BaseLaws.{all_map, all_both}
 use Rattle.disk_location.specs.Locations.{raw_of}

@@ -1,8 +1,8 @@
 -- "More distinct ids in sound slots than the table holds": the ids that trailers mention, and the entries of the table that a reopening makes.
-use Rattle.std.specs.Prelude.{◌≡◌, refl, ◌<◌, ◌≤◌}
+use Rattle.std.specs.Prelude.{◌≡◌, refl, ◌<◌, ◌≤◌, ◌∷◌, ◌+◌, ◌*◌}
 use Rattle.std.proofs.Common.{subst, inl, inr, arith}
 use Rattle.std.proofs.lemmas.List.{length-map}
-use Rattle.rules.specs.Base.{List, [], ◌∷◌, ℕ, suc, ◌+◌, ◌*◌, length}
+use Rattle.rules.specs.Base.{List, [], ℕ, suc, length}
 use Rattle.rules.specs.BaseLaws.{All}
 use Rattle.rules.proofs.BaseLaws.{all_map}
 use Rattle.rules.specs.FileMapLaws.{Among}

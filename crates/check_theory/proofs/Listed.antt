@@ -1,12 +1,12 @@
 -- Request P5, line by line: a line is in the list exactly if what it says is wrong.
-use Rattle.std.specs.Prelude.{◌≡◌, ◌<◌}
+use Rattle.std.specs.Prelude.{◌≡◌, ◌<◌, ◌&&◌, ◌∷◌, ◌++◌, ◌+◌}
 use Rattle.std.proofs.Math.Path.{refl, subst}
 use Rattle.std.proofs.Common.{sym, ap, ◌∙◌, append-nil, append_assoc, inl, inr, ⊎_elim, get_or-take, ltb-true, lt-ltb, leb-true, leb-false, eq-eqb, ne_eqb}
 use Rattle.std.proofs.Math.Bool.{true≢false}
 use native.Mathlib.Omega.{arith}
 use Rattle.std.proofs.Math.ListN.{length-take}
 use Rattle.std.proofs.lemmas.Bool.{not-true}
-use Rattle.rules.specs.Base.{Bool, true, false, not, ◌&&◌, List, [], ◌∷◌, ◌++◌, map, ℕ, zero, suc, ◌+◌, length, take, leb, eqb, pick, any, keep, each}
+use Rattle.rules.specs.Base.{Bool, true, false, not, List, [], map, ℕ, zero, suc, length, take, leb, eqb, pick, any, keep, each}
 use Rattle.rules.specs.BaseLaws.{All}
 use Rattle.rules.proofs.BaseLaws.{all_map, all_append, and-true, and-holds}
 use Rattle.disk_location.specs.Locations.{masked_of, position_of, delete_of}

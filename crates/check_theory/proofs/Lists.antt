@@ -1,7 +1,7 @@
 -- What holds of all elements of a list, and numbers that differ: no word of the paper is here.
-use Rattle.std.specs.Prelude.{◌≡◌, refl, ◌⊎◌, ◌<◌, ◌≤◌}
+use Rattle.std.specs.Prelude.{◌≡◌, refl, ◌⊎◌, ◌<◌, ◌≤◌, ◌∷◌, ◌++◌}
 use Rattle.std.proofs.Common.{sym, ap, ◌∙◌, subst, inl, inr, zero-le, arith, eq-eqb, ne_eqb}
-use Rattle.rules.specs.Base.{Bool, true, false, List, [], ◌∷◌, ◌++◌, ℕ, suc, length, get_or, eqb, pick, keep, each}
+use Rattle.rules.specs.Base.{Bool, true, false, List, [], ℕ, suc, length, get_or, eqb, pick, keep, each}
 use Rattle.rules.specs.BaseLaws.{All}
 use Rattle.rules.proofs.BaseLaws.{all_map, all_both, same?}
 use Rattle.rules.specs.FileMapLaws.{Among}

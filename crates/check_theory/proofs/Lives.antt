@@ -1,9 +1,9 @@
 -- Request P5, "as for any heap our own calls left, at its own S and table size": its list is empty, power cuts included.
-use Rattle.std.specs.Prelude.{◌≡◌, ◌⊎◌, ◌<◌, ◌≤◌}
+use Rattle.std.specs.Prelude.{◌≡◌, ◌⊎◌, ◌<◌, ◌≤◌, ◌++◌, ◌/◌}
 use Rattle.std.proofs.Common.{sym, ap, ◌∙◌, subst, inl, inr}
 use Rattle.numbers.specs.GroupLaws.{either_way}
 use Rattle.numbers.specs.LittleEndian.{Bytes}
-use Rattle.rules.specs.Base.{false, List, [], ◌++◌, ℕ, ◌/◌, length, take}
+use Rattle.rules.specs.Base.{false, List, [], ℕ, length, take}
 use Rattle.rules.specs.BaseLaws.{All}
 use Rattle.rules.specs.Ops.{Op}
 use Rattle.rules.specs.Stores.{made}

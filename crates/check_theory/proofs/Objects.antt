@@ -1,8 +1,8 @@
 -- A file without a line: its objects and entries, test by test.
-use Rattle.std.specs.Prelude.{◌≡◌, refl, ◌⊎◌, ◌<◌}
+use Rattle.std.specs.Prelude.{◌≡◌, refl, ◌⊎◌, ◌<◌, ◌&&◌, ◌∷◌, ◌++◌, ◌+◌, ◌%◌}
 use Rattle.std.proofs.Common.{sym, ap, ◌∙◌, subst, true≢false, inl, inr, ⊎_elim, arith, ltb-false, le-ltb, leb-false, eqb-true, eq-eqb, ne_eqb}
 use Rattle.std.proofs.lemmas.Bool.{lt-leb, eqb-false, not-true, not-false}
-use Rattle.rules.specs.Base.{Bool, true, false, not, ◌&&◌, List, [], ◌∷◌, ◌++◌, ℕ, zero, suc, ◌+◌, ◌%◌, get_or, leb, eqb, pick, any, each}
+use Rattle.rules.specs.Base.{Bool, true, false, not, List, [], ℕ, zero, suc, get_or, leb, eqb, pick, any, each}
 use Rattle.rules.specs.BaseLaws.{All}
 use Rattle.rules.proofs.BaseLaws.{all_map, all_append, all-at, or-false, or-clear, or-true, or-holds, and-true, and-holds, any_false, any-clear, same?}
 use Rattle.disk_location.specs.Locations.{position_of, delete_of, raw_of}

@@ -1,9 +1,9 @@
 -- Request P5: the order of the lines, and which are a slot's.
 use Rattle.std.proofs.Math.Path.{◌≡◌, refl, ap, subst}
 use Rattle.std.proofs.Common.{sym, ◌∙◌, append-nil, append_assoc, ltb-true, lt-ltb, eq-eqb, ne_eqb}
-use Rattle.std.specs.Prelude.{◌<◌, ◌≤◌}
+use Rattle.std.specs.Prelude.{◌<◌, ◌≤◌, ◌&&◌, ◌∷◌, ◌++◌, ◌+◌}
 use native.Mathlib.Omega.{arith}
-use Rattle.rules.specs.Base.{Bool, true, false, not, ◌&&◌, List, [], ◌∷◌, ◌++◌, ℕ, zero, suc, ◌+◌, length, take, ltb, eqb, pick, any, keep, each}
+use Rattle.rules.specs.Base.{Bool, true, false, not, List, [], ℕ, zero, suc, length, take, ltb, eqb, pick, any, keep, each}
 use Rattle.rules.specs.BaseLaws.{All}
 use Rattle.rules.proofs.BaseLaws.{all_map, all_append}
 use Rattle.disk_location.specs.Locations.{position_of, delete_of}

@@ -1,8 +1,8 @@
 -- Request P5: a slot's own fault (8 to 13, then 15, slot by slot) beside reopening's order (8 to 13 over the slots, then 14, 15 and 6 over all).
 use Rattle.std.proofs.Math.Path.{◌≡◌, ap}
-use Rattle.std.specs.Prelude.{refl, ◌⊎◌, ◌<◌}
+use Rattle.std.specs.Prelude.{refl, ◌⊎◌, ◌<◌, ◌∷◌, ◌++◌}
 use Rattle.std.proofs.Common.{sym, ◌∙◌, subst, true≢false, inl, inr, arith}
-use Rattle.rules.specs.Base.{Bool, true, false, List, [], ◌∷◌, ◌++◌, map, ℕ, zero, suc, length, take, drop, ltb, pick, any, each}
+use Rattle.rules.specs.Base.{Bool, true, false, List, [], map, ℕ, zero, suc, length, take, drop, ltb, pick, any, each}
 use Rattle.rules.proofs.BaseLaws.{or-true, or-holds}
 use Rattle.rules.specs.Refusal.{Test, ◌gives◌, number_of, decide, after}
 use Rattle.rules.proofs.RefusalLaws.{clear-when, decide-clear, decide-early, decide-late, decide-first, decide-next, done-or-refused}

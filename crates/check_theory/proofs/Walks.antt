@@ -1,12 +1,12 @@
 -- Request P5: which object of a walk can pass T, and where the lines stand in the lent listing.
-use Rattle.std.specs.Prelude.{◌≡◌, refl, ◌<◌, ◌≤◌}
+use Rattle.std.specs.Prelude.{◌≡◌, refl, ◌<◌, ◌≤◌, ◌∷◌, ◌++◌, ◌+◌, ◌*◌, ◌/◌}
 use Rattle.std.proofs.Common.{sym, ◌∙◌, subst, append_assoc, drop_of_length-le, get_or-take, drop-drop, ltb-true}
 use Rattle.std.proofs.Math.Path.{ap}
 use native.Mathlib.Omega.{arith}
 use Rattle.std.proofs.Math.ListN.{length-take}
 use Rattle.std.proofs.Math.Seq.{take_at, drop_at}
 use Rattle.numbers.specs.Parts.{front, front_length}
-use Rattle.rules.specs.Base.{true, List, [], ◌∷◌, ◌++◌, ℕ, zero, suc, ◌+◌, ◌*◌, ◌/◌, length, get_or, take, drop, each}
+use Rattle.rules.specs.Base.{true, List, [], ℕ, zero, suc, length, get_or, take, drop, each}
 use Rattle.rules.specs.Refusal.{number_of}
 use Rattle.rules.specs.Object.{Stored, stored_at, objects_from, objects_in}
 use Rattle.rules.proofs.ObjectLaws.{objects-none}

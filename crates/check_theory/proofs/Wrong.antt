@@ -1,7 +1,7 @@
 -- Request P5, "The list is empty exactly if none of this holds": said in the paper's words.
-use Rattle.std.specs.Prelude.{◌≡◌, ◌⊎◌, ◌<◌, ◌≤◌}
+use Rattle.std.specs.Prelude.{◌≡◌, ◌⊎◌, ◌<◌, ◌≤◌, ◌+◌, ◌-◌}
 use Rattle.std.proofs.Common.{sym, ap, ◌∙◌, subst, inl, inr, arith, length-take, length-drop, ltb-false, le-ltb}
-use Rattle.rules.specs.Base.{false, List, [], ℕ, ◌+◌, ◌-◌, length, drop}
+use Rattle.rules.specs.Base.{false, List, [], ℕ, length, drop}
 use Rattle.rules.specs.BaseLaws.{All}
 use Rattle.rules.proofs.BaseLaws.{all_map, all_both, order}
 use Rattle.disk_location.specs.Locations.{raw_of}

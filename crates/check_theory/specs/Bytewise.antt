@@ -1,7 +1,7 @@
 -- A call stores bytes: of any world whose heap is bytes every call leaves a heap of bytes, where the batch of a write is bytes.
-use Rattle.std.specs.Prelude.{◌<◌}
+use Rattle.std.specs.Prelude.{◌<◌, ◌-◌}
 use Rattle.numbers.specs.LittleEndian.{Bytes}
-use Rattle.rules.specs.Base.{ℕ, ◌-◌}
+use Rattle.rules.specs.Base.{ℕ}
 use Rattle.rules.specs.BaseLaws.{All}
 use Rattle.rules.specs.Ops.{Content, put, delete, Op}
 use Rattle.rules.specs.Batch.{Parsed, malformed, parsed}

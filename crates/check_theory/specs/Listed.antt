@@ -1,6 +1,6 @@
 -- Request P5, line by line: a line is in the list exactly if what it says is wrong.
-use Rattle.std.specs.Prelude.{◌≡◌, ◌<◌}
-use Rattle.rules.specs.Base.{false, List, ℕ, ◌+◌, length, each}
+use Rattle.std.specs.Prelude.{◌≡◌, ◌<◌, ◌+◌}
+use Rattle.rules.specs.Base.{false, List, ℕ, length, each}
 use Rattle.disk_location.specs.Locations.{position_of, delete_of, raw_of}
 use Rattle.checksum.specs.Checksum.{object_sum}
 use Rattle.rules.specs.Object.{Stored, objects_in}

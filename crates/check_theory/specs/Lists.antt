@@ -1,6 +1,6 @@
 -- What holds of all elements of a list, and numbers that differ: no word of the paper is here.
-use Rattle.std.specs.Prelude.{◌≡◌, ◌⊎◌}
-use Rattle.rules.specs.Base.{List, [], ◌∷◌, ℕ, eqb, pick}
+use Rattle.std.specs.Prelude.{◌≡◌, ◌⊎◌, ◌∷◌}
+use Rattle.rules.specs.Base.{List, [], ℕ, eqb, pick}
 use Rattle.rules.specs.BaseLaws.{All}
 
 -- ---- one element

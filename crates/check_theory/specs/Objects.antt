@@ -1,6 +1,6 @@
 -- A file without a line: its objects and entries, test by test.
-use Rattle.std.specs.Prelude.{◌≡◌, ◌<◌, ◌≤◌}
-use Rattle.rules.specs.Base.{false, not, List, ℕ, ◌+◌, length, get_or}
+use Rattle.std.specs.Prelude.{◌≡◌, ◌<◌, ◌≤◌, ◌+◌}
+use Rattle.rules.specs.Base.{false, not, List, ℕ, length, get_or}
 use Rattle.rules.specs.BaseLaws.{All}
 use Rattle.disk_location.specs.Locations.{position_of, delete_of, raw_of}
 use Rattle.checksum.specs.Checksum.{object_sum}

@@ -1,7 +1,7 @@
 -- Request P5: the order of the lines, and which are a slot's.
 use Rattle.std.proofs.Math.Path.{◌≡◌}
-use Rattle.std.specs.Prelude.{◌≤◌}
-use Rattle.rules.specs.Base.{List, [], ◌∷◌, ℕ, eqb, keep}
+use Rattle.std.specs.Prelude.{◌≤◌, ◌∷◌}
+use Rattle.rules.specs.Base.{List, [], ℕ, eqb, keep}
 use Rattle.faults.specs.Faults.{line}
 use Rattle.check_theory.specs.Types.{Fault}
 

@@ -1,7 +1,7 @@
 -- Request P5: a slot's own fault (8 to 13, then 15, slot by slot) beside reopening's order (8 to 13 over the slots, then 14, 15 and 6 over all).
 use Rattle.std.proofs.Math.Path.{◌≡◌}
-use Rattle.std.specs.Prelude.{◌<◌, ◌≤◌}
-use Rattle.rules.specs.Base.{List, [], ◌∷◌, ℕ, length, ltb, any}
+use Rattle.std.specs.Prelude.{◌<◌, ◌≤◌, ◌∷◌}
+use Rattle.rules.specs.Base.{List, [], ℕ, length, ltb, any}
 use Rattle.rules.specs.Refusal.{Test, ◌gives◌, number_of}
 use Rattle.rules.specs.SlotFile.{File, View, damaged, holds}
 use Rattle.rules.specs.Layout.{capacity_of}

@@ -1,6 +1,6 @@
 -- A list of lines all of which are such, where no line without a position is: what that says slot by slot, and back.
-use Rattle.std.specs.Prelude.{◌≡◌}
-use Rattle.rules.specs.Base.{false, List, [], ℕ, ◌+◌, length, ltb, any, each}
+use Rattle.std.specs.Prelude.{◌≡◌, ◌+◌}
+use Rattle.rules.specs.Base.{false, List, [], ℕ, length, ltb, any, each}
 use Rattle.rules.specs.BaseLaws.{All}
 use Rattle.rules.specs.Settings.{slots_in}
 use Rattle.rules.specs.Refusal.{NoneHolds}

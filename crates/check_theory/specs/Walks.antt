@@ -1,6 +1,6 @@
 -- Request P5: which object of a walk can pass T, and where the lines stand in the lent listing.
-use Rattle.std.specs.Prelude.{◌≡◌}
-use Rattle.rules.specs.Base.{true, List, [], ◌∷◌, ℕ, ◌/◌, length, take}
+use Rattle.std.specs.Prelude.{◌≡◌, ◌∷◌, ◌/◌}
+use Rattle.rules.specs.Base.{true, List, [], ℕ, length, take}
 use Rattle.rules.specs.Object.{Stored}
 use Rattle.check_theory.specs.Types.{Fault}
 use Rattle.faults.specs.Faults.{passes, listing}

@@ -1,5 +1,6 @@
 -- A heap with every kind of fault, worked out: the lines and their order.
-use Rattle.rules.specs.Base.{List, [], ◌∷◌, ◌++◌, ℕ, length, replicate, zeros, padded}
+use Rattle.std.specs.Prelude.{◌∷◌, ◌++◌}
+use Rattle.rules.specs.Base.{List, [], ℕ, length, replicate, zeros, padded}
 use Rattle.numbers.specs.LittleEndian.{le_bytes}
 use Rattle.rules.specs.Object.{object_bytes}
 use Rattle.rules.specs.Trailer.{trailer_bytes}

@@ -1,6 +1,6 @@
 -- Request P5, "The list is empty exactly if none of this holds": said in the paper's words.
-use Rattle.std.specs.Prelude.{◌≡◌, ◌<◌, ◌≤◌}
-use Rattle.rules.specs.Base.{false, List, ℕ, ◌+◌, ◌-◌}
+use Rattle.std.specs.Prelude.{◌≡◌, ◌<◌, ◌≤◌, ◌+◌, ◌-◌}
+use Rattle.rules.specs.Base.{false, List, ℕ}
 use Rattle.rules.specs.BaseLaws.{All}
 use Rattle.disk_location.specs.Locations.{position_of, delete_of, raw_of}
 use Rattle.checksum.specs.Checksum.{object_sum}

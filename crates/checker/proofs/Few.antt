@@ -1,7 +1,7 @@
 -- There are never so many lines that their number does not fit.
-use Rattle.std.specs.Prelude.{◌≡◌, refl, Bool, true, false, not, ◌&&◌, ◌⊎◌, ◌≤◌, ◌<◌}
+use Rattle.std.specs.Prelude.{◌≡◌, refl, Bool, true, false, not, ◌&&◌, ◌⊎◌, ◌≤◌, ◌<◌, ◌∷◌, ◌++◌, ◌+◌, ◌*◌, ◌^◌}
 use Rattle.std.proofs.Common.{sym, ap, subst, inl, inr, zero-le, arith, suc-mul, mul-le-mul_right, ltb-false, length-append, length-take, length-drop}
-use Rattle.rules.specs.Base.{List, [], ◌∷◌, ◌++◌, ℕ, zero, suc, ◌+◌, ◌*◌, ◌^◌, length, take, drop, ltb, any, each}
+use Rattle.rules.specs.Base.{List, [], ℕ, zero, suc, length, take, drop, ltb, any, each}
 use Rattle.disk_location.specs.Locations.{delete_of}
 use Rattle.rules.specs.Object.{Stored, stored_at, bad_checksum, objects_from, objects_in}
 use Rattle.rules.proofs.ObjectLaws.{stored-room}

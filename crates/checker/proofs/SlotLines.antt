@@ -1,9 +1,9 @@
 -- A slot's lines by its label, and the slots one behind the other.
-use Rattle.std.specs.Prelude.{◌≡◌, refl, Bool, true, false, ◌||◌, ◌≤◌, ◌<◌}
+use Rattle.std.specs.Prelude.{◌≡◌, refl, Bool, true, false, ◌||◌, ◌≤◌, ◌<◌, ◌∷◌, ◌++◌, ◌+◌}
 use Rattle.std.proofs.Common.{sym, ap₂, ◌∙◌, subst, true≢false, append-nil, inl, inr, arith, add-one, take-suc}
 use Rattle.std.proofs.Math.Path.{ap}
 use Rattle.std.proofs.lemmas.List.{length-map, take-append-le}
-use Rattle.rules.specs.Base.{List, [], ◌∷◌, ◌++◌, map, ℕ, zero, suc, ◌+◌, length, get_or, take, drop, ltb, any, each}
+use Rattle.rules.specs.Base.{List, [], map, ℕ, zero, suc, length, get_or, take, drop, ltb, any, each}
 use Rattle.rules.specs.BaseLaws.{All}
 use Rattle.rules.proofs.BaseLaws.{all_take, each_append}
 use Rattle.rules.proofs.TurnLaws.{left-next, left-none}

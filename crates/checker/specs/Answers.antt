@@ -1,5 +1,6 @@
 -- The call's answer, by the paper's number and values.
-use Rattle.rules.specs.Base.{List, [], ◌∷◌, ◌++◌, ℕ, length}
+use Rattle.std.specs.Prelude.{◌∷◌, ◌++◌}
+use Rattle.rules.specs.Base.{List, [], ℕ, length}
 use Rattle.rules.specs.SlotFile.{View}
 use Rattle.rules.specs.World.{Given, accepted, refused}
 use Rattle.faults.specs.Faults.{faults_from, closing, listing, Checked}

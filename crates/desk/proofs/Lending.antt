@@ -6,7 +6,8 @@ use native.Mathlib.Nat.{sub-zero}
 use borrow.Author.Tests.{ltb-false}
 use lib.ListN.{drop_of_length-le, take-append-drop}
 use lib.Seq.{take_all}
-use Rattle.rules.specs.Base.{Bool, true, false, List, ◌++◌, ℕ, length, take, drop, ltb, pick}
+use Rattle.std.specs.Prelude.{◌++◌}
+use Rattle.rules.specs.Base.{Bool, true, false, List, ℕ, length, take, drop, ltb, pick}
 use Rattle.desk.specs.Types.{Bench, Turn}
 use Rattle.desk.specs.Desk.{Desk, desk, Outcome, left, lent_of, put_back, on_lent}
 

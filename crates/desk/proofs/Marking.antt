@@ -2,7 +2,8 @@
 use mathlib.Core.Path.{◌≡◌, refl}
 use native.Mathlib.Omega.{arith}
 use borrow.Author.Tests.{le-ltb}
-use Rattle.rules.specs.Base.{false, List, [], ◌∷◌, length, any, pick}
+use Rattle.std.specs.Prelude.{◌∷◌}
+use Rattle.rules.specs.Base.{false, List, [], length, any, pick}
 use Rattle.rules.specs.declared.Record.{Record}
 use Rattle.rules.specs.Refusal.{decide}
 use Rattle.rules.specs.Sync.{is_unsynced, unsynced_in, marked_all, too_long, unsynced_call, sync_call}

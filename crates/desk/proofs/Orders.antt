@@ -5,7 +5,8 @@ use lib.Dec.{T, T_not, eqb_refl}
 use mir.Facts.{or_no}
 use mir.Val.{has_key}
 use types.Run.{OneOf}
-use Rattle.rules.specs.Base.{Bool, true, false, not, List, [], ◌∷◌, ◌++◌, ℕ, map, get_or, eqb, pick}
+use Rattle.std.specs.Prelude.{◌∷◌, ◌++◌}
+use Rattle.rules.specs.Base.{Bool, true, false, not, List, [], ℕ, map, get_or, eqb, pick}
 use Rattle.script.specs.declared.Keyword.TheVariants as key
 use Rattle.desk.specs.Types.{Keyword}
 use Rattle.desk.specs.Kinds.{at_bench, number, Among}

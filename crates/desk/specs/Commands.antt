@@ -1,5 +1,6 @@
 -- What each command of the console does.
-use Rattle.rules.specs.Base.{◌||◌, List, [], ℕ, ◌+◌, length, get_or, set, replicate, leb, ltb, eqb, pick}
+use Rattle.std.specs.Prelude.{◌||◌, ◌+◌}
+use Rattle.rules.specs.Base.{List, [], ℕ, length, get_or, set, replicate, leb, ltb, eqb, pick}
 use Rattle.rules.specs.FileMap.{recorded}
 use Rattle.rules.specs.Layout.{Table, capacity_of, cleared}
 use Rattle.rules.specs.Settings.{defaults}

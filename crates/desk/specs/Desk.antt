@@ -1,5 +1,6 @@
 -- The desk: what the console's commands are given and change; what a command leaves.
-use Rattle.rules.specs.Base.{List, [], ◌∷◌, ◌++◌, ℕ, take, drop}
+use Rattle.std.specs.Prelude.{◌∷◌, ◌++◌}
+use Rattle.rules.specs.Base.{List, [], ℕ, take, drop}
 use Rattle.rules.specs.Layout.{Table}
 use Rattle.rules.specs.TableCalls.{TableAfter}
 use Rattle.rules.specs.World.{World, world, Given, accepted, answer_given, read_given, rewrite_given, maintain_given, counts_given, load_given, compare_given, greater_given, After}

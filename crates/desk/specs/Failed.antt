@@ -1,9 +1,9 @@
 -- "bad line, and nothing changes"; "A refusal changes no state or buffer": a command that fails leaves the desk as it was, but for the two
 -- that document 01 names.
-use Rattle.std.specs.Prelude.{◌≡◌, refl}
+use Rattle.std.specs.Prelude.{◌≡◌, refl, ◌||◌, ◌∷◌, ◌+◌}
 use Rattle.std.proofs.Common.{sym, ap, ◌∙◌, take-append-drop}
 use Rattle.std.proofs.lemmas.Bool.{false≢true}
-use Rattle.rules.specs.Base.{Bool, true, false, not, ◌||◌, List, [], ◌∷◌, ℕ, ◌+◌, length, replicate, leb, ltb, eqb, pick}
+use Rattle.rules.specs.Base.{Bool, true, false, not, List, [], ℕ, length, replicate, leb, ltb, eqb, pick}
 use Rattle.rules.specs.declared.Held.{Held}
 use Rattle.rules.specs.declared.Held.TheVariants.{Mapped, Unmapped}
 use Rattle.rules.specs.declared.Refusal.TheVariants.{TableRoom, NotThere, EqualLocation, Location}

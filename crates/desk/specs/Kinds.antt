@@ -1,7 +1,8 @@
 -- Kinds of commands, by their keywords.
 use types.Run.{OneOf}
 use denote.Enum.Declared.{tag_of}
-use Rattle.rules.specs.Base.{List, [], ◌∷◌, ℕ, map}
+use Rattle.std.specs.Prelude.{◌∷◌}
+use Rattle.rules.specs.Base.{List, [], ℕ, map}
 use Rattle.script.specs.contracts.Keyword as keyword
 use Rattle.script.specs.declared.Keyword.TheVariants as key
 use Rattle.desk.specs.Types.{Keyword}

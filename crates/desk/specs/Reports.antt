@@ -1,6 +1,6 @@
 -- The report that is lent to a salvage.
-use Rattle.std.specs.Prelude.{◌≡◌, refl}
-use Rattle.rules.specs.Base.{List, [], ◌∷◌, ℕ, length}
+use Rattle.std.specs.Prelude.{◌≡◌, refl, ◌∷◌}
+use Rattle.rules.specs.Base.{List, [], ℕ, length}
 use Rattle.rules.specs.Refusal.{◌gives◌, decide, after}
 use Rattle.rules.specs.Condition1.{out_of_range}
 use Rattle.rules.specs.World.{Given, refused}

@@ -1,5 +1,6 @@
 -- Request P5, "Check what the PC tool made": everything wrong with a heap, as a list of lines.
-use Rattle.rules.specs.Base.{Bool, not, ◌&&◌, List, [], ◌∷◌, ◌++◌, map, ℕ, suc, ◌+◌, ◌/◌, length, take, ltb, eqb, pick, any, keep, each}
+use Rattle.std.specs.Prelude.{◌&&◌, ◌∷◌, ◌++◌, ◌+◌, ◌/◌}
+use Rattle.rules.specs.Base.{Bool, not, List, [], map, ℕ, suc, length, take, ltb, eqb, pick, any, keep, each}
 use Rattle.faults.specs.Types.{Settings, Entry, Refusal, Limits, TableRoom, Checksum, Overlap, NotRising, CutShort, OtherId, Place, Nowhere, Object, Fault}
 use Rattle.numbers.specs.Parts.{front}
 use Rattle.disk_location.specs.Locations.{position_of, delete_of}

@@ -1,7 +1,7 @@
 -- A search from one place of a list to another. No word of the paper is here.
-use Rattle.std.specs.Prelude.{◌≡◌, refl, Bool, true, false, ◌||◌, ◌≤◌, ◌<◌}
+use Rattle.std.specs.Prelude.{◌≡◌, refl, Bool, true, false, ◌||◌, ◌≤◌, ◌<◌, ◌+◌}
 use Rattle.std.proofs.Common.{sym, ap, ◌∙◌, arith, take-append-drop, get_or-take, length-take-le}
-use Rattle.rules.specs.Base.{List, ℕ, ◌+◌, length, get_or, take, drop, any}
+use Rattle.rules.specs.Base.{List, ℕ, length, get_or, take, drop, any}
 use Rattle.rules.proofs.BaseLaws.{any_append, or-clear}
 use Rattle.rules.proofs.TurnLaws.{any_here, any-later, any-end}
 

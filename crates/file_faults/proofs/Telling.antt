@@ -1,12 +1,12 @@
 -- Lines told one behind the other, each into its four words of the lent listing.
-use Rattle.std.specs.Prelude.{◌≡◌, Bool, true, false, ◌⊎◌, ◌≤◌, ◌<◌}
+use Rattle.std.specs.Prelude.{◌≡◌, Bool, true, false, ◌⊎◌, ◌≤◌, ◌<◌, ◌∷◌, ◌++◌, ◌+◌, ◌-◌, ◌*◌, ◌/◌}
 use Rattle.std.proofs.Math.Path.{refl, sym}
 use Rattle.std.proofs.Common.{ap, ap₂, ◌∙◌, subst, inl, inr, zero-le, arith, add-zero, lt-ltb, le-ltb, length-append, length-set}
 use Rattle.std.proofs.Math.Nat.{sub-zero}
 use Rattle.std.proofs.Math.Seq.{take-nil}
 use Rattle.numbers.specs.GroupLaws.{either_way}
 use Rattle.numbers.specs.Parts.{put_at, put_front, put-none, put_step, put-put, put-length}
-use Rattle.rules.specs.Base.{List, [], ◌∷◌, ◌++◌, ℕ, suc, ◌+◌, ◌-◌, ◌*◌, ◌/◌, length, take, set, each}
+use Rattle.rules.specs.Base.{List, [], ℕ, suc, length, take, set, each}
 use Rattle.rules.specs.Refusal.{number_of}
 use Rattle.file_faults.specs.Types.{Place, Nowhere, Object, Fault}
 use Rattle.faults.specs.Faults.{line_if, place_words, line_words, listing}

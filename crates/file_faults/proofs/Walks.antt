@@ -1,10 +1,10 @@
 -- A file's objects against its entries, and its entries against the objects walked.
-use Rattle.std.specs.Prelude.{◌≡◌, true, false, ◌&&◌, ◌||◌, ◌⊎◌, ◌≤◌, ◌<◌}
+use Rattle.std.specs.Prelude.{◌≡◌, true, false, ◌&&◌, ◌||◌, ◌⊎◌, ◌≤◌, ◌<◌, ◌∷◌, ◌++◌, ◌+◌}
 use Rattle.std.proofs.Math.Path.{refl, sym, ap}
 use Rattle.std.proofs.Common.{ap₂, ◌∙◌, inl, inr, arith, lt-ltb, le-ltb, ltb-true, eq-eqb, ne_eqb, length-drop}
 use Rattle.std.proofs.Math.Bool.{Bool, not}
 use Rattle.numbers.specs.GroupLaws.{either_way}
-use Rattle.rules.specs.Base.{List, [], ◌∷◌, ◌++◌, ℕ, zero, suc, ◌+◌, length, drop, eqb, pick, any, keep, each}
+use Rattle.rules.specs.Base.{List, [], ℕ, zero, suc, length, drop, eqb, pick, any, keep, each}
 use Rattle.rules.specs.BaseLaws.{All}
 use Rattle.rules.proofs.BaseLaws.{all_map, any-clear}
 use Rattle.disk_location.specs.Locations.{position_of, delete_of}

@@ -1,7 +1,7 @@
 -- Lines told one behind the other, each into its four words of the lent listing.
-use Rattle.std.specs.Prelude.{◌≡◌}
+use Rattle.std.specs.Prelude.{◌≡◌, ◌∷◌, ◌+◌, ◌-◌, ◌*◌, ◌/◌}
 use Rattle.numbers.specs.Parts.{put_at}
-use Rattle.rules.specs.Base.{List, [], ◌∷◌, ℕ, suc, ◌+◌, ◌-◌, ◌*◌, ◌/◌, length, ltb, pick}
+use Rattle.rules.specs.Base.{List, [], ℕ, suc, length, ltb, pick}
 use Rattle.file_faults.specs.Types.{Place, Nowhere, Object, Fault}
 use Rattle.faults.specs.Faults.{line_words, listing}
 

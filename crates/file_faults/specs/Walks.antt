@@ -1,7 +1,7 @@
 -- A file's objects against its entries, and its entries against the objects walked.
-use Rattle.std.specs.Prelude.{◌≡◌, ◌&&◌, ◌≤◌, ◌<◌}
+use Rattle.std.specs.Prelude.{◌≡◌, ◌&&◌, ◌≤◌, ◌<◌, ◌++◌, ◌+◌}
 use Rattle.std.proofs.Math.Bool.{Bool, not}
-use Rattle.rules.specs.Base.{List, [], ◌++◌, ℕ, ◌+◌, eqb, any, keep}
+use Rattle.rules.specs.Base.{List, [], ℕ, eqb, any, keep}
 use Rattle.disk_location.specs.Locations.{position_of, delete_of}
 use Rattle.rules.specs.Object.{Stored}
 use Rattle.stored_object.specs.Objects.{objects_at}

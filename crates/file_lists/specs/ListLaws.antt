@@ -1,7 +1,7 @@
 -- What the lists say of the records: a call may look up files in the lsns and count in the live counts, and put the counts back at its end.
-use Rattle.std.specs.Prelude.{◌≡◌, refl}
+use Rattle.std.specs.Prelude.{◌≡◌, refl, ◌∷◌, ◌-◌}
 use Rattle.std.proofs.Common.{ap, ◌∙◌, arith, length-set}
-use Rattle.rules.specs.Base.{List, [], ◌∷◌, ℕ, zero, suc, ◌-◌, length, get_or, set}
+use Rattle.rules.specs.Base.{List, [], ℕ, zero, suc, length, get_or, set}
 use Rattle.rules.specs.declared.Record.{Record}
 use Rattle.rules.specs.declared.Slot.{Slot}
 use Rattle.rules.specs.declared.Slot.TheVariants.{Is, NoSlot}

@@ -1,5 +1,6 @@
 -- The lsns and the live counts of the records as lists of their own.
-use Rattle.rules.specs.Base.{◌&&◌, List, [], ◌∷◌, map, ℕ, suc, ◌-◌, ◌*◌, get_or, set, leb, ltb, eqb, pick}
+use Rattle.std.specs.Prelude.{◌&&◌, ◌∷◌, ◌-◌, ◌*◌}
+use Rattle.rules.specs.Base.{List, [], map, ℕ, suc, get_or, set, leb, ltb, eqb, pick}
 use Rattle.rules.specs.declared.Record.{Record}
 use Rattle.rules.specs.declared.Slot.{Slot}
 use Rattle.rules.specs.declared.Slot.TheVariants.{Is, NoSlot}

@@ -6,7 +6,8 @@ use native.Mathlib.Numerals.{add-one}
 use native.Mathlib.Omega.{arith}
 use lib.ListN.{drop_of_length-le}
 use lib.Seq.{take-suc, set_at, length-take-le, take_all, drop-cons}
-use Rattle.rules.specs.Base.{List, [], ◌∷◌, ◌++◌, ℕ, suc, ◌+◌, length, get_or, take, drop, set}
+use Rattle.std.specs.Prelude.{◌∷◌, ◌++◌, ◌+◌}
+use Rattle.rules.specs.Base.{List, [], ℕ, suc, length, get_or, take, drop, set}
 
 -- what is written before place i, and what stood from there on
 unfoldable pub filled : List ℕ → ℕ → List ℕ → List ℕ

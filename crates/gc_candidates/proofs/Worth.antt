@@ -3,7 +3,8 @@ use mathlib.Core.Path.{◌≡◌, sym}
 use mathlib.Core.Logic.{inl}
 use Prim.Native.Nat.{◌≤◌, ◌<◌}
 use borrow.Author.Tests.{le-ltb, le-leb, lt-leb}
-use Rattle.rules.specs.Base.{true, false, ℕ, ◌*◌, ◌/◌, ltb, larger}
+use Rattle.std.specs.Prelude.{◌*◌, ◌/◌}
+use Rattle.rules.specs.Base.{true, false, ℕ, ltb, larger}
 use Rattle.rules.specs.declared.Settings.{Settings}
 use Rattle.rules.specs.declared.Record.{Record}
 use Rattle.rules.specs.Maintenance.{worth_it}

@@ -1,9 +1,9 @@
 -- A step along a chain, and what holds of every operation of one.
-use Rattle.std.specs.Prelude.{◌≡◌, ◌⊎◌, ◌≤◌, ◌<◌}
+use Rattle.std.specs.Prelude.{◌≡◌, ◌⊎◌, ◌≤◌, ◌<◌, ◌∷◌, ◌+◌}
 use Rattle.std.proofs.Math.Path.{refl}
 use Rattle.std.proofs.Common.{sym, ap, ◌∙◌, inl, inr, arith}
 use borrow.Author.Tests.{eq-eqb, ne_eqb, eqb-false}
-use Rattle.rules.specs.Base.{Bool, true, false, List, [], ◌∷◌, ℕ, zero, suc, ◌+◌, length, get_or, drop, eqb, pick}
+use Rattle.rules.specs.Base.{Bool, true, false, List, [], ℕ, zero, suc, length, get_or, drop, eqb, pick}
 use Rattle.rules.specs.BaseLaws.{All}
 use Rattle.rules.proofs.BaseLaws.{zero-or-more}
 use Rattle.rules.specs.Ops.{Op}

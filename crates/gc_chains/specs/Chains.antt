@@ -1,6 +1,6 @@
 -- The entries of each file chained: a file's word tells its first entry, and a link the next one. Entries are counted from 1 on; 0 is none.
-use Rattle.std.specs.Prelude.{◌≡◌, ◌≤◌, ◌<◌}
-use Rattle.rules.specs.Base.{List, [], ◌∷◌, map, ℕ, suc, ◌-◌, ◌/◌, ◌%◌, ◌^◌, length, get_or, eqb, pick}
+use Rattle.std.specs.Prelude.{◌≡◌, ◌≤◌, ◌<◌, ◌∷◌, ◌-◌, ◌/◌, ◌%◌, ◌^◌}
+use Rattle.rules.specs.Base.{List, [], map, ℕ, suc, length, get_or, eqb, pick}
 use Rattle.rules.specs.Ops.{Op}
 use Rattle.gc_files.specs.Places.{op_at, filed_ops}
 

@@ -1,9 +1,9 @@
 -- The chaining, from the last entry back: an entry that is moved becomes the first of its file, and its link leads to the one that was.
-use Rattle.std.specs.Prelude.{◌≡◌, ◌⊎◌, ◌≤◌, ◌<◌}
+use Rattle.std.specs.Prelude.{◌≡◌, ◌⊎◌, ◌≤◌, ◌<◌, ◌∷◌, ◌+◌, ◌-◌, ◌*◌, ◌^◌}
 use Rattle.std.proofs.Math.Path.{refl}
 use Rattle.std.proofs.Common.{sym, ap, ap₂, ◌∙◌, inl, inr, arith, eq-eqb, ne_eqb, length-set, drop-set-lt, get_or-set_same, get_or-set_other, get_or-drop}
 use Rattle.std.proofs.Math.Seq.{drop-cons}
-use Rattle.rules.specs.Base.{List, [], ◌∷◌, map, ℕ, suc, ◌+◌, ◌-◌, ◌*◌, ◌^◌, length, get_or, set, drop, eqb, pick}
+use Rattle.rules.specs.Base.{List, [], map, ℕ, suc, length, get_or, set, drop, eqb, pick}
 use Rattle.rules.proofs.BaseLaws.{same?, zero-or-more}
 use Rattle.rules.specs.Ops.{Op}
 use Rattle.gc_files.specs.Places.{op_at, filed_ops}

@@ -1,7 +1,7 @@
 -- A group's own refusals: none of its tests gives 1.
-use Rattle.std.specs.Prelude.{◌≡◌, refl, ◌<◌}
+use Rattle.std.specs.Prelude.{◌≡◌, refl, ◌<◌, ◌∷◌}
 use Rattle.std.proofs.Common.{sym, subst, arith}
-use Rattle.rules.specs.Base.{Bool, true, false, List, [], ◌∷◌, ℕ, length, each, ltb, pick}
+use Rattle.rules.specs.Base.{Bool, true, false, List, [], ℕ, length, each, ltb, pick}
 use Rattle.rules.specs.BaseLaws.{All}
 use Rattle.rules.proofs.BaseLaws.{all_append}
 use Rattle.rules.specs.declared.Entry.{Entry}

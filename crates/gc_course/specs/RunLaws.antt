@@ -1,7 +1,7 @@
 -- The steps of the nightly job: its rewrites and its end.
-use Rattle.std.specs.Prelude.{◌≡◌, refl, ◌≤◌, ◌<◌}
+use Rattle.std.specs.Prelude.{◌≡◌, refl, ◌≤◌, ◌<◌, ◌+◌}
 use Rattle.std.proofs.Common.{sym, ap, ◌∙◌, true≢false, arith}
-use Rattle.rules.specs.Base.{Bool, true, false, [], ℕ, ◌+◌, not, within, pick}
+use Rattle.rules.specs.Base.{Bool, true, false, [], ℕ, not, within, pick}
 use Rattle.rules.proofs.BaseLaws.{within-holds}
 use Rattle.rules.specs.declared.Refusal.TheVariants.{Limits, Generation}
 use Rattle.rules.specs.declared.MaintainAnswer.TheVariants.{Stopped}

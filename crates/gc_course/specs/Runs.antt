@@ -1,5 +1,6 @@
 -- Where the nightly job stands between two rewrites, as the definitions say it.
-use Rattle.rules.specs.Base.{Bool, true, false, List, [], ◌∷◌, ℕ, zero, suc, ◌+◌}
+use Rattle.std.specs.Prelude.{◌∷◌, ◌+◌}
+use Rattle.rules.specs.Base.{Bool, true, false, List, [], ℕ, zero, suc}
 use Rattle.rules.specs.declared.Answer.{Answer}
 use Rattle.rules.specs.declared.Answer.TheVariants.{Done, Refused}
 use Rattle.rules.specs.declared.MaintainAnswer.{MaintainAnswer}

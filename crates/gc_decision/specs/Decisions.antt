@@ -1,8 +1,8 @@
 -- What a group is decided by: its files' checks, then 4, 5 and 7 of the files that would come out.
-use Rattle.std.specs.Prelude.{◌≡◌}
+use Rattle.std.specs.Prelude.{◌≡◌, ◌++◌}
 use Rattle.std.proofs.Math.Path.{refl, sym, ap}
 use Rattle.std.proofs.Common.{◌∙◌}
-use Rattle.rules.specs.Base.{List, ◌++◌, ℕ, length, each}
+use Rattle.rules.specs.Base.{List, ℕ, length, each}
 use Rattle.rules.specs.declared.Settings.{Settings}
 use Rattle.rules.specs.declared.Refusal.{Refusal}
 use Rattle.rules.specs.declared.Answer.TheVariants.{Done, Refused}

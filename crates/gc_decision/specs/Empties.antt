@@ -1,8 +1,8 @@
 -- The empty slots of a heap, as the code lists them.
-use Rattle.std.specs.Prelude.{◌≡◌, ◌≤◌, ◌<◌}
+use Rattle.std.specs.Prelude.{◌≡◌, ◌≤◌, ◌<◌, ◌∷◌, ◌++◌, ◌+◌}
 use Rattle.std.proofs.Common.{sym, ap, ◌∙◌, append-nil, add-one, arith, length-take-le, get_or-take, take-suc-set}
 use Rattle.std.proofs.Math.Seq.{append_snoc}
-use Rattle.rules.specs.Base.{List, [], ◌∷◌, ◌++◌, ℕ, ◌+◌, length, get_or, set, take}
+use Rattle.rules.specs.Base.{List, [], ℕ, length, get_or, set, take}
 use Rattle.rules.specs.declared.Settings.{Settings}
 use Rattle.rules.specs.declared.FileMap.{FileMap}
 use Rattle.rules.specs.Settings.{slots_in}

@@ -1,7 +1,7 @@
 -- Files that 4, 5 and 7 do not refuse: room and positions for each, one after the other.
-use Rattle.std.specs.Prelude.{◌≡◌, ◌≤◌, ◌<◌}
+use Rattle.std.specs.Prelude.{◌≡◌, ◌≤◌, ◌<◌, ◌∷◌, ◌++◌, ◌+◌, ◌^◌}
 use Rattle.std.proofs.Common.{arith}
-use Rattle.rules.specs.Base.{List, ◌∷◌, ◌++◌, ℕ, ◌+◌, ◌^◌, length, sum}
+use Rattle.rules.specs.Base.{List, ℕ, length, sum}
 use Rattle.rules.specs.Refusal.{NoneHolds}
 use Rattle.rules.proofs.RefusalLaws.{none_first, none_rest}
 use Rattle.rules.specs.Ops.{Op, objects_of, file_bytes}

@@ -1,8 +1,8 @@
 -- The bytes of file_size that a group's files come to, by their totals.
-use Rattle.std.specs.Prelude.{◌≡◌, refl, ◌<◌}
+use Rattle.std.specs.Prelude.{◌≡◌, refl, ◌<◌, ◌∷◌, ◌++◌, ◌+◌, ◌*◌}
 use Rattle.std.proofs.Common.{◌∙◌, not-suc-le-zero, le_of_suc-le-suc, arith, length-append, length-set}
 use Rattle.std.proofs.lemmas.List.{length-replicate}
-use Rattle.rules.specs.Base.{Bool, true, false, List, [], ◌∷◌, ◌++◌, map, ℕ, zero, suc, ◌+◌, ◌*◌, length, get_or, set, replicate, ltb, pick, keep, sum}
+use Rattle.rules.specs.Base.{Bool, true, false, List, [], map, ℕ, zero, suc, length, get_or, set, replicate, ltb, pick, keep, sum}
 use Rattle.rules.specs.Ops.{Op, size_of, objects_of, file_bytes, shard_for}
 use Rattle.rules.proofs.OpsLaws.{file-length, shard-most}
 use Rattle.gc_split.specs.Tally.{totals_for}

@@ -4,7 +4,8 @@ use Prim.Native.Nat.{◌≤◌, ◌<◌}
 use native.Mathlib.Omega.{arith}
 use lib.ListN.{length-set, take-append-drop}
 use lib.Seq.{get_or-drop}
-use Rattle.rules.specs.Base.{List, ◌++◌, ℕ, ◌+◌, length, get_or, set, take, drop, eqb, pick}
+use Rattle.std.specs.Prelude.{◌++◌, ◌+◌}
+use Rattle.rules.specs.Base.{List, ℕ, length, get_or, set, take, drop, eqb, pick}
 use Rattle.rules.proofs.BaseLaws.{zero-or-more}
 use mathlib.Core.Logic.{◌⊎◌, inl, inr}
 use borrow.Author.Tests.{eq-eqb, ne_eqb}

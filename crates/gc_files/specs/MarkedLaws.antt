@@ -1,5 +1,5 @@
 -- The marked entries of a group stand at their places: an object's bytes in the heap are those that its slot's object bytes have.
-use Rattle.std.specs.Prelude.{◌≡◌, ◌≤◌, ◌<◌}
+use Rattle.std.specs.Prelude.{◌≡◌, ◌≤◌, ◌<◌, ◌++◌, ◌+◌, ◌-◌, ◌*◌, ◌^◌}
 use Rattle.std.proofs.Math.Path.{refl}
 use Rattle.std.proofs.Common.{sym, ap, ◌∙◌, subst, append_assoc, mul-le-mul, length-append, length-drop, take-append-drop, drop-drop, length-take-le}
 use native.Mathlib.Omega.{arith}
@@ -9,7 +9,7 @@ use borrow.Author.Tests.{ne_eqb}
 use Rattle.disk_location.specs.Locations.{position_of}
 use Rattle.rules.specs.declared.Loaded.{Loaded}
 use Rattle.rules.specs.declared.Loaded.TheVariants.{At, DeletedAt}
-use Rattle.rules.specs.Base.{List, ◌++◌, ℕ, ◌+◌, ◌-◌, ◌*◌, ◌^◌, length, get_or, take, drop}
+use Rattle.rules.specs.Base.{List, ℕ, length, get_or, take, drop}
 use Rattle.rules.specs.Ops.{put, delete}
 use Rattle.rules.specs.Object.{stored_at}
 use Rattle.rules.specs.SlotFile.{bytes_of_slot, object_part}

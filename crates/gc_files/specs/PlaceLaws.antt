@@ -1,12 +1,12 @@
 -- A group's operations by their places: turns of the loops over them, and which of them are in which file.
-use Rattle.std.specs.Prelude.{◌≡◌, refl, ◌⊎◌, ◌≤◌, ◌<◌}
+use Rattle.std.specs.Prelude.{◌≡◌, refl, ◌⊎◌, ◌≤◌, ◌<◌, ◌∷◌, ◌++◌, ◌+◌, ◌^◌}
 use Rattle.std.proofs.Common.{sym, ap, ◌∙◌, append_assoc, inl, inr, arith, eq-eqb, ne_eqb, take-suc-set}
 use Rattle.std.proofs.Math.Path.{ap₂}
 use Rattle.std.proofs.Math.Numerals.{add-one}
 use Rattle.std.proofs.Math.Seq.{drop-set-lt}
 use Rattle.std.proofs.lemmas.List.{set-get_or}
 use Rattle.numbers.specs.Parts.{put_at, put_step, put-none}
-use Rattle.rules.specs.Base.{Bool, true, false, List, [], ◌∷◌, ◌++◌, ℕ, ◌+◌, ◌^◌, length, get_or, set, take, drop, eqb, pick, suc}
+use Rattle.rules.specs.Base.{Bool, true, false, List, [], ℕ, length, get_or, set, take, drop, eqb, pick, suc}
 use Rattle.rules.proofs.TurnLaws.{left-next}
 use Rattle.rules.specs.declared.Held.TheVariants.{Mapped}
 use Rattle.rules.specs.Table.{loaded_of}

@@ -1,7 +1,7 @@
 -- Operations that stand in the heap: a number for each entry of the table. 0 where nothing is moved, 1 for a delete, else the place of an object.
-use Rattle.std.specs.Prelude.{◌≡◌, ◌≤◌, ◌<◌}
+use Rattle.std.specs.Prelude.{◌≡◌, ◌≤◌, ◌<◌, ◌∷◌, ◌+◌, ◌-◌, ◌*◌, ◌^◌}
 use Rattle.numbers.specs.LittleEndian.{le_value}
-use Rattle.rules.specs.Base.{true, false, List, [], ◌∷◌, ℕ, ◌+◌, ◌-◌, ◌*◌, ◌^◌, length, get_or, take, drop, eqb, pick}
+use Rattle.rules.specs.Base.{true, false, List, [], ℕ, length, get_or, take, drop, eqb, pick}
 use Rattle.rules.specs.Object.{object_bytes}
 use Rattle.rules.specs.Ops.{Op, size_of, shard_for}
 use Rattle.rules.specs.declared.Held.TheVariants.{Mapped}

@@ -1,12 +1,12 @@
 -- The checks of a file and of a group, in the steps that code takes.
-use Rattle.std.specs.Prelude.{◌≡◌, Bool, ◌⊎◌, ◌≤◌, ◌<◌}
+use Rattle.std.specs.Prelude.{◌≡◌, Bool, ◌⊎◌, ◌≤◌, ◌<◌, ◌∷◌, ◌++◌, ◌+◌, ◌^◌}
 use Rattle.std.proofs.Math.Path.{refl, ap}
 use Rattle.std.proofs.Common.{sym, ◌∙◌, inl, inr, arith}
 use Rattle.std.proofs.Math.Bool.{true, false}
 use borrow.Author.Tests.{lt-ltb, le-ltb, le-leb, lt-leb, leb-false, ltb-false}
 use Rattle.std.proofs.Math.ListN.{length-drop}
 use Rattle.numbers.specs.GroupLaws.{either_way}
-use Rattle.rules.specs.Base.{List, [], ◌∷◌, ◌++◌, ℕ, ◌+◌, ◌^◌, length, get_or, drop, pick, keep, each}
+use Rattle.rules.specs.Base.{List, [], ℕ, length, get_or, drop, pick, keep, each}
 use Rattle.rules.specs.declared.Entry.{Entry}
 use Rattle.rules.specs.declared.Label.{Label}
 use Rattle.rules.specs.declared.Refusal.{Refusal}

@@ -1,7 +1,7 @@
 -- What is known of files whose checks are clear.
-use Rattle.std.specs.Prelude.{◌≡◌, ◌⊎◌, Bool}
+use Rattle.std.specs.Prelude.{◌≡◌, ◌⊎◌, Bool, ◌∷◌, ◌++◌, ◌+◌}
 use Rattle.std.proofs.Common.{sym, ap, ◌∙◌, inl, inr, arith, leb-false}
-use Rattle.rules.specs.Base.{List, [], ◌∷◌, ◌++◌, ℕ, ◌+◌, pick, each}
+use Rattle.rules.specs.Base.{List, [], ℕ, pick, each}
 use Rattle.rules.specs.BaseLaws.{All}
 use Rattle.rules.proofs.BaseLaws.{all_map}
 use Rattle.rules.specs.declared.Entry.{Entry}

@@ -2,7 +2,8 @@
 use mathlib.Core.Path.{◌≡◌, sym, ap, ◌∙◌}
 use Prim.Native.Nat.{◌≤◌, ◌<◌}
 use native.Mathlib.Omega.{arith}
-use Rattle.rules.specs.Base.{false, List, ℕ, ◌+◌, length, get_or, drop, each}
+use Rattle.std.specs.Prelude.{◌+◌}
+use Rattle.rules.specs.Base.{false, List, ℕ, length, get_or, drop, each}
 use Rattle.rules.proofs.TurnLaws.{each_next, each-end}
 use Rattle.rules.specs.declared.Entry.{Entry}
 use Rattle.disk_location.specs.Locations.{raw_of}

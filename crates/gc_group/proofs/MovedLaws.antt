@@ -1,12 +1,12 @@
 -- The marked entries one by one: a turn over them, and what is known of their objects once the group's checks are clear.
-use Rattle.std.specs.Prelude.{◌≡◌, ◌⊎◌, ◌≤◌, ◌<◌}
+use Rattle.std.specs.Prelude.{◌≡◌, ◌⊎◌, ◌≤◌, ◌<◌, ◌∷◌, ◌+◌, ◌-◌}
 use Rattle.std.proofs.Math.Path.{refl}
 use Rattle.std.proofs.Common.{sym, ap, ap₂, ◌∙◌, subst, true≢false, inl, inr, le_of_suc-le-suc, not-suc-le-zero, drop_of_length-le, drop-cons}
 use Rattle.std.proofs.Math.Numerals.{add-one}
 use native.Mathlib.Omega.{arith}
 use Rattle.std.proofs.lemmas.List.{length-replicate}
 use borrow.Author.Tests.{eq-eqb, ne_eqb}
-use Rattle.rules.specs.Base.{Bool, true, false, List, [], ◌∷◌, ℕ, zero, suc, ◌+◌, ◌-◌, length, get_or, drop, replicate, eqb, pick, any}
+use Rattle.rules.specs.Base.{Bool, true, false, List, [], ℕ, zero, suc, length, get_or, drop, replicate, eqb, pick, any}
 use Rattle.rules.specs.BaseLaws.{All}
 use Rattle.rules.proofs.BaseLaws.{same?, all_both, replicate-at}
 use Rattle.rules.specs.declared.Entry.{Entry}

@@ -1,9 +1,9 @@
 -- What a group is read from: the slots, their records and the table; and what is known of them once refusal 1 is decided.
-use Rattle.std.specs.Prelude.{◌≡◌, ◌≤◌, ◌<◌}
+use Rattle.std.specs.Prelude.{◌≡◌, ◌≤◌, ◌<◌, ◌+◌, ◌-◌, ◌*◌}
 use Rattle.std.proofs.Common.{◌∙◌, ⊎_elim, zero-le, arith, lit<, length-take}
 use Rattle.std.proofs.Math.Nat.{min-le_left}
 use Rattle.disk_location.specs.Locations.{masked_of}
-use Rattle.rules.specs.Base.{List, ℕ, ◌+◌, ◌-◌, ◌*◌, length, get_or}
+use Rattle.rules.specs.Base.{List, ℕ, length, get_or}
 use Rattle.rules.specs.declared.Label.{Label}
 use Rattle.rules.specs.declared.Settings.{Settings}
 use Rattle.rules.specs.declared.State.{State}

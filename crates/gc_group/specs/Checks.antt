@@ -1,7 +1,7 @@
 -- The checks of a file and of a group, in the steps that code takes.
-use Rattle.std.specs.Prelude.{◌≡◌, Bool, ◌≤◌, ◌<◌}
+use Rattle.std.specs.Prelude.{◌≡◌, Bool, ◌≤◌, ◌<◌, ◌+◌}
 use Rattle.std.proofs.Math.Bool.{true, false}
-use Rattle.rules.specs.Base.{List, [], ℕ, ◌+◌, pick, each}
+use Rattle.rules.specs.Base.{List, [], ℕ, pick, each}
 use Rattle.rules.specs.declared.Entry.{Entry}
 use Rattle.disk_location.specs.Locations.{delete_of}
 use Rattle.rules.specs.Refusal.{Test}

@@ -1,6 +1,6 @@
 -- What is known of files whose checks are clear.
-use Rattle.std.specs.Prelude.{◌≡◌, true, ◌≤◌, ◌<◌}
-use Rattle.rules.specs.Base.{List, ℕ, ◌+◌, ◌*◌, ◌^◌, length}
+use Rattle.std.specs.Prelude.{◌≡◌, true, ◌≤◌, ◌<◌, ◌+◌, ◌*◌, ◌^◌}
+use Rattle.rules.specs.Base.{List, ℕ, length}
 use Rattle.rules.specs.BaseLaws.{All}
 use Rattle.rules.specs.declared.Entry.{Entry}
 use Rattle.rules.specs.declared.Label.{Label}

@@ -1,6 +1,6 @@
 -- The marked entries are what the group found.
-use Rattle.std.specs.Prelude.{◌≡◌}
-use Rattle.rules.specs.Base.{List, [], ◌∷◌, ℕ, ◌-◌, drop, eqb, pick}
+use Rattle.std.specs.Prelude.{◌≡◌, ◌∷◌, ◌-◌}
+use Rattle.rules.specs.Base.{List, [], ℕ, drop, eqb, pick}
 use Rattle.rules.specs.declared.Entry.{Entry}
 use Rattle.rules.specs.declared.Held.{Held}
 use Rattle.rules.specs.declared.Held.TheVariants.{Mapped, Unmapped}

@@ -1,5 +1,6 @@
 -- What a group found, remembered as one mark for each entry of the table: 0, or the slot where it was found last, plus 1.
-use Rattle.rules.specs.Base.{Bool, false, List, [], ◌∷◌, ◌++◌, map, ℕ, suc, ◌+◌, ◌-◌, drop, replicate, eqb, pick, any}
+use Rattle.std.specs.Prelude.{◌∷◌, ◌++◌, ◌+◌, ◌-◌}
+use Rattle.rules.specs.Base.{Bool, false, List, [], map, ℕ, suc, drop, replicate, eqb, pick, any}
 use Rattle.rules.specs.declared.Entry.{Entry}
 use Rattle.rules.specs.declared.Label.{Label}
 use Rattle.rules.specs.declared.Held.TheVariants.{Mapped}

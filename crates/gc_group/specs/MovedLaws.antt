@@ -1,6 +1,6 @@
 -- The marked entries one by one: a turn over them, and what is known of their objects once the group's checks are clear.
-use Rattle.std.specs.Prelude.{◌≡◌, ◌≤◌, ◌<◌}
-use Rattle.rules.specs.Base.{List, ℕ, suc, ◌-◌, length, get_or}
+use Rattle.std.specs.Prelude.{◌≡◌, ◌≤◌, ◌<◌, ◌-◌}
+use Rattle.rules.specs.Base.{List, ℕ, suc, length, get_or}
 use Rattle.rules.specs.declared.Entry.{Entry}
 use Rattle.rules.specs.declared.Held.TheVariants.{Mapped}
 use Rattle.rules.specs.declared.Loaded.TheVariants.{At}

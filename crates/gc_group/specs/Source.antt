@@ -1,6 +1,6 @@
 -- What a group is read from: the slots, their records and the table; and what is known of them once refusal 1 is decided.
-use Rattle.std.specs.Prelude.{◌≡◌, ◌≤◌, ◌<◌}
-use Rattle.rules.specs.Base.{List, ℕ, ◌+◌, ◌-◌, ◌*◌, ◌^◌, length, get_or}
+use Rattle.std.specs.Prelude.{◌≡◌, ◌≤◌, ◌<◌, ◌+◌, ◌-◌, ◌*◌, ◌^◌}
+use Rattle.rules.specs.Base.{List, ℕ, length, get_or}
 use Rattle.rules.specs.declared.Entry.{Entry}
 use Rattle.rules.specs.declared.Label.{Label}
 use Rattle.rules.specs.declared.Record.{Record}

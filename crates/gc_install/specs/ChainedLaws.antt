@@ -1,7 +1,7 @@
 -- The operations of a file of a group: each is on an id that the table has.
-use Rattle.std.specs.Prelude.{◌≡◌, refl, ◌<◌}
+use Rattle.std.specs.Prelude.{◌≡◌, refl, ◌<◌, ◌∷◌, ◌+◌, ◌^◌}
 use Rattle.std.proofs.Common.{inl, inr, arith}
-use Rattle.rules.specs.Base.{Bool, true, false, List, [], ◌∷◌, ℕ, zero, suc, ◌+◌, ◌^◌, length, get_or, eqb, pick}
+use Rattle.rules.specs.Base.{Bool, true, false, List, [], ℕ, zero, suc, length, get_or, eqb, pick}
 use Rattle.rules.specs.BaseLaws.{All}
 use Rattle.rules.specs.declared.Entry.{Entry}
 use Rattle.rules.specs.Ops.{Op}

@@ -1,8 +1,8 @@
 -- Stores of ids that the table has already: no id comes or goes, and the table stays in form.
-use Rattle.std.specs.Prelude.{◌≡◌, refl, ◌⊎◌, ◌≤◌, ◌<◌}
+use Rattle.std.specs.Prelude.{◌≡◌, refl, ◌⊎◌, ◌≤◌, ◌<◌, ◌∷◌, ◌+◌}
 use Rattle.std.proofs.Common.{sym, ap, ◌∙◌, subst, inl, inr, zero-le, arith}
 use Rattle.std.proofs.lemmas.List.{length-map}
-use Rattle.rules.specs.Base.{true, List, [], ◌∷◌, ℕ, suc, ◌+◌, length, padded}
+use Rattle.rules.specs.Base.{true, List, [], ℕ, suc, length, padded}
 use Rattle.rules.specs.BaseLaws.{All}
 use Rattle.rules.proofs.BaseLaws.{all_map, order}
 use Rattle.rules.specs.declared.Entry.{Entry}

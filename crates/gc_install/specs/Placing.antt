@@ -1,8 +1,8 @@
 -- What holds between the files of a group: every object still to be moved stands in a file, and the slot that the next file takes is none.
-use Rattle.std.specs.Prelude.{◌≡◌, ◌≤◌, ◌<◌}
+use Rattle.std.specs.Prelude.{◌≡◌, ◌≤◌, ◌<◌, ◌∷◌, ◌+◌, ◌-◌, ◌*◌, ◌^◌}
 use Rattle.std.proofs.Math.Path.{refl, ap}
 use Rattle.std.proofs.Common.{sym, ◌∙◌, subst, true≢false, arith, take_all}
-use Rattle.rules.specs.Base.{false, List, ◌∷◌, ℕ, ◌+◌, ◌-◌, ◌*◌, ◌^◌, length, get_or}
+use Rattle.rules.specs.Base.{false, List, ℕ, length, get_or}
 use Rattle.rules.specs.declared.Settings.{Settings}
 use Rattle.rules.specs.declared.State.{State}
 use Rattle.rules.specs.Claims.{no_claims}

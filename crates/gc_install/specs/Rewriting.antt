@@ -1,8 +1,8 @@
 -- A file of a group added to a store: refusal 1 does not hold again, the table keeps its ids, and the other empty slots stay empty.
-use Rattle.std.specs.Prelude.{◌≡◌, refl, ◌⊎◌, ◌≤◌, ◌<◌}
+use Rattle.std.specs.Prelude.{◌≡◌, refl, ◌⊎◌, ◌≤◌, ◌<◌, ◌∷◌, ◌+◌, ◌/◌, ◌^◌}
 use Rattle.std.proofs.Common.{sym, ◌∙◌, inl, inr, zero-le, arith, get_or-set_same, get_or-set_other}
 use Rattle.std.proofs.Math.Path.{ap}
-use Rattle.rules.specs.Base.{false, List, ◌∷◌, ℕ, ◌+◌, ◌/◌, ◌^◌, length, set}
+use Rattle.rules.specs.Base.{false, List, ℕ, length, set}
 use Rattle.rules.proofs.BaseLaws.{same?}
 use Rattle.rules.specs.declared.Record.{Record}
 use Rattle.rules.specs.Ops.{Op, objects_of, file_bytes}

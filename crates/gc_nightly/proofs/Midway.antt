@@ -2,7 +2,8 @@
 use mathlib.Core.Path.{◌≡◌, refl, sym, ap, ◌∙◌, subst}
 use Prim.Native.Nat.{◌≤◌, ◌<◌}
 use native.Mathlib.Omega.{arith}
-use Rattle.rules.specs.Base.{true, false, List, [], ◌∷◌, ℕ, zero, suc, ◌+◌, ◌*◌, length}
+use Rattle.std.specs.Prelude.{◌∷◌, ◌+◌, ◌*◌}
+use Rattle.rules.specs.Base.{true, false, List, [], ℕ, zero, suc, length}
 use Rattle.rules.proofs.BaseLaws.{or-clear}
 use Rattle.rules.specs.declared.Settings.{Settings}
 use Rattle.rules.specs.declared.State.{State}

@@ -1,7 +1,7 @@
 -- Where everything that a group found stands: a place for each entry of the table that is moved.
-use Rattle.std.specs.Prelude.{◌≡◌, ◌≤◌, ◌<◌}
+use Rattle.std.specs.Prelude.{◌≡◌, ◌≤◌, ◌<◌, ◌^◌}
 use Rattle.numbers.specs.LittleEndian.{Bytes}
-use Rattle.rules.specs.Base.{List, ℕ, ◌^◌, length, get_or, each}
+use Rattle.rules.specs.Base.{List, ℕ, length, get_or, each}
 use Rattle.rules.specs.declared.Record.{Record}
 use Rattle.rules.specs.declared.Answer.TheVariants.{Done}
 use Rattle.rules.specs.Refusal.{decide}

@@ -1,5 +1,5 @@
 -- The places of a group's marked entries: what stands there is what the group found.
-use Rattle.std.specs.Prelude.{◌≡◌, ◌⊎◌, ◌≤◌, ◌<◌}
+use Rattle.std.specs.Prelude.{◌≡◌, ◌⊎◌, ◌≤◌, ◌<◌, ◌∷◌, ◌++◌, ◌+◌, ◌-◌, ◌*◌, ◌^◌}
 use Rattle.std.proofs.Math.Path.{refl, sym, ap, ap₂, subst}
 use Rattle.std.proofs.Common.{◌∙◌, inl, inr, le_of_suc-le-suc, not-suc-le-zero, length-drop, get_or-drop, length-take-le, take_at}
 use native.Mathlib.Omega.{arith}
@@ -10,7 +10,7 @@ use Rattle.numbers.specs.GroupLaws.{either_way}
 use Rattle.numbers.specs.LittleEndian.{Bytes}
 use Rattle.numbers.specs.Parts.{front, front_length}
 use Rattle.disk_location.specs.Locations.{position_of}
-use Rattle.rules.specs.Base.{false, List, [], ◌∷◌, ◌++◌, ℕ, zero, suc, ◌+◌, ◌-◌, ◌*◌, ◌^◌, length, get_or, take, drop, replicate, each}
+use Rattle.rules.specs.Base.{false, List, [], ℕ, zero, suc, length, get_or, take, drop, replicate, each}
 use Rattle.rules.proofs.TurnLaws.{left-next}
 use Rattle.rules.specs.declared.Entry.{Entry}
 use Rattle.rules.specs.declared.Label.{Label}

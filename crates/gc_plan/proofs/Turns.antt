@@ -3,7 +3,8 @@ use mathlib.Core.Path.{◌≡◌, refl, sym, ap, ◌∙◌, subst}
 use Prim.Native.Nat.{◌≤◌, ◌<◌, ◌-◌}
 use native.Mathlib.Nat.{sub_self}
 use native.Mathlib.Omega.{arith}
-use Rattle.rules.specs.Base.{List, [], ◌∷◌, ℕ, zero, suc, ◌+◌, ◌^◌}
+use Rattle.std.specs.Prelude.{◌∷◌, ◌+◌, ◌^◌}
+use Rattle.rules.specs.Base.{List, [], ℕ, zero, suc}
 use Rattle.rules.specs.SettingsLaws.{InRanges}
 use Rattle.rules.specs.Install.{empty_of}
 use Rattle.rules.specs.Maintenance.{going, group}

@@ -1,8 +1,8 @@
 -- The files of a group, added one after the other.
-use Rattle.std.specs.Prelude.{◌≡◌, refl, ◌≤◌, ◌<◌}
+use Rattle.std.specs.Prelude.{◌≡◌, refl, ◌≤◌, ◌<◌, ◌∷◌, ◌+◌, ◌^◌}
 use Rattle.std.proofs.Math.Path.{sym, ap}
 use Rattle.std.proofs.Common.{◌∙◌, subst, arith, length-drop}
-use Rattle.rules.specs.Base.{false, List, ◌∷◌, ℕ, ◌+◌, ◌^◌, length, get_or, drop}
+use Rattle.rules.specs.Base.{false, List, ℕ, length, get_or, drop}
 use Rattle.rules.proofs.TurnLaws.{left-next, left-none}
 use Rattle.rules.specs.declared.Settings.{Settings}
 use Rattle.rules.specs.declared.State.{State}

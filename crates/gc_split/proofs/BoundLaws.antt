@@ -1,10 +1,10 @@
 -- A tally's numbers stay far below 2^64.
-use Rattle.std.specs.Prelude.{◌≡◌, refl, ◌⊎◌, ◌≤◌, ◌<◌}
+use Rattle.std.specs.Prelude.{◌≡◌, refl, ◌⊎◌, ◌≤◌, ◌<◌, ◌+◌, ◌*◌, ◌^◌}
 use Rattle.std.proofs.Common.{◌∙◌, inl, inr, arith, length-set, get_or-set_same, get_or-set_other}
 use Rattle.std.proofs.lemmas.List.{get_or-replicate, length-replicate}
 use Rattle.std.proofs.Math.ListN.{get_or-eq_default}
 use Rattle.std.proofs.Math.Seq.{set_out}
-use Rattle.rules.specs.Base.{Bool, true, false, List, ℕ, ◌+◌, ◌*◌, ◌^◌, length, get_or, set, replicate, ltb, pick}
+use Rattle.rules.specs.Base.{Bool, true, false, List, ℕ, length, get_or, set, replicate, ltb, pick}
 use Rattle.rules.proofs.BaseLaws.{same?}
 use Rattle.numbers.specs.GroupLaws.{either_way}
 use Rattle.gc_split.specs.Tally.{Tally, closing, cutting, entering, taking, empty_tally, Within, Closable, Numbered}

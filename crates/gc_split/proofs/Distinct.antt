@@ -1,7 +1,7 @@
 -- Lists in which no number stands twice.
-use Rattle.std.specs.Prelude.{◌≡◌, refl, ◌<◌}
+use Rattle.std.specs.Prelude.{◌≡◌, refl, ◌<◌, ◌∷◌, ◌++◌}
 use Rattle.std.proofs.Common.{sym, ap, arith}
-use Rattle.rules.specs.Base.{List, [], ◌∷◌, ◌++◌, ℕ, zero, suc, length, get_or}
+use Rattle.rules.specs.Base.{List, [], ℕ, zero, suc, length, get_or}
 use Rattle.rules.specs.BaseLaws.{All}
 use Rattle.rules.proofs.BaseLaws.{all-at, all_append}
 use Rattle.gc_split.specs.Distinct.{Other, Distinct}

@@ -1,8 +1,8 @@
 -- The order of the files that come out, as the code has it: what is left of the shards in one list of places, fragments in another.
-use Rattle.std.specs.Prelude.{◌≡◌, ◌≤◌}
+use Rattle.std.specs.Prelude.{◌≡◌, ◌≤◌, ◌∷◌}
 use Rattle.std.proofs.Common.{sym, ap, ◌∙◌, arith}
 use Rattle.std.proofs.lemmas.List.{length-map}
-use Rattle.rules.specs.Base.{Bool, true, false, List, [], ◌∷◌, ℕ, length, eqb, pick}
+use Rattle.rules.specs.Base.{Bool, true, false, List, [], ℕ, length, eqb, pick}
 use Rattle.rules.specs.Ops.{Op}
 use Rattle.rules.specs.Maintenance.{files_of}
 use Rattle.gc_split.specs.declared.Totals.{Totals}

@@ -1,10 +1,10 @@
 -- A file that comes out is the operations of one piece, in order.
-use Rattle.std.specs.Prelude.{◌≡◌, refl, ◌⊎◌, ◌≤◌, ◌<◌}
+use Rattle.std.specs.Prelude.{◌≡◌, refl, ◌⊎◌, ◌≤◌, ◌<◌, ◌∷◌, ◌++◌, ◌+◌, ◌-◌, ◌/◌, ◌%◌}
 use Rattle.std.proofs.Common.{sym, ap, ap₂, ◌∙◌, subst, inl, inr, append_assoc, append-nil, zero-add, add-zero, add-one, arith, eq-eqb, ne_eqb, length-set, get_or-set_same, get_or-set_other, take-suc-set}
 use Rattle.std.proofs.Math.Path.{fun_ext}
 use Rattle.std.proofs.lemmas.List.{map-append, length-replicate, get_or-replicate}
 use Rattle.std.proofs.Math.Seq.{set_out}
-use Rattle.rules.specs.Base.{Bool, true, false, List, [], ◌∷◌, ◌++◌, map, ℕ, suc, ◌+◌, ◌-◌, ◌/◌, ◌%◌, length, get_or, set, replicate, take, ltb, eqb, pick, keep}
+use Rattle.rules.specs.Base.{Bool, true, false, List, [], map, ℕ, suc, length, get_or, set, replicate, take, ltb, eqb, pick, keep}
 use Rattle.rules.specs.BaseLaws.{All}
 use Rattle.rules.proofs.BaseLaws.{all_map, same?, all_append}
 use Rattle.rules.specs.Ops.{Op, size_of, shard_for}

@@ -1,10 +1,10 @@
 -- The one list of the shards: what a store into a shard's size, entries or rounds leaves.
-use Rattle.std.specs.Prelude.{◌≡◌, refl, ◌≤◌, ◌<◌}
+use Rattle.std.specs.Prelude.{◌≡◌, refl, ◌≤◌, ◌<◌, ◌+◌}
 use Rattle.std.proofs.Common.{ap, ◌∙◌, arith, length-drop, length-take, take_all, get_or-take, get_or-drop, drop-set-lt}
 use Rattle.std.proofs.Math.Nat.{min-le_right}
 use Rattle.std.proofs.lemmas.List.{take-set-le, drop-set-add}
 use Rattle.std.proofs.Math.Seq.{take-set-lt}
-use Rattle.rules.specs.Base.{List, ℕ, ◌+◌, length, get_or, set, take, drop}
+use Rattle.rules.specs.Base.{List, ℕ, length, get_or, set, take, drop}
 use Rattle.gc_split.specs.declared.Totals.{Totals}
 use Rattle.gc_split.specs.Tally.{sizes_in, counts_in, rounds_in, tally}
 

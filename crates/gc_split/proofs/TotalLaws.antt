@@ -1,8 +1,8 @@
 -- The totals of a split are those of the files that come out: what 4, 5 and 7 are decided by.
-use Rattle.std.specs.Prelude.{◌≡◌, refl}
+use Rattle.std.specs.Prelude.{◌≡◌, refl, ◌||◌, ◌∷◌, ◌++◌, ◌+◌}
 use Rattle.std.proofs.Common.{sym, ap, ap₂, ◌∙◌, append_assoc, append-nil, zero-add, arith, ne_eqb, length-append}
 use Rattle.std.proofs.Math.ListN.{get_or-map}
-use Rattle.rules.specs.Base.{Bool, true, false, ◌||◌, List, [], ◌∷◌, ◌++◌, map, ℕ, zero, suc, ◌+◌, length, get_or, set, replicate, ltb, eqb, pick, keep, any, sum}
+use Rattle.rules.specs.Base.{Bool, true, false, List, [], map, ℕ, zero, suc, length, get_or, set, replicate, ltb, eqb, pick, keep, any, sum}
 use Rattle.rules.specs.Ops.{Op, size_of, shard_for, objects_of}
 use Rattle.rules.proofs.OpsLaws.{objects-nil, objects-length, file-length}
 use Rattle.rules.specs.Install.{room_tests, position_tests}

@@ -1,6 +1,6 @@
 -- A tally's numbers stay far below 2^64.
-use Rattle.std.specs.Prelude.{◌≡◌, ◌≤◌}
-use Rattle.rules.specs.Base.{ℕ, ◌+◌, ◌*◌, ◌^◌, length, get_or}
+use Rattle.std.specs.Prelude.{◌≡◌, ◌≤◌, ◌+◌, ◌*◌, ◌^◌}
+use Rattle.rules.specs.Base.{ℕ, length, get_or}
 use Rattle.gc_split.specs.Tally.{Tally}
 
 -- right after a cut, k entries so far

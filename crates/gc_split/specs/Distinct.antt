@@ -1,6 +1,6 @@
 -- Lists in which no number stands twice.
-use Rattle.std.specs.Prelude.{◌≡◌}
-use Rattle.rules.specs.Base.{List, [], ◌∷◌, ℕ}
+use Rattle.std.specs.Prelude.{◌≡◌, ◌∷◌}
+use Rattle.rules.specs.Base.{List, [], ℕ}
 use Rattle.rules.specs.BaseLaws.{All}
 
 -- a number that none of a list is

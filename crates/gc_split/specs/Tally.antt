@@ -1,6 +1,6 @@
 -- The split by sizes alone: each shard's size and entries, how often it was cut off, and what the files come to. No operation is held.
-use Rattle.std.specs.Prelude.{◌≡◌, ◌≤◌}
-use Rattle.rules.specs.Base.{false, ◌||◌, List, [], ◌∷◌, ◌++◌, ℕ, suc, ◌+◌, ◌*◌, ◌^◌, length, get_or, set, replicate, take, drop, ltb, eqb, pick, any, sum}
+use Rattle.std.specs.Prelude.{◌≡◌, ◌≤◌, ◌||◌, ◌∷◌, ◌++◌, ◌+◌, ◌*◌, ◌^◌}
+use Rattle.rules.specs.Base.{false, List, [], ℕ, suc, length, get_or, set, replicate, take, drop, ltb, eqb, pick, any, sum}
 use Rattle.rules.specs.Ops.{Op, size_of, shard_for, objects_of, file_bytes}
 use Rattle.gc_split.specs.declared.Totals.{Totals}
 

@@ -1,6 +1,6 @@
 -- The totals of a split are those of the files that come out: what 4, 5 and 7 are decided by.
-use Rattle.std.specs.Prelude.{◌≡◌}
-use Rattle.rules.specs.Base.{Bool, ◌&&◌, List, [], ◌∷◌, map, ℕ, ◌+◌, ◌^◌, length, ltb}
+use Rattle.std.specs.Prelude.{◌≡◌, ◌&&◌, ◌∷◌, ◌+◌, ◌^◌}
+use Rattle.rules.specs.Base.{Bool, List, [], map, ℕ, length, ltb}
 use Rattle.rules.specs.declared.Refusal.TheVariants.{SlotRoom, NoEmptySlot, PositionsSpent}
 use Rattle.rules.specs.Refusal.{Test, ◌gives◌}
 use Rattle.rules.specs.Ops.{Op, objects_of, file_bytes}

@@ -1,10 +1,10 @@
 -- What is written into a slot leaves all that stands elsewhere.
-use Rattle.std.specs.Prelude.{◌≡◌, ◌⊎◌, ◌≤◌, ◌<◌}
+use Rattle.std.specs.Prelude.{◌≡◌, ◌⊎◌, ◌≤◌, ◌<◌, ◌∷◌, ◌++◌, ◌+◌, ◌-◌, ◌*◌}
 use Rattle.std.proofs.Math.Path.{refl, ap}
 use Rattle.std.proofs.Common.{sym, ◌∙◌, inl, inr, ⊎_elim, mul-le-mul, arith, eq-eqb, ne_eqb, length-set, length-drop, drop-set-lt, take-take, drop-drop, length-take-le}
 use Rattle.std.proofs.lemmas.List.{take-set-le}
 use Rattle.numbers.specs.LittleEndian.{le_value}
-use Rattle.rules.specs.Base.{List, [], ◌∷◌, ◌++◌, ℕ, suc, ◌+◌, ◌-◌, ◌*◌, length, get_or, take, drop, set}
+use Rattle.rules.specs.Base.{List, [], ℕ, suc, length, get_or, take, drop, set}
 use Rattle.rules.specs.BaseLaws.{All}
 use Rattle.rules.proofs.BaseLaws.{order, same?, all_append, all_take}
 use Rattle.rules.proofs.PartLaws.{drop-take}

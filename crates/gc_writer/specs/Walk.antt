@@ -1,7 +1,7 @@
 -- The walk along the entries of one piece.
-use Rattle.std.specs.Prelude.{◌≡◌, ◌⊎◌, ◌≤◌, ◌<◌}
+use Rattle.std.specs.Prelude.{◌≡◌, ◌⊎◌, ◌≤◌, ◌<◌, ◌-◌, ◌^◌}
 use Rattle.std.proofs.Common.{ap, ◌∙◌, inl, inr, arith, eq-eqb, ne_eqb}
-use Rattle.rules.specs.Base.{List, [], ℕ, suc, ◌-◌, ◌^◌, length, get_or, eqb, pick}
+use Rattle.rules.specs.Base.{List, [], ℕ, suc, length, get_or, eqb, pick}
 use Rattle.rules.proofs.BaseLaws.{zero-or-more}
 use Rattle.rules.specs.Layout.{table_ids}
 use Rattle.rules.specs.Ops.{Op}

@@ -1,8 +1,8 @@
 -- What the writers of a piece ask for.
-use Rattle.std.specs.Prelude.{◌≡◌, ◌⊎◌, ◌≤◌, ◌<◌}
+use Rattle.std.specs.Prelude.{◌≡◌, ◌⊎◌, ◌≤◌, ◌<◌, ◌++◌, ◌+◌, ◌-◌, ◌*◌, ◌^◌}
 use Rattle.std.proofs.Common.{ap, ◌∙◌, true≢false, inl, inr, arith, eq-eqb, ne_eqb, length-append}
 use Rattle.numbers.specs.LittleEndian.{le_bytes, le-length}
-use Rattle.rules.specs.Base.{true, false, List, ◌++◌, ℕ, ◌+◌, ◌-◌, ◌*◌, ◌^◌, length, get_or, take, drop, eqb, pick}
+use Rattle.rules.specs.Base.{true, false, List, ℕ, length, get_or, take, drop, eqb, pick}
 use Rattle.rules.proofs.BaseLaws.{same?}
 use Rattle.rules.specs.Object.{object_bytes}
 use Rattle.rules.specs.Ops.{objects_of, file_bytes}

@@ -1,7 +1,7 @@
 -- N: no store refuses every write: within the limits a write is accepted.
 use Rattle.std.proofs.Common.{subst, ap, ◌∙◌, zero-le, arith, le-ltb}
-use Rattle.std.specs.Prelude.{◌≡◌, refl, ◌<◌, ◌≤◌}
-use Rattle.rules.specs.Base.{false, List, [], ◌∷◌, ℕ, zero, suc, ◌+◌, ◌^◌, length, any, sum}
+use Rattle.std.specs.Prelude.{◌≡◌, refl, ◌<◌, ◌≤◌, ◌∷◌, ◌+◌, ◌^◌}
+use Rattle.rules.specs.Base.{false, List, [], ℕ, zero, suc, length, any, sum}
 use Rattle.rules.proofs.BaseLaws.{or-clear}
 use Rattle.rules.specs.Refusal.{NoneHolds}
 use Rattle.rules.proofs.RefusalLaws.{decide-clear, none-append}

@@ -1,11 +1,11 @@
 -- DEMAND 3 from any clean heap: one that a reopening accepts and whose files are whole, whoever wrote them.
-use Rattle.std.specs.Prelude.{◌≡◌, refl, ◌⊎◌, ◌<◌, ◌≤◌}
+use Rattle.std.specs.Prelude.{◌≡◌, refl, ◌⊎◌, ◌<◌, ◌≤◌, ◌∷◌, ◌+◌, ◌-◌, ◌*◌, ◌%◌, ◌^◌}
 use Rattle.std.proofs.Common.{sym, ◌∙◌, inl, inr, length-take, get_or-drop, eq-eqb, ne_eqb}
 use Rattle.std.proofs.Math.Path.{ap, subst}
 use Rattle.std.proofs.Math.Nat.{pow-le-pow_right}
 use native.Mathlib.Omega.{arith}
 use Rattle.std.proofs.lemmas.Bool.{eqb-false}
-use Rattle.rules.specs.Base.{Bool, true, false, List, [], ◌∷◌, map, ℕ, zero, suc, ◌+◌, ◌-◌, ◌*◌, ◌%◌, ◌^◌, length, take, drop, eqb, pick}
+use Rattle.rules.specs.Base.{Bool, true, false, List, [], map, ℕ, zero, suc, length, take, drop, eqb, pick}
 use Rattle.theory.specs.Types.{Entry, Record, ReadAnswer, Answer, Held, Mapped, Unmapped, Slot}
 use Rattle.numbers.specs.LittleEndian.{Bytes, le_below}
 use Rattle.disk_location.specs.Locations.{position_of, delete_of}

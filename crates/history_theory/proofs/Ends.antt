@@ -1,7 +1,7 @@
 -- On a store of the invariant each object ends at or before T, header and body: none runs into the trailer.
-use Rattle.std.specs.Prelude.{◌≡◌, ◌≤◌}
+use Rattle.std.specs.Prelude.{◌≡◌, ◌≤◌, ◌+◌}
 use Rattle.std.proofs.Common.{ap, arith, ltb-false, length-take, length-drop}
-use Rattle.rules.specs.Base.{false, List, ℕ, ◌+◌, length, drop}
+use Rattle.rules.specs.Base.{false, List, ℕ, length, drop}
 use Rattle.disk_location.specs.Locations.{position_of}
 use Rattle.rules.specs.Refusal.{NoneHolds}
 use Rattle.rules.specs.Object.{stored_at, objects_in}

@@ -6,7 +6,8 @@ use native.Mathlib.Omega.{arith}
 use Rattle.std.proofs.Math.ListN.{length-replicate, get_or-eq_default}
 use Rattle.std.proofs.Math.Seq.{ext_get_or, get_or-drop}
 use borrow.Author.Tests.{eq-eqb, ltb-true, ltb-false, le-ltb}
-use Rattle.rules.specs.Base.{Bool, true, false, List, [], ◌∷◌, ℕ, suc, ◌*◌, length, get_or, take, drop, replicate, ltb, any, each, greatest}
+use Rattle.std.specs.Prelude.{◌∷◌, ◌*◌}
+use Rattle.rules.specs.Base.{Bool, true, false, List, [], ℕ, suc, length, get_or, take, drop, replicate, ltb, any, each, greatest}
 use Rattle.theory.specs.Types.{Entry, Refusal}
 use Rattle.rules.specs.Refusal.{decide, NoneHolds}
 use Rattle.rules.proofs.RefusalLaws.{decide-clear, none-append}

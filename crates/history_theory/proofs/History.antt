@@ -1,7 +1,7 @@
 -- Demand 3: whatever calls were made, reads give the last accepted put, and a reopening finds the store as it was.
-use Rattle.std.specs.Prelude.{◌≡◌, ◌<◌}
+use Rattle.std.specs.Prelude.{◌≡◌, ◌<◌, ◌∷◌, ◌+◌}
 use Rattle.std.proofs.Common.{sym, ap, ◌∙◌, subst}
-use Rattle.rules.specs.Base.{false, List, [], ◌∷◌, map, ℕ, ◌+◌, length}
+use Rattle.rules.specs.Base.{false, List, [], map, ℕ, length}
 use Rattle.theory.specs.Types.{Record}
 use Rattle.disk_location.specs.Locations.{masked_of}
 use Rattle.rules.specs.Condition1.{out_of_range}

@@ -1,8 +1,8 @@
 -- A group rewritten on a store of the invariant, refused or not: nothing else is said of any id.
-use Rattle.std.specs.Prelude.{◌≡◌, ◌≤◌}
+use Rattle.std.specs.Prelude.{◌≡◌, ◌≤◌, ◌∷◌, ◌++◌, ◌+◌}
 use Rattle.std.proofs.Math.Path.{refl}
 use Rattle.std.proofs.Common.{arith}
-use Rattle.rules.specs.Base.{Bool, true, false, List, [], ◌∷◌, ◌++◌, ℕ, ◌+◌, length, ltb, pick, each}
+use Rattle.rules.specs.Base.{Bool, true, false, List, [], ℕ, length, ltb, pick, each}
 use Rattle.theory.specs.Types.{Refusal, Answer, Done, Refused}
 use Rattle.rules.specs.BaseLaws.{All}
 use Rattle.rules.proofs.BaseLaws.{all_map}

@@ -1,11 +1,11 @@
 -- Request P6: what each call leaves of the marks. "clear on writing, set by a sync call, set on reopening; an empty record has it clear".
-use Rattle.std.specs.Prelude.{◌≡◌, refl, ◌⊎◌, ◌<◌, ◌≤◌}
+use Rattle.std.specs.Prelude.{◌≡◌, refl, ◌⊎◌, ◌<◌, ◌≤◌, ◌&&◌, ◌||◌, ◌∷◌, ◌++◌, ◌+◌, ◌-◌, ◌^◌}
 use Rattle.std.proofs.Common.{sym, ap, ◌∙◌, subst, inl, inr, zero-add, arith, get_or-set_same, get_or-set_other, eq-eqb, ne_eqb}
 use Rattle.std.proofs.Math.ListN.{get_or-eq_default}
 use Rattle.std.proofs.Math.Seq.{set_out}
 use Rattle.disk_location.proofs.LocationLaws.{masked-pos}
 use Rattle.numbers.specs.GroupLaws.{either_way}
-use Rattle.rules.specs.Base.{Bool, true, false, not, ◌&&◌, ◌||◌, List, [], ◌∷◌, ◌++◌, map, ℕ, zero, suc, ◌+◌, ◌-◌, ◌^◌, length, set, replicate, ltb, eqb, pick, sum}
+use Rattle.rules.specs.Base.{Bool, true, false, not, List, [], map, ℕ, zero, suc, length, set, replicate, ltb, eqb, pick, sum}
 use Rattle.theory.specs.Types.{Entry, Label, Record, Answer, Done, Refused, Refusal, Limits}
 use Rattle.rules.specs.Refusal.{◌gives◌, decide, after}
 use Rattle.rules.specs.BaseLaws.{All}

@@ -1,8 +1,8 @@
 -- What maintenance finds in a group is current: an object or a delete at its id's location is what the engine says of it.
-use Rattle.std.specs.Prelude.{◌≡◌, refl, ◌<◌, ◌≤◌}
+use Rattle.std.specs.Prelude.{◌≡◌, refl, ◌<◌, ◌≤◌, ◌∷◌, ◌+◌, ◌-◌, ◌*◌, ◌%◌, ◌^◌}
 use Rattle.std.proofs.Math.Path.{sym, ap}
 use Rattle.std.proofs.Common.{◌∙◌, subst, arith, length-take, length-drop, drop-drop}
-use Rattle.rules.specs.Base.{true, false, List, [], ◌∷◌, ℕ, zero, suc, ◌+◌, ◌-◌, ◌*◌, ◌%◌, ◌^◌, length, drop, eqb, keep, each}
+use Rattle.rules.specs.Base.{true, false, List, [], ℕ, zero, suc, length, drop, eqb, keep, each}
 use Rattle.theory.specs.Types.{Entry, Label, Record, Answer, Done, Refused, Held, Mapped, Slot, Is}
 use Rattle.disk_location.specs.Locations.{position_of, delete_of, raw_of}
 use Rattle.disk_location.proofs.LocationLaws.{delete-raw}

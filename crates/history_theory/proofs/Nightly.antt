@@ -1,8 +1,8 @@
 -- Request P7: "the nightly job becomes plan, rewrite 1, 2, 3, then prune, stopping at the first call refused"; so demand 3 holds of the job as of its calls.
-use Rattle.std.specs.Prelude.{◌≡◌}
+use Rattle.std.specs.Prelude.{◌≡◌, ◌∷◌, ◌+◌}
 use Rattle.std.proofs.Math.Path.{refl}
 use Rattle.std.proofs.Common.{sym, ap, ◌∙◌, subst, inl, inr, arith}
-use Rattle.rules.specs.Base.{Bool, true, false, List, [], ◌∷◌, ℕ, ◌+◌, get_or, eqb, pick}
+use Rattle.rules.specs.Base.{Bool, true, false, List, [], ℕ, get_or, eqb, pick}
 use Rattle.theory.specs.Types.{Refusal, Limits, Answer, Done, Refused, Moved, Stopped}
 use Rattle.rules.specs.BaseLaws.{All}
 use Rattle.rules.specs.Refusal.{◌gives◌, decide, after}

@@ -1,7 +1,7 @@
 -- Calls that store nothing and bring no put and no delete: each is one clause of `quietly` and one of `undisturbed`.
-use Rattle.std.specs.Prelude.{refl}
+use Rattle.std.specs.Prelude.{refl, ◌||◌, ◌∷◌}
 use Rattle.std.proofs.Common.{ap}
-use Rattle.rules.specs.Base.{not, ◌||◌, [], ◌∷◌}
+use Rattle.rules.specs.Base.{not, []}
 use Rattle.theory.specs.Types.{Claims, Limits, Claim, Answer, Done, Refused}
 use Rattle.rules.specs.Refusal.{◌gives◌, decide, after}
 use Rattle.rules.specs.Condition1.{refused1}

@@ -1,7 +1,7 @@
 -- A read on a store of the invariant gives what the plain engine says.
-use Rattle.std.specs.Prelude.{◌≡◌, refl, ◌≤◌}
+use Rattle.std.specs.Prelude.{◌≡◌, refl, ◌≤◌, ◌+◌, ◌-◌, ◌*◌}
 use Rattle.std.proofs.Common.{sym, ap, ◌∙◌, subst, arith, length-take, length-drop, take-take, drop-drop, length-take-le, ltb-false, le-ltb}
-use Rattle.rules.specs.Base.{Bool, true, false, List, ℕ, ◌+◌, ◌-◌, ◌*◌, length, take, drop, pick}
+use Rattle.rules.specs.Base.{Bool, true, false, List, ℕ, length, take, drop, pick}
 use Rattle.theory.specs.Types.{Record, Refusal, Answer, Done, Refused, ReadAnswer, Found, ReadRefused, Held, Mapped, Unmapped, At, DeletedAt, Slot, Is, NoSlot}
 use Rattle.disk_location.specs.Locations.{position_of, delete_of}
 use Rattle.rules.specs.Refusal.{decide, after, NoneHolds}

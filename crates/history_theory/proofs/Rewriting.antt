@@ -1,10 +1,10 @@
 -- Files of current contents added one after another: nothing else is said of any id.
-use Rattle.std.specs.Prelude.{◌≡◌, ◌<◌, ◌≤◌, min}
+use Rattle.std.specs.Prelude.{◌≡◌, ◌<◌, ◌≤◌, min, ◌∷◌, ◌+◌, ◌*◌, ◌^◌}
 use Rattle.std.proofs.Math.Path.{refl}
 use Rattle.std.proofs.Common.{sym, ap, ◌∙◌, subst, inl, inr, zero-le, length-take, length-set, get_or-take, get_or-set_other, ltb-true, ltb-false, eqb-true}
 use native.Mathlib.Omega.{arith}
 use Rattle.std.proofs.Math.ListN.{get_or-eq_default}
-use Rattle.rules.specs.Base.{Bool, true, false, List, [], ◌∷◌, ℕ, zero, suc, ◌+◌, ◌*◌, ◌^◌, length, set, take, ltb, eqb, pick, sum}
+use Rattle.rules.specs.Base.{Bool, true, false, List, [], ℕ, zero, suc, length, set, take, ltb, eqb, pick, sum}
 use Rattle.theory.specs.Types.{Record, Settings, Held, Mapped, Unmapped}
 use Rattle.rules.specs.BaseLaws.{All}
 use Rattle.rules.proofs.BaseLaws.{all_map}

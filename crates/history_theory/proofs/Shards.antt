@@ -1,7 +1,7 @@
 -- The files that come out of a group: each is a selection of what is moved, in order, and not empty.
-use Rattle.std.specs.Prelude.{◌≡◌, refl}
+use Rattle.std.specs.Prelude.{◌≡◌, refl, ◌∷◌, ◌++◌, ◌+◌}
 use Rattle.std.proofs.Common.{subst, append_assoc, append-nil, arith, length-append, ltb-true}
-use Rattle.rules.specs.Base.{Bool, true, false, List, [], ◌∷◌, ◌++◌, map, ℕ, suc, ◌+◌, get_or, set, replicate, ltb, pick, keep}
+use Rattle.rules.specs.Base.{Bool, true, false, List, [], map, ℕ, suc, get_or, set, replicate, ltb, pick, keep}
 use Rattle.rules.specs.BaseLaws.{All}
 use Rattle.rules.proofs.BaseLaws.{all_map, all_append}
 use Rattle.rules.specs.Ops.{Op, shard_for}

@@ -1,10 +1,10 @@
 -- A store in which no object is of max_object_size or more stays one: 3 refuses no batch that would bring one, and a rewrite makes none.
-use Rattle.std.specs.Prelude.{◌≡◌, ◌⊎◌, ◌≤◌}
+use Rattle.std.specs.Prelude.{◌≡◌, ◌⊎◌, ◌≤◌, ◌∷◌, ◌+◌, ◌^◌}
 use Rattle.std.proofs.Math.Path.{refl, ap, subst}
 use Rattle.std.proofs.Common.{sym, ◌∙◌, inl, inr, arith, length-take}
 use Rattle.std.proofs.Math.Logic.{⊎_elim}
 use borrow.Author.Tests.{leb-false, lt-leb}
-use Rattle.rules.specs.Base.{Bool, true, false, List, [], ◌∷◌, ℕ, zero, suc, ◌+◌, ◌^◌, length, set, take, drop, leb, ltb, pick, any, keep, each}
+use Rattle.rules.specs.Base.{Bool, true, false, List, [], ℕ, zero, suc, length, set, take, drop, leb, ltb, pick, any, keep, each}
 use Rattle.theory.specs.Types.{Settings, Entry, Label, Record, Refusal, Answer, Done, Refused}
 use Rattle.disk_location.specs.Locations.{delete_of, raw_of}
 use Rattle.rules.specs.BaseLaws.{All}

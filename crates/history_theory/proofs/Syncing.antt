@@ -1,9 +1,9 @@
 -- Request P6: a sync of the state's own records, all of them or some.
-use Rattle.std.specs.Prelude.{◌≡◌, ◌<◌, ◌≤◌}
+use Rattle.std.specs.Prelude.{◌≡◌, ◌<◌, ◌≤◌, ◌∷◌}
 use Rattle.std.proofs.Math.Path.{refl}
 use Rattle.std.proofs.Common.{sym, subst, length-take, length-drop, le-ltb, ltb-true}
 use native.Mathlib.Omega.{arith}
-use Rattle.rules.specs.Base.{Bool, true, false, List, [], ◌∷◌, ℕ, length, take, drop, ltb, any, pick}
+use Rattle.rules.specs.Base.{Bool, true, false, List, [], ℕ, length, take, drop, ltb, any, pick}
 use Rattle.theory.specs.Types.{Record, Limits}
 use Rattle.rules.specs.Refusal.{decide, after}
 use Rattle.rules.specs.World.{World, records_of, accepted, refused, After}

@@ -1,7 +1,7 @@
 -- Calls in a reader's words: where the file of an accepted write stands, what is read and reopened after it; that every other call leaves reads as they were; that refused calls change nothing.
-use Rattle.std.specs.Prelude.{◌≡◌, refl, ◌<◌}
+use Rattle.std.specs.Prelude.{◌≡◌, refl, ◌<◌, ◌∷◌, ◌++◌, ◌^◌}
 use Rattle.std.proofs.Common.{sym, ap, ◌∙◌, subst, arith}
-use Rattle.rules.specs.Base.{false, List, [], ◌∷◌, ◌++◌, ℕ, ◌^◌, length}
+use Rattle.rules.specs.Base.{false, List, [], ℕ, length}
 use Rattle.theory.specs.Types.{Limits, Answer, Done, Refused, ReadAnswer}
 use Rattle.rules.specs.Refusal.{◌gives◌, decide, after}
 use Rattle.rules.specs.Condition1.{out_of_range, refused1}

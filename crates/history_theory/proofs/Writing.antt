@@ -1,9 +1,9 @@
 -- A write on a store of the invariant: refused, nothing changes; accepted, the engine hears the batch.
-use Rattle.std.specs.Prelude.{◌≡◌, ◌<◌}
+use Rattle.std.specs.Prelude.{◌≡◌, ◌<◌, ◌∷◌, ◌++◌, ◌^◌}
 use Rattle.std.proofs.Math.Path.{refl, ap, subst}
 use Rattle.std.proofs.Common.{sym, ◌∙◌, inr, zero-le}
 use native.Mathlib.Omega.{arith}
-use Rattle.rules.specs.Base.{Bool, List, [], ◌∷◌, ◌++◌, ℕ, ◌^◌, length, pick}
+use Rattle.rules.specs.Base.{Bool, List, [], ℕ, length, pick}
 use Rattle.theory.specs.Types.{Answer, Done, Refused}
 use Rattle.rules.specs.Refusal.{decide, after}
 use Rattle.rules.proofs.Answers.{known}

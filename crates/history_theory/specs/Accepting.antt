@@ -1,6 +1,6 @@
 -- N: no store refuses every write: within the limits a write is accepted.
-use Rattle.std.specs.Prelude.{◌≡◌, ◌<◌, ◌≤◌}
-use Rattle.rules.specs.Base.{false, List, ℕ, ◌+◌, ◌^◌, length}
+use Rattle.std.specs.Prelude.{◌≡◌, ◌<◌, ◌≤◌, ◌+◌, ◌^◌}
+use Rattle.rules.specs.Base.{false, List, ℕ, length}
 use Rattle.rules.specs.Ops.{objects_of, file_bytes}
 use Rattle.rules.specs.Batch.{batch_in, is_malformed, ops_of, any_too_large}
 use Rattle.rules.specs.Layout.{capacity_of}

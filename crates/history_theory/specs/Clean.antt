@@ -1,6 +1,6 @@
 -- DEMAND 3 from any clean heap: one that a reopening accepts and whose files are whole, whoever wrote them.
-use Rattle.std.specs.Prelude.{◌≡◌}
-use Rattle.rules.specs.Base.{List, [], map, ℕ, ◌-◌}
+use Rattle.std.specs.Prelude.{◌≡◌, ◌-◌}
+use Rattle.rules.specs.Base.{List, [], map, ℕ}
 use Rattle.theory.specs.Types.{Entry, ReadAnswer, Found, Deleted, NeverWritten, ReadRefused}
 use Rattle.numbers.specs.LittleEndian.{Bytes}
 use Rattle.rules.specs.Refusal.{after}

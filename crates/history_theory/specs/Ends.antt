@@ -1,6 +1,6 @@
 -- On a store of the invariant each object ends at or before T, header and body: none runs into the trailer.
-use Rattle.std.specs.Prelude.{◌≡◌, ◌≤◌}
-use Rattle.rules.specs.Base.{false, ℕ, ◌+◌, length, drop}
+use Rattle.std.specs.Prelude.{◌≡◌, ◌≤◌, ◌+◌}
+use Rattle.rules.specs.Base.{false, ℕ, length, drop}
 use Rattle.disk_location.specs.Locations.{position_of, delete_of}
 use Rattle.rules.specs.Object.{stored_at}
 use Rattle.rules.specs.SlotFile.{File, holds}

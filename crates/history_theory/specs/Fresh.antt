@@ -1,7 +1,8 @@
 -- N: a heap whose slots all begin with byte 0 reopens with no file and next position 1, and the invariant holds.
 use Rattle.std.proofs.Math.Path.{◌≡◌}
 use Prim.Native.Nat.{◌<◌}
-use Rattle.rules.specs.Base.{[], ℕ, ◌*◌, get_or}
+use Rattle.std.specs.Prelude.{◌*◌}
+use Rattle.rules.specs.Base.{[], ℕ, get_or}
 use Rattle.rules.specs.Layout.{capacity_of, laid_out}
 use Rattle.rules.specs.FileMap.{no_files}
 use Rattle.rules.specs.Claims.{no_claims}

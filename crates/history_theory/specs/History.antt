@@ -1,6 +1,6 @@
 -- Demand 3: whatever calls were made, reads give the last accepted put, and a reopening finds the store as it was.
-use Rattle.std.specs.Prelude.{◌≡◌, ◌<◌}
-use Rattle.rules.specs.Base.{false, List, [], ◌∷◌, map, ℕ, ◌+◌}
+use Rattle.std.specs.Prelude.{◌≡◌, ◌<◌, ◌∷◌, ◌+◌}
+use Rattle.rules.specs.Base.{false, List, [], map, ℕ}
 use Rattle.disk_location.specs.Locations.{masked_of}
 use Rattle.rules.specs.Ops.{Op}
 use Rattle.rules.specs.SettledLaws.{last_on}

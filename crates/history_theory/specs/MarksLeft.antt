@@ -1,6 +1,6 @@
 -- Request P6: what each call leaves of the marks. "clear on writing, set by a sync call, set on reopening; an empty record has it clear".
-use Rattle.std.specs.Prelude.{◌≡◌, ◌⊎◌, ◌<◌, ◌≤◌}
-use Rattle.rules.specs.Base.{ℕ, ◌+◌, ◌-◌}
+use Rattle.std.specs.Prelude.{◌≡◌, ◌⊎◌, ◌<◌, ◌≤◌, ◌+◌, ◌-◌}
+use Rattle.rules.specs.Base.{ℕ}
 use Rattle.rules.specs.Refusal.{after}
 use Rattle.rules.specs.FileMap.{empty_label, record_at}
 use Rattle.rules.specs.Write.{written}

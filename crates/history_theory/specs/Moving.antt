@@ -1,6 +1,6 @@
 -- What maintenance finds in a group is current: an object or a delete at its id's location is what the engine says of it.
-use Rattle.std.specs.Prelude.{◌≡◌, ◌<◌, ◌≤◌}
-use Rattle.rules.specs.Base.{List, ℕ, ◌-◌, ◌^◌, length, drop, each}
+use Rattle.std.specs.Prelude.{◌≡◌, ◌<◌, ◌≤◌, ◌-◌, ◌^◌}
+use Rattle.rules.specs.Base.{List, ℕ, length, drop, each}
 use Rattle.rules.specs.Object.{Stored, stored_at}
 use Rattle.rules.specs.Ops.{Op}
 use Rattle.rules.specs.SettledLaws.{last}

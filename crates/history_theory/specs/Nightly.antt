@@ -1,5 +1,6 @@
 -- Request P7: "the nightly job becomes plan, rewrite 1, 2, 3, then prune, stopping at the first call refused"; so demand 3 holds of the job as of its calls.
-use Rattle.rules.specs.Base.{List, [], ◌∷◌, ℕ, ◌+◌, get_or, eqb, pick}
+use Rattle.std.specs.Prelude.{◌∷◌, ◌+◌}
+use Rattle.rules.specs.Base.{List, [], ℕ, get_or, eqb, pick}
 use Rattle.rules.specs.Refusal.{◌gives◌, after}
 use Rattle.rules.specs.TwoCalls.{mark_of, count_of}
 use Rattle.rules.specs.World.{World, Given, accepted, refused, After, leaving}

@@ -1,6 +1,6 @@
 -- A read on a store of the invariant gives what the plain engine says.
-use Rattle.std.specs.Prelude.{◌≡◌, ◌≤◌}
-use Rattle.rules.specs.Base.{List, ℕ, ◌+◌, ◌-◌, ◌*◌, length, take, drop}
+use Rattle.std.specs.Prelude.{◌≡◌, ◌≤◌, ◌+◌, ◌-◌, ◌*◌}
+use Rattle.rules.specs.Base.{List, ℕ, length, take, drop}
 use Rattle.theory.specs.Types.{ReadAnswer, Found, Deleted, NeverWritten}
 use Rattle.rules.specs.Refusal.{after, NoneHolds}
 use Rattle.rules.specs.Object.{Stored, stored_at}

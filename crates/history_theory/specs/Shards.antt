@@ -1,6 +1,6 @@
 -- The files that come out of a group: each is a selection of what is moved, in order, and not empty.
-use Rattle.std.specs.Prelude.{◌<◌}
-use Rattle.rules.specs.Base.{List, [], ◌∷◌, length}
+use Rattle.std.specs.Prelude.{◌<◌, ◌∷◌}
+use Rattle.rules.specs.Base.{List, [], length}
 use Rattle.rules.specs.BaseLaws.{All}
 use Rattle.rules.specs.Ops.{Op}
 use Rattle.rules.specs.Maintenance.{Shard, Split}

@@ -1,5 +1,6 @@
 -- Request P6: a sync of the state's own records, all of them or some.
-use Rattle.rules.specs.Base.{Bool, List, [], ◌∷◌, ◌++◌, ℕ, take, drop, any, pick}
+use Rattle.std.specs.Prelude.{◌∷◌, ◌++◌}
+use Rattle.rules.specs.Base.{Bool, List, [], ℕ, take, drop, any, pick}
 use Rattle.theory.specs.Types.{Record, Limits, Done, Refused}
 use Rattle.rules.specs.Refusal.{after}
 use Rattle.rules.specs.World.{World, records_of, state_with, accepted, refused}

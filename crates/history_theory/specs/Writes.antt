@@ -1,6 +1,6 @@
 -- Calls in a reader's words: where the file of an accepted write stands, what is read and reopened after it; that every other call leaves reads as they were; that refused calls change nothing.
-use Rattle.std.specs.Prelude.{◌≡◌, ◌<◌}
-use Rattle.rules.specs.Base.{List, [], ℕ, ◌^◌, length}
+use Rattle.std.specs.Prelude.{◌≡◌, ◌<◌, ◌^◌}
+use Rattle.rules.specs.Base.{List, [], ℕ, length}
 use Rattle.theory.specs.Types.{Refusal, ReadAnswer, Found, Deleted, NeverWritten, ReadRefused}
 use Rattle.rules.specs.Refusal.{◌gives◌}
 use Rattle.rules.specs.Ops.{put, delete}

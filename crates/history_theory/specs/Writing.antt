@@ -1,5 +1,6 @@
 -- A write on a store of the invariant: refused, nothing changes; accepted, the engine hears the batch.
-use Rattle.rules.specs.Base.{List, ◌++◌, ℕ, eqb, pick}
+use Rattle.std.specs.Prelude.{◌++◌}
+use Rattle.rules.specs.Base.{List, ℕ, eqb, pick}
 use Rattle.rules.specs.Refusal.{after}
 use Rattle.rules.specs.Ops.{Op}
 use Rattle.rules.specs.SettledLaws.{last, last_on}

@@ -1,7 +1,7 @@
 -- "Each id takes its new location": a trailer's entries stored into the table.
-use Rattle.std.specs.Prelude.{◌≡◌, refl, ◌<◌, ◌≤◌}
+use Rattle.std.specs.Prelude.{◌≡◌, refl, ◌<◌, ◌≤◌, ◌+◌, ◌*◌, ◌^◌}
 use Rattle.std.proofs.Math.Path.{ap}
-use Rattle.rules.specs.Base.{false, List, map, ℕ, ◌+◌, ◌*◌, ◌^◌, length, get_or, take, drop}
+use Rattle.rules.specs.Base.{false, List, map, ℕ, length, get_or, take, drop}
 use Rattle.std.proofs.Common.{arith}
 use Rattle.disk_location.specs.Locations.{position_of}
 use Rattle.rules.specs.declared.Entry.{Entry}

@@ -1,7 +1,7 @@
 -- What a call knows of lengths, records and table once 1 does not refuse it, in the form that the functions below the calls ask for.
-use Rattle.std.specs.Prelude.{◌≡◌, refl, ◌≤◌}
+use Rattle.std.specs.Prelude.{◌≡◌, refl, ◌≤◌, ◌&&◌, ◌||◌}
 use Rattle.std.proofs.Common.{⊎_elim, zero-le, arith}
-use Rattle.rules.specs.Base.{Bool, true, false, not, ◌&&◌, ◌||◌, List, ℕ, eqb, within}
+use Rattle.rules.specs.Base.{Bool, true, false, not, List, ℕ, eqb, within}
 use Rattle.rules.proofs.BaseLaws.{within-holds}
 use Rattle.rules.specs.declared.Settings.{Settings}
 use Rattle.rules.specs.declared.Record.{Record}

@@ -1,8 +1,8 @@
 -- The words of the table, its places and the used entries in them.
-use Rattle.std.specs.Prelude.{◌≡◌, ◌⊎◌, ◌<◌, ◌≤◌}
+use Rattle.std.specs.Prelude.{◌≡◌, ◌⊎◌, ◌<◌, ◌≤◌, ◌&&◌, ◌∷◌, ◌++◌, ◌+◌, ◌-◌, ◌*◌}
 use Rattle.std.proofs.Math.Path.{refl, ap, ap₂}
 use Rattle.std.proofs.Common.{sym, ◌∙◌, inl, inr, le_of_suc-le-suc, not-suc-le-zero, length-append, length-set}
-use Rattle.rules.specs.Base.{true, ◌&&◌, List, [], ◌∷◌, ◌++◌, map, ℕ, zero, suc, ◌+◌, ◌-◌, ◌*◌, length, get_or, set, replicate, padded}
+use Rattle.rules.specs.Base.{true, List, [], map, ℕ, zero, suc, length, get_or, set, replicate, padded}
 use Rattle.std.proofs.Math.Nat.{sub-zero, suc-sub-suc}
 use native.Mathlib.Omega.{arith}
 use Rattle.std.proofs.lemmas.List.{length-map}

@@ -1,5 +1,6 @@
 -- Where an id stands in the used entries: what a search answers, whichever way it goes.
-use Rattle.rules.specs.Base.{List, [], ◌∷◌, ℕ, suc, ltb, eqb, pick}
+use Rattle.std.specs.Prelude.{◌∷◌}
+use Rattle.rules.specs.Base.{List, [], ℕ, suc, ltb, eqb, pick}
 use Rattle.rules.specs.declared.Entry.{Entry}
 use Rattle.location_table.specs.declared.Place.{Place}
 use Rattle.location_table.specs.declared.Place.TheVariants.{Found, Gap}

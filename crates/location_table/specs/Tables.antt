@@ -1,6 +1,6 @@
 -- The table, and what the functions below the four calls do to it.
-use Rattle.std.specs.Prelude.{◌≡◌}
-use Rattle.rules.specs.Base.{Bool, true, not, List, ◌∷◌, ◌++◌, ℕ, zero, suc, ◌+◌, ◌-◌, ◌*◌, ◌%◌, length, get_or, set, take, drop, pick}
+use Rattle.std.specs.Prelude.{◌≡◌, ◌∷◌, ◌++◌, ◌+◌, ◌-◌, ◌*◌, ◌%◌}
+use Rattle.rules.specs.Base.{Bool, true, not, List, ℕ, zero, suc, length, get_or, set, take, drop, pick}
 use Rattle.rules.specs.Layout.{Table, table_ids, table_locations, in_form, capacity_of, used_entries}
 use Rattle.rules.specs.Table.{full}
 use Rattle.rules.specs.World.{Given}

@@ -1,8 +1,8 @@
 -- There are never more lines than slots, and each names a slot of the heap.
-use Rattle.std.specs.Prelude.{◌≡◌, refl, Bool, true, false, ◌≤◌, ◌<◌}
+use Rattle.std.specs.Prelude.{◌≡◌, refl, Bool, true, false, ◌≤◌, ◌<◌, ◌∷◌, ◌++◌, ◌+◌}
 use Rattle.std.proofs.Common.{ap, ◌∙◌, take_all, zero-le, arith, length-append}
 use Rattle.std.proofs.lemmas.List.{length-map}
-use Rattle.rules.specs.Base.{List, [], ◌∷◌, ◌++◌, map, ℕ, suc, ◌+◌, length, take, leb, ltb, pick}
+use Rattle.rules.specs.Base.{List, [], map, ℕ, suc, length, take, leb, ltb, pick}
 use Rattle.rules.specs.BaseLaws.{All}
 use Rattle.rules.proofs.BaseLaws.{all_map, all_append}
 use Rattle.rules.specs.Settings.{slots_in}

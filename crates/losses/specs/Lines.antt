@@ -1,9 +1,9 @@
 -- Lines told one behind the other, each into its two words of the lent report, and the slots that they name.
-use Rattle.std.specs.Prelude.{◌≡◌, refl, ◌≤◌}
+use Rattle.std.specs.Prelude.{◌≡◌, refl, ◌≤◌, ◌∷◌, ◌++◌, ◌+◌, ◌*◌}
 use Rattle.std.proofs.Math.Path.{sym}
 use Rattle.std.proofs.Common.{ap, ap₂, ◌∙◌, subst, arith, add-zero, zero-add, length-append, length-set}
 use Rattle.numbers.specs.Parts.{front, put_at, put_front, put-none, put_step, put-put}
-use Rattle.rules.specs.Base.{List, [], ◌∷◌, ◌++◌, map, ℕ, zero, suc, ◌+◌, ◌*◌, length, get_or, drop, set, each}
+use Rattle.rules.specs.Base.{List, [], map, ℕ, zero, suc, length, get_or, drop, set, each}
 use Rattle.rules.specs.BaseLaws.{All}
 use Rattle.rules.proofs.BaseLaws.{each_append}
 use Rattle.rules.specs.SlotFile.{View, empty, damaged, holds}

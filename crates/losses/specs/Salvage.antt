@@ -1,5 +1,6 @@
 -- Request P9, "Rescue a damaged heap": the slots that a salvage gives up, in the order emptied, and the heap that it leaves.
-use Rattle.rules.specs.Base.{List, [], ◌∷◌, ◌++◌, map, ℕ, suc, ◌+◌, length, leb, ltb, pick, each}
+use Rattle.std.specs.Prelude.{◌∷◌, ◌++◌, ◌+◌}
+use Rattle.rules.specs.Base.{List, [], map, ℕ, suc, length, leb, ltb, pick, each}
 use Rattle.losses.specs.Types.{Settings, Label, Refusal, Limits, Overlap, Loss}
 use Rattle.numbers.specs.Parts.{front}
 use Rattle.disk_location.specs.Locations.{masked_of}

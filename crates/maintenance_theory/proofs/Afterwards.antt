@@ -1,8 +1,8 @@
 -- C: where the ids of a rewritten group are after the group and after the call, and what is left of its files.
-use Rattle.std.specs.Prelude.{◌≡◌, refl, ◌⊎◌, ◌<◌, ◌≤◌}
+use Rattle.std.specs.Prelude.{◌≡◌, refl, ◌⊎◌, ◌<◌, ◌≤◌, ◌∷◌, ◌^◌}
 use Rattle.std.proofs.Common.{sym, ◌∙◌, true≢false, inl, inr, ⊎_elim, arith, ne_eqb, ltb-false, le-ltb}
 use Rattle.std.proofs.Math.Path.{ap, subst}
-use Rattle.rules.specs.Base.{Bool, true, false, List, [], ◌∷◌, ℕ, zero, suc, ◌^◌, length, ltb, pick, keep}
+use Rattle.rules.specs.Base.{Bool, true, false, List, [], ℕ, zero, suc, length, ltb, pick, keep}
 use Rattle.theory.specs.Types.{Record, Settings, Claims, Refusal, Done, Moved, Mapped, Is}
 use Rattle.rules.specs.BaseLaws.{All, Some}
 use Rattle.rules.proofs.BaseLaws.{all_map, same?, order}

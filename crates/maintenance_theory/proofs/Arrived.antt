@@ -1,11 +1,11 @@
 -- C: every id that a rewritten group moves is in a new file of the group's generation, in a slot that was empty; the group's own files have no live entry
 -- left, and on success their slots are empty.
-use Rattle.std.specs.Prelude.{◌≡◌, refl, ◌⊎◌, ◌<◌, ◌≤◌}
+use Rattle.std.specs.Prelude.{◌≡◌, refl, ◌⊎◌, ◌<◌, ◌≤◌, ◌∷◌, ◌+◌, ◌*◌, ◌^◌}
 use Rattle.std.proofs.Common.{sym, ◌∙◌, true≢false, inl, inr, get_or-set_other}
 use Rattle.std.proofs.Math.Path.{ap, subst}
 use native.Mathlib.Omega.{arith}
 use Rattle.std.proofs.Math.Seq.{get_or-set_same}
-use Rattle.rules.specs.Base.{true, List, [], ◌∷◌, ℕ, ◌+◌, ◌*◌, ◌^◌, length, any, sum}
+use Rattle.rules.specs.Base.{true, List, [], ℕ, length, any, sum}
 use Rattle.theory.specs.Types.{Record, Settings, Held}
 use Rattle.rules.specs.BaseLaws.{All, Some}
 use Rattle.rules.proofs.BaseLaws.{any-true, same?}

@@ -1,8 +1,8 @@
 -- On a store of the invariant a file of a group is refused with 3 only, where an object of it is of max_object_size or more.
-use Rattle.std.specs.Prelude.{◌≡◌, refl, ◌⊎◌, ◌<◌}
+use Rattle.std.specs.Prelude.{◌≡◌, refl, ◌⊎◌, ◌<◌, ◌∷◌, ◌++◌, ◌+◌, ◌*◌, ◌^◌}
 use Rattle.std.proofs.Common.{sym, ◌∙◌, subst, true≢false, inl, inr, arith}
 use Rattle.std.proofs.lemmas.Bool.{lt-leb}
-use Rattle.rules.specs.Base.{Bool, true, false, List, [], ◌∷◌, ◌++◌, ℕ, ◌+◌, ◌*◌, ◌^◌, leb, any, keep, pick, each}
+use Rattle.rules.specs.Base.{Bool, true, false, List, [], ℕ, leb, any, keep, pick, each}
 use Rattle.theory.specs.Types.{Entry, Record, Refusal, ObjectSize, Refused, Held, Mapped, Unmapped}
 use Rattle.disk_location.specs.Locations.{masked_of, position_of, delete_of, raw_of}
 use Rattle.rules.specs.BaseLaws.{All}

@@ -1,8 +1,8 @@
 -- What a group moves comes out in its files: no operation is lost between the shards.
-use Rattle.std.specs.Prelude.{◌≡◌, refl, ◌⊎◌, ◌<◌}
+use Rattle.std.specs.Prelude.{◌≡◌, refl, ◌⊎◌, ◌<◌, ◌∷◌, ◌++◌}
 use Rattle.std.proofs.Common.{sym, ◌∙◌, true≢false, inl, inr, ⊎_elim, arith, length-set}
 use Rattle.std.proofs.lemmas.List.{length-replicate}
-use Rattle.rules.specs.Base.{Bool, true, false, List, [], ◌∷◌, ◌++◌, map, ℕ, zero, suc, length, get_or, set, replicate, ltb, pick, keep}
+use Rattle.rules.specs.Base.{Bool, true, false, List, [], map, ℕ, zero, suc, length, get_or, set, replicate, ltb, pick, keep}
 use Rattle.rules.specs.BaseLaws.{Some}
 use Rattle.rules.proofs.BaseLaws.{same?, or-holds}
 use Rattle.rules.specs.Ops.{Op, shard_for}

@@ -1,9 +1,9 @@
 -- C: what maintenance moves are exactly the ids whose current location is in a file of a rewritten group; the count is their number.
-use Rattle.std.specs.Prelude.{◌≡◌, ◌⊎◌, ◌<◌, ◌≤◌}
+use Rattle.std.specs.Prelude.{◌≡◌, ◌⊎◌, ◌<◌, ◌≤◌, ◌&&◌, ◌∷◌, ◌++◌, ◌+◌, ◌^◌}
 use Rattle.std.proofs.Math.Path.{refl, sym, ap}
 use Rattle.std.proofs.Common.{◌∙◌, subst, true≢false, inl, inr, ⊎_elim, arith}
 use borrow.Author.Tests.{eqb-true, eq-eqb}
-use Rattle.rules.specs.Base.{Bool, true, false, not, ◌&&◌, List, [], ◌∷◌, ◌++◌, ℕ, ◌+◌, ◌^◌, length, ltb, pick, any, keep, each, sum}
+use Rattle.rules.specs.Base.{Bool, true, false, not, List, [], ℕ, length, ltb, pick, any, keep, each, sum}
 use Rattle.theory.specs.Types.{Entry, Record, Refusal, Answer, Done, Refused, Moved, Stopped, Held, Mapped, Unmapped, Slot, Is, NoSlot}
 use Rattle.rules.specs.BaseLaws.{All}
 use Rattle.rules.proofs.BaseLaws.{all_map, or-true, or-holds}

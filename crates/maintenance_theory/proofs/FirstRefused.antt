@@ -1,9 +1,9 @@
 -- C exactly: maintenance stops at the first generation that is due and refused, with 3 for an object that is too large, else with 4, 5 or 7 by its new
 -- files, the empty slots and the base; and it keeps only the generations before it.
-use Rattle.std.specs.Prelude.{◌≡◌, ◌⊎◌, ◌<◌}
+use Rattle.std.specs.Prelude.{◌≡◌, ◌⊎◌, ◌<◌, ◌∷◌, ◌++◌}
 use Rattle.std.proofs.Math.Path.{refl}
 use Rattle.std.proofs.Common.{sym, ap, ◌∙◌, subst, true≢false, inl, inr, ⊎_elim, arith, ltb-true, ltb-false, le-ltb}
-use Rattle.rules.specs.Base.{Bool, true, false, List, [], ◌∷◌, ◌++◌, ℕ, suc, length, ltb, pick, keep, sum}
+use Rattle.rules.specs.Base.{Bool, true, false, List, [], ℕ, suc, length, ltb, pick, keep, sum}
 use Rattle.theory.specs.Types.{Settings, Refusal, ObjectSize, Answer, Done, Refused, Moved, Stopped}
 use Rattle.rules.proofs.Answers.{maintain-one}
 use Rattle.rules.specs.BaseLaws.{All}

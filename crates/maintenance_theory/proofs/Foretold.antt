@@ -1,11 +1,11 @@
 -- P7: what the plan says is what then happens. On a store of the invariant, with nothing between, the nightly job takes the groups that the plan gives, is
 -- refused where and with what the plan foretells, and adds the files, bytes and positions that it foretells.
-use Rattle.std.specs.Prelude.{◌≡◌, ◌⊎◌, ◌≤◌}
+use Rattle.std.specs.Prelude.{◌≡◌, ◌⊎◌, ◌≤◌, ◌∷◌, ◌++◌, ◌+◌, ◌-◌}
 use Rattle.std.proofs.Math.Path.{refl, sym, ap, subst}
 use Rattle.std.proofs.Common.{◌∙◌, inl, inr, ⊎_elim}
 use native.Mathlib.Omega.{arith}
 use borrow.Author.Tests.{ltb-true, le-ltb}
-use Rattle.rules.specs.Base.{Bool, true, false, List, [], ◌∷◌, ◌++◌, ℕ, ◌+◌, ◌-◌, length, ltb, pick, keep, sum}
+use Rattle.rules.specs.Base.{Bool, true, false, List, [], ℕ, length, ltb, pick, keep, sum}
 use Rattle.theory.specs.Types.{Settings, Refusal, ObjectSize, Answer, Done, Refused}
 use Rattle.rules.specs.BaseLaws.{All}
 use Rattle.rules.specs.Refusal.{Test, decide, after}

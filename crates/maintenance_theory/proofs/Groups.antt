@@ -1,9 +1,9 @@
 -- Which slots a group has, said of each slot's file; and when two groups are the same.
-use Rattle.std.specs.Prelude.{◌≡◌, refl, ◌<◌}
+use Rattle.std.specs.Prelude.{◌≡◌, refl, ◌<◌, ◌∷◌, ◌+◌}
 use Rattle.std.proofs.Common.{sym, ap, ◌∙◌, subst, true≢false, ⊎_elim, zero-add, arith, eqb-true, eq-eqb}
 use Rattle.std.proofs.Math.ListN.{get_or-eq_default}
 use Rattle.numbers.specs.GroupLaws.{either_way}
-use Rattle.rules.specs.Base.{Bool, true, false, List, [], ◌∷◌, ℕ, suc, ◌+◌, length, pick}
+use Rattle.rules.specs.Base.{Bool, true, false, List, [], ℕ, suc, length, pick}
 use Rattle.theory.specs.Types.{Record}
 use Rattle.rules.proofs.BaseLaws.{and-true, and-holds}
 use Rattle.rules.specs.FileMap.{empty_record, is_empty, record_at, slots_where}

@@ -1,9 +1,9 @@
 -- The ids that a group moves are those mapped into its files: as many as the files' live counts say.
-use Rattle.std.specs.Prelude.{◌≡◌, ◌<◌, ◌≤◌}
+use Rattle.std.specs.Prelude.{◌≡◌, ◌<◌, ◌≤◌, ◌&&◌, ◌||◌, ◌∷◌, ◌++◌, ◌+◌, ◌*◌, ◌%◌}
 use Rattle.std.proofs.Math.Path.{refl, sym, ap}
 use Rattle.std.proofs.Common.{◌∙◌, subst, true≢false, inl, inr, arith}
 use borrow.Author.Tests.{le-leb, lt-leb, leb-true, eq-eqb, eqb-false}
-use Rattle.rules.specs.Base.{Bool, true, false, ◌&&◌, ◌||◌, List, [], ◌∷◌, ◌++◌, map, ℕ, ◌+◌, ◌*◌, ◌%◌, length, leb, pick, any, keep, each, sum}
+use Rattle.rules.specs.Base.{Bool, true, false, List, [], map, ℕ, length, leb, pick, any, keep, each, sum}
 use Rattle.theory.specs.Types.{Entry, Record, Held, Mapped, Unmapped}
 use Rattle.disk_location.specs.Locations.{masked_of, position_of, delete_of, raw_of}
 use Rattle.disk_location.proofs.LocationLaws.{masked_plain}

@@ -1,7 +1,7 @@
 -- While a group is rewritten every other generation's group stays, by a mark that is not above the next position.
-use Rattle.std.specs.Prelude.{◌≡◌, refl, ◌⊎◌, ◌<◌, ◌≤◌}
+use Rattle.std.specs.Prelude.{◌≡◌, refl, ◌⊎◌, ◌<◌, ◌≤◌, ◌∷◌, ◌++◌, ◌+◌, ◌^◌}
 use Rattle.std.proofs.Common.{sym, ap, ◌∙◌, subst, inl, inr, ⊎_elim, add-zero, arith, get_or-set_same, get_or-set_other}
-use Rattle.rules.specs.Base.{false, List, [], ◌∷◌, ◌++◌, ℕ, ◌+◌, ◌^◌, length, sum}
+use Rattle.rules.specs.Base.{false, List, [], ℕ, length, sum}
 use Rattle.theory.specs.Types.{Label, Record, Settings, Claims, Refusal, Answer, Done, Refused}
 use Rattle.disk_location.specs.Locations.{masked_of}
 use Rattle.disk_location.proofs.LocationLaws.{masked_plain}

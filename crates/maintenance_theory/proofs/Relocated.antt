@@ -1,11 +1,11 @@
 -- While a group is rewritten an id keeps its location, in the same file; or it is one that the group moves, and then it is mapped into a slot
 -- that was empty.
-use Rattle.std.specs.Prelude.{◌≡◌, ◌⊎◌, ◌<◌, ◌≤◌}
+use Rattle.std.specs.Prelude.{◌≡◌, ◌⊎◌, ◌<◌, ◌≤◌, ◌||◌, ◌∷◌, ◌++◌, ◌+◌, ◌^◌}
 use Rattle.std.proofs.Math.Path.{refl, ap}
 use Rattle.std.proofs.Common.{sym, ◌∙◌, subst, true≢false, ⊎_elim}
 use Rattle.std.proofs.Math.Logic.{inl, inr}
 use native.Mathlib.Omega.{arith}
-use Rattle.rules.specs.Base.{true, ◌||◌, List, [], ◌∷◌, ◌++◌, ℕ, ◌+◌, ◌^◌, length, any, sum}
+use Rattle.rules.specs.Base.{true, List, [], ℕ, length, any, sum}
 use Rattle.theory.specs.Types.{Settings, Refusal, Answer, Done, Refused, Held, Mapped, Unmapped, Is}
 use Rattle.rules.specs.BaseLaws.{All}
 use Rattle.rules.proofs.BaseLaws.{all_map, same?, or-true, or-holds}

@@ -1,7 +1,7 @@
 -- C: what a rewrite of one generation answers and moves, by any mark and any count.
-use Rattle.std.specs.Prelude.{◌≡◌, refl, ◌⊎◌, ◌<◌, ◌≤◌}
+use Rattle.std.specs.Prelude.{◌≡◌, refl, ◌⊎◌, ◌<◌, ◌≤◌, ◌∷◌, ◌++◌}
 use Rattle.std.proofs.Common.{sym, ap, ◌∙◌, subst, inl, inr, ⊎_elim, zero-add, arith, le-ltb}
-use Rattle.rules.specs.Base.{Bool, true, false, not, List, [], ◌∷◌, ◌++◌, ℕ, length, pick}
+use Rattle.rules.specs.Base.{Bool, true, false, not, List, [], ℕ, length, pick}
 use Rattle.theory.specs.Types.{Record, Refusal, ObjectSize, Answer, Done, Refused}
 use Rattle.rules.specs.BaseLaws.{All}
 use Rattle.rules.proofs.BaseLaws.{or-clear}

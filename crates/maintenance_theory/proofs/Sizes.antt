@@ -1,9 +1,9 @@
 -- 3 refuses a group exactly where an object of its files is of max_object_size or more.
-use Rattle.std.specs.Prelude.{◌≡◌, refl, ◌⊎◌, ◌<◌}
+use Rattle.std.specs.Prelude.{◌≡◌, refl, ◌⊎◌, ◌<◌, ◌∷◌, ◌++◌}
 use Rattle.std.proofs.Math.Path.{sym, subst}
 use Rattle.std.proofs.Common.{ap, ◌∙◌, inl, inr, ⊎_elim}
 use Rattle.std.proofs.Math.Bool.{true≢false}
-use Rattle.rules.specs.Base.{true, false, List, [], ◌∷◌, ◌++◌, ℕ, leb, any, each}
+use Rattle.rules.specs.Base.{true, false, List, [], ℕ, leb, any, each}
 use Rattle.theory.specs.Types.{Entry, Record, Settings, ObjectSize, Refused}
 use Rattle.rules.specs.BaseLaws.{All}
 use Rattle.rules.proofs.BaseLaws.{or-clear}

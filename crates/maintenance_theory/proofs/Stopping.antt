@@ -1,7 +1,7 @@
 -- On a store of the invariant a group is rewritten or refused with 4, 5 or 7, or with 3 where an object of it is too large; and files stay.
-use Rattle.std.specs.Prelude.{◌≡◌, refl, ◌⊎◌, ◌<◌, ◌≤◌}
+use Rattle.std.specs.Prelude.{◌≡◌, refl, ◌⊎◌, ◌<◌, ◌≤◌, ◌∷◌, ◌++◌, ◌+◌, ◌^◌}
 use Rattle.std.proofs.Common.{sym, ap, ◌∙◌, subst, inl, inr, arith, get_or-set_other}
-use Rattle.rules.specs.Base.{Bool, true, false, List, [], ◌∷◌, ◌++◌, ℕ, ◌+◌, ◌^◌, length, ltb, leb, pick, any}
+use Rattle.rules.specs.Base.{Bool, true, false, List, [], ℕ, length, ltb, leb, pick, any}
 use Rattle.theory.specs.Types.{Record, Settings, Refusal, ObjectSize, SlotRoom, NoEmptySlot, PositionsSpent, Answer, Done, Refused}
 use Rattle.rules.specs.BaseLaws.{All}
 use Rattle.rules.proofs.BaseLaws.{all_map}

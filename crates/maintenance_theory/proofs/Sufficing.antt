@@ -1,7 +1,7 @@
 -- N: no store refuses maintenance for nothing: where there is room for all new files it succeeds.
-use Rattle.std.specs.Prelude.{◌≡◌, refl, ◌≤◌}
+use Rattle.std.specs.Prelude.{◌≡◌, refl, ◌≤◌, ◌∷◌, ◌+◌}
 use Rattle.std.proofs.Common.{sym, subst, inl, inr, arith, le-ltb}
-use Rattle.rules.specs.Base.{Bool, true, false, List, [], ◌∷◌, ℕ, ◌+◌, length, ltb, pick, keep, sum}
+use Rattle.rules.specs.Base.{Bool, true, false, List, [], ℕ, length, ltb, pick, keep, sum}
 use Rattle.theory.specs.Types.{Settings, Moved}
 use Rattle.rules.specs.BaseLaws.{All}
 use Rattle.rules.specs.Ops.{Op, file_bytes}

@@ -1,7 +1,7 @@
 -- Counting ids: a settled list against a table, and the ids in some files' ranges file by file.
-use Rattle.std.specs.Prelude.{◌≡◌, refl, ◌⊎◌, ◌<◌}
+use Rattle.std.specs.Prelude.{◌≡◌, refl, ◌⊎◌, ◌<◌, ◌||◌, ◌∷◌, ◌++◌, ◌+◌}
 use Rattle.std.proofs.Common.{sym, ap, ◌∙◌, true≢false, inl, inr, arith, eq-eqb, ne_eqb}
-use Rattle.rules.specs.Base.{Bool, true, false, ◌||◌, List, [], ◌∷◌, ◌++◌, ℕ, suc, ◌+◌, length, pick, any, keep, sum}
+use Rattle.rules.specs.Base.{Bool, true, false, List, [], ℕ, suc, length, pick, any, keep, sum}
 use Rattle.theory.specs.Types.{Entry}
 use Rattle.disk_location.specs.Locations.{bit_of}
 use Rattle.rules.specs.BaseLaws.{All}

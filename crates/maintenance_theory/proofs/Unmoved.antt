@@ -1,11 +1,11 @@
 -- A file outside a group keeps its record while the group is rewritten.
-use Rattle.std.specs.Prelude.{◌≡◌, ◌<◌, ◌≤◌}
+use Rattle.std.specs.Prelude.{◌≡◌, ◌<◌, ◌≤◌, ◌∷◌, ◌+◌, ◌-◌, ◌^◌}
 use Rattle.std.proofs.Math.Path.{refl, sym, ap}
 use Rattle.std.proofs.Common.{◌∙◌, subst}
 use Rattle.std.proofs.Math.Nat.{sub-zero}
 use native.Mathlib.Omega.{arith}
 use Rattle.std.proofs.Math.Seq.{get_or-set_other}
-use Rattle.rules.specs.Base.{Bool, false, List, [], ◌∷◌, ℕ, ◌+◌, ◌-◌, ◌^◌, length, sum}
+use Rattle.rules.specs.Base.{Bool, false, List, [], ℕ, length, sum}
 use Rattle.theory.specs.Types.{Entry, Record, Settings, Held, Mapped, Unmapped}
 use Rattle.disk_location.specs.Locations.{bit_of}
 use Rattle.rules.specs.BaseLaws.{All}

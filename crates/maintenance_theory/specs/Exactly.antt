@@ -1,6 +1,6 @@
 -- C: what maintenance moves are exactly the ids whose current location is in a file of a rewritten group; the count is their number.
-use Rattle.std.specs.Prelude.{◌≡◌, ◌⊎◌}
-use Rattle.rules.specs.Base.{Bool, true, false, not, ◌&&◌, List, [], ◌∷◌, ℕ, length, ltb, pick, any, keep, each, sum}
+use Rattle.std.specs.Prelude.{◌≡◌, ◌⊎◌, ◌&&◌, ◌∷◌}
+use Rattle.rules.specs.Base.{Bool, true, false, not, List, [], ℕ, length, ltb, pick, any, keep, each, sum}
 use Rattle.theory.specs.Types.{Entry, Refusal, Moved, Stopped, Mapped, Is}
 use Rattle.rules.specs.BaseLaws.{All}
 use Rattle.rules.specs.Ops.{Op}

@@ -1,7 +1,7 @@
 -- C: maintenance answers the count of ids moved, the live counts of the finished groups' files as the call starts; or stops with 4, 5 or 7.
 use Rattle.std.proofs.Math.Path.{◌≡◌}
-use Rattle.std.specs.Prelude.{◌⊎◌}
-use Rattle.rules.specs.Base.{List, [], ◌∷◌, ◌++◌, ℕ, ◌+◌, length, ltb, pick, keep, sum}
+use Rattle.std.specs.Prelude.{◌⊎◌, ◌∷◌, ◌++◌, ◌+◌}
+use Rattle.rules.specs.Base.{List, [], ℕ, length, ltb, pick, keep, sum}
 use Rattle.theory.specs.Types.{Refusal, Moved, Stopped}
 use Rattle.rules.specs.BaseLaws.{All}
 use Rattle.rules.specs.FileMap.{record_at}

@@ -1,7 +1,7 @@
 -- C exactly: maintenance stops at the first generation that is due and refused, with 3 for an object that is too large, else with 4, 5 or 7 by its new
 -- files, the empty slots and the base; and it keeps only the generations before it.
-use Rattle.std.specs.Prelude.{◌≡◌, ◌⊎◌, ◌<◌, ◌≤◌}
-use Rattle.rules.specs.Base.{List, [], ◌∷◌, ℕ, length, ltb, pick, sum}
+use Rattle.std.specs.Prelude.{◌≡◌, ◌⊎◌, ◌<◌, ◌≤◌, ◌∷◌}
+use Rattle.rules.specs.Base.{List, [], ℕ, length, ltb, pick, sum}
 use Rattle.theory.specs.Types.{Refusal, ObjectSize, Moved, Stopped}
 use Rattle.rules.specs.Ops.{Op}
 use Rattle.rules.specs.FileMapLaws.{Among}

@@ -1,7 +1,7 @@
 -- P7: what the plan says is what then happens. On a store of the invariant, with nothing between, the nightly job takes the groups that the plan gives, is
 -- refused where and with what the plan foretells, and adds the files, bytes and positions that it foretells.
-use Rattle.std.specs.Prelude.{◌≡◌, ◌⊎◌, ◌<◌, ◌≤◌}
-use Rattle.rules.specs.Base.{true, List, [], ◌∷◌, ℕ, ◌+◌, ◌-◌, pick}
+use Rattle.std.specs.Prelude.{◌≡◌, ◌⊎◌, ◌<◌, ◌≤◌, ◌∷◌, ◌+◌, ◌-◌}
+use Rattle.rules.specs.Base.{true, List, [], ℕ, pick}
 use Rattle.theory.specs.Types.{Moved, Stopped}
 use Rattle.rules.specs.Refusal.{after}
 use Rattle.rules.specs.FileMapLaws.{Among}

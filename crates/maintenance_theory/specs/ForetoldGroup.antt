@@ -1,6 +1,6 @@
 -- P7: what a group of files takes and adds, on a store of the invariant: an empty slot, a file and its bytes for each, and its positions.
-use Rattle.std.specs.Prelude.{◌≡◌, ◌<◌}
-use Rattle.rules.specs.Base.{List, ℕ, ◌+◌, length, sum}
+use Rattle.std.specs.Prelude.{◌≡◌, ◌<◌, ◌+◌}
+use Rattle.rules.specs.Base.{List, ℕ, length, sum}
 use Rattle.theory.specs.Types.{Record}
 use Rattle.rules.specs.Ops.{Op, file_bytes}
 use Rattle.rules.specs.SlotFile.{empty}

@@ -1,6 +1,6 @@
 -- Which slots a group has, said of each slot's file; and when two groups are the same.
-use Rattle.std.specs.Prelude.{◌≡◌}
-use Rattle.rules.specs.Base.{Bool, ◌&&◌, ℕ, eqb}
+use Rattle.std.specs.Prelude.{◌≡◌, ◌&&◌}
+use Rattle.rules.specs.Base.{Bool, ℕ, eqb}
 use Rattle.theory.specs.Types.{Record}
 use Rattle.rules.specs.FileMap.{record_at}
 use Rattle.rules.specs.Maintenance.{is_candidate, new_generation}

@@ -1,6 +1,6 @@
 -- C: what a rewrite of one generation answers and moves, by any mark and any count.
-use Rattle.std.specs.Prelude.{◌≡◌, ◌⊎◌, ◌<◌}
-use Rattle.rules.specs.Base.{true, false, not, List, [], ◌∷◌, ℕ, length, pick, sum}
+use Rattle.std.specs.Prelude.{◌≡◌, ◌⊎◌, ◌<◌, ◌∷◌}
+use Rattle.rules.specs.Base.{true, false, not, List, [], ℕ, length, pick, sum}
 use Rattle.theory.specs.Types.{Refusal, ObjectSize}
 use Rattle.rules.specs.Ops.{Op}
 use Rattle.rules.specs.Table.{lookup}

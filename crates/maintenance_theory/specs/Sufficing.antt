@@ -1,6 +1,6 @@
 -- N: no store refuses maintenance for nothing: where there is room for all new files it succeeds.
-use Rattle.std.specs.Prelude.{◌≤◌}
-use Rattle.rules.specs.Base.{List, ℕ, ◌+◌, ◌^◌, length, ltb, pick, sum}
+use Rattle.std.specs.Prelude.{◌≤◌, ◌+◌, ◌^◌}
+use Rattle.rules.specs.Base.{List, ℕ, length, ltb, pick, sum}
 use Rattle.rules.specs.BaseLaws.{All}
 use Rattle.rules.specs.Ops.{Op, objects_of, file_bytes}
 use Rattle.rules.specs.FileMapLaws.{Among}

@@ -1,6 +1,6 @@
 -- Counting ids: a settled list against a table, and the ids in some files' ranges file by file.
-use Rattle.std.specs.Prelude.{◌≤◌}
-use Rattle.rules.specs.Base.{Bool, true, false, List, [], ◌∷◌, ℕ, suc}
+use Rattle.std.specs.Prelude.{◌≤◌, ◌∷◌}
+use Rattle.rules.specs.Base.{Bool, true, false, List, [], ℕ, suc}
 use Rattle.rules.specs.Ops.{Op}
 use Rattle.rules.specs.SettledLaws.{Last, silent, last, last_on}
 

@@ -1,6 +1,6 @@
 -- A file outside a group keeps its record while the group is rewritten.
-use Rattle.std.specs.Prelude.{◌≡◌}
-use Rattle.rules.specs.Base.{false, ℕ, ◌-◌}
+use Rattle.std.specs.Prelude.{◌≡◌, ◌-◌}
+use Rattle.rules.specs.Base.{false, ℕ}
 use Rattle.theory.specs.Types.{Mapped}
 use Rattle.rules.specs.Ops.{Op}
 use Rattle.rules.specs.Table.{lookup}

@@ -1,9 +1,9 @@
 -- The demands of lives of results: whatever the calls gave, as long as their contracts admit it.
 use Rattle.std.proofs.Math.Path.{◌≡◌, refl, ap}
 use Rattle.std.proofs.Common.{sym, ap₂, ◌∙◌, subst, append_assoc, append-nil, le-ltb}
-use Rattle.std.specs.Prelude.{◌<◌, ◌≤◌}
+use Rattle.std.specs.Prelude.{◌<◌, ◌≤◌, ◌||◌, ◌∷◌, ◌++◌}
 use native.Mathlib.Omega.{arith}
-use Rattle.rules.specs.Base.{Bool, true, false, not, ◌||◌, List, [], ◌∷◌, ◌++◌, map, ℕ, length, get_or, leb, eqb, any, pick, padded}
+use Rattle.rules.specs.Base.{Bool, true, false, not, List, [], map, ℕ, length, get_or, leb, eqb, any, pick, padded}
 use Rattle.rules.specs.declared.Answer.TheVariants.{Done}
 use Rattle.rules.specs.declared.ReadAnswer.{ReadAnswer}
 use Rattle.rules.specs.Refusal.{decide}

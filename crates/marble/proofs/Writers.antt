@@ -1,8 +1,8 @@
 -- Request P8 and the code: the contracts of the three writers of the heap, and what a call's writers leave where k stores may be made.
-use Rattle.std.specs.Prelude.{◌≡◌, refl, ◌≤◌}
+use Rattle.std.specs.Prelude.{◌≡◌, refl, ◌≤◌, ◌∷◌, ◌-◌}
 use Rattle.std.proofs.Common.{sym, ap, ◌∙◌, subst, take_all}
 use contract.Lifetimes.{Lfts}
-use Rattle.rules.specs.Base.{true, List, [], ◌∷◌, ℕ, ◌-◌, length, each, take}
+use Rattle.rules.specs.Base.{true, List, [], ℕ, length, each, take}
 use Rattle.rules.specs.declared.Label.{Label}
 use Rattle.rules.specs.declared.Claims.{Claims}
 use Rattle.rules.specs.declared.FileMap.{FileMap}

@@ -1,6 +1,7 @@
 -- The demands of lives of results: whatever the calls gave, as long as their contracts admit it.
 use Rattle.std.proofs.Math.Path.{◌≡◌}
-use Rattle.rules.specs.Base.{List, [], ◌∷◌, ◌++◌, map, ℕ, any}
+use Rattle.std.specs.Prelude.{◌∷◌, ◌++◌}
+use Rattle.rules.specs.Base.{List, [], map, ℕ, any}
 use Rattle.rules.specs.Ops.{Op, put, delete}
 use Rattle.rules.specs.SettledLaws.{Last, silent, last}
 use Rattle.rules.specs.World.{World, world}

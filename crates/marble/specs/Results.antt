@@ -1,6 +1,6 @@
 -- A store's life by what its calls gave: each result one that the contract of its call admits (`CallContracts`), and power cuts among them.
-use Rattle.std.specs.Prelude.{◌≡◌}
-use Rattle.rules.specs.Base.{List, [], ◌∷◌, ℕ}
+use Rattle.std.specs.Prelude.{◌≡◌, ◌∷◌}
+use Rattle.rules.specs.Base.{List, [], ℕ}
 use Rattle.rules.specs.declared.ReadAnswer.{ReadAnswer}
 use Rattle.rules.specs.declared.CountsAnswer.{CountsAnswer}
 use Rattle.rules.specs.declared.Record.{Record}

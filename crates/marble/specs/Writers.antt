@@ -1,6 +1,6 @@
 -- Request P8 and the code: the contracts of the three writers of the heap, and what a call's writers leave where k stores may be made.
-use Rattle.std.specs.Prelude.{◌≡◌}
-use Rattle.rules.specs.Base.{List, [], ◌∷◌, ℕ, ◌-◌}
+use Rattle.std.specs.Prelude.{◌≡◌, ◌∷◌, ◌-◌}
+use Rattle.rules.specs.Base.{List, [], ℕ}
 use Rattle.rules.specs.Stores.{made}
 use Rattle.stores.specs.Runs.{Made}
 use Rattle.batch_file.proofs.write_file.Reads as batch_file

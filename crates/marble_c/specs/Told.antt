@@ -1,9 +1,9 @@
 -- What number and out-parameters tell a host: the kind which of three answers a read or a load gave, and whose bytes those of a read through a batch are; a
 -- location 0 that none is held.
-use Rattle.std.specs.Prelude.{◌≡◌, refl, ◌≤◌, ◌<◌}
+use Rattle.std.specs.Prelude.{◌≡◌, refl, ◌≤◌, ◌<◌, ◌∷◌}
 use Rattle.std.proofs.Common.{subst, arith}
 use Rattle.std.proofs.lemmas.Bool.{eqb-false}
-use Rattle.rules.specs.Base.{Bool, true, false, List, [], ◌∷◌, ℕ, eqb, pick, padded}
+use Rattle.rules.specs.Base.{Bool, true, false, List, [], ℕ, eqb, pick, padded}
 use Rattle.rules.specs.declared.Slot.{Slot}
 use Rattle.rules.specs.declared.Slot.TheVariants.{Is, NoSlot}
 use Rattle.rules.specs.declared.Held.{Held}

@@ -1,7 +1,7 @@
 -- "Show that any two results it admits are equal", for each call of a host in C: number, out-parameters, words of state and claim record, buffers.
-use Rattle.std.specs.Prelude.{◌≡◌}
+use Rattle.std.specs.Prelude.{◌≡◌, ◌∷◌}
 use Rattle.std.proofs.Common.{sym, ap, ◌∙◌}
-use Rattle.rules.specs.Base.{List, [], ◌∷◌, ℕ, length, get_or, set}
+use Rattle.rules.specs.Base.{List, [], ℕ, length, get_or, set}
 use Rattle.rules.specs.declared.Settings.{Settings}
 use Rattle.rules.specs.declared.Claims.{Claims}
 use Rattle.rules.specs.declared.Record.{Record}

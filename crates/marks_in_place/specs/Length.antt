@@ -1,5 +1,6 @@
 -- What follows from a lent list's length.
-use Rattle.rules.specs.Base.{[], ◌∷◌, ℕ, ltb, pick}
+use Rattle.std.specs.Prelude.{◌∷◌}
+use Rattle.rules.specs.Base.{[], ℕ, ltb, pick}
 use Rattle.rules.specs.declared.Refusal.TheVariants.{Limits}
 use Rattle.rules.specs.Refusal.{◌gives◌, decide, after}
 use Rattle.rules.specs.World.{Given, accepted, refused}

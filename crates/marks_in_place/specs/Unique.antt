@@ -1,7 +1,7 @@
 -- One result.
-use Rattle.std.specs.Prelude.{◌≡◌}
+use Rattle.std.specs.Prelude.{◌≡◌, ◌∷◌}
 use Rattle.std.proofs.Common.{sym, ap, ◌∙◌}
-use Rattle.rules.specs.Base.{List, [], ◌∷◌, get_or}
+use Rattle.rules.specs.Base.{List, [], get_or}
 use Rattle.rules.specs.declared.Record.{Record}
 use Rattle.rules.specs.World.{Given}
 use Rattle.rules.specs.Sync.{unsynced_call, sync_call}

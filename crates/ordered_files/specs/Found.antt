@@ -1,7 +1,7 @@
 -- What a lookup among lsns tells: the laws of the file map, said of the list of lsns.
-use Rattle.std.specs.Prelude.{◌≡◌, refl, ◌<◌, ◌≤◌}
+use Rattle.std.specs.Prelude.{◌≡◌, refl, ◌<◌, ◌≤◌, ◌∷◌, ◌*◌}
 use Rattle.std.proofs.Common.{ap, ◌∙◌, arith}
-use Rattle.rules.specs.Base.{List, [], ◌∷◌, map, ℕ, zero, suc, ◌*◌, length, get_or}
+use Rattle.rules.specs.Base.{List, [], map, ℕ, zero, suc, length, get_or}
 use Rattle.std.proofs.lemmas.List.{length-map}
 use Rattle.rules.specs.declared.Record.{Record}
 use Rattle.rules.specs.declared.Slot.TheVariants.{Is, NoSlot}

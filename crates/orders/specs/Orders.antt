@@ -1,7 +1,7 @@
 -- "Each is given exactly when its condition holds and no earlier one in the call's order does.": one table, one statement.
 -- A row goes down a call's order: in its first case every condition holds, and each later case clears the first that held.
-use Rattle.std.specs.Prelude.{◌≡◌, refl}
-use Rattle.rules.specs.Base.{false, not, List, [], ◌∷◌, ◌++◌, ◌+◌, ◌-◌, ◌^◌, replicate, any, zeros, keep, each, sum, greatest, padded}
+use Rattle.std.specs.Prelude.{◌≡◌, refl, ◌∷◌, ◌++◌, ◌+◌, ◌-◌, ◌^◌}
+use Rattle.rules.specs.Base.{false, not, List, [], replicate, any, zeros, keep, each, sum, greatest, padded}
 use Rattle.numbers.specs.LittleEndian.{le_bytes, le_value}
 use Rattle.numbers.specs.Groups.{groups_of, read_groups, number_in}
 use Rattle.checksum.specs.Checksum.{shift_bit, shifts, crc_from, crc32, object_sum}

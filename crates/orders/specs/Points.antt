@@ -1,6 +1,6 @@
 -- Single points of document 01, worked out: where a range ends, which of two counts, what a call leaves. One table and one statement, like lines P1 to P10.
-use Rattle.std.specs.Prelude.{◌≡◌, refl}
-use Rattle.rules.specs.Base.{false, not, List, [], ◌∷◌, ◌++◌, map, ℕ, ◌+◌, ◌-◌, ◌*◌, ◌^◌, length, get_or, replicate, any, zeros, keep, each, sum, greatest, padded}
+use Rattle.std.specs.Prelude.{◌≡◌, refl, ◌∷◌, ◌++◌, ◌+◌, ◌-◌, ◌*◌, ◌^◌}
+use Rattle.rules.specs.Base.{false, not, List, [], map, ℕ, length, get_or, replicate, any, zeros, keep, each, sum, greatest, padded}
 use Rattle.theory.specs.Types.{Settings, Label, Record, Slot, Is, NoSlot, Claims}
 use Rattle.numbers.specs.LittleEndian.{le_bytes, le_value}
 use Rattle.numbers.specs.Groups.{groups_of, read_groups, number_in}

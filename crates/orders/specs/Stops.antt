@@ -1,6 +1,6 @@
 -- "A refusal stops the call, keeps finished groups .. nothing is pruned. Success prunes": one world, worked out both ways.
-use Rattle.std.specs.Prelude.{◌≡◌, refl}
-use Rattle.rules.specs.Base.{List, [], ◌∷◌, ◌++◌, ℕ, length, replicate, any, zeros, keep, each, sum, greatest, padded, ◌+◌}
+use Rattle.std.specs.Prelude.{◌≡◌, refl, ◌∷◌, ◌++◌, ◌+◌}
+use Rattle.rules.specs.Base.{List, [], ℕ, length, replicate, any, zeros, keep, each, sum, greatest, padded}
 use Rattle.numbers.specs.LittleEndian.{le_bytes, le_value}
 use Rattle.numbers.specs.Groups.{groups_of}
 use Rattle.checksum.specs.Checksum.{shift_bit, shifts, crc_from, crc32, object_sum}

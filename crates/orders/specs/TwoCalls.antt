@@ -1,6 +1,6 @@
 -- Request P7, "Maintenance in two calls", at single points: plan, rewrite and the nightly job, worked out and held against the paper's words.
-use Rattle.std.specs.Prelude.{◌≡◌, refl}
-use Rattle.rules.specs.Base.{false, not, List, [], ◌∷◌, ◌++◌, ℕ, ◌+◌, ◌-◌, ◌*◌, ◌^◌, replicate, any, zeros, keep, each, sum, greatest, padded}
+use Rattle.std.specs.Prelude.{◌≡◌, refl, ◌∷◌, ◌++◌, ◌+◌, ◌-◌, ◌*◌, ◌^◌}
+use Rattle.rules.specs.Base.{false, not, List, [], ℕ, replicate, any, zeros, keep, each, sum, greatest, padded}
 use Rattle.theory.specs.Types.{Label}
 use Rattle.numbers.specs.LittleEndian.{le_bytes, le_value}
 use Rattle.numbers.specs.Groups.{groups_of, read_groups, number_in}

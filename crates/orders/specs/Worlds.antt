@@ -1,5 +1,6 @@
 -- Small worlds in which several conditions of a call hold at once: slots of 128 bytes, a table of one entry or two.
-use Rattle.rules.specs.Base.{List, [], ◌∷◌, ◌++◌, ℕ, ◌+◌, ◌-◌, ◌*◌, length, get_or, replicate, padded}
+use Rattle.std.specs.Prelude.{◌∷◌, ◌++◌, ◌+◌, ◌-◌, ◌*◌}
+use Rattle.rules.specs.Base.{List, [], ℕ, length, get_or, replicate, padded}
 use Rattle.theory.specs.Types.{Settings, Label, Record, State}
 use Rattle.numbers.specs.LittleEndian.{le_bytes}
 use Rattle.checksum.specs.Checksum.{crc32, object_sum}

@@ -1,10 +1,10 @@
 -- "Batch bytes: id in seven-bit groups; tag 0 (delete) or 1 (put); for a put its length in groups and the body.": parsed exactly if the bytes are
 -- those of what was parsed.
-use Rattle.std.specs.Prelude.{◌≡◌, refl, ◌⊎◌, ◌≤◌, ◌<◌}
+use Rattle.std.specs.Prelude.{◌≡◌, refl, ◌⊎◌, ◌≤◌, ◌<◌, ◌∷◌, ◌++◌, ◌+◌, ◌-◌, ◌^◌}
 use Rattle.std.proofs.Common.{sym, ap, ap₂, ◌∙◌, append_assoc, inl, inr, arith, length-append, length-take, length-drop, take-append-drop, drop_of_length-le, drop-cons, drop-drop, take_at, drop_at, eqb-true, leb-true, leb-false, le-leb, eq-eqb}
 use Rattle.std.proofs.lemmas.List.{get_or_at}
 use Rattle.std.proofs.lemmas.Bool.{lt-leb}
-use Rattle.rules.specs.Base.{Bool, true, false, List, [], ◌∷◌, ◌++◌, ℕ, zero, suc, ◌+◌, ◌-◌, ◌^◌, length, take, drop, get_or, leb, eqb, pick, each}
+use Rattle.rules.specs.Base.{Bool, true, false, List, [], ℕ, zero, suc, length, take, drop, get_or, leb, eqb, pick, each}
 use Rattle.rules.specs.BaseLaws.{All}
 use Rattle.numbers.specs.LittleEndian.{Bytes}
 use Rattle.numbers.specs.Groups.{groups_of, number_in, saying}

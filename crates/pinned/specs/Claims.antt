@@ -1,9 +1,9 @@
 -- "Claim, release. 21 for a slot out of range, an empty slot, a claimed one (claim) or an unclaimed one (release)."; "a claim is set and cleared in place, slot
 -- by slot; a reopening not refused with 1 starts one without claims".
-use Rattle.std.specs.Prelude.{◌≡◌, refl, ◌<◌}
+use Rattle.std.specs.Prelude.{◌≡◌, refl, ◌<◌, ◌||◌, ◌∷◌, ◌+◌, ◌^◌}
 use Rattle.std.proofs.Common.{ap, ◌∙◌, arith, leb-false}
 use Rattle.std.proofs.lemmas.Bool.{lt-leb, not-false}
-use Rattle.rules.specs.Base.{Bool, true, false, not, ◌||◌, List, [], ◌∷◌, ℕ, ◌+◌, ◌^◌, length, leb, ltb, pick}
+use Rattle.rules.specs.Base.{Bool, true, false, not, List, [], ℕ, length, leb, ltb, pick}
 use Rattle.rules.proofs.BaseLaws.{or-false, or-clear}
 use Rattle.theory.specs.Types.{Refusal, Answer, Done, Refused, Limits, Claim, Moved, Stopped}
 use Rattle.rules.specs.Refusal.{Test, ◌gives◌, decide, after, NoneHolds}

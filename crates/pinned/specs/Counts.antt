@@ -1,7 +1,7 @@
 -- "Counts. Files, bytes, present, live, summed over files."
-use Rattle.std.specs.Prelude.{◌≡◌, refl}
+use Rattle.std.specs.Prelude.{◌≡◌, refl, ◌∷◌, ◌+◌}
 use Rattle.std.proofs.Common.{ap, ◌∙◌, arith}
-use Rattle.rules.specs.Base.{Bool, true, false, not, List, [], ◌∷◌, ℕ, ◌+◌, length, pick, keep, sum}
+use Rattle.rules.specs.Base.{Bool, true, false, not, List, [], ℕ, length, pick, keep, sum}
 use Rattle.theory.specs.Types.{Record, Limits}
 use Rattle.rules.proofs.RefusalLaws.{decide-none, decide-first, decide-next}
 use Rattle.rules.specs.FileMap.{empty_record, is_empty, file_count}

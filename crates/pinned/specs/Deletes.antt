@@ -1,7 +1,7 @@
 -- Request P1, "In demand 3 "nothing" splits accordingly; an id deleted without ever being put is "deleted"": what a read tells of an id, whatever calls were made.
-use Rattle.std.specs.Prelude.{◌≡◌, refl}
+use Rattle.std.specs.Prelude.{◌≡◌, refl, ◌∷◌}
 use Rattle.std.proofs.Common.{sym, ap, ap₂, ◌∙◌, arith, eq-eqb}
-use Rattle.rules.specs.Base.{Bool, List, [], ◌∷◌, ℕ, pick}
+use Rattle.rules.specs.Base.{Bool, List, [], ℕ, pick}
 use Rattle.theory.specs.Types.{Held, Mapped, Unmapped, ReadAnswer, Deleted, NeverWritten}
 use Rattle.rules.specs.BaseLaws.{All}
 use Rattle.rules.specs.Ops.{put, delete, Op}

@@ -1,9 +1,9 @@
 -- "A slot is a 64-byte label, then the file. The label holds lsn, trailer_offset, file_size, present_objects, generation as numbers in groups of seven
 -- bits ..; Zeros fill the 64 bytes. First byte 0 means the slot is empty, whatever follows.": read exactly if the bytes are its own.
-use Rattle.std.specs.Prelude.{◌≡◌, refl, ◌⊎◌, ◌<◌}
+use Rattle.std.specs.Prelude.{◌≡◌, refl, ◌⊎◌, ◌<◌, ◌++◌, ◌+◌, ◌-◌}
 use Rattle.std.proofs.Common.{ap, ◌∙◌, append_assoc, inl, inr, arith, length-append, eq-eqb}
 use Rattle.std.proofs.lemmas.Bool.{eqb-false}
-use Rattle.rules.specs.Base.{Bool, true, false, List, ◌++◌, ℕ, ◌+◌, ◌-◌, length, drop, get_or, replicate, eqb, pick, zeros, padded}
+use Rattle.rules.specs.Base.{Bool, true, false, List, ℕ, length, drop, get_or, replicate, eqb, pick, zeros, padded}
 use Rattle.rules.proofs.BaseLaws.{zero-or-more, zeros-is}
 use Rattle.theory.specs.Types.{Label, LabelAnswer, Vacant, Five, Wrong}
 use Rattle.numbers.specs.LittleEndian.{Bytes}

@@ -1,7 +1,7 @@
 -- "Maintenance": what a rewritten file's record says, and what a refusal leaves.
-use Rattle.std.specs.Prelude.{◌≡◌, refl, ◌<◌}
+use Rattle.std.specs.Prelude.{◌≡◌, refl, ◌<◌, ◌+◌, ◌^◌}
 use Rattle.std.proofs.Common.{ap, ◌∙◌, arith, add-zero, get_or-set_same, get_or-set_other}
-use Rattle.rules.specs.Base.{List, ℕ, ◌+◌, ◌^◌, length}
+use Rattle.rules.specs.Base.{List, ℕ, length}
 use Rattle.theory.specs.Types.{Record}
 use Rattle.rules.specs.Ops.{Op, objects_of, file_bytes}
 use Rattle.rules.specs.FileMap.{record_at, empty_record}

@@ -1,7 +1,7 @@
 -- Bytes and what they say: a number in groups at the front of what is left.
-use Rattle.std.specs.Prelude.{◌≡◌}
+use Rattle.std.specs.Prelude.{◌≡◌, ◌++◌, ◌+◌, ◌-◌}
 use Rattle.std.proofs.Common.{ap, ap₂, ◌∙◌, arith}
-use Rattle.rules.specs.Base.{List, ◌++◌, ℕ, ◌+◌, ◌-◌, drop}
+use Rattle.rules.specs.Base.{List, ℕ, drop}
 use Rattle.numbers.specs.Groups.{groups_of}
 use Rattle.numbers.specs.GroupLaws.{Stands}
 use Rattle.stored_object.specs.Begins.{cut}

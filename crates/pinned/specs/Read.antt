@@ -1,5 +1,5 @@
 -- "Reading now gives "never written" or "deleted"" (request P1). "Else the found bytes are a part of the lent heap itself. Checks in order: 18, 16 (header or body past file_size), 10, 17."
-use Rattle.std.specs.Prelude.{◌≡◌, refl, ◌≤◌, ◌<◌}
+use Rattle.std.specs.Prelude.{◌≡◌, refl, ◌≤◌, ◌<◌, ◌∷◌, ◌++◌, ◌+◌, ◌-◌, ◌*◌, ◌^◌}
 use Rattle.std.proofs.Common.{sym, ap₂, ◌∙◌, take-append-drop, take-take, drop-drop, length-take-le, take_at, ltb-false, le-ltb, eqb-true, eq-eqb}
 use Rattle.std.proofs.Math.Path.{ap}
 use native.Mathlib.Omega.{arith}
@@ -7,7 +7,7 @@ use Rattle.std.proofs.Math.ListN.{length-drop}
 use Rattle.std.proofs.lemmas.Bool.{not-false}
 use Rattle.numbers.specs.LittleEndian.{Bytes}
 use Rattle.disk_location.specs.Locations.{position_of, delete_of}
-use Rattle.rules.specs.Base.{Bool, true, false, not, List, [], ◌∷◌, ◌++◌, ℕ, ◌+◌, ◌-◌, ◌*◌, ◌^◌, length, take, drop, ltb, eqb}
+use Rattle.rules.specs.Base.{Bool, true, false, not, List, [], ℕ, length, take, drop, ltb, eqb}
 use Rattle.theory.specs.Types.{Refusal, Answer, Done, Refused, ReadAnswer, Found, Deleted, NeverWritten, ReadRefused, Held, Mapped, Unmapped, Slot, Is, NoSlot, Limits, NotThere, CutShort, Checksum, OtherId}
 use Rattle.rules.specs.Refusal.{◌gives◌, decide, after, NoneHolds}
 use Rattle.rules.proofs.RefusalLaws.{decide-none, decide-first, decide-next, decide-clear, clear-when}

@@ -1,8 +1,8 @@
 -- "Reopen": the next position, what is left where it is refused, and that 1 changes nothing.
-use Rattle.std.specs.Prelude.{◌≡◌, refl, ◌⊎◌, ◌≤◌}
+use Rattle.std.specs.Prelude.{◌≡◌, refl, ◌⊎◌, ◌≤◌, ◌∷◌, ◌++◌, ◌+◌}
 use Rattle.std.proofs.Common.{ap, inl, inr, arith, leb-true, leb-false}
 use Rattle.disk_location.specs.Locations.{masked_of}
-use Rattle.rules.specs.Base.{Bool, true, false, List, [], ◌∷◌, ◌++◌, ℕ, ◌+◌, length, replicate, leb, pick, greatest}
+use Rattle.rules.specs.Base.{Bool, true, false, List, [], ℕ, length, replicate, leb, pick, greatest}
 use Rattle.rules.specs.BaseLaws.{All}
 use Rattle.rules.proofs.BaseLaws.{all_map}
 use Rattle.theory.specs.Types.{Refusal, Answer, Done, Refused, Limits}

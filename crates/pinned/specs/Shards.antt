@@ -1,9 +1,9 @@
 -- "Maintenance": the files that come out. "Before an entry joins it, a shard of size over target_file_size is cut off as a fragment and restarts at 0;
 -- an object adds 20 + length, a delete 0. Files come out by ascending shard, then fragments as cut".
-use Rattle.std.specs.Prelude.{◌≡◌, refl, ◌⊎◌, ◌≤◌, ◌<◌}
+use Rattle.std.specs.Prelude.{◌≡◌, refl, ◌⊎◌, ◌≤◌, ◌<◌, ◌∷◌, ◌++◌, ◌+◌}
 use Rattle.std.proofs.Common.{sym, ap, ◌∙◌, inl, inr, arith, length-set, get_or-set_same, get_or-set_other, ltb-true, ltb-false}
 use Rattle.std.proofs.lemmas.List.{length-replicate}
-use Rattle.rules.specs.Base.{Bool, true, false, List, [], ◌∷◌, ◌++◌, map, ℕ, suc, ◌+◌, length, get_or, set, replicate, ltb, pick, keep, sum}
+use Rattle.rules.specs.Base.{Bool, true, false, List, [], map, ℕ, suc, length, get_or, set, replicate, ltb, pick, keep, sum}
 use Rattle.rules.specs.BaseLaws.{All}
 use Rattle.rules.proofs.BaseLaws.{all_append, same?, replicate-at}
 use Rattle.rules.specs.Ops.{Op, size_of, shard_for}

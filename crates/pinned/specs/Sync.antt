@@ -1,9 +1,9 @@
 -- Request P6, "Remember what has reached the flash", from outside.
-use Rattle.std.specs.Prelude.{◌≡◌, refl, ◌≤◌, ◌<◌}
+use Rattle.std.specs.Prelude.{◌≡◌, refl, ◌≤◌, ◌<◌, ◌∷◌, ◌+◌}
 use Rattle.std.proofs.Common.{sym, ap, ◌∙◌, true≢false, zero-add, arith, eqb-true, eq-eqb, le-ltb, lt-ltb}
 use Rattle.std.proofs.lemmas.List.{length-map}
 use Rattle.std.proofs.lemmas.Bool.{not-true}
-use Rattle.rules.specs.Base.{Bool, true, false, not, List, [], ◌∷◌, ℕ, ◌+◌, length, eqb, any, zeros, keep, sum, pick}
+use Rattle.rules.specs.Base.{Bool, true, false, not, List, [], ℕ, length, eqb, any, zeros, keep, sum, pick}
 use Rattle.disk_location.specs.Locations.{masked_of}
 use Rattle.rules.proofs.BaseLaws.{and-true}
 use Rattle.theory.specs.Types.{Record, Settings, Limits}

@@ -1,8 +1,8 @@
 -- "Table. Load .., store, compare-and-store, store-if-greater.", load in three ways (request P1): of each call the answer, the refusal, and every load afterwards.
-use Rattle.std.specs.Prelude.{◌≡◌, refl, ◌⊎◌, ◌≤◌, ◌<◌}
+use Rattle.std.specs.Prelude.{◌≡◌, refl, ◌⊎◌, ◌≤◌, ◌<◌, ◌&&◌, ◌||◌, ◌∷◌}
 use Rattle.std.proofs.Common.{sym, ap, ◌∙◌, inl, inr, arith, leb-true, leb-false, eq-eqb, ne_eqb, lt-ltb, le-ltb}
 use Rattle.std.proofs.lemmas.Bool.{not-false}
-use Rattle.rules.specs.Base.{Bool, true, false, ◌&&◌, ◌||◌, List, [], ◌∷◌, ℕ, length, leb, eqb, pick}
+use Rattle.rules.specs.Base.{Bool, true, false, List, [], ℕ, length, leb, eqb, pick}
 use Rattle.rules.proofs.BaseLaws.{and-true, and-holds, or-clear, same?}
 use Rattle.theory.specs.Types.{Entry, Held, Mapped, Unmapped, At, DeletedAt, Limits, TableRoom, NotThere, EqualLocation, Location}
 use Rattle.rules.proofs.RefusalLaws.{decide-none, decide-first, decide-next}

@@ -1,9 +1,9 @@
 -- "Trailer: checksum 4, over all that follows it; entry count 8; per entry id 8 and raw relative location 8. .. Later bytes are checksummed and otherwise
 -- ignored.": entries are read, and neither 9, 10 nor 11 is given, exactly if the bytes are those of the entries and of what comes later.
-use Rattle.std.specs.Prelude.{◌≡◌, refl, ◌≤◌, ◌<◌}
+use Rattle.std.specs.Prelude.{◌≡◌, refl, ◌≤◌, ◌<◌, ◌∷◌, ◌++◌, ◌+◌, ◌*◌, ◌^◌}
 use Rattle.std.proofs.Common.{sym, ap, ap₂, ◌∙◌, append_assoc, inl, inr, arith, length-append, length-drop, drop-drop, drop_at, take_at, ltb-false, le-ltb, eqb-true, eq-eqb}
 use Rattle.std.proofs.lemmas.Bool.{not-false}
-use Rattle.rules.specs.Base.{not, List, ◌∷◌, ◌++◌, ℕ, zero, suc, ◌+◌, ◌*◌, ◌^◌, length, take, drop, eqb, each}
+use Rattle.rules.specs.Base.{not, List, ℕ, zero, suc, length, take, drop, eqb, each}
 use Rattle.theory.specs.Types.{Entry}
 use Rattle.numbers.specs.LittleEndian.{Bytes, le_bytes, le_value, le-length, le-round}
 use Rattle.checksum.specs.Checksum.{crc32}

@@ -1,10 +1,10 @@
 -- Request P7, "Maintenance in two calls", from outside: of every world.
-use Rattle.std.specs.Prelude.{◌≡◌, ◌⊎◌, ◌≤◌, ◌<◌}
+use Rattle.std.specs.Prelude.{◌≡◌, ◌⊎◌, ◌≤◌, ◌<◌, ◌&&◌, ◌∷◌, ◌++◌, ◌^◌}
 use Rattle.std.proofs.Math.Path.{refl, ap}
 use Rattle.std.proofs.Common.{sym, ◌∙◌, subst, inl, inr, ⊎_elim, arith, lt-ltb, le-ltb}
 use Rattle.std.proofs.lemmas.Bool.{lt-leb, eqb-false}
 use Rattle.numbers.specs.GroupLaws.{either_way}
-use Rattle.rules.specs.Base.{Bool, true, false, not, ◌&&◌, List, [], ◌∷◌, ◌++◌, ℕ, ◌^◌, length, take, leb, within, each}
+use Rattle.rules.specs.Base.{Bool, true, false, not, List, [], ℕ, length, take, leb, within, each}
 use Rattle.rules.specs.BaseLaws.{All}
 use Rattle.rules.proofs.BaseLaws.{all_append, or-false, or-holds}
 use Rattle.theory.specs.Types.{Entry, Label, Refusal, Limits, Refused, Stopped, Generation}

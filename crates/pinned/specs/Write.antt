@@ -1,8 +1,8 @@
 -- "Write decides 1 to 7 in order on the whole batch."; "An empty batch succeeds and changes nothing."
-use Rattle.std.specs.Prelude.{◌≡◌, refl, ◌≤◌, ◌<◌}
+use Rattle.std.specs.Prelude.{◌≡◌, refl, ◌≤◌, ◌<◌, ◌∷◌, ◌+◌, ◌^◌}
 use Rattle.std.proofs.Common.{ap, ◌∙◌, zero-le, arith, leb-false, le-ltb}
 use Rattle.std.proofs.lemmas.Bool.{lt-leb}
-use Rattle.rules.specs.Base.{true, false, List, [], ◌∷◌, ℕ, suc, ◌+◌, ◌^◌, length, pick, any, keep, sum}
+use Rattle.rules.specs.Base.{true, false, List, [], ℕ, suc, length, pick, any, keep, sum}
 use Rattle.rules.specs.BaseLaws.{All}
 use Rattle.rules.proofs.BaseLaws.{all_map, any_false, any-clear, or-clear}
 use Rattle.theory.specs.Types.{Entry, Held, Mapped, Unmapped, Limits, BatchBytes}

@@ -5,7 +5,8 @@ use Prim.Native.Nat.{◌-◌, ◌≤◌, ◌<◌}
 use native.Mathlib.Omega.{arith}
 use lib.ListN.{length-append}
 use lib.Seq.{set_at, append_snoc}
-use Rattle.rules.specs.Base.{List, [], ◌∷◌, ◌++◌, ℕ, suc, ◌+◌, length, get_or, drop, set, replicate, padded}
+use Rattle.std.specs.Prelude.{◌∷◌, ◌++◌, ◌+◌}
+use Rattle.rules.specs.Base.{List, [], ℕ, suc, length, get_or, drop, set, replicate, padded}
 use Rattle.rules.specs.TwoCalls.{counted}
 use Rattle.gc_candidates.specs.Plan.{planned, planned_from, planned-here, planned-next, planned-start, planned-end}
 

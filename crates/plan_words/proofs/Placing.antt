@@ -7,7 +7,8 @@ use lib.ListN.{length-append}
 use lib.Seq.{drop-drop}
 use borrow.Rule.Slice.PartMut.{put_mid}
 use Rattle.numbers.specs.Parts.{put_at}
-use Rattle.rules.specs.Base.{Bool, true, false, List, [], ◌∷◌, ◌++◌, ℕ, suc, length, eqb, pick}
+use Rattle.std.specs.Prelude.{◌∷◌, ◌++◌}
+use Rattle.rules.specs.Base.{Bool, true, false, List, [], ℕ, suc, length, eqb, pick}
 use Rattle.rules.proofs.BaseLaws.{padded-length}
 use Rattle.rules.specs.TwoCalls.{counted}
 use Rattle.gc_candidates.specs.Plan.{planned, planned_from}

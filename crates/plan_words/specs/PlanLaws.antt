@@ -1,7 +1,7 @@
 -- The words of what the call `plan` gives are the definition's.
-use Rattle.std.specs.Prelude.{◌≡◌, refl}
+use Rattle.std.specs.Prelude.{◌≡◌, refl, ◌∷◌, ◌++◌}
 use Rattle.std.proofs.Common.{ap, arith}
-use Rattle.rules.specs.Base.{Bool, true, false, List, [], ◌∷◌, ◌++◌, ℕ, replicate, pick, padded}
+use Rattle.rules.specs.Base.{Bool, true, false, List, [], ℕ, replicate, pick, padded}
 use Rattle.rules.specs.declared.Answer.TheVariants.{Done}
 use Rattle.rules.specs.declared.Refusal.{Refusal}
 use Rattle.rules.specs.declared.Refusal.TheVariants.{Limits}

@@ -1,5 +1,6 @@
 -- A plan as 777 words.
-use Rattle.rules.specs.Base.{List, [], ◌∷◌, ◌++◌, ℕ, replicate, padded}
+use Rattle.std.specs.Prelude.{◌∷◌, ◌++◌}
+use Rattle.rules.specs.Base.{List, [], ℕ, replicate, padded}
 use Rattle.rules.specs.declared.Refusal.{Refusal}
 use Rattle.rules.specs.declared.Refusal.TheVariants.{Limits}
 use Rattle.rules.specs.Refusal.{◌gives◌, decide, after, number_of}

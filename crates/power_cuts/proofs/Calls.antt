@@ -1,9 +1,9 @@
 -- Request P8, call by call: a run cut before its end leaves what the engine said before the call, a run made whole what it says after it.
-use Rattle.std.specs.Prelude.{◌≡◌, ◌<◌, ◌≤◌}
+use Rattle.std.specs.Prelude.{◌≡◌, ◌<◌, ◌≤◌, ◌∷◌, ◌++◌, ◌^◌}
 use Rattle.std.proofs.Math.Path.{refl, subst}
 use Rattle.std.proofs.Common.{sym, ap, ◌∙◌, not-suc-le-zero, take_all}
 use mathlib.Core.List.{append-nil}
-use Rattle.rules.specs.Base.{List, [], ◌∷◌, ◌++◌, ℕ, ◌^◌, length, take}
+use Rattle.rules.specs.Base.{List, [], ℕ, length, take}
 use Rattle.theory.specs.Types.{Answer, Done, Refused}
 use Rattle.rules.specs.Refusal.{decide, after}
 use Rattle.rules.specs.Ops.{Op, settled}

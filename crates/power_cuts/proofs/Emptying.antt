@@ -1,12 +1,12 @@
 -- Request P8: "pruning is one store per file": after each of them a store of the invariant stands, and nothing else is said of any id.
-use Rattle.std.specs.Prelude.{◌≡◌, ◌⊎◌, ◌<◌}
+use Rattle.std.specs.Prelude.{◌≡◌, ◌⊎◌, ◌<◌, ◌∷◌, ◌+◌, ◌*◌}
 use Rattle.std.proofs.Math.Path.{refl, ap, subst}
 use Rattle.std.proofs.Common.{sym, ◌∙◌, zero-add}
 use Rattle.std.proofs.Math.Logic.{inl, inr}
 use native.Mathlib.Omega.{arith}
 use Rattle.std.proofs.Math.ListN.{length-set}
 use Rattle.std.proofs.Math.Seq.{get_or-set_same, get_or-set_other}
-use Rattle.rules.specs.Base.{List, [], ◌∷◌, ℕ, zero, suc, ◌+◌, ◌*◌, length, set, take}
+use Rattle.rules.specs.Base.{List, [], ℕ, zero, suc, length, set, take}
 use Rattle.theory.specs.Types.{Record}
 use Rattle.rules.specs.BaseLaws.{All}
 use Rattle.rules.proofs.BaseLaws.{all_map, same?}

@@ -1,9 +1,9 @@
 -- A store of the invariant stands on a heap; runs that may be cut anywhere.
-use Rattle.std.specs.Prelude.{◌≡◌, refl, ◌⊎◌, ◌<◌, ◌≤◌}
+use Rattle.std.specs.Prelude.{◌≡◌, refl, ◌⊎◌, ◌<◌, ◌≤◌, ◌++◌, ◌+◌, ◌-◌}
 use Rattle.std.proofs.Common.{sym, ap, ◌∙◌, subst, inl, inr, arith}
 use Rattle.std.proofs.lemmas.List.{take-append-le}
 use Rattle.std.proofs.Math.Seq.{take-append-add}
-use Rattle.rules.specs.Base.{List, [], ◌++◌, ℕ, zero, suc, ◌+◌, ◌-◌, length, take}
+use Rattle.rules.specs.Base.{List, [], ℕ, zero, suc, length, take}
 use Rattle.numbers.specs.GroupLaws.{either_way}
 use Rattle.rules.specs.Stores.{Store, made}
 use Rattle.rules.proofs.StoreLaws.{made-append}

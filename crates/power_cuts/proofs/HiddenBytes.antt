@@ -1,10 +1,10 @@
 -- Request P8: "file, then label bytes 2 to 64, then label byte 1": until the last store the file is not seen, and the slots show what they showed.
-use Rattle.std.specs.Prelude.{◌≡◌, ◌⊎◌, ◌<◌, ◌≤◌}
+use Rattle.std.specs.Prelude.{◌≡◌, ◌⊎◌, ◌<◌, ◌≤◌, ◌∷◌, ◌++◌, ◌+◌, ◌*◌}
 use Rattle.std.proofs.Math.Path.{refl, subst}
 use Rattle.std.proofs.Common.{sym, ap, ◌∙◌, append_assoc, inl, inr, arith, length-append, length-drop, length-take-le, get_or-set_other, ext_get_or}
 use Rattle.std.proofs.lemmas.List.{take-append-le}
 use Rattle.std.proofs.Math.Seq.{get_or-take, get_or-drop}
-use Rattle.rules.specs.Base.{List, [], ◌∷◌, ◌++◌, ℕ, suc, ◌+◌, ◌*◌, length, get_or, set, take, drop}
+use Rattle.rules.specs.Base.{List, [], ℕ, suc, length, get_or, set, take, drop}
 use Rattle.rules.specs.BaseLaws.{All}
 use Rattle.rules.proofs.BaseLaws.{order, same?, all_append, all_take}
 use Rattle.rules.specs.Settings.{slots_in}

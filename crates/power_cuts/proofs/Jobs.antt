@@ -1,7 +1,7 @@
 -- Request P8: the run of a call is the runs of its writers, one behind the other, with what the call gives each of them.
-use Rattle.std.specs.Prelude.{◌≡◌, refl}
+use Rattle.std.specs.Prelude.{◌≡◌, refl, ◌∷◌, ◌++◌, ◌^◌}
 use Rattle.std.proofs.Common.{ap, append-nil}
-use Rattle.rules.specs.Base.{Bool, true, false, List, [], ◌∷◌, ◌++◌, each, ℕ, ◌^◌, pick}
+use Rattle.rules.specs.Base.{Bool, true, false, List, [], each, ℕ, pick}
 use Rattle.theory.specs.Types.{Limits, Answer, Done, Refused}
 use Rattle.rules.specs.Refusal.{◌gives◌, decide}
 use Rattle.rules.specs.Ops.{Op, settled}

@@ -1,7 +1,7 @@
 -- Request P8, "Power pulled in the middle": the theorems.
-use Rattle.std.specs.Prelude.{◌≡◌, refl, ◌⊎◌, ◌<◌, ◌≤◌}
+use Rattle.std.specs.Prelude.{◌≡◌, refl, ◌⊎◌, ◌<◌, ◌≤◌, ◌∷◌}
 use Rattle.std.proofs.Common.{sym, ◌∙◌, subst, inl, inr, leb-true, leb-false}
-use Rattle.rules.specs.Base.{Bool, true, false, List, [], ◌∷◌, ℕ, length, get_or, take, leb, pick}
+use Rattle.rules.specs.Base.{Bool, true, false, List, [], ℕ, length, get_or, take, leb, pick}
 use Rattle.numbers.specs.GroupLaws.{either_way}
 use Rattle.rules.specs.BaseLaws.{All}
 use Rattle.rules.proofs.BaseLaws.{all_take}

@@ -1,8 +1,8 @@
 -- A reopening hangs on settings, heap and the size of the table alone.
-use Rattle.std.specs.Prelude.{◌≡◌, refl}
+use Rattle.std.specs.Prelude.{◌≡◌, refl, ◌-◌, ◌%◌}
 use Rattle.std.proofs.Common.{sym, ap, ◌∙◌, subst, arith}
 use Rattle.std.proofs.lemmas.List.{length-replicate}
-use Rattle.rules.specs.Base.{false, List, [], ℕ, ◌-◌, ◌%◌, length, replicate}
+use Rattle.rules.specs.Base.{false, List, [], ℕ, length, replicate}
 use Rattle.theory.specs.Types.{Settings, Refusal}
 use Rattle.rules.specs.Refusal.{decide, after}
 use Rattle.rules.specs.SettingsLaws.{HeapInRange, InRanges}

@@ -1,9 +1,9 @@
 -- Request P8: a rewrite's run, cut anywhere: files of current contents one behind the other.
-use Rattle.std.specs.Prelude.{◌≡◌, ◌⊎◌, ◌<◌, ◌≤◌}
+use Rattle.std.specs.Prelude.{◌≡◌, ◌⊎◌, ◌<◌, ◌≤◌, ◌∷◌, ◌++◌, ◌+◌, ◌^◌}
 use Rattle.std.proofs.Math.Path.{refl, ap, subst}
 use Rattle.std.proofs.Common.{sym, inl, inr, take_all}
 use native.Mathlib.Omega.{arith}
-use Rattle.rules.specs.Base.{Bool, true, false, List, [], ◌∷◌, ◌++◌, ℕ, ◌+◌, ◌^◌, length, take, pick, sum}
+use Rattle.rules.specs.Base.{Bool, true, false, List, [], ℕ, length, take, pick, sum}
 use Rattle.theory.specs.Types.{Settings, Refusal, Answer, Done, Refused}
 use Rattle.numbers.specs.GroupLaws.{either_way}
 use Rattle.rules.specs.BaseLaws.{All}

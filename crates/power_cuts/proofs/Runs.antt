@@ -1,7 +1,7 @@
 -- Request P8: "a numbered run of single-byte stores" for each call of demand 3, accepted or refused; a call changes the heap by its run alone.
-use Rattle.std.specs.Prelude.{◌≡◌, refl}
+use Rattle.std.specs.Prelude.{◌≡◌, refl, ◌∷◌, ◌+◌, ◌^◌}
 use Rattle.std.proofs.Common.{sym, ap, ◌∙◌}
-use Rattle.rules.specs.Base.{Bool, true, false, List, [], ◌∷◌, ℕ, ◌+◌, ◌^◌, length, pick}
+use Rattle.rules.specs.Base.{Bool, true, false, List, [], ℕ, length, pick}
 use Rattle.theory.specs.Types.{Refusal, Limits, Answer, Done, Refused}
 use Rattle.rules.specs.Refusal.{◌gives◌, decide, after}
 use Rattle.rules.specs.Ops.{Op, settled}

@@ -1,11 +1,11 @@
 -- Request P8 worked out on a small store: calls cut behind some of their stores, the memory lost, and what the reopening then finds.
-use Rattle.std.specs.Prelude.{◌≡◌, refl}
+use Rattle.std.specs.Prelude.{◌≡◌, refl, ◌∷◌}
 use Rattle.checksum.specs.Checksum.{shift_bit, shifts, crc_from, crc32, object_sum}
 use Rattle.disk_location.specs.Locations.{masked_of, digits_in}
 use Rattle.numbers.specs.Groups.{groups_of, read_groups, number_in}
 use Rattle.numbers.specs.LittleEndian.{le_bytes, le_value}
 use Rattle.power_cuts.specs.Runs.{files_run, write_run, prune_run, group_run, generation_run, rewrite_run}
-use Rattle.rules.specs.Base.{any, zeros, keep, each, sum, greatest, padded, [], ◌∷◌}
+use Rattle.rules.specs.Base.{any, zeros, keep, each, sum, greatest, padded, []}
 use Rattle.rules.specs.Batch.{put_operation, operation_at, batch_from, batch_in, any_too_large}
 use Rattle.rules.specs.Claims.{is_claimed}
 use Rattle.rules.specs.Condition1.{out_of_range, not_the_states, bad_record, bad_from, condition_one}

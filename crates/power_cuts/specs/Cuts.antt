@@ -1,6 +1,6 @@
 -- Request P8: what a power cut leaves, what is read after it, and lives with power cuts in them.
-use Rattle.std.specs.Prelude.{◌≡◌, ◌⊎◌, ◌<◌, ◌≤◌}
-use Rattle.rules.specs.Base.{List, [], ◌∷◌, ℕ, length, take, leb, pick}
+use Rattle.std.specs.Prelude.{◌≡◌, ◌⊎◌, ◌<◌, ◌≤◌, ◌∷◌}
+use Rattle.rules.specs.Base.{List, [], ℕ, length, take, leb, pick}
 use Rattle.rules.specs.Refusal.{after}
 use Rattle.rules.specs.Ops.{Op}
 use Rattle.rules.specs.Stores.{made}

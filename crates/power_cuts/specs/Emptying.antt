@@ -1,6 +1,6 @@
 -- Request P8: "pruning is one store per file": after each of them a store of the invariant stands, and nothing else is said of any id.
-use Rattle.std.specs.Prelude.{◌≡◌, ◌<◌}
-use Rattle.rules.specs.Base.{ℕ, ◌*◌, set}
+use Rattle.std.specs.Prelude.{◌≡◌, ◌<◌, ◌*◌}
+use Rattle.rules.specs.Base.{ℕ, set}
 use Rattle.rules.specs.SlotFile.{empty}
 use Rattle.rules.specs.FileMap.{empty_record}
 use Rattle.rules.specs.World.{World, records_of, slots_of, state_with}

@@ -1,6 +1,6 @@
 -- A store of the invariant stands on a heap; runs that may be cut anywhere.
-use Rattle.std.specs.Prelude.{◌≡◌}
-use Rattle.rules.specs.Base.{List, ℕ, ◌-◌, take}
+use Rattle.std.specs.Prelude.{◌≡◌, ◌-◌}
+use Rattle.rules.specs.Base.{List, ℕ, take}
 use Rattle.rules.specs.Stores.{Store, made}
 use Rattle.rules.specs.World.{World}
 use Rattle.theory.specs.Picture.{Said}

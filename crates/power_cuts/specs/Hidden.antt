@@ -1,6 +1,6 @@
 -- Request P8: "file, then label bytes 2 to 64, then label byte 1": until the last store the file is not seen, and the slots show what they showed.
-use Rattle.std.specs.Prelude.{◌<◌, ◌≤◌}
-use Rattle.rules.specs.Base.{List, ◌++◌, ℕ, suc, ◌+◌, drop}
+use Rattle.std.specs.Prelude.{◌<◌, ◌≤◌, ◌++◌, ◌+◌}
+use Rattle.rules.specs.Base.{List, ℕ, suc, drop}
 use Rattle.rules.specs.Stores.{Store, stores_of}
 use Rattle.rules.specs.World.{World}
 

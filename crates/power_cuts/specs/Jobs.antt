@@ -1,5 +1,6 @@
 -- Request P8: the run of a call is the runs of its writers, one behind the other, with what the call gives each of them.
-use Rattle.rules.specs.Base.{List, [], ◌∷◌, each, ℕ, ◌*◌, ◌^◌, pick}
+use Rattle.std.specs.Prelude.{◌∷◌, ◌*◌, ◌^◌}
+use Rattle.rules.specs.Base.{List, [], each, ℕ, pick}
 use Rattle.theory.specs.Types.{Label, Record, Claims, Limits}
 use Rattle.rules.specs.Refusal.{◌gives◌, decide}
 use Rattle.rules.specs.Ops.{Op, file_bytes, settled}

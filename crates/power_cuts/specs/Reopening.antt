@@ -1,5 +1,6 @@
 -- A reopening hangs on settings, heap and the size of the table alone.
-use Rattle.rules.specs.Base.{List, ℕ, ◌-◌, replicate}
+use Rattle.std.specs.Prelude.{◌-◌}
+use Rattle.rules.specs.Base.{List, ℕ, replicate}
 use Rattle.theory.specs.Types.{Settings}
 use Rattle.rules.specs.Refusal.{decide, after}
 use Rattle.rules.specs.Claims.{no_claims}

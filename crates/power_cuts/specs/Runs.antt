@@ -1,5 +1,6 @@
 -- Request P8: "a numbered run of single-byte stores" for each call of demand 3, accepted or refused; a call changes the heap by its run alone.
-use Rattle.rules.specs.Base.{List, [], ◌∷◌, ◌++◌, ℕ, ◌+◌, ◌^◌, pick}
+use Rattle.std.specs.Prelude.{◌∷◌, ◌++◌, ◌+◌, ◌^◌}
+use Rattle.rules.specs.Base.{List, [], ℕ, pick}
 use Rattle.theory.specs.Types.{Refusal, Limits, Answer}
 use Rattle.rules.specs.Refusal.{◌gives◌, decide, after}
 use Rattle.rules.specs.Ops.{Op, settled}

@@ -1,7 +1,8 @@
 -- Request P8 worked out on a small store: calls cut behind some of their stores, the memory lost, and what the reopening then finds.
 use Rattle.power_cuts.specs.Cuts.{hears_cut}
 use Rattle.power_cuts.specs.Runs.{run_of}
-use Rattle.rules.specs.Base.{zeros, List, [], ◌∷◌, ℕ, length, take, replicate, map}
+use Rattle.std.specs.Prelude.{◌∷◌}
+use Rattle.rules.specs.Base.{zeros, List, [], ℕ, length, take, replicate, map}
 use Rattle.rules.specs.Claims.{no_claims}
 use Rattle.rules.specs.Maintenance.{found}
 use Rattle.rules.specs.TwoCalls.{mark_of, count_of}

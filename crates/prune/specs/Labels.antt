@@ -1,7 +1,7 @@
 -- Where a prune's stores go.
-use Rattle.std.specs.Prelude.{◌≡◌, ◌≤◌}
+use Rattle.std.specs.Prelude.{◌≡◌, ◌≤◌, ◌+◌, ◌*◌}
 use Rattle.std.proofs.Common.{arith}
-use Rattle.rules.specs.Base.{false, List, ℕ, ◌+◌, ◌*◌}
+use Rattle.rules.specs.Base.{false, List, ℕ}
 use Rattle.rules.specs.declared.Settings.{Settings}
 use Rattle.rules.specs.declared.Record.{Record}
 use Rattle.rules.specs.declared.State.{State}

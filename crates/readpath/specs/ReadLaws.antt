@@ -1,7 +1,7 @@
 -- Parts that a read names lie in the heap; what its contract admits is one.
-use Rattle.std.specs.Prelude.{◌≡◌, refl, ◌≤◌}
+use Rattle.std.specs.Prelude.{◌≡◌, refl, ◌≤◌, ◌+◌, ◌-◌, ◌*◌}
 use Rattle.std.proofs.Common.{sym, ap, ◌∙◌, arith, add_assoc, ltb-false, length-drop, length-take, take-take, drop-drop, length-take-le}
-use Rattle.rules.specs.Base.{Bool, true, false, List, ℕ, ◌+◌, ◌-◌, ◌*◌, length, take, drop}
+use Rattle.rules.specs.Base.{Bool, true, false, List, ℕ, length, take, drop}
 use Rattle.rules.specs.declared.Settings.{Settings}
 use Rattle.rules.specs.declared.Label.{Label}
 use Rattle.rules.specs.declared.State.{State}

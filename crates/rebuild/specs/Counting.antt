@@ -1,5 +1,5 @@
 -- Live counts in one pass over the table: an entry counts for the file that a lookup finds, if it lies in its range.
-use Rattle.std.specs.Prelude.{◌≡◌, refl, ◌⊎◌, ◌<◌, ◌≤◌}
+use Rattle.std.specs.Prelude.{◌≡◌, refl, ◌⊎◌, ◌<◌, ◌≤◌, ◌∷◌, ◌++◌, ◌+◌, ◌-◌, ◌*◌}
 use Rattle.std.proofs.Common.{sym, ap₂, ◌∙◌, true≢false, inl, inr, zero-le, arith, not-suc-le-zero, le_of_suc-le-suc, add-one, le-leb, ne_eqb, take_all}
 use Rattle.std.proofs.Math.Path.{ap}
 use Rattle.std.proofs.Math.Nat.{add-zero}
@@ -7,7 +7,7 @@ use Rattle.std.proofs.lemmas.List.{length-map}
 use Rattle.std.proofs.Math.ListN.{length-append, get_or-eq_default}
 use Rattle.std.proofs.Math.Seq.{take-suc}
 use Rattle.numbers.specs.GroupLaws.{either_way}
-use Rattle.rules.specs.Base.{Bool, true, false, List, [], ◌∷◌, ◌++◌, map, ℕ, zero, suc, ◌+◌, ◌-◌, ◌*◌, length, get_or, set, take, replicate, pick, any, keep}
+use Rattle.rules.specs.Base.{Bool, true, false, List, [], map, ℕ, zero, suc, length, get_or, set, take, replicate, pick, any, keep}
 use Rattle.rules.proofs.BaseLaws.{or-false, order, replicate-at, within-true}
 use Rattle.rules.specs.declared.Slot.{Slot}
 use Rattle.rules.specs.declared.Slot.TheVariants.{Is, NoSlot}

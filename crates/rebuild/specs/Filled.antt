@@ -1,9 +1,9 @@
 -- Entries met one after the other by the table in its buffer.
 use Rattle.std.proofs.Math.Path.{◌≡◌, refl, sym}
 use Rattle.std.proofs.Common.{ap, ap₂, ◌∙◌, arith}
-use Rattle.std.specs.Prelude.{◌≤◌, ◌<◌}
+use Rattle.std.specs.Prelude.{◌≤◌, ◌<◌, ◌∷◌, ◌++◌, ◌+◌, ◌^◌}
 use borrow.Author.Tests.{le-leb, lt-leb, leb-true, leb-false}
-use Rattle.rules.specs.Base.{Bool, true, false, List, [], ◌∷◌, ◌++◌, map, ℕ, ◌+◌, ◌^◌, length, replicate, leb, pick}
+use Rattle.rules.specs.Base.{Bool, true, false, List, [], map, ℕ, length, replicate, leb, pick}
 use Rattle.rules.specs.BaseLaws.{All}
 use Rattle.rules.proofs.BaseLaws.{and-true}
 use Rattle.rules.specs.Table.{lookup, insert, unmapped, full}

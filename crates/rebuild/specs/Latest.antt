@@ -1,7 +1,7 @@
 -- "Each id maps to its entry of greatest masked position": entry by entry, as stores into the table.
-use Rattle.std.specs.Prelude.{◌≡◌, refl, ◌⊎◌, ◌≤◌, ◌<◌}
+use Rattle.std.specs.Prelude.{◌≡◌, refl, ◌⊎◌, ◌≤◌, ◌<◌, ◌∷◌, ◌++◌}
 use Rattle.std.proofs.Common.{sym, ap, ◌∙◌, true≢false, inl, inr, zero-le, suc-le-suc, arith}
-use Rattle.rules.specs.Base.{Bool, true, false, List, [], ◌∷◌, ◌++◌, ℕ, suc, length, ltb, pick}
+use Rattle.rules.specs.Base.{Bool, true, false, List, [], ℕ, suc, length, ltb, pick}
 use Rattle.rules.specs.BaseLaws.{All}
 use Rattle.rules.proofs.BaseLaws.{order}
 use Rattle.rules.specs.Table.{lookup, insert}

@@ -1,12 +1,12 @@
 -- Live counts and the next position, from the labels.
-use Rattle.std.specs.Prelude.{◌≡◌, ◌⊎◌}
+use Rattle.std.specs.Prelude.{◌≡◌, ◌⊎◌, ◌∷◌, ◌++◌, ◌+◌, ◌-◌, ◌^◌}
 use Rattle.std.proofs.Math.Path.{refl, sym, ap}
 use Rattle.std.proofs.Common.{ap₂, ◌∙◌, arith, le-leb, inl, inr}
 use Rattle.std.proofs.lemmas.List.{map-append}
 use Prim.Native.Nat.{◌≤◌, ◌<◌, zero-le}
 use Rattle.std.proofs.lemmas.Bool.{lt-leb}
 use Rattle.numbers.specs.GroupLaws.{either_way}
-use Rattle.rules.specs.Base.{List, [], ◌∷◌, ◌++◌, map, ℕ, zero, suc, ◌+◌, ◌-◌, ◌^◌, length, replicate, pick, each, larger, greatest}
+use Rattle.rules.specs.Base.{List, [], map, ℕ, zero, suc, length, replicate, pick, each, larger, greatest}
 use Rattle.rules.specs.BaseLaws.{All}
 use Rattle.rules.proofs.BaseLaws.{all_map}
 use Rattle.rules.specs.FileMap.{empty_label, recorded, empty_record}

@@ -1,10 +1,10 @@
 -- The steps of a reopening on the definitions.
-use Rattle.std.specs.Prelude.{◌≡◌}
+use Rattle.std.specs.Prelude.{◌≡◌, ◌∷◌, ◌++◌, ◌*◌, ◌/◌, ◌%◌}
 use Rattle.std.proofs.Math.Path.{refl, sym, ap, ap₂}
 use Rattle.std.proofs.Common.{◌∙◌, append_assoc, zero-le, arith, le-ltb, lt-ltb, leb-true, leb-false}
 use Rattle.std.proofs.Math.Nat.{sub-zero}
 use Rattle.std.proofs.lemmas.List.{length-replicate}
-use Rattle.rules.specs.Base.{true, false, List, [], ◌∷◌, ◌++◌, ℕ, zero, suc, ◌*◌, ◌/◌, ◌%◌, length, replicate, leb, ltb, any, each, padded}
+use Rattle.rules.specs.Base.{true, false, List, [], ℕ, zero, suc, length, replicate, leb, ltb, any, each, padded}
 use Rattle.rules.specs.Refusal.{Test, ◌gives◌, NoneHolds, decide, after}
 use Rattle.rules.proofs.RefusalLaws.{clear-when, none_rest, decide-early, decide-late, decide-first, decide-next, decide-none, after-refused, after-done}
 use Rattle.rules.specs.Claims.{no_claims}

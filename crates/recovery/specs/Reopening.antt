@@ -1,6 +1,6 @@
 -- The call in its parts: what is left once 1, and then once 8 to 15, are clear.
-use Rattle.std.specs.Prelude.{◌≡◌}
-use Rattle.rules.specs.Base.{List, [], ◌∷◌, ℕ, ◌%◌, length, ltb}
+use Rattle.std.specs.Prelude.{◌≡◌, ◌∷◌, ◌%◌}
+use Rattle.rules.specs.Base.{List, [], ℕ, length, ltb}
 use Rattle.rules.specs.Refusal.{◌gives◌, decide, after}
 use Rattle.rules.specs.FileMap.{no_files}
 use Rattle.rules.specs.Claims.{no_claims}

@@ -1,7 +1,7 @@
 -- 15, and the trailers for which it need not be asked.
-use Rattle.std.specs.Prelude.{◌≡◌, refl, ◌<◌}
+use Rattle.std.specs.Prelude.{◌≡◌, refl, ◌<◌, ◌&&◌, ◌∷◌}
 use Rattle.std.proofs.Common.{arith, ltb-true, ne_eqb}
-use Rattle.rules.specs.Base.{Bool, true, false, ◌&&◌, List, [], ◌∷◌, ℕ, leb, ltb, eqb, any}
+use Rattle.rules.specs.Base.{Bool, true, false, List, [], ℕ, leb, ltb, eqb, any}
 use Rattle.rules.specs.BaseLaws.{All}
 use Rattle.rules.proofs.BaseLaws.{and-true, or-clear, all_map, any-clear}
 use Rattle.reopen_tests.specs.Types.{Entry}

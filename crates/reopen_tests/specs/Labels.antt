@@ -1,5 +1,6 @@
 -- The labels of the slots, and 14 on them.
-use Rattle.rules.specs.Base.{Bool, false, not, ◌&&◌, ◌||◌, List, [], ◌∷◌, ◌++◌, map, ℕ, ◌-◌, length, get_or, replicate, eqb, any, each}
+use Rattle.std.specs.Prelude.{◌&&◌, ◌||◌, ◌∷◌, ◌++◌, ◌-◌}
+use Rattle.rules.specs.Base.{Bool, false, not, List, [], map, ℕ, length, get_or, replicate, eqb, any, each}
 use Rattle.reopen_tests.specs.Types.{Label, Answer, Done, Refused}
 use Rattle.rules.specs.Refusal.{decide}
 use Rattle.rules.specs.FileMap.{empty_label}

@@ -1,8 +1,8 @@
 -- 14 on the labels is 14 on the files.
-use Rattle.std.specs.Prelude.{◌≡◌, Bool, true, false, not, ◌&&◌}
+use Rattle.std.specs.Prelude.{◌≡◌, Bool, true, false, not, ◌&&◌, ◌∷◌, ◌++◌, ◌-◌}
 use Rattle.std.proofs.Math.Path.{refl, sym, ap₂}
 use Rattle.std.proofs.Math.Bool.{◌||◌}
-use Rattle.rules.specs.Base.{List, [], ◌∷◌, ◌++◌, map, ℕ, zero, suc, ◌-◌, length, replicate, any, each}
+use Rattle.rules.specs.Base.{List, [], map, ℕ, zero, suc, length, replicate, any, each}
 use Rattle.rules.specs.BaseLaws.{All}
 use Rattle.rules.specs.FileMap.{empty_label}
 use Rattle.rules.specs.SlotFile.{File, View, empty, damaged, holds}

@@ -1,7 +1,7 @@
 -- What a slot that passed 8 to 13 shows beside its label.
-use Rattle.std.specs.Prelude.{◌≡◌, refl, ◌⊎◌, ◌<◌, ◌≤◌}
+use Rattle.std.specs.Prelude.{◌≡◌, refl, ◌⊎◌, ◌<◌, ◌≤◌, ◌∷◌, ◌++◌, ◌+◌, ◌*◌}
 use Rattle.std.proofs.Common.{sym, ap, ◌∙◌, subst, true≢false, inl, inr, arith, suc-mul, not-suc-le-zero, le_of_suc-le-suc, ne_eqb, length-drop, length-take-le}
-use Rattle.rules.specs.Base.{true, false, List, [], ◌∷◌, ◌++◌, map, ℕ, zero, suc, ◌+◌, ◌*◌, length, get_or, take, drop, any, each}
+use Rattle.rules.specs.Base.{true, false, List, [], map, ℕ, zero, suc, length, get_or, take, drop, any, each}
 use Rattle.rules.specs.BaseLaws.{All}
 use Rattle.reopen_tests.specs.Types.{Label, Refusal, Answer, Done, Refused, LabelAnswer, Vacant, Five, Wrong}
 use Rattle.rules.specs.Refusal.{decide, NoneHolds}

@@ -1,7 +1,7 @@
 -- 8 to 15: all that the slots' bytes decide.
-use Rattle.std.specs.Prelude.{◌≡◌}
+use Rattle.std.specs.Prelude.{◌≡◌, ◌∷◌, ◌++◌}
 use Rattle.std.proofs.Common.{sym, ap, ◌∙◌}
-use Rattle.rules.specs.Base.{true, false, List, [], ◌∷◌, ◌++◌, any, each}
+use Rattle.rules.specs.Base.{true, false, List, [], any, each}
 use Rattle.rules.specs.declared.Refusal.TheVariants.{Overlap, NotRising}
 use Rattle.rules.specs.Refusal.{Test, ◌gives◌, decide}
 use Rattle.rules.proofs.RefusalLaws.{decide-none, decide-early, decide-late, decide-first, decide-next}

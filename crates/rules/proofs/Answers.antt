@@ -1,7 +1,6 @@
 -- Two answers with one number and the same values are one answer: so a contract that settles number and values settles the answer.
-use Rattle.std.specs.Prelude.{◌≡◌, refl}
+use Rattle.std.specs.Prelude.{◌≡◌, refl, ◌-◌}
 use Rattle.std.proofs.Common.{sym, ap, ◌∙◌}
-use Rattle.rules.specs.Base.{◌-◌}
 use Rattle.rules.specs.Types.{Refusal, Limits, BatchBytes, ObjectSize, SlotRoom, NoEmptySlot, TableRoom, PositionsSpent, LabelBytes, TrailerShort, Checksum, EntryCount, EntryPosition, PresentCount, Overlap, NotRising, CutShort, OtherId, NotThere, EqualLocation, Location, Claim, Generation, Answer, Done, Refused, ReadAnswer, Found, Deleted, NeverWritten, ReadRefused, MaintainAnswer, Moved, Stopped, RewriteAnswer, Rewrote, RewriteRefused, CountsAnswer, Counted, CountsRefused, Mapped, Unmapped, At, DeletedAt, Never, LoadAnswer, Loads, LoadRefused, GreaterAnswer, Before, GreaterRefused, CompareAnswer, Swapped, Differs, CompareRefused}
 use Rattle.rules.specs.World.{Given, answer_given, read_given, maintain_given, rewrite_given, counts_given, load_given, greater_given, compare_given}
 use Rattle.rules.specs.Answers.{Known, by_number, answer_of, value_at, read_values, counts_at, load_values, held_values, compare_values}

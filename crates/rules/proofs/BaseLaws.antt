@@ -1,9 +1,9 @@
 -- Laws of tests and lists: no word of the paper is here.
-use Rattle.std.specs.Prelude.{◌≡◌, refl, ◌⊎◌, ◌≤◌, ◌<◌}
+use Rattle.std.specs.Prelude.{◌≡◌, refl, ◌⊎◌, ◌≤◌, ◌<◌, ◌&&◌, ◌||◌, ◌∷◌, ◌++◌, ◌-◌}
 use Rattle.std.proofs.Common.{sym, ap, ap₂, ◌∙◌, append_assoc, true≢false, inl, inr, ⊎_elim, eq-or-lt_of_le, le_of_suc-le-suc, not-suc-le-zero, arith, length-append, ltb-true, ltb-false, leb-true, eqb-true, le-leb, eq-eqb}
 use Rattle.std.proofs.lemmas.Bool.{false≢true, eqb-false}
 use Rattle.std.proofs.lemmas.List.{length-replicate}
-use Rattle.rules.specs.Base.{Bool, true, false, not, ◌&&◌, ◌||◌, List, [], ◌∷◌, ◌++◌, ℕ, zero, suc, ◌-◌, length, replicate, leb, ltb, eqb, within, any, each, zeros, padded, get_or, take}
+use Rattle.rules.specs.Base.{Bool, true, false, not, List, [], ℕ, zero, suc, length, replicate, leb, ltb, eqb, within, any, each, zeros, padded, get_or, take}
 use Rattle.rules.specs.BaseLaws.{All, Some}
 
 -- ---- tests

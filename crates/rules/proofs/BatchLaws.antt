@@ -1,8 +1,8 @@
 -- The batch: its ids have 64 bits, and the count that bounds the definition never cuts a batch short.
-use Rattle.std.specs.Prelude.{◌≡◌, refl, ◌⊎◌, ◌≤◌, ◌<◌}
+use Rattle.std.specs.Prelude.{◌≡◌, refl, ◌⊎◌, ◌≤◌, ◌<◌, ◌+◌, ◌-◌, ◌^◌}
 use Rattle.std.proofs.Common.{sym, ap, ◌∙◌, inl, inr, arith, ltb-true, le-leb}
 use Rattle.std.proofs.lemmas.Bool.{lt-leb}
-use Rattle.rules.specs.Base.{Bool, true, false, List, [], ℕ, zero, suc, ◌+◌, ◌-◌, ◌^◌, length, take, drop, get_or, leb, ltb, eqb, pick}
+use Rattle.rules.specs.Base.{Bool, true, false, List, [], ℕ, zero, suc, length, take, drop, get_or, leb, ltb, eqb, pick}
 use Rattle.numbers.specs.GroupLaws.{either_way}
 use Rattle.numbers.specs.Groups.{Groups, said, bad, read_groups, bounded, number_in, saying}
 use Rattle.numbers.specs.declared.Number.{Number}

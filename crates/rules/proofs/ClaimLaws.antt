@@ -1,10 +1,10 @@
 -- "a claim is set and cleared in place, slot by slot": that slot's, and no other.
-use Rattle.std.specs.Prelude.{◌≡◌, refl, ◌⊎◌, ◌<◌}
+use Rattle.std.specs.Prelude.{◌≡◌, refl, ◌⊎◌, ◌<◌, ◌-◌, ◌/◌, ◌%◌, ◌^◌}
 use Rattle.std.proofs.Common.{sym, ap, ◌∙◌, inl, inr, arith, pow-suc, mul_comm, pow_pos, ne_eqb}
 use Rattle.std.proofs.Math.Nat.{div-div-eq-div-mul, div-eq_of_lt}
 use Rattle.std.specs.Int.Bits.{bit_or, bit_and, or_zero_r, and_zero_r}
 use Rattle.std.proofs.lemmas.Nat.{or_shr, or_mod, and_shr, and_mod}
-use Rattle.rules.specs.Base.{true, false, ℕ, zero, suc, ◌-◌, ◌/◌, ◌%◌, ◌^◌, eqb}
+use Rattle.rules.specs.Base.{true, false, ℕ, zero, suc, eqb}
 use Rattle.rules.specs.Types.{Claims}
 use Rattle.rules.proofs.BaseLaws.{same?}
 use Rattle.rules.specs.Claims.{word_of, with_word, is_claimed, claim_set, claim_cleared}

@@ -1,8 +1,8 @@
 -- What a call knows once 1 does not refuse it.
-use Rattle.std.specs.Prelude.{◌≡◌, refl, ◌⊎◌}
+use Rattle.std.specs.Prelude.{◌≡◌, refl, ◌⊎◌, ◌∷◌, ◌+◌}
 use Rattle.std.proofs.Common.{sym, ◌∙◌, true≢false, ⊎_elim, arith, zero-add, eqb-true, ltb-false, leb-false, eq-eqb, ne_eqb, le-ltb}
 use Rattle.std.proofs.lemmas.Bool.{eqb-false, lt-leb, not-false}
-use Rattle.rules.specs.Base.{true, false, List, [], ◌∷◌, ℕ, zero, suc, ◌+◌}
+use Rattle.rules.specs.Base.{true, false, List, [], ℕ, zero, suc}
 use Rattle.rules.specs.Types.{Settings, Record, State}
 use Rattle.rules.proofs.BaseLaws.{or-false, or-clear, and-true}
 use Rattle.rules.specs.Settings.{slots_in}

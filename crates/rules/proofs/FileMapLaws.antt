@@ -1,10 +1,10 @@
 -- The file map: empty records, lookups and live counts, in a reader's words.
-use Rattle.std.specs.Prelude.{◌≡◌, refl, ◌⊎◌, ◌≤◌, ◌<◌, min}
+use Rattle.std.specs.Prelude.{◌≡◌, refl, ◌⊎◌, ◌≤◌, ◌<◌, min, ◌&&◌, ◌∷◌, ◌+◌, ◌-◌, ◌*◌, ◌^◌}
 use Rattle.std.proofs.Common.{sym, ap, ◌∙◌, inl, inr, zero-add, le_of_suc-le-suc, not-suc-le-zero, eq-or-lt_of_le, add-one, arith, drop_of_length-le, length-set, length-take, drop-cons, get_or-take, ne_eqb, lt-ltb, le-ltb, le-leb, leb-true, leb-false, eqb-true}
 use Rattle.std.proofs.Math.Nat.{min-le_left, min-le_right, le-min}
 use Rattle.std.proofs.lemmas.Bool.{lt-leb, eqb-false}
 use Rattle.numbers.specs.GroupLaws.{either_way}
-use Rattle.rules.specs.Base.{Bool, true, false, ◌&&◌, List, [], ◌∷◌, ℕ, zero, suc, ◌+◌, ◌-◌, ◌*◌, ◌^◌, length, get_or, take, drop, leb, ltb, eqb, pick, any, zeros}
+use Rattle.rules.specs.Base.{Bool, true, false, List, [], ℕ, zero, suc, length, get_or, take, drop, leb, ltb, eqb, pick, any, zeros}
 use Rattle.rules.specs.Types.{Record, Slot, Is, NoSlot}
 use Rattle.rules.proofs.BaseLaws.{zeros-true, zeros-cons, order}
 use Rattle.rules.specs.FileMap.{recorded, empty_record, is_empty, record_at, slots_where, empty_slots, lowest_empty, Lead, leads, lead_from, file_for, less_live}

@@ -1,10 +1,10 @@
 -- Adding files: what 4, 5 and 7 leave known, and what stays as it was.
-use Rattle.std.specs.Prelude.{◌≡◌, refl, ◌⊎◌, ◌≤◌, ◌<◌}
+use Rattle.std.specs.Prelude.{◌≡◌, refl, ◌⊎◌, ◌≤◌, ◌<◌, ◌∷◌, ◌+◌, ◌-◌, ◌*◌, ◌^◌}
 use Rattle.std.proofs.Common.{ap, ◌∙◌, sym, inl, inr, arith, ltb-false, lt-ltb, eq-eqb, ne_eqb, get_or-set_same, get_or-set_other}
 use Rattle.std.proofs.Math.Nat.{sub-zero}
 use Rattle.std.proofs.Math.ListN.{get_or-eq_default}
 use Rattle.std.proofs.Math.Seq.{set_out}
-use Rattle.rules.specs.Base.{List, [], ◌∷◌, ℕ, ◌+◌, ◌-◌, ◌*◌, ◌^◌, length, set, ltb, sum, Bool, true, false, eqb, pick}
+use Rattle.rules.specs.Base.{List, [], ℕ, length, set, ltb, sum, Bool, true, false, eqb, pick}
 use Rattle.rules.specs.Types.{Entry, Label, Record, Slot, Is, NoSlot, Mapped, At, DeletedAt}
 use Rattle.rules.proofs.BaseLaws.{all_map, any_false, same?}
 use Rattle.numbers.specs.GroupLaws.{either_way}

@@ -1,8 +1,8 @@
 -- The label: its bounds as facts, its length, and that what was written is read back.
-use Rattle.std.specs.Prelude.{◌≡◌, refl, ◌≤◌, ◌<◌}
+use Rattle.std.specs.Prelude.{◌≡◌, refl, ◌≤◌, ◌<◌, ◌++◌, ◌+◌, ◌-◌, ◌^◌}
 use Rattle.std.proofs.Common.{ap, ◌∙◌, append_assoc, arith, ltb-false, leb-false, le-ltb, ne_eqb, length-append, drop_at}
 use Rattle.std.proofs.lemmas.Bool.{eqb-false, lt-leb}
-use Rattle.rules.specs.Base.{true, false, List, [], ◌++◌, ℕ, ◌+◌, ◌-◌, ◌^◌, length, get_or, drop, replicate, zeros, padded}
+use Rattle.rules.specs.Base.{true, false, List, [], ℕ, length, get_or, drop, replicate, zeros, padded}
 use Rattle.rules.specs.Types.{Label, Five}
 use Rattle.numbers.specs.LittleEndian.{Bytes}
 use Rattle.numbers.specs.Groups.{groups_of}

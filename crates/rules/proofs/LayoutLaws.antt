@@ -1,9 +1,9 @@
 -- The table's buffer: lengths as facts, its ids and locations, and that a buffer laid out holds what was laid out.
-use Rattle.std.specs.Prelude.{◌≡◌, refl, ◌⊎◌, ◌≤◌, ◌<◌}
+use Rattle.std.specs.Prelude.{◌≡◌, refl, ◌⊎◌, ◌≤◌, ◌<◌, ◌∷◌, ◌++◌, ◌+◌, ◌-◌, ◌*◌, ◌%◌, ◌&&◌}
 use Rattle.std.proofs.Common.{sym, ap, ap₂, ◌∙◌, inl, inr, zero-le, arith, eqb-true, eq-eqb, ne_eqb, leb-true, le-leb, length-append}
 use Rattle.std.proofs.Math.Nat.{suc-sub-suc, sub-zero}
 use Rattle.std.proofs.lemmas.List.{length-map, length-replicate}
-use Rattle.rules.specs.Base.{true, List, [], ◌∷◌, ◌++◌, map, ℕ, zero, suc, ◌+◌, ◌-◌, ◌*◌, ◌%◌, length, replicate, leb, eqb, zeros, padded, ◌&&◌}
+use Rattle.rules.specs.Base.{true, List, [], map, ℕ, zero, suc, length, replicate, leb, eqb, zeros, padded}
 use Rattle.rules.specs.Types.{Entry}
 use Rattle.rules.proofs.BaseLaws.{and-true, and-holds, within-true, within-holds, zero-or-more, zeros-is, zeros-replicate, padded-length}
 use Rattle.rules.specs.TableLaws.{Rising, rise, rise-end, Has}

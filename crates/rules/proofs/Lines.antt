@@ -1,6 +1,6 @@
 -- "Lines to hold, both sides": lines P1 to P10, and the default of request P10; one table and one proved statement.
-use Rattle.rules.specs.Base.{false, not, ◌-◌, any, zeros, keep, each, sum, greatest, padded}
-use Rattle.std.specs.Prelude.{◌≡◌, refl}
+use Rattle.rules.specs.Base.{false, not, any, zeros, keep, each, sum, greatest, padded}
+use Rattle.std.specs.Prelude.{◌≡◌, refl, ◌-◌}
 use Rattle.numbers.specs.LittleEndian.{le_bytes, le_value}
 use Rattle.numbers.specs.Groups.{groups_of, read_groups, number_in}
 use Rattle.checksum.specs.Checksum.{shift_bit, shifts, crc_from, crc32, object_sum}

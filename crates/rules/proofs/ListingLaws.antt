@@ -1,7 +1,7 @@
 -- What "ids" counts: every used entry, and on a table in form each id whose load is not never.
-use Rattle.std.specs.Prelude.{◌≡◌, refl, ◌⊎◌, ◌<◌}
+use Rattle.std.specs.Prelude.{◌≡◌, refl, ◌⊎◌, ◌<◌, ◌∷◌, ◌+◌}
 use Rattle.std.proofs.Common.{sym, ap, ap₂, ◌∙◌, inl, inr, arith}
-use Rattle.rules.specs.Base.{Bool, true, false, not, List, [], ◌∷◌, ℕ, zero, suc, ◌+◌, length, keep}
+use Rattle.rules.specs.Base.{Bool, true, false, not, List, [], ℕ, zero, suc, length, keep}
 use Rattle.rules.specs.Types.{Entry, Held, Mapped, Unmapped}
 use Rattle.disk_location.specs.Locations.{bit_of}
 use Rattle.rules.proofs.BaseLaws.{same?}

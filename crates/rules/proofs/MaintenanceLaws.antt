@@ -1,9 +1,9 @@
 -- "Candidates .. are unclaimed files with live not 0, and ..", as facts; which of 4, 5, 7 refuses a group, and what rewriting it leaves.
-use Rattle.std.specs.Prelude.{◌≡◌, refl, ◌⊎◌, ◌≤◌, ◌<◌}
+use Rattle.std.specs.Prelude.{◌≡◌, refl, ◌⊎◌, ◌≤◌, ◌<◌, ◌&&◌, ◌∷◌, ◌+◌, ◌*◌, ◌/◌, ◌^◌}
 use Rattle.std.proofs.Common.{sym, ap, ◌∙◌, true≢false, inl, inr, arith, ne_eqb, ltb-true, ltb-false, lt-ltb, le-ltb, leb-true, le-leb}
 use Rattle.std.proofs.lemmas.Bool.{eqb-false, not-true}
 use Rattle.disk_location.specs.Locations.{masked_of}
-use Rattle.rules.specs.Base.{Bool, true, false, ◌&&◌, List, [], ◌∷◌, ℕ, ◌+◌, ◌*◌, ◌/◌, ◌^◌, length, leb, ltb, larger, any}
+use Rattle.rules.specs.Base.{Bool, true, false, List, [], ℕ, length, leb, ltb, larger, any}
 use Rattle.rules.specs.Types.{Record, Settings, Claims, Refusal, SlotRoom, NoEmptySlot, PositionsSpent, Answer, Done, Refused}
 use Rattle.rules.specs.BaseLaws.{All}
 use Rattle.rules.proofs.BaseLaws.{and-true, and-holds, and-false, or-true, or-holds, any-true, any-holds, any_false, any-clear, all_map}

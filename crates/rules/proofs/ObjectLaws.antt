@@ -1,8 +1,8 @@
 -- Objects: their length, and that what was written is read back.
-use Rattle.std.specs.Prelude.{◌≡◌, ◌⊎◌, ◌≤◌, ◌<◌}
+use Rattle.std.specs.Prelude.{◌≡◌, ◌⊎◌, ◌≤◌, ◌<◌, ◌∷◌, ◌++◌, ◌+◌, ◌-◌, ◌^◌}
 use Rattle.std.proofs.Math.Path.{refl}
 use Rattle.std.proofs.Common.{sym, ap, ◌∙◌, append_assoc, inl, inr, arith, not-suc-le-zero, eq-eqb, length-append, length-drop, take_at, drop_at}
-use Rattle.rules.specs.Base.{false, List, [], ◌∷◌, ◌++◌, ℕ, zero, suc, ◌+◌, ◌-◌, ◌^◌, length, take, drop}
+use Rattle.rules.specs.Base.{false, List, [], ℕ, zero, suc, length, take, drop}
 use Rattle.numbers.specs.LittleEndian.{le_bytes, le_value, le-length, le-round}
 use Rattle.checksum.specs.Checksum.{crc32, object_sum}
 use Rattle.rules.proofs.BaseLaws.{zero-or-more}

@@ -1,8 +1,8 @@
 -- Operations, and the file that they make: lengths, positions, and that it is read back.
-use Rattle.std.specs.Prelude.{◌≡◌, refl, ◌≤◌, ◌<◌}
+use Rattle.std.specs.Prelude.{◌≡◌, refl, ◌≤◌, ◌<◌, ◌∷◌, ◌++◌, ◌+◌, ◌-◌, ◌*◌, ◌/◌, ◌^◌}
 use Rattle.std.proofs.Common.{sym, ap, ap₂, ◌∙◌, subst, true≢false, inl, inr, arith, length-append}
 use Rattle.std.proofs.Math.Seq.{drop-append-add}
-use Rattle.rules.specs.Base.{Bool, true, false, List, [], ◌∷◌, ◌++◌, map, ℕ, zero, suc, ◌+◌, ◌-◌, ◌*◌, ◌/◌, ◌^◌, length, drop, each}
+use Rattle.rules.specs.Base.{Bool, true, false, List, [], map, ℕ, zero, suc, length, drop, each}
 use Rattle.rules.specs.Types.{Entry}
 use Rattle.disk_location.specs.Locations.{position_of, delete_of, raw_of, digits_in}
 use Rattle.disk_location.proofs.LocationLaws.{position-raw, delete-raw}

@@ -1,8 +1,8 @@
 -- Parts of lists of bytes: fields, and writes in another order. No word of the paper is here.
-use Rattle.std.specs.Prelude.{◌≡◌, ◌≤◌, ◌<◌}
+use Rattle.std.specs.Prelude.{◌≡◌, ◌≤◌, ◌<◌, ◌∷◌, ◌++◌, ◌+◌, ◌-◌}
 use Rattle.std.proofs.Common.{sym, ap, ap₂, ◌∙◌, append_assoc, arith, length-append, length-drop, take-append-drop, take_at, drop_at, take-take, take-add, drop-drop, length-take-le}
 use Rattle.std.proofs.lemmas.List.{take-append-le, drop-append-le}
-use Rattle.rules.specs.Base.{List, [], ◌∷◌, ◌++◌, ℕ, zero, suc, ◌+◌, ◌-◌, length, set, take, drop, replicate}
+use Rattle.rules.specs.Base.{List, [], ℕ, zero, suc, length, set, take, drop, replicate}
 use Rattle.numbers.specs.LittleEndian.{Bytes}
 use Rattle.numbers.specs.Parts.{put_at, put_step, put-none}
 

@@ -1,8 +1,8 @@
 -- "Positions"
-use Rattle.std.specs.Prelude.{◌≡◌, refl, ◌⊎◌, ◌≤◌, ◌<◌}
+use Rattle.std.specs.Prelude.{◌≡◌, refl, ◌⊎◌, ◌≤◌, ◌<◌, ◌∷◌, ◌+◌, ◌^◌}
 use Rattle.std.proofs.Common.{inl, inr, lt-ltb, le-ltb, le-leb}
 use Rattle.std.proofs.lemmas.Bool.{lt-leb}
-use Rattle.rules.specs.Base.{Bool, true, false, [], ◌∷◌, ℕ, ◌+◌, ◌^◌, leb, eqb}
+use Rattle.rules.specs.Base.{Bool, true, false, [], ℕ, leb, eqb}
 use Rattle.rules.specs.Types.{Location}
 use Rattle.numbers.specs.GroupLaws.{either_way}
 use Rattle.disk_location.specs.Locations.{position_of, delete_of, raw_of, located_at, relative_at}

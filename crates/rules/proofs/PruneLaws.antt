@@ -1,11 +1,11 @@
 -- "Every unclaimed file with live 0", as facts; records and views after a prune.
-use Rattle.std.specs.Prelude.{◌≡◌, ◌⊎◌, ◌≤◌, ◌<◌}
+use Rattle.std.specs.Prelude.{◌≡◌, ◌⊎◌, ◌≤◌, ◌<◌, ◌∷◌, ◌+◌, ◌*◌}
 use Rattle.std.proofs.Math.Path.{refl, ap}
 use Rattle.std.proofs.Common.{sym, ◌∙◌, inl, inr, arith, zero-add, eqb-true, eq-eqb, get_or-set_same}
 use Rattle.std.proofs.lemmas.Bool.{false≢true, not-true}
 use Rattle.std.proofs.Math.ListN.{length-set}
 use Rattle.std.proofs.Math.Seq.{get_or-set_other}
-use Rattle.rules.specs.Base.{Bool, true, false, not, List, [], ◌∷◌, ℕ, zero, suc, ◌+◌, ◌*◌, length, get_or, set, pick}
+use Rattle.rules.specs.Base.{Bool, true, false, not, List, [], ℕ, zero, suc, length, get_or, set, pick}
 use Rattle.rules.specs.Types.{Record, Claims}
 use Rattle.rules.proofs.BaseLaws.{and-true, same?}
 use Rattle.rules.specs.FileMap.{empty_record, is_empty, record_at, slots_where}

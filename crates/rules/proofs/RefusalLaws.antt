@@ -1,7 +1,7 @@
 -- "Refusal numbers": "Each is given exactly when its condition holds and no earlier one in the call's order does."
-use Rattle.rules.specs.Base.{Bool, true, false, List, [], ◌∷◌, ◌++◌, ℕ}
+use Rattle.rules.specs.Base.{Bool, true, false, List, [], ℕ}
 use Rattle.rules.specs.Types.{Refusal, Answer, Done, Refused}
-use Rattle.std.specs.Prelude.{◌≡◌, refl, ◌⊎◌}
+use Rattle.std.specs.Prelude.{◌≡◌, refl, ◌⊎◌, ◌∷◌, ◌++◌}
 use Rattle.std.proofs.Common.{ap, inl, inr, arith}
 use Rattle.rules.specs.Refusal.{Test, ◌gives◌, decide, after, NoneHolds, Given-at}
 

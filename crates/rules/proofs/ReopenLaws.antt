@@ -1,9 +1,9 @@
 -- "Each id maps to its entry of greatest masked position", entry by entry; and what 14 and 15 leave known.
-use Rattle.std.specs.Prelude.{◌≡◌, refl, ◌⊎◌, ◌≤◌, ◌<◌}
+use Rattle.std.specs.Prelude.{◌≡◌, refl, ◌⊎◌, ◌≤◌, ◌<◌, ◌&&◌, ◌∷◌, ◌+◌, ◌-◌}
 use Rattle.std.proofs.Common.{inl, inr, zero-le, arith, length-append}
 use borrow.Author.Tests.{leb-false, lt-ltb, le-ltb, lt-leb, eq-eqb, ne_eqb}
 use Rattle.std.proofs.lemmas.List.{length-map, length-replicate}
-use Rattle.rules.specs.Base.{Bool, true, false, ◌&&◌, List, [], ◌∷◌, map, ℕ, suc, ◌+◌, ◌-◌, length, replicate, leb, ltb, eqb, any, pick}
+use Rattle.rules.specs.Base.{Bool, true, false, List, [], map, ℕ, suc, length, replicate, leb, ltb, eqb, any, pick}
 use Rattle.rules.specs.Types.{Entry, Label}
 use Rattle.disk_location.specs.Locations.{masked_of, position_of}
 use Rattle.rules.specs.BaseLaws.{All}

@@ -1,8 +1,8 @@
 -- What a slot that holds a file tells: the file is its label's and trailer's, within 8's to 13's bounds.
-use Rattle.std.specs.Prelude.{◌≡◌, refl}
+use Rattle.std.specs.Prelude.{◌≡◌, refl, ◌∷◌}
 use Rattle.std.proofs.Common.{subst, inl, inr, arith, eqb-true}
 use Rattle.std.proofs.lemmas.Bool.{not-false}
-use Rattle.rules.specs.Base.{false, not, List, [], ◌∷◌, ℕ, length, take, eqb, any}
+use Rattle.rules.specs.Base.{false, not, List, [], ℕ, length, take, eqb, any}
 use Rattle.rules.specs.Types.{Entry, Label, LabelAnswer, Vacant, Five, Wrong, Answer, Done, Refused, EntryPosition, PresentCount}
 use Rattle.rules.specs.Refusal.{◌gives◌, decide, after, NoneHolds}
 use Rattle.rules.proofs.RefusalLaws.{clear-when, none_first, none_rest}

@@ -1,7 +1,7 @@
 -- "Settings": the ranges as facts.
-use Rattle.std.specs.Prelude.{◌≡◌, refl, ◌≤◌, ◌<◌}
+use Rattle.std.specs.Prelude.{◌≡◌, refl, ◌≤◌, ◌<◌, ◌+◌, ◌*◌, ◌%◌}
 use Rattle.std.proofs.Common.{div-add-mod', suc-mul, mul-le-mul_right, arith, eqb-true, eq-eqb}
-use Rattle.rules.specs.Base.{true, ℕ, ◌+◌, ◌*◌, ◌%◌, eqb}
+use Rattle.rules.specs.Base.{true, ℕ, eqb}
 use Rattle.rules.specs.Types.{Settings}
 use Rattle.rules.proofs.BaseLaws.{and-true, within-true, within-holds}
 use Rattle.rules.specs.Settings.{in_ranges, slots_in, heap_in_range, same_settings}

@@ -1,11 +1,11 @@
 -- Slots: their bytes after a write into one of them, and what they show.
-use Rattle.std.specs.Prelude.{◌≡◌, refl, ◌⊎◌, ◌≤◌, ◌<◌}
+use Rattle.std.specs.Prelude.{◌≡◌, refl, ◌⊎◌, ◌≤◌, ◌<◌, ◌∷◌, ◌++◌, ◌+◌, ◌-◌, ◌*◌}
 use Rattle.std.proofs.Math.Path.{sym, ap}
 use Rattle.std.proofs.Common.{◌∙◌, inl, inr, suc-mul, zero-mul, mul-le-mul_right, not-suc-le-zero, le_of_suc-le-suc, length-set, drop-drop, length-take-le, get_or-set_same, get_or-set_other, ext_get_or}
 use native.Mathlib.Omega.{arith}
 use Rattle.std.proofs.Math.ListN.{length-drop}
 use Rattle.std.proofs.Math.Seq.{take-append-add}
-use Rattle.rules.specs.Base.{List, [], ◌∷◌, ◌++◌, ℕ, zero, suc, ◌+◌, ◌-◌, ◌*◌, length, get_or, set, take, drop}
+use Rattle.rules.specs.Base.{List, [], ℕ, zero, suc, length, get_or, set, take, drop}
 use Rattle.rules.proofs.BaseLaws.{order, same?}
 use Rattle.numbers.specs.Parts.{front, put_at, drop-put}
 use Rattle.rules.proofs.PartLaws.{put-part-before, put-part-behind, drop-take}

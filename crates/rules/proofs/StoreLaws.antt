@@ -1,7 +1,7 @@
 -- A run of single-byte stores against a writer's contract, `put_at` of numbers.
-use Rattle.std.specs.Prelude.{◌≡◌, refl, ◌≤◌}
+use Rattle.std.specs.Prelude.{◌≡◌, refl, ◌≤◌, ◌∷◌, ◌++◌, ◌+◌, ◌-◌}
 use Rattle.std.proofs.Common.{sym, ap, ◌∙◌, length-set, length-drop, take-append-drop, length-take-le, arith, add-one}
-use Rattle.rules.specs.Base.{List, [], ◌∷◌, ◌++◌, ℕ, suc, ◌+◌, ◌-◌, length, set, take, drop, zero}
+use Rattle.rules.specs.Base.{List, [], ℕ, suc, length, set, take, drop, zero}
 use Rattle.numbers.specs.Parts.{put_at, put_step, put-none, put-length}
 use Rattle.rules.proofs.PartLaws.{put-before}
 use Rattle.rules.specs.Stores.{Store, made, stores_of, file_stores}

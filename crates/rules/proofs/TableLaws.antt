@@ -1,8 +1,8 @@
 -- The table as a list of entries: lookups after stores, the order, lengths.
-use Rattle.std.specs.Prelude.{◌≡◌, refl, ◌⊎◌, ◌≤◌, ◌<◌}
+use Rattle.std.specs.Prelude.{◌≡◌, refl, ◌⊎◌, ◌≤◌, ◌<◌, ◌&&◌, ◌∷◌, ◌+◌}
 use Rattle.std.proofs.Common.{sym, ap, ◌∙◌, inl, inr, zero-le, arith}
 use borrow.Author.Tests.{lt-ltb, le-ltb, le-leb, lt-leb, eq-eqb, ne_eqb, eqb-true}
-use Rattle.rules.specs.Base.{Bool, true, false, ◌&&◌, List, [], ◌∷◌, ℕ, suc, ◌+◌, length, eqb, pick}
+use Rattle.rules.specs.Base.{Bool, true, false, List, [], ℕ, suc, length, eqb, pick}
 use Rattle.rules.specs.Types.{Entry, Held, Mapped, Unmapped, At, DeletedAt}
 use Rattle.disk_location.specs.Locations.{delete_of}
 use Rattle.rules.proofs.BaseLaws.{order, same?}

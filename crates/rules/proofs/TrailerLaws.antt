@@ -1,9 +1,9 @@
 -- The trailer: its length, and that what was written is read back.
-use Rattle.std.specs.Prelude.{◌≡◌, ◌≤◌, ◌<◌}
+use Rattle.std.specs.Prelude.{◌≡◌, ◌≤◌, ◌<◌, ◌∷◌, ◌++◌, ◌+◌, ◌*◌, ◌^◌}
 use Rattle.std.proofs.Math.Path.{refl}
 use Rattle.std.proofs.Common.{sym, ap, ap₂, ◌∙◌, true≢false, append_assoc, append-nil, inl, inr, arith, length-append, take_at, drop_at, drop-drop}
 use borrow.Author.Tests.{eq-eqb, le-ltb, ltb-false}
-use Rattle.rules.specs.Base.{Bool, true, false, not, List, [], ◌∷◌, ◌++◌, ℕ, suc, ◌+◌, ◌*◌, ◌^◌, length, take, drop, ltb, eqb, each, pick}
+use Rattle.rules.specs.Base.{Bool, true, false, not, List, [], ℕ, suc, length, take, drop, ltb, eqb, each, pick}
 use Rattle.rules.specs.Types.{Entry}
 use Rattle.numbers.specs.LittleEndian.{le_bytes, le_value, le-length, le-round}
 use Rattle.checksum.specs.Checksum.{crc32}

@@ -1,8 +1,8 @@
 -- A turn of a loop over a list: what is left from place i on, and its end. No word of the paper is here.
-use Rattle.std.specs.Prelude.{◌≡◌, ◌≤◌, ◌<◌}
+use Rattle.std.specs.Prelude.{◌≡◌, ◌≤◌, ◌<◌, ◌∷◌, ◌++◌, ◌+◌}
 use Rattle.std.proofs.Math.Path.{ap, refl}
 use Rattle.std.proofs.Common.{add-one, drop_of_length-le, drop-cons, eq-eqb, ne_eqb}
-use Rattle.rules.specs.Base.{Bool, false, List, [], ◌∷◌, ◌++◌, ℕ, ◌+◌, length, get_or, drop, any, each, sum, larger, greatest, true, zeros}
+use Rattle.rules.specs.Base.{Bool, false, List, [], ℕ, length, get_or, drop, any, each, sum, larger, greatest, true, zeros}
 
 -- what is left has the element of place i first
 pub left-next : {A : Type 0} (xs : List A) (i : ℕ) (d : A) → i < length xs → drop i xs ≡ get_or xs i d ∷ drop (i + 1) xs

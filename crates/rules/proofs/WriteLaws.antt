@@ -1,7 +1,7 @@
 -- What an accepted write knows.
-use Rattle.std.specs.Prelude.{◌≡◌, ◌≤◌, ◌<◌}
+use Rattle.std.specs.Prelude.{◌≡◌, ◌≤◌, ◌<◌, ◌∷◌, ◌+◌, ◌^◌}
 use Rattle.std.proofs.Common.{arith, not-suc-le-zero, ltb-false}
-use Rattle.rules.specs.Base.{List, [], ◌∷◌, ℕ, ◌+◌, ◌^◌, length, sum}
+use Rattle.rules.specs.Base.{List, [], ℕ, length, sum}
 use Rattle.rules.specs.Types.{Done, TableRoom}
 use Rattle.rules.specs.Refusal.{◌gives◌, decide, NoneHolds}
 use Rattle.rules.proofs.RefusalLaws.{clear-when, none_first, none_rest}

@@ -1,5 +1,5 @@
 -- A file that was written is seen in its slot as it was given, and its objects are read back.
-use Rattle.std.specs.Prelude.{◌≡◌, refl, ◌≤◌, ◌<◌}
+use Rattle.std.specs.Prelude.{◌≡◌, refl, ◌≤◌, ◌<◌, ◌∷◌, ◌++◌, ◌+◌, ◌-◌, ◌*◌, ◌^◌}
 use Rattle.std.proofs.Common.{sym, ◌∙◌, inl, inr, take-append-drop, take_at, drop_at}
 use Rattle.std.proofs.Math.Path.{ap}
 use mathlib.Core.List.{append_assoc}
@@ -9,7 +9,7 @@ use borrow.Author.Tests.{le-ltb, eq-eqb}
 use Rattle.std.proofs.Math.ListN.{length-append}
 use Rattle.std.proofs.Math.Seq.{take-append_seam, drop-append_seam}
 use Rattle.std.proofs.lemmas.List.{drop-append-le}
-use Rattle.rules.specs.Base.{false, not, List, [], ◌∷◌, ◌++◌, ℕ, ◌+◌, ◌-◌, ◌*◌, ◌^◌, length, set, take, drop, any}
+use Rattle.rules.specs.Base.{false, not, List, [], ℕ, length, set, take, drop, any}
 use Rattle.rules.specs.Types.{Entry}
 use Rattle.numbers.specs.Parts.{front, put_at, front_length}
 use Rattle.rules.specs.Refusal.{NoneHolds}

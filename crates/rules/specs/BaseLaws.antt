@@ -1,6 +1,6 @@
 -- Laws of tests and lists: no word of the paper is here.
-use Rattle.std.specs.Prelude.{◌⊎◌}
-use Rattle.rules.specs.Base.{List, [], ◌∷◌, ◌-◌}
+use Rattle.std.specs.Prelude.{◌⊎◌, ◌∷◌, ◌-◌}
+use Rattle.rules.specs.Base.{List, []}
 
 -- ---- lists
 -- every element is such

@@ -1,5 +1,6 @@
 -- "Batch bytes: id in seven-bit groups; tag 0 (delete) or 1 (put); for a put its length in groups and the body."
-use Rattle.rules.specs.Base.{Bool, true, false, List, [], ◌∷◌, ℕ, zero, suc, ◌+◌, ◌-◌, length, take, drop, get_or, leb, eqb, pick, any}
+use Rattle.std.specs.Prelude.{◌∷◌, ◌+◌, ◌-◌}
+use Rattle.rules.specs.Base.{Bool, true, false, List, [], ℕ, zero, suc, length, take, drop, get_or, leb, eqb, pick, any}
 use Rattle.numbers.specs.Groups.{number_in, saying}
 use Rattle.rules.specs.Ops.{Content, put, delete, Op}
 

@@ -1,5 +1,6 @@
 -- "a claim is set and cleared in place, slot by slot": that slot's, and no other.
-use Rattle.rules.specs.Base.{ℕ, ◌-◌, ◌/◌, ◌%◌, ◌^◌}
+use Rattle.std.specs.Prelude.{◌-◌, ◌/◌, ◌%◌, ◌^◌}
+use Rattle.rules.specs.Base.{ℕ}
 
 -- ---- bits
 -- bit i of n

@@ -1,5 +1,6 @@
 -- "Claim, release.": the claim record, in which slot s is bit s % 64 of word s / 64, and the two calls.
-use Rattle.rules.specs.Base.{Bool, not, ◌||◌, [], ◌∷◌, ℕ, ◌-◌, ◌/◌, ◌%◌, ◌^◌, leb, eqb, pick}
+use Rattle.std.specs.Prelude.{◌||◌, ◌∷◌, ◌-◌, ◌/◌, ◌%◌, ◌^◌}
+use Rattle.rules.specs.Base.{Bool, not, [], ℕ, leb, eqb, pick}
 use Rattle.rules.specs.Types.{Claims, Limits, Claim}
 use Rattle.std.specs.Int.Bits.{bit_or, bit_and}
 use Rattle.rules.specs.Refusal.{◌gives◌, decide, after}

@@ -1,6 +1,6 @@
 -- The file map: empty records, lookups and live counts, in a reader's words.
-use Rattle.std.specs.Prelude.{◌≡◌, ◌⊎◌, ◌≤◌, ◌<◌}
-use Rattle.rules.specs.Base.{Bool, true, false, List, [], ◌∷◌, ℕ, ◌+◌, ◌-◌, ◌*◌, length}
+use Rattle.std.specs.Prelude.{◌≡◌, ◌⊎◌, ◌≤◌, ◌<◌, ◌∷◌, ◌+◌, ◌-◌, ◌*◌}
+use Rattle.rules.specs.Base.{Bool, true, false, List, [], ℕ, length}
 use Rattle.rules.specs.Types.{Record}
 use Rattle.rules.specs.FileMap.{is_empty, record_at, Lead, leads}
 

@@ -1,5 +1,6 @@
 -- Adding files: what write and maintenance share.
-use Rattle.rules.specs.Base.{◌&&◌, List, [], ◌∷◌, map, ℕ, ◌+◌, ◌*◌, ◌^◌, length, set, ltb, any, sum}
+use Rattle.std.specs.Prelude.{◌&&◌, ◌∷◌, ◌+◌, ◌*◌, ◌^◌}
+use Rattle.rules.specs.Base.{List, [], map, ℕ, length, set, ltb, any, sum}
 use Rattle.rules.specs.Types.{Entry, Label, Record, Slot, NoSlot, Loaded, At, DeletedAt, Never, SlotRoom, NoEmptySlot, PositionsSpent}
 use Rattle.rules.specs.Refusal.{Test, ◌gives◌}
 use Rattle.rules.specs.Trailer.{absolute}

@@ -1,6 +1,6 @@
 -- Adding files: what 4, 5 and 7 leave known, and what stays as it was.
-use Rattle.std.specs.Prelude.{◌≡◌, ◌≤◌}
-use Rattle.rules.specs.Base.{List, ℕ, ◌+◌, ◌-◌, length, Bool, false, eqb}
+use Rattle.std.specs.Prelude.{◌≡◌, ◌≤◌, ◌+◌, ◌-◌}
+use Rattle.rules.specs.Base.{List, ℕ, length, Bool, false, eqb}
 use Rattle.rules.specs.Types.{Record, Slot, Is, NoSlot}
 use Rattle.rules.specs.BaseLaws.{All}
 use Rattle.rules.specs.FileMap.{with_live}

@@ -1,5 +1,6 @@
 -- "A slot is a 64-byte label, then the file."
-use Rattle.rules.specs.Base.{Bool, ◌||◌, List, ◌++◌, ℕ, ◌+◌, ◌-◌, ◌^◌, get_or, drop, leb, ltb, eqb, pick, zeros, padded}
+use Rattle.std.specs.Prelude.{◌||◌, ◌++◌, ◌+◌, ◌-◌, ◌^◌}
+use Rattle.rules.specs.Base.{Bool, List, ℕ, get_or, drop, leb, ltb, eqb, pick, zeros, padded}
 use Rattle.rules.specs.Types.{Label, LabelAnswer, Vacant, Five, Wrong}
 use Rattle.numbers.specs.Groups.{groups_of, number_in, saying}
 use Rattle.disk_location.specs.Locations.{masked_of}

@@ -1,6 +1,6 @@
 -- The label: its bounds as facts, its length, and that what was written is read back.
-use Rattle.std.specs.Prelude.{◌≤◌, ◌<◌}
-use Rattle.rules.specs.Base.{ℕ, ◌+◌, ◌-◌, ◌^◌}
+use Rattle.std.specs.Prelude.{◌≤◌, ◌<◌, ◌+◌, ◌-◌, ◌^◌}
+use Rattle.rules.specs.Base.{ℕ}
 use Rattle.rules.specs.Types.{Label}
 use Rattle.disk_location.specs.Locations.{masked_of}
 

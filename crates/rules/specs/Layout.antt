@@ -1,6 +1,7 @@
 -- The table's one buffer: the only file that knows where an id and a location lie in it.
 use Rattle.rules.specs.Types.{Entry}
-use Rattle.rules.specs.Base.{Bool, false, ◌&&◌, List, [], ◌∷◌, map, ℕ, suc, ◌/◌, ◌%◌, length, replicate, leb, eqb, pick, zeros, padded, within}
+use Rattle.std.specs.Prelude.{◌&&◌, ◌∷◌, ◌/◌, ◌%◌}
+use Rattle.rules.specs.Base.{Bool, false, List, [], map, ℕ, suc, length, replicate, leb, eqb, pick, zeros, padded, within}
 
 -- "one buffer of alternating id and location": its words
 abbrev pub Table : Type 0

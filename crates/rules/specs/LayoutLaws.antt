@@ -1,6 +1,6 @@
 -- The table's buffer: lengths as facts, its ids and locations, and that a buffer laid out holds what was laid out.
-use Rattle.std.specs.Prelude.{◌≡◌, ◌≤◌, ◌<◌}
-use Rattle.rules.specs.Base.{List, ℕ, ◌-◌, ◌%◌, length}
+use Rattle.std.specs.Prelude.{◌≡◌, ◌≤◌, ◌<◌, ◌-◌, ◌%◌}
+use Rattle.rules.specs.Base.{List, ℕ, length}
 use Rattle.rules.specs.Types.{Entry}
 use Rattle.rules.specs.TableLaws.{Has}
 use Rattle.rules.specs.Layout.{Table, capacity_of}

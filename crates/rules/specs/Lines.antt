@@ -1,5 +1,6 @@
 -- "Lines to hold, both sides": lines P1 to P10, and the default of request P10; one table and one proved statement.
-use Rattle.rules.specs.Base.{Bool, true, false, ◌&&◌, List, [], ◌∷◌, ◌++◌, map, ℕ, ◌+◌, ◌-◌, ◌^◌, length, replicate, eqb, zeros, each}
+use Rattle.std.specs.Prelude.{◌&&◌, ◌∷◌, ◌++◌, ◌+◌, ◌-◌, ◌^◌}
+use Rattle.rules.specs.Base.{Bool, true, false, List, [], map, ℕ, length, replicate, eqb, zeros, each}
 use Rattle.rules.specs.Types.{Entry, Record, Settings}
 use Rattle.numbers.specs.Groups.{groups_of, number_in}
 use Rattle.numbers.specs.declared.Number.{Number}

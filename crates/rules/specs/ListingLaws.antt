@@ -1,5 +1,6 @@
 -- What "ids" counts: every used entry, and on a table in form each id whose load is not never.
-use Rattle.rules.specs.Base.{Bool, not, List, ℕ, zero, suc, ◌+◌}
+use Rattle.std.specs.Prelude.{◌+◌}
+use Rattle.rules.specs.Base.{Bool, not, List, ℕ, zero, suc}
 use Rattle.rules.specs.Types.{Entry}
 use Rattle.disk_location.specs.Locations.{bit_of}
 use Rattle.rules.specs.Table.{load, never_written}

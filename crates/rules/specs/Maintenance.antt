@@ -1,5 +1,6 @@
 -- "Maintenance"
-use Rattle.rules.specs.Base.{Bool, true, false, not, ◌&&◌, ◌||◌, List, [], ◌∷◌, ◌++◌, map, ℕ, suc, ◌+◌, ◌*◌, ◌/◌, ◌^◌, length, get_or, set, replicate, leb, ltb, eqb, pick, keep, each, larger}
+use Rattle.std.specs.Prelude.{◌&&◌, ◌||◌, ◌∷◌, ◌++◌, ◌+◌, ◌*◌, ◌/◌, ◌^◌}
+use Rattle.rules.specs.Base.{Bool, true, false, not, List, [], map, ℕ, suc, length, get_or, set, replicate, leb, ltb, eqb, pick, keep, each, larger}
 use Rattle.rules.specs.Types.{Entry, Label, Record, Settings, Claims, Refusal, Limits, ObjectSize, Checksum, CutShort, NotThere, Location, Moved, Stopped}
 use Rattle.disk_location.specs.Locations.{masked_of, position_of, delete_of, raw_of}
 use Rattle.rules.specs.Refusal.{Test, ◌gives◌, decide, after}

@@ -1,7 +1,7 @@
 -- "Candidates .. are unclaimed files with live not 0, and ..", as facts; which of 4, 5, 7 refuses a group, and what rewriting it leaves.
-use Rattle.std.specs.Prelude.{◌≡◌, ◌⊎◌, ◌≤◌, ◌<◌}
+use Rattle.std.specs.Prelude.{◌≡◌, ◌⊎◌, ◌≤◌, ◌<◌, ◌++◌, ◌+◌, ◌*◌, ◌/◌, ◌^◌}
 use Rattle.disk_location.specs.Locations.{masked_of}
-use Rattle.rules.specs.Base.{false, List, ◌++◌, ℕ, ◌+◌, ◌*◌, ◌/◌, ◌^◌, length, larger, sum}
+use Rattle.rules.specs.Base.{false, List, ℕ, length, larger, sum}
 use Rattle.rules.specs.Types.{Record, Settings, Claims, Refusal, SlotRoom, NoEmptySlot, PositionsSpent, Answer, Done, Refused}
 use Rattle.rules.specs.BaseLaws.{All, Some}
 use Rattle.rules.specs.Refusal.{Test, NoneHolds}

@@ -1,5 +1,6 @@
 -- "File bytes": objects.
-use Rattle.rules.specs.Base.{Bool, not, List, [], ◌∷◌, ◌++◌, ℕ, zero, suc, ◌+◌, length, take, drop, eqb}
+use Rattle.std.specs.Prelude.{◌∷◌, ◌++◌, ◌+◌}
+use Rattle.rules.specs.Base.{Bool, not, List, [], ℕ, zero, suc, length, take, drop, eqb}
 use Rattle.numbers.specs.LittleEndian.{le_bytes, le_value}
 use Rattle.checksum.specs.Checksum.{object_sum}
 

@@ -1,5 +1,6 @@
 -- Objects: their length, and that what was written is read back.
-use Rattle.rules.specs.Base.{List, ℕ, ◌+◌, ◌-◌, length}
+use Rattle.std.specs.Prelude.{◌+◌, ◌-◌}
+use Rattle.rules.specs.Base.{List, ℕ, length}
 use Rattle.checksum.specs.Checksum.{object_sum}
 use Rattle.rules.specs.Object.{Stored}
 

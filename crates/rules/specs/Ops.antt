@@ -1,6 +1,7 @@
 -- Operations on ids, and the file that a list of them makes ("File bytes").
 use Rattle.rules.specs.Types.{Entry}
-use Rattle.rules.specs.Base.{Bool, true, false, List, [], ◌∷◌, ◌++◌, ℕ, ◌+◌, length, ltb, eqb, pick, each}
+use Rattle.std.specs.Prelude.{◌∷◌, ◌++◌, ◌+◌}
+use Rattle.rules.specs.Base.{Bool, true, false, List, [], ℕ, length, ltb, eqb, pick, each}
 use Rattle.disk_location.specs.Locations.{raw_of, shard_of}
 use Rattle.rules.specs.Object.{object_bytes}
 use Rattle.rules.specs.Trailer.{trailer_bytes}

@@ -1,6 +1,6 @@
 -- Operations, and the file that they make: lengths, positions, and that it is read back.
-use Rattle.std.specs.Prelude.{◌≡◌, ◌⊎◌, ◌≤◌, ◌<◌}
-use Rattle.rules.specs.Base.{List, [], ◌∷◌, ◌++◌, ℕ, suc, ◌+◌, ◌-◌, ◌^◌, length}
+use Rattle.std.specs.Prelude.{◌≡◌, ◌⊎◌, ◌≤◌, ◌<◌, ◌∷◌, ◌++◌, ◌+◌, ◌-◌, ◌^◌}
+use Rattle.rules.specs.Base.{List, [], ℕ, suc, length}
 use Rattle.disk_location.specs.Locations.{position_of, raw_of}
 use Rattle.rules.specs.BaseLaws.{All}
 use Rattle.rules.specs.Object.{Stored}

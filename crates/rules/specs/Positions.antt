@@ -1,5 +1,6 @@
 -- "Positions"
-use Rattle.rules.specs.Base.{Bool, List, [], ◌∷◌, ℕ, ◌+◌, ◌^◌, leb, eqb, pick}
+use Rattle.std.specs.Prelude.{◌∷◌, ◌+◌, ◌^◌}
+use Rattle.rules.specs.Base.{Bool, List, [], ℕ, leb, eqb, pick}
 use Rattle.rules.specs.Types.{Location}
 use Rattle.disk_location.specs.Locations.{position_of, delete_of, raw_of, Told, told, relative_told}
 use Rattle.disk_location.specs.declared.Located.{Located}

@@ -1,5 +1,6 @@
 -- "Prune."
-use Rattle.rules.specs.Base.{Bool, not, ◌&&◌, List, [], ◌∷◌, map, ℕ, suc, ◌*◌, eqb, pick}
+use Rattle.std.specs.Prelude.{◌&&◌, ◌∷◌, ◌*◌}
+use Rattle.rules.specs.Base.{Bool, not, List, [], map, ℕ, suc, eqb, pick}
 use Rattle.rules.specs.Types.{Record, Claims, Limits}
 use Rattle.rules.specs.Refusal.{◌gives◌, decide, after}
 use Rattle.rules.specs.Claims.{is_claimed}

@@ -1,6 +1,6 @@
 -- "Every unclaimed file with live 0", as facts; records and views after a prune.
-use Rattle.std.specs.Prelude.{◌≡◌}
-use Rattle.rules.specs.Base.{false, List, map, ℕ, ◌*◌, set}
+use Rattle.std.specs.Prelude.{◌≡◌, ◌*◌}
+use Rattle.rules.specs.Base.{false, List, map, ℕ, set}
 use Rattle.rules.specs.Types.{Record, Claims}
 use Rattle.rules.specs.Claims.{is_claimed}
 use Rattle.rules.specs.FileMap.{is_empty}

@@ -1,5 +1,6 @@
 -- "Read." "Checks in order: 18, 16 (header or body past file_size), 10, 17."
-use Rattle.rules.specs.Base.{not, List, [], ◌∷◌, ℕ, ◌+◌, ◌-◌, ◌*◌, take, drop, ltb, eqb}
+use Rattle.std.specs.Prelude.{◌∷◌, ◌+◌, ◌-◌, ◌*◌}
+use Rattle.rules.specs.Base.{not, List, [], ℕ, take, drop, ltb, eqb}
 use Rattle.rules.specs.Types.{Loaded, At, DeletedAt, Never, Slot, Is, NoSlot, ReadAnswer, Found, Deleted, NeverWritten, ReadRefused, Limits, NotThere, CutShort, Checksum, OtherId}
 use Rattle.disk_location.specs.Locations.{position_of}
 use Rattle.rules.specs.Refusal.{Test, ◌gives◌, decide, after}

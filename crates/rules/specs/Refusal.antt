@@ -1,7 +1,7 @@
 -- "Refusal numbers": "Each is given exactly when its condition holds and no earlier one in the call's order does."
-use Rattle.rules.specs.Base.{Bool, true, false, List, [], ◌∷◌, ◌++◌, ℕ, pick}
+use Rattle.rules.specs.Base.{Bool, true, false, List, [], ℕ, pick}
 use Rattle.rules.specs.Types.{Refusal, Limits, BatchBytes, ObjectSize, SlotRoom, NoEmptySlot, TableRoom, PositionsSpent, LabelBytes, TrailerShort, Checksum, EntryCount, EntryPosition, PresentCount, Overlap, NotRising, CutShort, OtherId, NotThere, EqualLocation, Location, Claim, Generation, Answer, Done, Refused}
-use Rattle.std.specs.Prelude.{◌≡◌}
+use Rattle.std.specs.Prelude.{◌≡◌, ◌∷◌, ◌++◌}
 
 -- the table "No. | Condition"
 abbrev pub number_of : Refusal → ℕ

@@ -1,5 +1,6 @@
 -- "Reopen": on the views of the slots.
-use Rattle.rules.specs.Base.{Bool, true, false, ◌&&◌, ◌||◌, List, [], ◌∷◌, ◌++◌, map, ℕ, ◌+◌, ◌-◌, length, replicate, leb, ltb, eqb, pick, any, keep, each, greatest, within}
+use Rattle.std.specs.Prelude.{◌&&◌, ◌||◌, ◌∷◌, ◌++◌, ◌+◌, ◌-◌}
+use Rattle.rules.specs.Base.{Bool, true, false, List, [], map, ℕ, length, replicate, leb, ltb, eqb, pick, any, keep, each, greatest, within}
 use Rattle.rules.specs.Types.{Entry, Label, Record, State, Refusal, Limits, TableRoom, Overlap, NotRising}
 use Rattle.disk_location.specs.Locations.{masked_of, position_of}
 use Rattle.rules.specs.Refusal.{Test, ◌gives◌, decide, after}

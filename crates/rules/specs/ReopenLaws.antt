@@ -1,6 +1,6 @@
 -- "Each id maps to its entry of greatest masked position", entry by entry; and what 14 and 15 leave known.
-use Rattle.std.specs.Prelude.{◌⊎◌, ◌<◌}
-use Rattle.rules.specs.Base.{List, [], ◌∷◌, ◌+◌, ◌-◌}
+use Rattle.std.specs.Prelude.{◌⊎◌, ◌<◌, ◌∷◌, ◌+◌, ◌-◌}
+use Rattle.rules.specs.Base.{List, []}
 use Rattle.rules.specs.Types.{Label}
 use Rattle.disk_location.specs.Locations.{masked_of}
 use Rattle.rules.specs.BaseLaws.{All}

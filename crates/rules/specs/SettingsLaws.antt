@@ -1,6 +1,6 @@
 -- "Settings": the ranges as facts.
-use Rattle.std.specs.Prelude.{◌≡◌, ◌≤◌}
-use Rattle.rules.specs.Base.{ℕ, ◌%◌}
+use Rattle.std.specs.Prelude.{◌≡◌, ◌≤◌, ◌%◌}
+use Rattle.rules.specs.Base.{ℕ}
 use Rattle.rules.specs.Types.{Settings}
 use Rattle.rules.specs.Settings.{slots_in}
 

@@ -1,5 +1,6 @@
 -- "The last operation on an id counts."
-use Rattle.rules.specs.Base.{List, [], ◌∷◌, ℕ, eqb, pick}
+use Rattle.std.specs.Prelude.{◌∷◌}
+use Rattle.rules.specs.Base.{List, [], ℕ, eqb, pick}
 use Rattle.rules.specs.Ops.{Content, Op}
 
 -- what is said of an id: nothing, or its content

@@ -1,5 +1,6 @@
 -- A slot's bytes, and the file that is seen in them by its label.
-use Rattle.rules.specs.Base.{not, List, [], ◌∷◌, ◌++◌, ℕ, zero, suc, ◌+◌, ◌*◌, length, take, drop, eqb, any}
+use Rattle.std.specs.Prelude.{◌∷◌, ◌++◌, ◌+◌, ◌*◌}
+use Rattle.rules.specs.Base.{not, List, [], ℕ, zero, suc, length, take, drop, eqb, any}
 use Rattle.rules.specs.Types.{Entry, Label, Refusal, LabelBytes, EntryPosition, PresentCount, LabelAnswer, Vacant, Five, Wrong}
 use Rattle.rules.specs.Refusal.{Test, ◌gives◌, decide, after}
 use Rattle.rules.specs.Label.{label_in, out_of_bounds}

@@ -1,5 +1,6 @@
 -- Request P6: "Remember what has reached the flash."
-use Rattle.rules.specs.Base.{Bool, not, ◌&&◌, List, [], ◌∷◌, map, ℕ, length, ltb, eqb, pick, any, sum}
+use Rattle.std.specs.Prelude.{◌&&◌, ◌∷◌}
+use Rattle.rules.specs.Base.{Bool, not, List, [], map, ℕ, length, ltb, eqb, pick, any, sum}
 use Rattle.rules.specs.Types.{Record, Limits}
 use Rattle.rules.specs.Refusal.{◌gives◌, decide, after}
 use Rattle.rules.specs.FileMap.{recorded, is_empty}

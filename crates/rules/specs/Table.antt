@@ -1,5 +1,6 @@
 -- "Table.": the used entries as a list, whatever the buffer looks like.
-use Rattle.rules.specs.Base.{Bool, true, false, ◌&&◌, List, [], ◌∷◌, ℕ, length, leb, ltb, eqb, pick}
+use Rattle.std.specs.Prelude.{◌&&◌, ◌∷◌}
+use Rattle.rules.specs.Base.{Bool, true, false, List, [], ℕ, length, leb, ltb, eqb, pick}
 use Rattle.rules.specs.Types.{Entry, Held, Mapped, Unmapped, Loaded, At, DeletedAt, Never}
 use Rattle.disk_location.specs.Locations.{delete_of}
 

@@ -1,6 +1,6 @@
 -- The table as a list of entries: lookups after stores, the order, lengths.
-use Rattle.std.specs.Prelude.{◌≡◌, ◌⊎◌, ◌≤◌}
-use Rattle.rules.specs.Base.{List, [], ◌∷◌, ℕ, suc}
+use Rattle.std.specs.Prelude.{◌≡◌, ◌⊎◌, ◌≤◌, ◌∷◌}
+use Rattle.rules.specs.Base.{List, [], ℕ, suc}
 use Rattle.rules.specs.Types.{Entry, Held, Mapped, Unmapped}
 
 -- "ids strictly rising", from a least one on

@@ -1,5 +1,6 @@
 -- "File bytes": the trailer.
-use Rattle.rules.specs.Base.{Bool, not, List, [], ◌∷◌, ◌++◌, ℕ, zero, suc, ◌+◌, ◌*◌, length, take, drop, ltb, eqb, each, pick}
+use Rattle.std.specs.Prelude.{◌∷◌, ◌++◌, ◌+◌, ◌*◌}
+use Rattle.rules.specs.Base.{Bool, not, List, [], ℕ, zero, suc, length, take, drop, ltb, eqb, each, pick}
 use Rattle.rules.specs.Types.{Entry, TrailerShort, Checksum, EntryCount}
 use Rattle.numbers.specs.LittleEndian.{le_bytes, le_value}
 use Rattle.checksum.specs.Checksum.{crc32}

@@ -1,6 +1,6 @@
 -- The trailer: its length, and that what was written is read back.
-use Rattle.std.specs.Prelude.{◌≡◌, ◌≤◌, ◌<◌}
-use Rattle.rules.specs.Base.{false, not, List, ℕ, ◌+◌, ◌^◌}
+use Rattle.std.specs.Prelude.{◌≡◌, ◌≤◌, ◌<◌, ◌+◌, ◌^◌}
+use Rattle.rules.specs.Base.{false, not, List, ℕ}
 use Rattle.rules.specs.Types.{Entry}
 use Rattle.disk_location.specs.Locations.{position_of, delete_of}
 use Rattle.rules.specs.TableLaws.{Has}

@@ -1,5 +1,6 @@
 -- Document 02, request P7, "Maintenance in two calls": plan, rewrite, and the nightly job over these and prune.
-use Rattle.rules.specs.Base.{Bool, not, ◌||◌, List, [], ◌∷◌, ◌++◌, map, ℕ, ◌+◌, ◌-◌, length, replicate, leb, ltb, eqb, pick, within, sum}
+use Rattle.std.specs.Prelude.{◌||◌, ◌∷◌, ◌++◌, ◌+◌, ◌-◌}
+use Rattle.rules.specs.Base.{Bool, not, List, [], map, ℕ, length, replicate, leb, ltb, eqb, pick, within, sum}
 use Rattle.rules.specs.Types.{Refusal, Limits, Generation, Moved, Stopped}
 use Rattle.rules.specs.Refusal.{Test, ◌gives◌, decide, after, number_of}
 use Rattle.rules.specs.Ops.{Op, objects_of, file_bytes}

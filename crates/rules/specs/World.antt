@@ -1,5 +1,6 @@
 -- What a call is given and leaves: settings, state, claims and the lent buffers; and its answer as the paper's number and values.
-use Rattle.rules.specs.Base.{List, [], ◌∷◌, ℕ, length}
+use Rattle.std.specs.Prelude.{◌∷◌}
+use Rattle.rules.specs.Base.{List, [], ℕ, length}
 use Rattle.rules.specs.Types.{Entry, Settings, Record, State, Claims, Refusal, Answer, Done, Refused, ReadAnswer, Found, Deleted, NeverWritten, ReadRefused, MaintainAnswer, Moved, Stopped, RewriteAnswer, Rewrote, RewriteRefused, CountsAnswer, Counted, CountsRefused, Held, Mapped, Unmapped, Loaded, At, DeletedAt, Never, LoadAnswer, Loads, LoadRefused, GreaterAnswer, Before, GreaterRefused, CompareAnswer, Swapped, Differs, CompareRefused}
 use Rattle.rules.specs.Refusal.{number_of}
 use Rattle.rules.specs.Settings.{slots_in}

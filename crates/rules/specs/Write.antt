@@ -1,5 +1,6 @@
 -- "Write."
-use Rattle.rules.specs.Base.{Bool, List, [], ◌∷◌, ◌++◌, ℕ, ◌^◌, length, ltb}
+use Rattle.std.specs.Prelude.{◌∷◌, ◌++◌, ◌^◌}
+use Rattle.rules.specs.Base.{Bool, List, [], ℕ, length, ltb}
 use Rattle.rules.specs.Types.{Entry, Limits, BatchBytes, ObjectSize, TableRoom}
 use Rattle.rules.specs.Refusal.{Test, ◌gives◌, decide, after}
 use Rattle.rules.specs.Ops.{Op, entries_of, settled}

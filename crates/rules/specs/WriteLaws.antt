@@ -1,6 +1,6 @@
 -- What an accepted write knows.
-use Rattle.std.specs.Prelude.{◌≡◌, ◌≤◌, ◌<◌}
-use Rattle.rules.specs.Base.{false, List, ℕ, ◌+◌, ◌^◌, length}
+use Rattle.std.specs.Prelude.{◌≡◌, ◌≤◌, ◌<◌, ◌+◌, ◌^◌}
+use Rattle.rules.specs.Base.{false, List, ℕ, length}
 use Rattle.rules.specs.Ops.{Op, objects_of, entries_of, file_bytes, settled}
 use Rattle.rules.specs.Batch.{batch_in, is_malformed, ops_of, any_too_large}
 use Rattle.rules.specs.Table.{insert_all}

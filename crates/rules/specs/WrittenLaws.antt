@@ -1,6 +1,6 @@
 -- A file that was written is seen in its slot as it was given, and its objects are read back.
-use Rattle.std.specs.Prelude.{◌<◌}
-use Rattle.rules.specs.Base.{List, ◌++◌, ℕ, ◌+◌, ◌-◌, ◌^◌, length}
+use Rattle.std.specs.Prelude.{◌<◌, ◌++◌, ◌+◌, ◌-◌, ◌^◌}
+use Rattle.rules.specs.Base.{List, ℕ, length}
 use Rattle.rules.specs.Ops.{Op, objects_of, entries_of, file_bytes}
 use Rattle.rules.specs.OpsLaws.{IdsFit}
 use Rattle.rules.specs.Label.{label_bytes}

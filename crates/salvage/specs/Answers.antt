@@ -1,8 +1,8 @@
 -- The call's answer, by the paper's number and values; any two results that its contract admits are equal.
-use Rattle.std.specs.Prelude.{◌≡◌}
+use Rattle.std.specs.Prelude.{◌≡◌, ◌∷◌}
 use Rattle.std.proofs.Math.Path.{refl}
 use Rattle.std.proofs.Common.{sym, ap, ◌∙◌}
-use Rattle.rules.specs.Base.{true, false, List, [], ◌∷◌, ℕ, length, each}
+use Rattle.rules.specs.Base.{true, false, List, [], ℕ, length, each}
 use Rattle.numbers.specs.Parts.{front}
 use Rattle.rules.specs.Answers.{by_number, value_at}
 use Rattle.rules.proofs.Answers.{inverse-one, known}

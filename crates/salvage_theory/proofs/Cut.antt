@@ -1,10 +1,10 @@
 -- Request P9: a salvage cut behind any of its stores, and a second one.
-use Rattle.std.specs.Prelude.{◌≡◌, refl, ◌≤◌}
+use Rattle.std.specs.Prelude.{◌≡◌, refl, ◌≤◌, ◌∷◌, ◌*◌}
 use Rattle.std.proofs.Common.{sym, ◌∙◌, subst, arith, length-set, drop_of_length-le, take_all}
 use Rattle.std.proofs.Math.Path.{ap}
 use Rattle.std.proofs.lemmas.List.{length-map}
 use Rattle.numbers.specs.Parts.{front}
-use Rattle.rules.specs.Base.{Bool, true, false, List, [], ◌∷◌, ℕ, zero, suc, ◌*◌, length, set, take, drop, each}
+use Rattle.rules.specs.Base.{Bool, true, false, List, [], ℕ, zero, suc, length, set, take, drop, each}
 use Rattle.rules.specs.BaseLaws.{All}
 use Rattle.rules.specs.Refusal.{number_of, decide}
 use Rattle.rules.specs.Settings.{slots_in}

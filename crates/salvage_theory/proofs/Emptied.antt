@@ -1,12 +1,12 @@
 -- Request P9, "Only the first label byte of reported slots changes": the heap after stores of 0 there, byte by byte and slot by slot.
-use Rattle.std.specs.Prelude.{◌≡◌, ◌⊎◌, ◌<◌}
+use Rattle.std.specs.Prelude.{◌≡◌, ◌⊎◌, ◌<◌, ◌∷◌, ◌*◌}
 use Rattle.std.proofs.Math.Path.{refl}
 use Rattle.std.proofs.Common.{sym, ap, ◌∙◌, subst, inl, inr}
 use native.Mathlib.Omega.{arith}
 use Rattle.std.proofs.Math.ListN.{length-set}
 use Rattle.std.proofs.Math.Seq.{get_or-set_same, get_or-set_other}
 use Rattle.numbers.specs.LittleEndian.{Bytes}
-use Rattle.rules.specs.Base.{List, [], ◌∷◌, map, ℕ, zero, suc, ◌*◌, length, get_or, set}
+use Rattle.rules.specs.Base.{List, [], map, ℕ, zero, suc, length, get_or, set}
 use Rattle.rules.proofs.BaseLaws.{same?}
 use Rattle.rules.specs.FileMapLaws.{Among}
 use Rattle.rules.specs.Settings.{slots_in}

@@ -1,9 +1,9 @@
 -- Request P9, "Only the first label byte of reported slots changes.": every byte of the heap that a salvage leaves.
-use Rattle.std.specs.Prelude.{◌≡◌, refl, ◌<◌}
+use Rattle.std.specs.Prelude.{◌≡◌, refl, ◌<◌, ◌∷◌, ◌*◌}
 use Rattle.std.proofs.Common.{sym, ◌∙◌, subst, inl, inr, arith}
 use Rattle.std.proofs.Math.Path.{ap}
 use Rattle.numbers.specs.LittleEndian.{Bytes}
-use Rattle.rules.specs.Base.{Bool, true, false, List, [], ◌∷◌, map, ℕ, ◌*◌, length, get_or}
+use Rattle.rules.specs.Base.{Bool, true, false, List, [], map, ℕ, length, get_or}
 use Rattle.rules.specs.FileMapLaws.{Among}
 use Rattle.rules.proofs.SettingsLaws.{heap-whole, slot-within}
 use Rattle.rules.specs.Settings.{slots_in}

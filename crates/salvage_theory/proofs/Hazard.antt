@@ -1,10 +1,10 @@
 -- Request P9, what a salvage cannot know: as soon as one slot is given up an id may read as an older version, and a delete may be undone.
-use Rattle.std.specs.Prelude.{◌≡◌, refl}
+use Rattle.std.specs.Prelude.{◌≡◌, refl, ◌∷◌}
 use Rattle.checksum.specs.Checksum.{shift_bit, shifts, crc_from, crc32, object_sum}
 use Rattle.disk_location.specs.Locations.{masked_of, digits_in}
 use Rattle.numbers.specs.Groups.{groups_of, read_groups, number_in}
 use Rattle.numbers.specs.LittleEndian.{le_bytes, le_value}
-use Rattle.rules.specs.Base.{any, zeros, keep, each, sum, greatest, padded, [], ◌∷◌}
+use Rattle.rules.specs.Base.{any, zeros, keep, each, sum, greatest, padded, []}
 use Rattle.rules.specs.Batch.{put_operation, operation_at, batch_from, batch_in, any_too_large}
 use Rattle.rules.specs.Condition1.{out_of_range, not_the_states, bad_record, bad_from, condition_one}
 use Rattle.rules.specs.FileMap.{is_empty, no_files, slots_where, empty_slots, lowest_empty, leads, lead_from, file_for}

@@ -1,9 +1,9 @@
 -- Request P9, "taken by ascending masked lsn, equal ones by ascending slot": the order of the second kind, from outside; one file left out.
-use Rattle.std.specs.Prelude.{◌≡◌, ◌⊎◌, ◌<◌, ◌≤◌}
+use Rattle.std.specs.Prelude.{◌≡◌, ◌⊎◌, ◌<◌, ◌≤◌, ◌∷◌}
 use Rattle.std.proofs.Math.Path.{refl, sym, ap}
 use Rattle.std.proofs.Common.{◌∙◌, inl, inr, arith}
 use borrow.Author.Tests.{le-leb, leb-true, leb-false, eq-eqb, ne_eqb}
-use Rattle.rules.specs.Base.{Bool, true, false, List, [], ◌∷◌, ℕ, leb, eqb, pick}
+use Rattle.rules.specs.Base.{Bool, true, false, List, [], ℕ, leb, eqb, pick}
 use Rattle.rules.specs.BaseLaws.{All}
 use Rattle.rules.proofs.BaseLaws.{all_map, order, same?}
 use Rattle.losses.specs.Salvage.{Sound, start_of, placed, in_order}

@@ -1,9 +1,9 @@
 -- Request P9: nothing that could stay was given up: each slot of the second kind meets a file that was kept, and no two kept files meet.
-use Rattle.std.specs.Prelude.{◌≡◌, ◌⊎◌, ◌≤◌}
+use Rattle.std.specs.Prelude.{◌≡◌, ◌⊎◌, ◌≤◌, ◌∷◌, ◌++◌, ◌+◌}
 use Rattle.std.proofs.Math.Path.{refl, sym, ap, subst}
 use Rattle.std.proofs.Common.{◌∙◌, inl, inr, arith, le-leb, ltb-false, get_or-set_other}
 use Rattle.std.proofs.Math.Nat.{zero-add}
-use Rattle.rules.specs.Base.{Bool, true, false, List, [], ◌∷◌, ◌++◌, ℕ, ◌+◌, set, leb, ltb, pick}
+use Rattle.rules.specs.Base.{Bool, true, false, List, [], ℕ, set, leb, ltb, pick}
 use Rattle.rules.proofs.BaseLaws.{all_map, and-holds, same?}
 use Rattle.disk_location.specs.Locations.{masked_of}
 use Rattle.rules.specs.SlotFile.{File, View, empty, damaged, holds}

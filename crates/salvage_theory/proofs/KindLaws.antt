@@ -1,7 +1,7 @@
 -- Request P9: which slots are of the first kind, and which are "the rest".
-use Rattle.std.specs.Prelude.{◌≡◌, refl, ◌≤◌}
+use Rattle.std.specs.Prelude.{◌≡◌, refl, ◌≤◌, ◌∷◌, ◌++◌, ◌+◌}
 use Rattle.std.proofs.Common.{ap, subst, inl, inr, arith}
-use Rattle.rules.specs.Base.{Bool, true, false, List, [], ◌∷◌, ◌++◌, ℕ, zero, suc, ◌+◌, ltb, pick}
+use Rattle.rules.specs.Base.{Bool, true, false, List, [], ℕ, zero, suc, ltb, pick}
 use Rattle.rules.specs.BaseLaws.{All}
 use Rattle.rules.proofs.BaseLaws.{all_map}
 use Rattle.rules.specs.SlotFile.{File, View, empty, damaged, holds}

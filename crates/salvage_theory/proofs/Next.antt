@@ -1,7 +1,7 @@
 -- Request P9: the first reported slot emptied, the report is the rest of it.
-use Rattle.std.specs.Prelude.{◌≡◌, refl, ◌≤◌}
+use Rattle.std.specs.Prelude.{◌≡◌, refl, ◌≤◌, ◌∷◌, ◌++◌, ◌+◌}
 use Rattle.std.proofs.Common.{sym, ap, ◌∙◌, subst, arith, zero-add}
-use Rattle.rules.specs.Base.{Bool, true, false, List, [], ◌∷◌, ◌++◌, ℕ, zero, suc, ◌+◌, set, ltb, pick}
+use Rattle.rules.specs.Base.{Bool, true, false, List, [], ℕ, zero, suc, set, ltb, pick}
 use Rattle.rules.specs.BaseLaws.{All}
 use Rattle.rules.proofs.BaseLaws.{all_map}
 use Rattle.rules.specs.SlotFile.{View, empty, damaged, holds}

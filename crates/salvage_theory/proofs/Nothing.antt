@@ -1,7 +1,7 @@
 -- Request P9: nothing is reported exactly if no slot has a fault of its own and no two sound files' ranges meet.
-use Rattle.std.specs.Prelude.{◌≡◌, refl, ◌⊎◌, ◌<◌, ◌≤◌}
+use Rattle.std.specs.Prelude.{◌≡◌, refl, ◌⊎◌, ◌<◌, ◌≤◌, ◌∷◌, ◌++◌, ◌+◌}
 use Rattle.std.proofs.Common.{sym, ap, ◌∙◌, subst, inl, inr, arith, zero-add, ltb-true, lt-ltb}
-use Rattle.rules.specs.Base.{Bool, true, false, List, [], ◌∷◌, ◌++◌, ℕ, suc, ◌+◌, ltb, pick}
+use Rattle.rules.specs.Base.{Bool, true, false, List, [], ℕ, suc, ltb, pick}
 use Rattle.rules.specs.BaseLaws.{All}
 use Rattle.rules.proofs.BaseLaws.{all_map, all_both}
 use Rattle.rules.specs.SlotFile.{View, empty, damaged, holds}

@@ -1,9 +1,9 @@
 -- Request P9, "Reopening afterwards is accepted, or is refused with 6. A heap that reopening accepts gets an empty report.": the report is
 -- empty exactly of the heaps that reopening accepts or refuses with 6.
-use Rattle.std.specs.Prelude.{◌≡◌, refl, ◌⊎◌, ◌≤◌}
+use Rattle.std.specs.Prelude.{◌≡◌, refl, ◌⊎◌, ◌≤◌, ◌∷◌, ◌++◌}
 use Rattle.std.proofs.Common.{sym, ◌∙◌, subst, inl, inr, arith}
 use Rattle.std.proofs.Math.Path.{ap}
-use Rattle.rules.specs.Base.{Bool, true, false, List, [], ◌∷◌, ◌++◌, map, ℕ, suc, length, ltb, pick, any, each}
+use Rattle.rules.specs.Base.{Bool, true, false, List, [], map, ℕ, suc, length, ltb, pick, any, each}
 use Rattle.rules.proofs.BaseLaws.{or-false, or-clear}
 use Rattle.rules.specs.Refusal.{Test, ◌gives◌, number_of, decide, after, NoneHolds}
 use Rattle.rules.proofs.RefusalLaws.{decide-append}

@@ -1,8 +1,8 @@
 -- Request P9: the slots that are reported, one by one: "the first in that order or 14 for the second kind"; "always has room for 256 lines".
-use Rattle.std.specs.Prelude.{◌≡◌, refl, ◌<◌, ◌≤◌}
+use Rattle.std.specs.Prelude.{◌≡◌, refl, ◌<◌, ◌≤◌, ◌∷◌, ◌*◌}
 use Rattle.std.proofs.Common.{sym, ap, ◌∙◌, subst, inl, inr, arith, zero-add, get_or-set_same}
 use Rattle.numbers.specs.Parts.{front_length}
-use Rattle.rules.specs.Base.{Bool, true, false, List, [], ◌∷◌, map, ℕ, ◌*◌, length, set, pick, each}
+use Rattle.rules.specs.Base.{Bool, true, false, List, [], map, ℕ, length, set, pick, each}
 use Rattle.rules.specs.BaseLaws.{All}
 use Rattle.rules.specs.Refusal.{number_of}
 use Rattle.rules.specs.Settings.{slots_in}

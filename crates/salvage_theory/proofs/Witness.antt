@@ -1,7 +1,7 @@
 -- Salvages worked out: the report and its order, the slots after it, and what it does not promise.
-use Rattle.std.specs.Prelude.{◌≡◌, refl}
+use Rattle.std.specs.Prelude.{◌≡◌, refl, ◌∷◌}
 use Rattle.std.proofs.Common.{ap, ◌∙◌}
-use Rattle.rules.specs.Base.{List, [], ◌∷◌, replicate, any, zeros, keep, each, padded}
+use Rattle.rules.specs.Base.{List, [], replicate, any, zeros, keep, each, padded}
 use Rattle.numbers.specs.LittleEndian.{le_bytes, le_value}
 use Rattle.numbers.specs.Groups.{groups_of, read_groups, number_in}
 use Rattle.numbers.specs.Parts.{front}

@@ -1,6 +1,7 @@
 -- Request P9: a salvage cut behind any of its stores, and a second one.
 use Rattle.numbers.specs.Parts.{front}
-use Rattle.rules.specs.Base.{List, [], ◌∷◌, ℕ, length, each}
+use Rattle.std.specs.Prelude.{◌∷◌}
+use Rattle.rules.specs.Base.{List, [], ℕ, length, each}
 use Rattle.rules.specs.World.{accepted}
 use Rattle.losses.specs.Salvage.{loss_words, Salvaged}
 use Rattle.salvage_theory.specs.Types.{Loss}

@@ -1,5 +1,6 @@
 -- Request P9, what a salvage cannot know: as soon as one slot is given up an id may read as an older version, and a delete may be undone.
-use Rattle.rules.specs.Base.{[], ◌∷◌, ◌+◌, set}
+use Rattle.std.specs.Prelude.{◌∷◌, ◌+◌}
+use Rattle.rules.specs.Base.{[], set}
 use Rattle.rules.specs.World.{World}
 use Rattle.history_theory.specs.History.{write, called}
 use Rattle.history_theory.specs.Writes.{deleted}

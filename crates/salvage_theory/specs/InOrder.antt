@@ -1,6 +1,6 @@
 -- Request P9, "taken by ascending masked lsn, equal ones by ascending slot": the order of the second kind, from outside; one file left out.
-use Rattle.std.specs.Prelude.{◌≡◌, ◌⊎◌, ◌<◌}
-use Rattle.rules.specs.Base.{List, [], ◌∷◌, ℕ, eqb, pick}
+use Rattle.std.specs.Prelude.{◌≡◌, ◌⊎◌, ◌<◌, ◌∷◌}
+use Rattle.rules.specs.Base.{List, [], ℕ, eqb, pick}
 use Rattle.rules.specs.BaseLaws.{All}
 use Rattle.losses.specs.Salvage.{Sound, start_of}
 pub use Rattle.losses.specs.Few.{order-length}

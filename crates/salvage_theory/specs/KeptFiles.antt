@@ -1,6 +1,6 @@
 -- Request P9: nothing that could stay was given up: each slot of the second kind meets a file that was kept, and no two kept files meet.
-use Rattle.std.specs.Prelude.{◌≡◌, ◌≤◌}
-use Rattle.rules.specs.Base.{true, List, [], ◌∷◌, ℕ, set}
+use Rattle.std.specs.Prelude.{◌≡◌, ◌≤◌, ◌∷◌}
+use Rattle.rules.specs.Base.{true, List, [], ℕ, set}
 use Rattle.rules.specs.BaseLaws.{All}
 use Rattle.rules.specs.SlotFile.{File, View, empty, holds}
 use Rattle.rules.specs.Reopen.{meets}

@@ -1,6 +1,6 @@
 -- Request P9: which slots are of the first kind, and which are "the rest".
-use Rattle.std.specs.Prelude.{◌≡◌, ◌≤◌}
-use Rattle.rules.specs.Base.{List, [], ◌∷◌, map, ℕ, suc, ◌+◌}
+use Rattle.std.specs.Prelude.{◌≡◌, ◌≤◌, ◌∷◌, ◌+◌}
+use Rattle.rules.specs.Base.{List, [], map, ℕ, suc}
 use Rattle.rules.specs.BaseLaws.{All}
 use Rattle.rules.specs.SlotFile.{File, View, damaged, holds}
 use Rattle.theory.specs.Types.{Overlap}

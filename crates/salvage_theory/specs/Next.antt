@@ -1,6 +1,6 @@
 -- Request P9: the first reported slot emptied, the report is the rest of it.
-use Rattle.std.specs.Prelude.{◌≡◌}
-use Rattle.rules.specs.Base.{List, ℕ, ◌+◌, set}
+use Rattle.std.specs.Prelude.{◌≡◌, ◌+◌}
+use Rattle.rules.specs.Base.{List, ℕ, set}
 use Rattle.rules.specs.SlotFile.{View, empty}
 use Rattle.losses.specs.Salvage.{first_kind, the_rest}
 use Rattle.salvage_theory.specs.Types.{Loss}

@@ -1,6 +1,6 @@
 -- Request P9: nothing is reported exactly if no slot has a fault of its own and no two sound files' ranges meet.
-use Rattle.std.specs.Prelude.{◌≡◌, ◌<◌}
-use Rattle.rules.specs.Base.{List, [], ◌∷◌, ℕ}
+use Rattle.std.specs.Prelude.{◌≡◌, ◌<◌, ◌∷◌}
+use Rattle.rules.specs.Base.{List, [], ℕ}
 use Rattle.rules.specs.BaseLaws.{All}
 use Rattle.rules.specs.SlotFile.{File, View, damaged, holds}
 use Rattle.theory.specs.Types.{Refusal}

@@ -1,5 +1,6 @@
 -- Salvages worked out: the report and its order, the slots after it, and what it does not promise.
-use Rattle.rules.specs.Base.{ℕ, ◌+◌}
+use Rattle.std.specs.Prelude.{◌+◌}
+use Rattle.rules.specs.Base.{ℕ}
 use Rattle.losses.specs.Salvage.{Sound}
 
 -- a sound file of this slot, masked lsn and T

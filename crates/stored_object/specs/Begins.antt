@@ -1,8 +1,8 @@
 -- Bytes that begin with an object: what is read there is right, so the bytes are the object's own.
-use Rattle.std.specs.Prelude.{◌≡◌, ◌≤◌, ◌<◌}
+use Rattle.std.specs.Prelude.{◌≡◌, ◌≤◌, ◌<◌, ◌∷◌, ◌++◌, ◌+◌, ◌^◌}
 use Rattle.std.proofs.Common.{sym, ap, ap₂, ◌∙◌, subst, append_assoc, arith, length-drop, take-append-drop, drop-drop, get_or-drop, length-take-le, eqb-true}
 use Rattle.std.proofs.lemmas.Bool.{not-false}
-use Rattle.rules.specs.Base.{false, List, [], ◌∷◌, ◌++◌, ℕ, zero, suc, ◌+◌, ◌^◌, length, take, drop, get_or, eqb}
+use Rattle.rules.specs.Base.{false, List, [], ℕ, zero, suc, length, take, drop, get_or, eqb}
 use Rattle.numbers.specs.LittleEndian.{Bytes, le_bytes, le_value, le-unique, le_below}
 use Rattle.checksum.specs.Checksum.{object_sum}
 use Rattle.rules.specs.Object.{object_bytes, stored_at, bad_checksum}

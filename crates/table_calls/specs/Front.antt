@@ -1,7 +1,7 @@
 -- What each call that stores asks first, and what a clear front tells.
-use Rattle.std.specs.Prelude.{◌≡◌}
+use Rattle.std.specs.Prelude.{◌≡◌, ◌∷◌, ◌++◌}
 use Rattle.std.proofs.lemmas.Bool.{not-false}
-use Rattle.rules.specs.Base.{Bool, false, List, [], ◌∷◌, ◌++◌}
+use Rattle.rules.specs.Base.{Bool, false, List, []}
 use Rattle.rules.specs.declared.Refusal.{Refusal}
 use Rattle.rules.specs.declared.Refusal.TheVariants.{Limits, Location}
 use Rattle.rules.specs.declared.Answer.TheVariants.{Done, Refused}

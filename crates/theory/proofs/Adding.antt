@@ -1,9 +1,9 @@
 -- A file of operations added to a store in bytes: the invariant holds again.
-use Rattle.std.specs.Prelude.{◌≡◌, refl, ◌⊎◌, ◌<◌}
+use Rattle.std.specs.Prelude.{◌≡◌, refl, ◌⊎◌, ◌<◌, ◌+◌, ◌-◌, ◌^◌}
 use Rattle.std.proofs.Common.{sym, ◌∙◌, true≢false, inl, inr}
 use Rattle.std.proofs.Math.Path.{ap, subst}
 use native.Mathlib.Omega.{arith}
-use Rattle.rules.specs.Base.{true, List, ℕ, ◌+◌, ◌-◌, ◌^◌, length, set}
+use Rattle.rules.specs.Base.{true, List, ℕ, length, set}
 use Rattle.theory.specs.Types.{Record}
 use Rattle.disk_location.specs.Locations.{masked_of}
 use Rattle.disk_location.proofs.LocationLaws.{masked_plain, masked-batch, masked-pos}

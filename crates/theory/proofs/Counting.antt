@@ -1,7 +1,7 @@
 -- How many entries of a table have a location that passes a test.
-use Rattle.std.specs.Prelude.{◌≡◌, refl, ◌⊎◌, ◌<◌, ◌≤◌}
+use Rattle.std.specs.Prelude.{◌≡◌, refl, ◌⊎◌, ◌<◌, ◌≤◌, ◌∷◌, ◌+◌}
 use Rattle.std.proofs.Common.{sym, ap, ◌∙◌, inl, inr, arith}
-use Rattle.rules.specs.Base.{Bool, true, false, List, [], ◌∷◌, ℕ, suc, ◌+◌, length, keep, pick}
+use Rattle.rules.specs.Base.{Bool, true, false, List, [], ℕ, suc, length, keep, pick}
 use Rattle.theory.specs.Types.{Entry}
 use Rattle.rules.specs.Table.{lookup, insert}
 use Rattle.disk_location.specs.Locations.{bit_of}

@@ -1,10 +1,10 @@
 -- Files with no live entry are removed: the invariant holds again and nothing else is said of any id.
-use Rattle.std.specs.Prelude.{◌≡◌, ◌⊎◌}
+use Rattle.std.specs.Prelude.{◌≡◌, ◌⊎◌, ◌-◌}
 use Rattle.std.proofs.Math.Path.{refl, sym, ap}
 use Rattle.std.proofs.Common.{◌∙◌, inl, inr}
 use Rattle.std.proofs.Math.Logic.{⊎_elim}
 use native.Mathlib.Omega.{arith}
-use Rattle.rules.specs.Base.{List, ℕ, ◌-◌}
+use Rattle.rules.specs.Base.{List, ℕ}
 use Rattle.theory.specs.Types.{Entry, Record, Held, Mapped, Unmapped, Slot}
 use Rattle.disk_location.specs.Locations.{position_of}
 use Rattle.rules.specs.SlotFile.{File, View, holds}

@@ -1,8 +1,8 @@
 -- Entries of tables and trailers: stores of old ids, absolute locations, lists one behind the other.
-use Rattle.std.specs.Prelude.{◌≡◌, refl, ◌⊎◌}
+use Rattle.std.specs.Prelude.{◌≡◌, refl, ◌⊎◌, ◌∷◌, ◌++◌, ◌+◌, ◌*◌, ◌%◌}
 use Rattle.std.proofs.Common.{sym, ap, ◌∙◌, inl, inr, ⊎_elim, zero-le, arith, eqb-true}
 use Rattle.std.proofs.lemmas.Bool.{eqb-false}
-use Rattle.rules.specs.Base.{Bool, true, false, List, [], ◌∷◌, ◌++◌, map, ℕ, suc, ◌+◌, ◌*◌, ◌%◌, length, eqb}
+use Rattle.rules.specs.Base.{Bool, true, false, List, [], map, ℕ, suc, length, eqb}
 use Rattle.theory.specs.Types.{Entry, Mapped}
 use Rattle.rules.proofs.BaseLaws.{same?}
 use Rattle.rules.specs.Table.{lookup, insert, insert_all}

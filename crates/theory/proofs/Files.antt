@@ -1,8 +1,8 @@
 -- The files that views show: 8 to 15 as facts about slots, the file map and the next position that a reopening makes of them.
-use Rattle.std.specs.Prelude.{◌≡◌, refl, ◌⊎◌, ◌<◌, ◌≤◌}
+use Rattle.std.specs.Prelude.{◌≡◌, refl, ◌⊎◌, ◌<◌, ◌≤◌, ◌&&◌, ◌∷◌, ◌++◌, ◌+◌, ◌-◌}
 use Rattle.std.proofs.Common.{sym, ap, ◌∙◌, subst, true≢false, inl, inr, arith, leb-true, leb-false, eq-eqb}
 use Rattle.std.proofs.lemmas.Bool.{lt-leb}
-use Rattle.rules.specs.Base.{Bool, true, false, ◌&&◌, List, [], ◌∷◌, ◌++◌, map, ℕ, zero, suc, ◌+◌, ◌-◌, length, replicate, leb, eqb, pick, any, each, larger, greatest}
+use Rattle.rules.specs.Base.{Bool, true, false, List, [], map, ℕ, zero, suc, length, replicate, leb, eqb, pick, any, each, larger, greatest}
 use Rattle.theory.specs.Types.{Entry, Refusal}
 use Rattle.disk_location.specs.Locations.{masked_of, position_of}
 use Rattle.rules.proofs.BaseLaws.{or-false, or-clear, replicate-at}

@@ -1,12 +1,12 @@
 -- A file of operations is added above all others: the invariant holds again, and the file's entries count before what was said.
-use Rattle.std.specs.Prelude.{◌≡◌, ◌⊎◌, ◌<◌, ◌≤◌}
+use Rattle.std.specs.Prelude.{◌≡◌, ◌⊎◌, ◌<◌, ◌≤◌, ◌+◌, ◌-◌, ◌*◌, ◌/◌, ◌%◌, ◌^◌}
 use Rattle.std.proofs.Math.Path.{refl, sym, ap}
 use Rattle.std.proofs.Common.{◌∙◌, subst, ⊎_elim, zero-le}
 use Rattle.std.proofs.Math.Logic.{inl, inr}
 use native.Mathlib.Omega.{arith}
 use Rattle.std.proofs.Math.ListN.{length-set}
 use Rattle.std.proofs.Math.Seq.{get_or-set_same, get_or-set_other}
-use Rattle.rules.specs.Base.{Bool, true, false, List, ℕ, ◌+◌, ◌-◌, ◌*◌, ◌/◌, ◌%◌, ◌^◌, length, drop, eqb, pick}
+use Rattle.rules.specs.Base.{Bool, true, false, List, ℕ, length, drop, eqb, pick}
 use Rattle.theory.specs.Types.{Record, Answer, Done, Refused, Held, Mapped, Unmapped, Slot, Is}
 use Rattle.disk_location.specs.Locations.{masked_of, position_of, delete_of}
 use Rattle.rules.proofs.BaseLaws.{same?}

@@ -1,7 +1,7 @@
 -- What holds of all elements of a list, and of those among it: no word of the paper is here.
-use Rattle.std.specs.Prelude.{◌≡◌, refl}
+use Rattle.std.specs.Prelude.{◌≡◌, refl, ◌∷◌}
 use Rattle.std.proofs.Common.{subst, inl, inr}
-use Rattle.rules.specs.Base.{Bool, true, false, List, [], ◌∷◌, map, ℕ, zero, suc, get_or, set, replicate, pick, keep, each}
+use Rattle.rules.specs.Base.{Bool, true, false, List, [], map, ℕ, zero, suc, get_or, set, replicate, pick, keep, each}
 use Rattle.rules.specs.BaseLaws.{All}
 use Rattle.rules.proofs.BaseLaws.{all_append}
 use Rattle.rules.specs.FileMapLaws.{Among}

@@ -1,10 +1,10 @@
 -- "each replaced location's file .. loses one live": live counts as ids leave their old locations, one by one.
-use Rattle.std.specs.Prelude.{◌≡◌}
+use Rattle.std.specs.Prelude.{◌≡◌, ◌∷◌, ◌+◌, ◌-◌}
 use Rattle.std.proofs.Math.Path.{refl, ap}
 use Rattle.std.proofs.Common.{◌∙◌, inl, inr}
 use Prim.Native.Nat.{◌≤◌, zero-le}
 use native.Mathlib.Omega.{arith}
-use Rattle.rules.specs.Base.{Bool, true, false, List, [], ◌∷◌, ℕ, suc, ◌+◌, ◌-◌, length}
+use Rattle.rules.specs.Base.{Bool, true, false, List, [], ℕ, suc, length}
 use Rattle.theory.specs.Types.{Entry, Record, Held, Mapped, Unmapped, Slot}
 use Rattle.disk_location.specs.Locations.{bit_of}
 use Rattle.rules.specs.Ops.{Op, size_of, entries_of}

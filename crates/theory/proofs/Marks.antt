@@ -1,10 +1,10 @@
 -- Request P6: the marks say nothing of the files. A store whose records are marked is sound as before.
-use Rattle.std.specs.Prelude.{◌≡◌, ◌⊎◌, ◌≤◌}
+use Rattle.std.specs.Prelude.{◌≡◌, ◌⊎◌, ◌≤◌, ◌&&◌, ◌||◌, ◌∷◌, ◌+◌, ◌-◌}
 use Rattle.std.proofs.Math.Path.{refl, ap}
 use Rattle.std.proofs.Common.{sym, ◌∙◌, true≢false, inl, inr, zero-add, arith, ne_eqb}
 use Rattle.std.proofs.lemmas.List.{length-map}
 use Rattle.std.proofs.lemmas.Bool.{eqb-false}
-use Rattle.rules.specs.Base.{Bool, true, false, not, ◌&&◌, ◌||◌, List, [], ◌∷◌, map, ℕ, zero, suc, ◌+◌, ◌-◌, eqb, pick, any, sum}
+use Rattle.rules.specs.Base.{Bool, true, false, not, List, [], map, ℕ, zero, suc, eqb, pick, any, sum}
 use Rattle.theory.specs.Types.{Label, Record, Held, Mapped, Unmapped, Slot, Is, NoSlot}
 use Rattle.disk_location.specs.Locations.{position_of}
 use Rattle.rules.specs.SlotFile.{View, empty, damaged, holds}

@@ -1,7 +1,7 @@
 -- "Each id maps to its entry of greatest masked position": what `latest_of` holds.
-use Rattle.std.specs.Prelude.{◌≡◌, refl, ◌⊎◌, ◌<◌, ◌≤◌}
+use Rattle.std.specs.Prelude.{◌≡◌, refl, ◌⊎◌, ◌<◌, ◌≤◌, ◌∷◌}
 use Rattle.std.proofs.Common.{sym, ap, ◌∙◌, inl, inr, ⊎_elim, zero-le, arith, ltb-true, ltb-false, lt-ltb, eq-eqb, ne_eqb}
-use Rattle.rules.specs.Base.{Bool, true, false, List, [], ◌∷◌, ℕ, suc, ltb, pick}
+use Rattle.rules.specs.Base.{Bool, true, false, List, [], ℕ, suc, ltb, pick}
 use Rattle.theory.specs.Types.{Entry, Held, Mapped, Unmapped}
 use Rattle.rules.specs.Table.{lookup, insert, insert_all}
 use Rattle.rules.specs.Reopen.{masked_position, latest, latest_from, latest_of}

@@ -1,8 +1,8 @@
 -- G: what an accepted reopening means, whoever wrote the files.
-use Rattle.std.specs.Prelude.{◌≡◌, refl, ◌≤◌}
+use Rattle.std.specs.Prelude.{◌≡◌, refl, ◌≤◌, ◌∷◌}
 use Rattle.std.proofs.Math.Path.{sym, ap, subst}
 use Rattle.std.proofs.Common.{◌∙◌, true≢false, arith, ltb-false, eq-eqb}
-use Rattle.rules.specs.Base.{Bool, true, false, List, [], ◌∷◌, ℕ, length, each}
+use Rattle.rules.specs.Base.{Bool, true, false, List, [], ℕ, length, each}
 use Rattle.theory.specs.Types.{Entry, Record, Refusal, Limits, Answer, Done, Refused}
 use Rattle.disk_location.proofs.LocationLaws.{masked-pos}
 use Rattle.rules.specs.Refusal.{◌gives◌, decide, after, number_of, NoneHolds}

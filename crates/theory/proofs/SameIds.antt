@@ -1,7 +1,7 @@
 -- How long a table gets goes by the ids alone.
-use Rattle.std.specs.Prelude.{◌≡◌, refl, ◌⊎◌, ◌<◌}
+use Rattle.std.specs.Prelude.{◌≡◌, refl, ◌⊎◌, ◌<◌, ◌∷◌}
 use Rattle.std.proofs.Common.{sym, ap, ◌∙◌, inl, inr, arith}
-use Rattle.rules.specs.Base.{List, [], ◌∷◌, map, ℕ, suc, length}
+use Rattle.rules.specs.Base.{List, [], map, ℕ, suc, length}
 use Rattle.theory.specs.Types.{Entry}
 use Rattle.rules.proofs.BaseLaws.{order}
 use Rattle.rules.specs.Trailer.{absolute}

@@ -1,7 +1,7 @@
 -- The invariant of a store, on its picture; and what makes a file whole.
-use Rattle.std.specs.Prelude.{◌≡◌, ◌⊎◌}
+use Rattle.std.specs.Prelude.{◌≡◌, ◌⊎◌, ◌+◌, ◌*◌}
 use Rattle.std.proofs.Common.{sym, ap, ◌∙◌, subst, true≢false, inl, inr}
-use Rattle.rules.specs.Base.{true, false, List, ℕ, ◌+◌, ◌*◌}
+use Rattle.rules.specs.Base.{true, false, List, ℕ}
 use Rattle.rules.proofs.BaseLaws.{same?}
 use Rattle.theory.specs.Types.{Entry, Mapped}
 use Rattle.rules.specs.SlotFile.{File, View, holds}

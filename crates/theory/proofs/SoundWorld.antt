@@ -1,8 +1,8 @@
 -- The invariant of a store in bytes; 1 refuses no call on it.
-use Rattle.std.specs.Prelude.{◌≡◌, refl, ◌<◌, ◌≤◌}
+use Rattle.std.specs.Prelude.{◌≡◌, refl, ◌<◌, ◌≤◌, ◌∷◌, ◌+◌, ◌-◌, ◌*◌}
 use Rattle.std.proofs.Common.{sym, ap, ◌∙◌, subst, true≢false, zero-le, length-take, length-drop, ltb-false}
 use native.Mathlib.Omega.{arith}
-use Rattle.rules.specs.Base.{true, false, List, [], ◌∷◌, ℕ, zero, suc, ◌+◌, ◌-◌, ◌*◌, length, drop}
+use Rattle.rules.specs.Base.{true, false, List, [], ℕ, zero, suc, length, drop}
 use Rattle.theory.specs.Types.{Label}
 use Rattle.rules.specs.Refusal.{NoneHolds}
 use Rattle.rules.proofs.SettingsLaws.{slot-within}

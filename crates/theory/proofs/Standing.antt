@@ -1,7 +1,7 @@
 -- W: a file that a call adds stands in the lowest empty slot as it was meant, and nothing else of the heap changes.
-use Rattle.std.specs.Prelude.{◌≡◌, ◌<◌}
+use Rattle.std.specs.Prelude.{◌≡◌, ◌<◌, ◌*◌, ◌^◌}
 use Rattle.std.proofs.Common.{arith}
-use Rattle.rules.specs.Base.{List, ℕ, ◌*◌, ◌^◌, length}
+use Rattle.rules.specs.Base.{List, ℕ, length}
 use Rattle.numbers.specs.Parts.{put_at}
 use Rattle.rules.proofs.SettingsLaws.{slot-within}
 use Rattle.rules.specs.Ops.{put, Op}

@@ -1,8 +1,8 @@
 -- A file of operations says of each id what its last operation says.
-use Rattle.std.specs.Prelude.{◌≡◌, refl, ◌⊎◌, ◌<◌}
+use Rattle.std.specs.Prelude.{◌≡◌, refl, ◌⊎◌, ◌<◌, ◌∷◌, ◌+◌, ◌-◌, ◌^◌}
 use Rattle.std.proofs.Common.{sym, ap, ◌∙◌, subst, inl, inr, arith, eq-eqb, ne_eqb}
 use Rattle.std.proofs.Math.Nat.{sub-zero}
-use Rattle.rules.specs.Base.{Bool, true, false, List, [], ◌∷◌, ℕ, suc, ◌+◌, ◌-◌, ◌^◌, length, drop, pick}
+use Rattle.rules.specs.Base.{Bool, true, false, List, [], ℕ, suc, length, drop, pick}
 use Rattle.theory.specs.Types.{Answer, Held, Mapped, Unmapped}
 use Rattle.disk_location.specs.Locations.{position_of, delete_of, raw_of}
 use Rattle.disk_location.proofs.LocationLaws.{delete-raw}

@@ -1,7 +1,7 @@
 -- Files of operations are whole, and small where 3 refuses none of the operations.
-use Rattle.std.specs.Prelude.{◌≡◌, refl, ◌<◌}
+use Rattle.std.specs.Prelude.{◌≡◌, refl, ◌<◌, ◌∷◌, ◌++◌, ◌+◌, ◌^◌}
 use Rattle.std.proofs.Common.{sym, ap, ◌∙◌, subst, true≢false, inl, inr, arith}
-use Rattle.rules.specs.Base.{true, false, List, [], ◌∷◌, ◌++◌, ℕ, ◌+◌, ◌^◌, length, leb}
+use Rattle.rules.specs.Base.{true, false, List, [], ℕ, length, leb}
 use Rattle.disk_location.specs.Locations.{position_of, delete_of, raw_of}
 use Rattle.disk_location.proofs.LocationLaws.{delete-raw}
 use Rattle.rules.specs.BaseLaws.{All}

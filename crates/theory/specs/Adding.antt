@@ -1,6 +1,6 @@
 -- A file of operations added to a store in bytes: the invariant holds again.
-use Rattle.std.specs.Prelude.{◌≡◌, ◌⊎◌, ◌<◌, ◌≤◌}
-use Rattle.rules.specs.Base.{List, ℕ, ◌+◌, ◌-◌, ◌^◌, length}
+use Rattle.std.specs.Prelude.{◌≡◌, ◌⊎◌, ◌<◌, ◌≤◌, ◌+◌, ◌-◌, ◌^◌}
+use Rattle.rules.specs.Base.{List, ℕ, length}
 use Rattle.rules.specs.Ops.{Op, objects_of, file_bytes}
 use Rattle.rules.specs.OpsLaws.{RisingOps, IdsFit}
 use Rattle.rules.specs.Table.{insert_all}

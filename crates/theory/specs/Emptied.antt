@@ -1,6 +1,6 @@
 -- Files with no live entry are removed: the invariant holds again and nothing else is said of any id.
-use Rattle.std.specs.Prelude.{◌≡◌, ◌⊎◌, ◌≤◌}
-use Rattle.rules.specs.Base.{ℕ, ◌-◌, length}
+use Rattle.std.specs.Prelude.{◌≡◌, ◌⊎◌, ◌≤◌, ◌-◌}
+use Rattle.rules.specs.Base.{ℕ, length}
 use Rattle.rules.specs.SlotFile.{empty}
 use Rattle.rules.specs.FileMap.{empty_record, record_at}
 use Rattle.theory.specs.Places.{view_at}

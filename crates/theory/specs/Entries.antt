@@ -1,5 +1,6 @@
 -- Entries of tables and trailers: stores of old ids, absolute locations, lists one behind the other.
-use Rattle.rules.specs.Base.{ℕ, ◌+◌, ◌*◌}
+use Rattle.std.specs.Prelude.{◌+◌, ◌*◌}
+use Rattle.rules.specs.Base.{ℕ}
 use Rattle.theory.specs.Types.{Held, Mapped, Unmapped}
 
 -- what is held, counted from a file's lsn

@@ -1,5 +1,6 @@
 -- The files that views show: 8 to 15 as facts about slots, the file map and the next position that a reopening makes of them.
-use Rattle.rules.specs.Base.{Bool, ◌&&◌, ◌-◌, leb, eqb}
+use Rattle.std.specs.Prelude.{◌&&◌, ◌-◌}
+use Rattle.rules.specs.Base.{Bool, leb, eqb}
 use Rattle.theory.specs.Types.{Entry}
 use Rattle.disk_location.specs.Locations.{position_of}
 

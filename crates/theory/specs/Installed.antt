@@ -1,6 +1,6 @@
 -- A file of operations is added above all others: the invariant holds again, and the file's entries count before what was said.
-use Rattle.std.specs.Prelude.{◌≡◌, ◌<◌, ◌≤◌}
-use Rattle.rules.specs.Base.{List, ℕ, ◌+◌, ◌-◌, ◌^◌, length}
+use Rattle.std.specs.Prelude.{◌≡◌, ◌<◌, ◌≤◌, ◌+◌, ◌-◌, ◌^◌}
+use Rattle.rules.specs.Base.{List, ℕ, length}
 use Rattle.disk_location.specs.Locations.{masked_of}
 use Rattle.rules.specs.Ops.{Op, objects_of}
 use Rattle.rules.specs.OpsLaws.{RisingOps, IdsFit}

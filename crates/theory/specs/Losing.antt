@@ -1,5 +1,6 @@
 -- "each replaced location's file .. loses one live": live counts as ids leave their old locations, one by one.
-use Rattle.rules.specs.Base.{List, map, ℕ, ◌-◌}
+use Rattle.std.specs.Prelude.{◌-◌}
+use Rattle.rules.specs.Base.{List, map, ℕ}
 use Rattle.theory.specs.Types.{Entry, Record}
 use Rattle.disk_location.specs.Locations.{raw_of}
 use Rattle.rules.specs.Trailer.{absolute}

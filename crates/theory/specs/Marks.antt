@@ -1,6 +1,6 @@
 -- Request P6: the marks say nothing of the files. A store whose records are marked is sound as before.
-use Rattle.std.specs.Prelude.{◌≡◌, ◌⊎◌}
-use Rattle.rules.specs.Base.{List, ◌++◌, ℕ, ◌+◌, ◌-◌, length, take, drop}
+use Rattle.std.specs.Prelude.{◌≡◌, ◌⊎◌, ◌++◌, ◌+◌, ◌-◌}
+use Rattle.rules.specs.Base.{List, ℕ, length, take, drop}
 use Rattle.theory.specs.Types.{Record}
 use Rattle.rules.specs.FileMap.{recorded, record_at}
 use Rattle.rules.specs.Sync.{marked, marked_all}

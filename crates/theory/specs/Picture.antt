@@ -1,5 +1,6 @@
 -- A store as its slots' views, its records, its table and its next position; and what it says of an id.
-use Rattle.rules.specs.Base.{List, ℕ, ◌+◌, ◌-◌, length, set, drop, pick}
+use Rattle.std.specs.Prelude.{◌+◌, ◌-◌}
+use Rattle.rules.specs.Base.{List, ℕ, length, set, drop, pick}
 use Rattle.theory.specs.Types.{Entry, Record, Refusal, NotThere, Held, Mapped, Unmapped, Loaded, At, DeletedAt, Never, Slot, Is, NoSlot}
 use Rattle.disk_location.specs.Locations.{position_of, delete_of}
 use Rattle.rules.specs.Refusal.{decide, after}

@@ -1,6 +1,6 @@
 -- Files in slots: bounds, disjoint masked ranges; an entry's location is looked up in the file where it stands.
-use Rattle.std.specs.Prelude.{◌≡◌, ◌⊎◌, ◌<◌, ◌≤◌}
-use Rattle.rules.specs.Base.{List, map, ℕ, ◌+◌, ◌-◌, ◌*◌, ◌^◌, length, get_or, each}
+use Rattle.std.specs.Prelude.{◌≡◌, ◌⊎◌, ◌<◌, ◌≤◌, ◌+◌, ◌-◌, ◌*◌, ◌^◌}
+use Rattle.rules.specs.Base.{List, map, ℕ, length, get_or, each}
 use Rattle.theory.specs.Types.{Entry, Record}
 use Rattle.disk_location.specs.Locations.{masked_of, position_of}
 use Rattle.rules.specs.Trailer.{absolute}

@@ -1,6 +1,6 @@
 -- G: what an accepted reopening means, whoever wrote the files.
-use Rattle.std.specs.Prelude.{◌≡◌, ◌<◌, ◌≤◌}
-use Rattle.rules.specs.Base.{false, ℕ, ◌+◌, length, any}
+use Rattle.std.specs.Prelude.{◌≡◌, ◌<◌, ◌≤◌, ◌+◌}
+use Rattle.rules.specs.Base.{false, ℕ, length, any}
 use Rattle.theory.specs.Types.{Refusal, Mapped, Unmapped, Is}
 use Rattle.disk_location.specs.Locations.{masked_of}
 use Rattle.rules.specs.Condition1Laws.{InLimits}

@@ -1,6 +1,6 @@
 -- How long a table gets goes by the ids alone.
-use Rattle.std.specs.Prelude.{◌≡◌}
-use Rattle.rules.specs.Base.{List, [], ◌∷◌}
+use Rattle.std.specs.Prelude.{◌≡◌, ◌∷◌}
+use Rattle.rules.specs.Base.{List, []}
 use Rattle.theory.specs.Types.{Entry}
 use Rattle.rules.proofs.BaseLaws.{order}
 

@@ -1,6 +1,6 @@
 -- The invariant of a store, on its picture; and what makes a file whole.
-use Rattle.std.specs.Prelude.{◌≡◌, ◌⊎◌, ◌<◌, ◌≤◌}
-use Rattle.rules.specs.Base.{false, List, [], ◌∷◌, ℕ, ◌+◌, ◌^◌, length, leb}
+use Rattle.std.specs.Prelude.{◌≡◌, ◌⊎◌, ◌<◌, ◌≤◌, ◌∷◌, ◌+◌, ◌^◌}
+use Rattle.rules.specs.Base.{false, List, [], ℕ, length, leb}
 use Rattle.rules.specs.BaseLaws.{All}
 use Rattle.disk_location.specs.Locations.{masked_of, position_of, delete_of, raw_of}
 use Rattle.rules.specs.Refusal.{NoneHolds}

@@ -1,6 +1,6 @@
 -- The invariant of a store in bytes; 1 refuses no call on it.
-use Rattle.std.specs.Prelude.{◌≡◌}
-use Rattle.rules.specs.Base.{true, ℕ, ◌-◌, length}
+use Rattle.std.specs.Prelude.{◌≡◌, ◌-◌}
+use Rattle.rules.specs.Base.{true, ℕ, length}
 use Rattle.rules.specs.SlotFile.{File, holds}
 use Rattle.rules.specs.Layout.{capacity_of, in_form}
 use Rattle.rules.specs.Condition1Laws.{InLimits}

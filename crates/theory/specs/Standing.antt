@@ -1,6 +1,6 @@
 -- W: a file that a call adds stands in the lowest empty slot as it was meant, and nothing else of the heap changes.
-use Rattle.std.specs.Prelude.{◌≡◌}
-use Rattle.rules.specs.Base.{false, List, [], ◌∷◌, ℕ, ◌*◌, length, set, drop}
+use Rattle.std.specs.Prelude.{◌≡◌, ◌∷◌, ◌*◌}
+use Rattle.rules.specs.Base.{false, List, [], ℕ, length, set, drop}
 use Rattle.numbers.specs.Parts.{put_at}
 use Rattle.rules.specs.Refusal.{NoneHolds}
 use Rattle.rules.specs.Object.{stored_at}

@@ -2,7 +2,8 @@
 use mathlib.Core.Path.{◌≡◌, refl, sym, ap, ap₂, ◌∙◌}
 use Prim.Native.Nat.{◌<◌, ◌≤◌}
 use native.Mathlib.Omega.{arith}
-use Rattle.rules.specs.Base.{Bool, true, false, List, ℕ, zero, suc, ◌+◌, ◌-◌, length, pick}
+use Rattle.std.specs.Prelude.{◌+◌, ◌-◌}
+use Rattle.rules.specs.Base.{Bool, true, false, List, ℕ, zero, suc, length, pick}
 use Rattle.rules.specs.Ops.{Op}
 use Rattle.rules.specs.Batch.{malformed, parsed, operation_at, Batch, operations, not_as_above, before, batch_from, batch_in, is_malformed}
 use Rattle.rules.proofs.BatchLaws.{batch-end, batch-bad, batch-next}

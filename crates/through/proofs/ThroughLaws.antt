@@ -1,8 +1,8 @@
 -- The last operation on an id, step by step; pieces that are named lie in their slices; what the contracts admit is one.
-use Rattle.std.specs.Prelude.{◌≡◌, ◌≤◌}
+use Rattle.std.specs.Prelude.{◌≡◌, ◌≤◌, ◌∷◌, ◌+◌, ◌-◌, ◌*◌}
 use Rattle.std.proofs.Math.Path.{refl}
 use Rattle.std.proofs.Common.{sym, ap, ap₂, ◌∙◌, subst, arith, leb-true}
-use Rattle.rules.specs.Base.{Bool, true, false, not, List, [], ◌∷◌, ℕ, zero, suc, ◌+◌, ◌-◌, ◌*◌, length, take, drop, get_or, leb, ltb, eqb, pick}
+use Rattle.rules.specs.Base.{Bool, true, false, not, List, [], ℕ, zero, suc, length, take, drop, get_or, leb, ltb, eqb, pick}
 use Rattle.numbers.specs.Groups.{number_in, saying}
 use Rattle.numbers.specs.declared.Number.{Number}
 use Rattle.numbers.specs.declared.Number.TheVariants.{Said, Malformed}

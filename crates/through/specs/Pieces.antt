@@ -1,6 +1,6 @@
 -- What the steps of a read through a batch ask for and answer.
-use Rattle.std.specs.Prelude.{◌≤◌}
-use Rattle.rules.specs.Base.{Bool, false, ℕ, ◌+◌, ◌-◌, eqb, pick}
+use Rattle.std.specs.Prelude.{◌≤◌, ◌+◌, ◌-◌}
+use Rattle.rules.specs.Base.{Bool, false, ℕ, eqb, pick}
 use Rattle.rules.specs.declared.ReadAnswer.{ReadAnswer}
 use Rattle.rules.specs.declared.ReadAnswer.TheVariants.{Found, Deleted, NeverWritten, ReadRefused}
 use Rattle.rules.specs.Refusal.{number_of}

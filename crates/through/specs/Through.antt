@@ -1,5 +1,6 @@
 -- Request P3, "Let the editor see what it hasn't saved": "a read over a batch buffer and the heap, whose answer is a piece of the batch or a piece of the heap".
-use Rattle.rules.specs.Base.{List, [], ◌∷◌, ℕ, zero, suc, ◌-◌, length, take, drop, eqb, pick}
+use Rattle.std.specs.Prelude.{◌∷◌, ◌-◌}
+use Rattle.rules.specs.Base.{List, [], ℕ, zero, suc, length, take, drop, eqb, pick}
 use Rattle.rules.specs.declared.Refusal.TheVariants.{Limits, BatchBytes}
 use Rattle.rules.specs.declared.ReadAnswer.{ReadAnswer}
 use Rattle.rules.specs.declared.ReadAnswer.TheVariants.{Found, Deleted, NeverWritten, ReadRefused}

@@ -1,6 +1,6 @@
 -- The last operation on an id, step by step; pieces that are named lie in their slices; what the contracts admit is one.
-use Rattle.std.specs.Prelude.{◌≡◌, ◌≤◌}
-use Rattle.rules.specs.Base.{List, ℕ, ◌-◌, length, take, drop, eqb, pick}
+use Rattle.std.specs.Prelude.{◌≡◌, ◌≤◌, ◌-◌}
+use Rattle.rules.specs.Base.{List, ℕ, length, take, drop, eqb, pick}
 use Rattle.rules.specs.Answers.{value_at}
 use Rattle.rules.specs.Ops.{Content, put, delete}
 use Rattle.rules.specs.Batch.{Parsed, malformed, parsed}

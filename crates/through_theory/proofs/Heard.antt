@@ -1,7 +1,7 @@
 -- "The last operation on the id in the batch decides": the piece that is named is the body of the last put, as the plain engine hears the batch.
-use Rattle.std.specs.Prelude.{◌≡◌, refl, ◌<◌}
+use Rattle.std.specs.Prelude.{◌≡◌, refl, ◌<◌, ◌∷◌}
 use Rattle.std.proofs.Common.{sym, ap, ap₂, ◌∙◌, ⊎_elim, arith}
-use Rattle.rules.specs.Base.{Bool, true, false, List, [], ◌∷◌, ℕ, zero, suc, length, take, leb, eqb, pick}
+use Rattle.rules.specs.Base.{Bool, true, false, List, [], ℕ, zero, suc, length, take, leb, eqb, pick}
 use Rattle.numbers.specs.Groups.{read_groups, number_in}
 use Rattle.numbers.specs.GroupLaws.{either_way}
 use Rattle.rules.specs.Ops.{Content, put, delete, Op}

@@ -1,5 +1,6 @@
 -- "The last operation on the id in the batch decides": the piece that is named is the body of the last put, as the plain engine hears the batch.
-use Rattle.rules.specs.Base.{List, [], ◌∷◌, ℕ, take, drop}
+use Rattle.std.specs.Prelude.{◌∷◌}
+use Rattle.rules.specs.Base.{List, [], ℕ, take, drop}
 use Rattle.rules.specs.Ops.{put, delete}
 use Rattle.rules.specs.SettledLaws.{Last, silent, last}
 use Rattle.through.specs.declared.LastOperation.{LastOperation}

@@ -1,6 +1,6 @@
 -- "The four table calls are proved to give the same answers under the old and new layout, once over the number of entries."
-use Rattle.std.specs.Prelude.{◌≡◌}
-use Rattle.rules.specs.Base.{◌%◌, length}
+use Rattle.std.specs.Prelude.{◌≡◌, ◌%◌}
+use Rattle.rules.specs.Base.{length}
 use Rattle.rules.specs.Refusal.{after}
 use Rattle.rules.specs.Layout.{Table, table_ids, table_locations}
 use Rattle.rules.specs.TableCalls.{TableAfter, same}

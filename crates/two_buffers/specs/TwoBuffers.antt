@@ -1,6 +1,7 @@
 -- The table as document 01 has it, "two equal-length u64 buffers: ids, locations", and the four calls on it: the definitions that were proved of
 -- the code before request P12, with what load tells since request P1.
-use Rattle.rules.specs.Base.{Bool, not, ◌&&◌, ◌||◌, List, [], ◌∷◌, map, ℕ, length, eqb, pick, padded, within}
+use Rattle.std.specs.Prelude.{◌&&◌, ◌||◌, ◌∷◌}
+use Rattle.rules.specs.Base.{Bool, not, List, [], map, ℕ, length, eqb, pick, padded, within}
 use Rattle.rules.specs.declared.Entry.{Entry}
 use Rattle.rules.specs.declared.Refusal.{Refusal}
 use Rattle.rules.specs.declared.Refusal.TheVariants.{Limits, TableRoom, NotThere, EqualLocation, Location}

@@ -1,8 +1,8 @@
 -- A clean heap that no writer of ours made, worked out: ids fall and one repeats, a delete's position is inside an object, bytes follow the
 -- entries, the generation is 255, a body is of max_object_size, and the next position comes over 2^62.
-use Rattle.std.specs.Prelude.{◌≡◌, refl}
+use Rattle.std.specs.Prelude.{◌≡◌, refl, ◌∷◌}
 use Rattle.std.proofs.Common.{sym, ap, ◌∙◌, subst, true≢false, inl, inr, arith, leb-false}
-use Rattle.rules.specs.Base.{false, List, [], ◌∷◌, ℕ, zero, suc, leb, any, zeros, keep, each, sum, greatest, padded}
+use Rattle.rules.specs.Base.{false, List, [], ℕ, zero, suc, leb, any, zeros, keep, each, sum, greatest, padded}
 use Rattle.theory.specs.Types.{ObjectSize, PositionsSpent, Stopped}
 use Rattle.numbers.specs.LittleEndian.{Bytes, le_bytes, le_value}
 use Rattle.disk_location.specs.Locations.{masked_of, position_of, delete_of, digits_in}

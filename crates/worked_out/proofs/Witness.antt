@@ -1,8 +1,8 @@
 -- A life that was worked out, every call of demand 3 in it: a delete is moved by a rewrite while the put that it deletes still stands in a
 -- claimed file, then that file's other id by the nightly job; an id is put again, the file that it leaves is pruned, and the store reopened. Each
 -- file's mark is seen.
-use Rattle.std.specs.Prelude.{◌≡◌, refl}
-use Rattle.rules.specs.Base.{[], ◌∷◌, any, zeros, keep, each, sum, greatest, padded}
+use Rattle.std.specs.Prelude.{◌≡◌, refl, ◌∷◌}
+use Rattle.rules.specs.Base.{[], any, zeros, keep, each, sum, greatest, padded}
 use Rattle.rules.specs.Sync.{is_unsynced, marked, too_long, sync_call, sync_state}
 use Rattle.theory.specs.Types.{Claim, Moved, Generation}
 use Rattle.rules.specs.World.{accepted, refused, maintain_given}

@@ -1,6 +1,7 @@
 -- A clean heap that no writer of ours made, worked out: ids fall and one repeats, a delete's position is inside an object, bytes follow the
 -- entries, the generation is 255, a body is of max_object_size, and the next position comes over 2^62.
-use Rattle.rules.specs.Base.{List, [], ◌∷◌, ◌++◌, ℕ, ◌+◌, replicate, zeros, each}
+use Rattle.std.specs.Prelude.{◌∷◌, ◌++◌, ◌+◌}
+use Rattle.rules.specs.Base.{List, [], ℕ, replicate, zeros, each}
 use Rattle.theory.specs.Types.{Entry, Label}
 use Rattle.numbers.specs.LittleEndian.{le_bytes}
 use Rattle.rules.specs.Object.{object_bytes}

@@ -1,7 +1,8 @@
 -- A life that was worked out, every call of demand 3 in it: a delete is moved by a rewrite while the put that it deletes still stands in a
 -- claimed file, then that file's other id by the nightly job; an id is put again, the file that it leaves is pruned, and the store reopened. Each
 -- file's mark is seen.
-use Rattle.rules.specs.Base.{List, [], ◌∷◌, ℕ, map, take, replicate, pick, zeros}
+use Rattle.std.specs.Prelude.{◌∷◌}
+use Rattle.rules.specs.Base.{List, [], ℕ, map, take, replicate, pick, zeros}
 use Rattle.rules.specs.Sync.{is_unsynced}
 use Rattle.theory.specs.Types.{Record}
 use Rattle.rules.specs.Claims.{no_claims}

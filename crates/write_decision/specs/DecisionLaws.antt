@@ -1,9 +1,9 @@
 -- What a batch comes to, by what the tests in their order say.
-use Rattle.std.specs.Prelude.{◌≡◌, refl, ◌≤◌, ◌<◌}
+use Rattle.std.specs.Prelude.{◌≡◌, refl, ◌≤◌, ◌<◌, ◌||◌, ◌∷◌, ◌++◌, ◌+◌, ◌^◌}
 use Rattle.std.proofs.Common.{sym, ap₂, ◌∙◌, ⊎_elim, arith, lt-ltb, le-ltb}
 use Rattle.std.proofs.Math.Path.{ap}
 use Rattle.numbers.specs.GroupLaws.{either_way}
-use Rattle.rules.specs.Base.{Bool, true, false, ◌||◌, List, [], ◌∷◌, ◌++◌, ℕ, ◌+◌, ◌^◌, length, get_or, drop, ltb, any, sum}
+use Rattle.rules.specs.Base.{Bool, true, false, List, [], ℕ, length, get_or, drop, ltb, any, sum}
 use Rattle.rules.specs.declared.Refusal.{Refusal}
 use Rattle.rules.specs.declared.Refusal.TheVariants.{Limits, SlotRoom, NoEmptySlot, TableRoom, PositionsSpent}
 use Rattle.rules.specs.declared.Record.{Record}

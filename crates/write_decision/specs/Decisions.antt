@@ -1,6 +1,6 @@
 -- What a batch comes to: the refusal that is given, nothing, or a file.
-use Rattle.std.specs.Prelude.{◌≡◌}
-use Rattle.rules.specs.Base.{false, List, [], ◌∷◌, ℕ, length}
+use Rattle.std.specs.Prelude.{◌≡◌, ◌∷◌}
+use Rattle.rules.specs.Base.{false, List, [], ℕ, length}
 use Rattle.rules.specs.declared.Refusal.{Refusal}
 use Rattle.rules.specs.declared.Refusal.TheVariants.{BatchBytes, ObjectSize}
 use Rattle.rules.specs.declared.Settings.{Settings}

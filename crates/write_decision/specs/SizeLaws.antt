@@ -1,7 +1,7 @@
 -- The sizes of a file, by count and T, and its new ids.
-use Rattle.std.specs.Prelude.{◌≡◌, refl, ◌*◌, ◌<◌, ◌≤◌}
+use Rattle.std.specs.Prelude.{◌≡◌, refl, ◌*◌, ◌<◌, ◌≤◌, ◌+◌}
 use Rattle.std.proofs.Common.{arith, lt-ltb, le-ltb, ltb-true, ltb-false}
-use Rattle.rules.specs.Base.{Bool, true, false, List, ℕ, ◌+◌, length, ltb, pick}
+use Rattle.rules.specs.Base.{Bool, true, false, List, ℕ, length, ltb, pick}
 use Rattle.rules.specs.declared.Entry.{Entry}
 use Rattle.rules.specs.Ops.{Op, objects_of, file_bytes}
 use Rattle.rules.proofs.OpsLaws.{file-length}

@@ -1,5 +1,6 @@
 -- What the operations that count come to.
-use Rattle.rules.specs.Base.{List, ℕ, ◌+◌, length, ltb, pick}
+use Rattle.std.specs.Prelude.{◌+◌}
+use Rattle.rules.specs.Base.{List, ℕ, length, ltb, pick}
 use Rattle.rules.specs.declared.Entry.{Entry}
 use Rattle.rules.specs.Ops.{Op, objects_of, file_bytes}
 use Rattle.table_merge.specs.NewIds.{new_ids}

@@ -2,8 +2,8 @@
 use Rattle.std.proofs.Math.Path.{◌≡◌, refl, sym, ap}
 use Rattle.std.proofs.Common.{◌∙◌, arith}
 use Rattle.std.proofs.Math.Logic.{⊎_elim}
-use Rattle.std.specs.Prelude.{◌≤◌, ◌<◌}
-use Rattle.rules.specs.Base.{List, [], ◌∷◌, ℕ, ◌+◌, ◌^◌, length}
+use Rattle.std.specs.Prelude.{◌≤◌, ◌<◌, ◌∷◌, ◌+◌, ◌^◌}
+use Rattle.rules.specs.Base.{List, [], ℕ, length}
 use Rattle.rules.specs.declared.Settings.{Settings}
 use Rattle.rules.specs.declared.State.{State}
 use Rattle.rules.specs.declared.Refusal.{Refusal}

@@ -1,7 +1,7 @@
 -- The file of a batch may be added: 4 to 7, decided for the batch, are what the file asks for.
 use Rattle.std.proofs.Common.{sym, ap, arith}
-use Rattle.std.specs.Prelude.{◌≤◌}
-use Rattle.rules.specs.Base.{List, ℕ, ◌^◌, length}
+use Rattle.std.specs.Prelude.{◌≤◌, ◌^◌}
+use Rattle.rules.specs.Base.{List, ℕ, length}
 use Rattle.rules.specs.declared.Settings.{Settings}
 use Rattle.rules.specs.declared.State.{State}
 use Rattle.rules.specs.Ops.{entries_of, settled}

@@ -1,5 +1,6 @@
 use mathlib.Core.Path.{refl}
-use Rattle.rules.specs.Base.{[], ◌∷◌}
+use Rattle.std.specs.Prelude.{◌∷◌}
+use Rattle.rules.specs.Base.{[]}
 use Rattle.script.specs.declared.Keyword.TheVariants as key
 use Rattle.desk.specs.Commands.{done_by}
 use Rattle.desk.proofs.Orders.{last}

@@ -1,4 +1,5 @@
-use Rattle.rules.specs.Base.{[], ◌∷◌}
+use Rattle.std.specs.Prelude.{◌∷◌}
+use Rattle.rules.specs.Base.{[]}
 use Rattle.script.specs.declared.Keyword.TheVariants as key
 use Rattle.desk.specs.Commands.{lent_by}
 use Rattle.desk.proofs.Orders.{last}

@@ -1,6 +1,7 @@
 use mathlib.Core.Path.{sym, ap, ◌∙◌}
 use native.Mathlib.Omega.{arith}
-use Rattle.rules.specs.Base.{ℕ, ◌+◌, ◌-◌}
+use Rattle.std.specs.Prelude.{◌+◌, ◌-◌}
+use Rattle.rules.specs.Base.{ℕ}
 use Rattle.gc_course.specs.declared.Halt.TheVariants.{Going}
 use Rattle.gc_plan.specs.Forecasts.{joined_by}
 use Rattle.gc_plan.proofs.joined.Goals as goal

@@ -1,6 +1,7 @@
 use mathlib.Core.Path.{◌≡◌, refl}
 use native.Mathlib.Omega.{arith}
-use Rattle.rules.specs.Base.{List, [], ◌∷◌, ℕ}
+use Rattle.std.specs.Prelude.{◌∷◌}
+use Rattle.rules.specs.Base.{List, [], ℕ}
 use lib.ListN.{length, set, length-set}
 use Rattle.as_numbers.proofs.four_words.put_four.Goals as goal
 

@@ -1,6 +1,7 @@
 use mathlib.Core.Path.{◌≡◌, sym, ap, ap₂, ◌∙◌}
 use borrow.Author.Rules.{rules}
-use Rattle.rules.specs.Base.{List, [], ◌∷◌, ℕ, length}
+use Rattle.std.specs.Prelude.{◌∷◌}
+use Rattle.rules.specs.Base.{List, [], ℕ, length}
 use Rattle.rules.specs.Sync.{Synced, sync_call, sync_state}
 use Rattle.rules.specs.World.{Given, accepted, state_with}
 use Rattle.file_map.proofs.RecordTurns.{mapped-length}

@@ -1,6 +1,7 @@
 use mathlib.Core.Path.{◌≡◌, sym, ap, ◌∙◌}
 use borrow.Author.Rules.{rules}
-use Rattle.rules.specs.Base.{[], ◌∷◌, ℕ, length}
+use Rattle.std.specs.Prelude.{◌∷◌}
+use Rattle.rules.specs.Base.{[], ℕ, length}
 use Rattle.rules.specs.World.{Given, accepted}
 use Rattle.file_map.proofs.RecordTurns.{mapped-length}
 use Rattle.desk.specs.Desk.{desk, gave, marks}
