@@ -121,7 +121,9 @@ pub fn add_piece(
     requires links_bound { 64 + length (file_bytes (piece_ops file.first heap.old table.old places.now links.now)) ≤ settings.slot_bytes }
     requires nonzero { (0 < length (empty_slots (slots_in settings (length heap.old)) state.files.records))
         × (file.slot ≡ lowest_empty (slots_in settings (length heap.old)) state.files.records) }
-    requires links_bound_2 { state.next_position + (length (objects_of (piece_ops file.first heap.old table.old places.now links.now)) + 1) ≤ 2 ^ 62 }
+    requires links_bound_2 { state.next_position
+        + (length (objects_of (piece_ops file.first heap.old table.old places.now links.now)) + 1)
+        ≤ 2 ^ 62 }
     ensures leaves { (c : Claims) → world settings result c heap.new table.new
         ≡ installed 0 file.generation (world settings state c heap.old table.old)
         (piece_ops file.first heap.old table.old places.now links.now) }
