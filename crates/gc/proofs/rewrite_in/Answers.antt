@@ -1,52 +1,53 @@
 use mathlib.Core.Path.{◌≡◌, refl, sym, ap, ◌∙◌, subst}
-use mathlib.Core.Logic.{inl, inr, ⊎_elim}
-use Prim.Native.Nat.{ℕ}
+use mathlib.Core.Logic.{inl, inr, ◌⊎◌}
+use Prim.Native.Nat.{ℕ, ◌<◌}
 use native.Mathlib.Omega.{arith}
-use borrow.Author.Tests.{ltb-true, ltb-false}
 use lib.ListN.{length}
 use Rattle.rules.proofs.BaseLaws.{or-holds, or-clear}
 use Rattle.rules.specs.declared.RewriteAnswer.{RewriteAnswer}
 use Rattle.rules.specs.Condition1.{refused1}
 use Rattle.rules.proofs.Condition1Laws.{passed}
 use Rattle.rules.specs.TwoCalls.{room_of, short}
-use Rattle.rules.specs.World.{World, world, leaving, rewrite_given}
+use Rattle.rules.specs.World.{world, leaving, rewrite_given}
 use Rattle.as_numbers.specs.StateWords.{state_in}
 use Rattle.gc_notes.specs.Notes.{long-enough, notes-cleared}
 use Rattle.gc.proofs.Rewrites.{rewrite-limits, rewrite-outside, rewrite-given, answered-own}
 use Rattle.gc.proofs.rewrite_in.Goals as goal
-
--- the world that the call is given
-abbrev given : goal.Start → World
-given start = let a = start.args in world a.settings (state_in a.state.now) a.claims a.heap.now a.table.now
-
--- the room of its notes
-abbrev room : goal.Start → ℕ
-room start = room_of start.args.places.now start.args.pieces.now
+use Rattle.gc.proofs.rewrite_in.Goals.{then-asked-eq0, else-asked-eq0+then-asked-gt3}
 
 pub returns-then-refused_in : goal.returns-then-refused_in
 returns-then-refused_in c =
+    let a = c.args in
+    let w = world a.settings (state_in a.state.now) a.claims a.heap.now a.table.now in
+    let room = room_of a.places.now a.pieces.now in
     let q = c.args.asked in
     record {
-      leaves = rewrite-limits (given c.before.before.before.before.before.before) (room c.before.before.before.before.before.before) q.generation q.mark q.count (or-holds (refused1 (given c.before.before.before.before.before.before)) (short (room c.before.before.before.before.before.before) c.args.table.now) (inl (sym c.refused_in.ensures ∙ c.if-refused_in.true)));
+      leaves = rewrite-limits w room q.generation q.mark q.count (or-holds (refused1 w) (short room c.args.table.now) (inl (sym c.refused_in.ensures ∙ c.if-refused_in.true)));
       places = refl;
       pieces = refl;
     }
 
 pub returns-then-too_short : goal.returns-then-too_short
 returns-then-too_short c =
+    let a = c.args in
+    let w = world a.settings (state_in a.state.now) a.claims a.heap.now a.table.now in
+    let room = room_of a.places.now a.pieces.now in
     let q = c.args.asked in
     record {
-      leaves = rewrite-limits (given c.before.before.before.before.before.before.before.before) (room c.before.before.before.before.before.before.before.before) q.generation q.mark q.count (or-holds (refused1 (given c.before.before.before.before.before.before.before.before)) (short (room c.before.before.before.before.before.before.before.before) c.args.table.now) (inr (sym c.too_short.ensures ∙ c.if-too_short.true)));
+      leaves = rewrite-limits w room q.generation q.mark q.count (or-holds (refused1 w) (short room c.args.table.now) (inr (sym c.too_short.ensures ∙ c.if-too_short.true)));
       places = refl;
       pieces = refl;
     }
 
 pub returns-then-asked-eq0 : goal.returns-then-asked-eq0
 returns-then-asked-eq0 c =
+    let a = c.args in
+    let w = world a.settings (state_in a.state.now) a.claims a.heap.now a.table.now in
+    let room = room_of a.places.now a.pieces.now in
     let q = c.args.asked in
-    let outside = ⊎_elim (λ w. inl w.taken) (λ w. inr (ltb-true 3 q.generation w.2.taken)) c.then-asked-eq0.branch-raw in
+    let outside : (q.generation ≡ 0) ⊎ (3 < q.generation) = elim c.then-asked-eq0.branch [ then-asked-eq0 x ↦ inl (omega arith) | else-asked-eq0+then-asked-gt3 x ↦ inr (omega arith) ] in
     let clear = or-clear _ _ (sym c.refused_in.ensures ∙ c.if-refused_in.false) (sym c.too_short.ensures ∙ c.if-too_short.false) in record {
-      leaves = rewrite-outside (given c.before.before.before.before.before.before.before.before.before.before.before.before.before.before.before.before.before.before) (room c.before.before.before.before.before.before.before.before.before.before.before.before.before.before.before.before.before.before) q.generation q.mark q.count clear outside;
+      leaves = rewrite-outside w room q.generation q.mark q.count clear outside;
       places = c.clear.ensures;
       pieces = c.clear-then-asked-eq0.ensures;
     }
@@ -57,11 +58,14 @@ rewrite_generation-course-requires c =
     let some = c.if-asked-eq0.false in record {
       passed_2 = passed a.settings (length a.heap.now) a.table.now (state_in a.state.now) (sym c.refused_in.ensures ∙ c.if-refused_in.false);
       table_in_bounds = long-enough a.places.now a.pieces.now a.table.now (sym c.too_short.ensures ∙ c.if-too_short.false);
-      generation_nonzero = (omega (arith, some), ltb-false 3 a.asked.generation c.if-asked-gt3.false-raw);
+      generation_nonzero = (omega (arith, some), omega arith);
     }
 
 pub returns : goal.returns
 returns c =
+    let a = c.args in
+    let w = world a.settings (state_in a.state.now) a.claims a.heap.now a.table.now in
+    let room = room_of a.places.now a.pieces.now in
     let q = c.args.asked in
     let some = c.if-asked-eq0.false in
     let clear = or-clear _ _ (sym c.refused_in.ensures ∙ c.if-refused_in.false) (sym c.too_short.ensures ∙ c.if-too_short.false) in
@@ -71,9 +75,9 @@ returns c =
     let answered = rewrite_given c.answered.result in
     let own : answered.number ≡ 1 → ⊥ =
     subst (λ (x : RewriteAnswer). (rewrite_given x).number ≡ 1 → ⊥) (sym c.answered.ensures)
-    (answered-own q.generation answer moved after (given c.before.before.before.before.before.before.before.before.before.before.before.before.before.before.before.before.before.before.before.before.before.before.before.before.before.before.before.before.before.before.before.before.before.before.before) q.mark q.count c.rewrite_generation-course.ensures.leaves) in record {
+    (answered-own q.generation answer moved after w q.mark q.count c.rewrite_generation-course.ensures.leaves) in record {
       leaves = ap (λ (x : RewriteAnswer). leaving (rewrite_given x) after) c.answered.ensures
-          ∙ rewrite-given (given c.before.before.before.before.before.before.before.before.before.before.before.before.before.before.before.before.before.before.before.before.before.before.before.before.before.before.before.before.before.before.before.before.before.before.before) (room c.before.before.before.before.before.before.before.before.before.before.before.before.before.before.before.before.before.before.before.before.before.before.before.before.before.before.before.before.before.before.before.before.before.before.before) q.generation q.mark q.count clear (omega (arith, some)) (ltb-false 3 q.generation c.if-asked-gt3.false-raw) answer moved after
+          ∙ rewrite-given w room q.generation q.mark q.count clear (omega (arith, some)) (omega arith) answer moved after
           c.rewrite_generation-course.ensures.leaves;
       places = notes-cleared answered c.args.places.now c.rewrite_generation-course.new.places _ own c.rewrite_generation-course.auto.places c.clear-2.ensures;
       pieces = notes-cleared answered c.args.pieces.now c.rewrite_generation-course.new.pieces _ own c.rewrite_generation-course.auto.pieces c.clear-3.ensures;

@@ -21,13 +21,6 @@ candidates_in-candidates-requires c =
       bounded = passed-bounded a.settings (length a.heap.now) a.table.now (state_in a.state.now) c.requires.passed_2;
     }
 
--- as many records as candidates are given for
-all-records : (p : goal.After-candidates_in-candidates) → length (state_in p.args.state.now).files.records ≡ 256
-all-records p =
-    let a = p.args in
-    let long : length p.candidates_in-candidates.result ≡ 256 = search rules in
-    omega (arith, long, ap length p.candidates_in-candidates.ensures, plan-length a.settings a.claims a.asked.mark a.asked.count (state_in a.state.now).files.records)
-
 pub returns-then-group_count-settings : goal.returns-then-group_count-settings
 returns-then-group_count-settings c =
     let a = c.args in record {
@@ -43,10 +36,12 @@ rewrite_group-requires c =
     let g = c.requires.generation_nonzero in
     let b = a.table.now in
     let blank = c.clear.ensures in
+    let candidates : length c.candidates_in-candidates.result ≡ 256 = search rules in
+    let records : length (state_in a.state.now).files.records ≡ 256 = omega (arith, candidates, ap length c.candidates_in-candidates.ensures, plan-length a.settings a.claims a.asked.mark a.asked.count (state_in a.state.now).files.records) in
     let long = ap length blank ∙ length-replicate (length a.places.now) 0 in record {
       passed_2 = c.requires.passed_2;
       ready = rw c.candidates_in-candidates.ensures
-          (ready a.settings a.claims a.asked.mark a.asked.count (length a.heap.now) b (state_in a.state.now) a.asked.generation c.requires.passed_2 (all-records c.before.before.before.before.before.before.before.before.before.before.before.before.before.before) g.0);
+          (ready a.settings a.claims a.asked.mark a.asked.count (length a.heap.now) b (state_in a.state.now) a.asked.generation c.requires.passed_2 records g.0);
       filled = λ k e. plan-files a.settings a.claims a.asked.mark a.asked.count (state_in a.state.now).files.records k
           (omega (arith, e, g.0, ap (λ (ns : List ℕ). get_or ns k 0) c.candidates_in-candidates.ensures));
       generation_bound = g.1;

@@ -1,5 +1,4 @@
 use mathlib.Core.Path.{◌≡◌, refl, sym, ap, ◌∙◌, subst}
-use mathlib.Core.Logic.{⊎_elim}
 use Prim.Native.Nat.{ℕ, ◌+◌, ◌-◌}
 use native.Mathlib.Omega.{arith}
 use lib.ListN.{length, replicate, length-set}
@@ -8,6 +7,7 @@ use Rattle.rules.specs.TwoCalls.{counted}
 use Rattle.gc_candidates.specs.Plan.{planned}
 use Rattle.plan_words.proofs.GroupTurns.{Written, written_start, written-here, written_next, written-end}
 use Rattle.plan_words.proofs.put_group.Goals as goal
+use Rattle.plan_words.proofs.put_group.Goals.{then-slots-i, else-slots-i}
 
 pub loop-i-init : goal.loop-i-init
 loop-i-init c =
@@ -24,22 +24,22 @@ pub loop-i-preserved : goal.loop-i-preserved
 loop-i-preserved c =
     let a = c.args in
     let inv = c.loop-i.invariant in
-    ⊎_elim
-    (λ w. (
-      omega arith,
-      omega (arith, w.2),
-      inv.2,
-      rw w.1 (length-set c.loop-i.words (c.loop-i.n + 1) c.loop-i.i ∙ inv.3),
-      rw (w.1, w.2) (written-here a.slots.now a.generation _ c.loop-i.n c.loop-i.i c.loop-i.words inv.4 (omega arith) w.0.taken (omega arith)),
-    ))
-    (λ w. (
-      omega arith,
-      omega (arith, w.2),
-      inv.2,
-      rw w.1 inv.3,
-      rw (w.1, w.2) (written_next a.slots.now a.generation _ c.loop-i.n c.loop-i.i c.loop-i.words inv.4 (omega arith) w.0.left),
-    ))
-    c.if-slots-i.branch-raw
+    elim c.if-slots-i.branch [
+      then-slots-i w ↦ (
+        omega arith,
+        omega arith,
+        inv.2,
+        rw w.words-is (length-set c.loop-i.words (c.loop-i.n + 1) c.loop-i.i ∙ inv.3),
+        rw (w.words-is, w.n-is) (written-here a.slots.now a.generation _ c.loop-i.n c.loop-i.i c.loop-i.words inv.4 (omega arith) w.if-slots-i.true (omega arith)),
+      )
+    | else-slots-i w ↦ (
+        omega arith,
+        omega arith,
+        inv.2,
+        rw w.words-is inv.3,
+        rw (w.words-is, w.n-is) (written_next a.slots.now a.generation _ c.loop-i.n c.loop-i.i c.loop-i.words inv.4 (omega arith) w.if-slots-i.false),
+      )
+    ]
 
 pub shape_of-words : goal.shape_of-words
 shape_of-words c =
