@@ -1,4 +1,4 @@
-use mathlib.Core.Path.{◌≡◌, sym, ap, ◌∙◌}
+use mathlib.Core.Path.{◌≡◌, ap, ◌∙◌}
 use mathlib.Core.List.{List}
 use Prim.Native.Nat.{◌+◌, ◌-◌, ◌*◌, ◌<◌, ◌≤◌}
 use native.Mathlib.Omega.{arith}
@@ -15,35 +15,14 @@ use Rattle.batch.specs.SizeLaws.{total-next, total-end}
 use Rattle.table_merge.specs.NewIds.{new_at, is_new, new_ids, new-at, new-next, new-end, new-one}
 use Rattle.write_decision.specs.NewIds.{ids_of}
 use Rattle.write_decision.specs.SizeLaws.{sizes-fit, sizes-large}
+use mathlib.Core.Path.{sym}
 use Rattle.write_decision.proofs.sizes.Goals as goal
 
--- ---- the call, as each place has it
-abbrev begun : goal.At-loop-o → goal.Start
-begun l = l.before.before.before.before.before.before
-
-abbrev called : goal.In-Next-2 → goal.After-next
-called o = o.before.before.before.before
-
-abbrev turn : goal.In-Next-2 → goal.At-loop-o
-turn o = (called o).before.before
-
-abbrev taken : goal.After-too_large-in-loop-o → goal.In-Next-2
-taken q = q.before.before.before
-
--- what is left of the slot has room for one more
-fits : (z : goal.Else-too_large-2)
-    → let l = turn (taken z.before) in
-    64 + (z.before.before.type_size.result + (12 + 16 * (l.loop.count + 1))) ≤ (begun l).args.slot_bytes - l.loop.total
-fits z = ltb-false _ _ (sym z.too_large-in-loop-o.ensures ∙ z.if-too_large-2.false)
-
-pub returns-then-too_large : goal.returns-then-too_large
-returns-then-too_large c =
+pub returns-then-too_large-clause-sizes : goal.returns-then-too_large-clause-sizes
+returns-then-too_large-clause-sizes c =
     let a = c.args in
     let over : a.slot_bytes < 64 + (0 + (12 + 16 * 0)) = ltb-true _ _ (sym c.too_large.ensures ∙ c.if-too_large.true) in
-    record {
-      sizes = sizes-large _ _ (settled (ops_in a.batch.now)) (omega arith);
-      again = c.requires.2;
-    }
+    sizes-large _ _ (settled (ops_in a.batch.now)) (omega arith)
 
 pub loop-o-init : goal.loop-o-init
 loop-o-init c =
@@ -56,7 +35,7 @@ loop-o-init c =
 
 pub returns-in_default : goal.returns-in_default
 returns-in_default c =
-    let a = (begun c.before.before.before.before.before.before).args in
+    let a = c.args in
     let s = a.batch.now in
     let t = used_entries a.table.now in
     let none = stepped-end s _ c.next.ensures.steps c.in_default.is in
@@ -70,68 +49,60 @@ returns-in_default c =
 
 pub size_of-size-requires : goal.size_of-size-requires
 size_of-size-requires c =
-    let e = stepped _ (called c.before).next.ensures.0 (called c.before).next.ensures.1.0 c.in-Next.is in
-    omega (arith, e.inside, (begun (turn c.before)).good)
+    let e = stepped _ c.next.ensures.steps c.next.ensures.within c.in-Next.is in
+    omega (arith, e.inside)
 
 pub returns-then-too_large-2 : goal.returns-then-too_large-2
 returns-then-too_large-2 c =
-    let o = taken c.before in
-    let a = (begun (turn o)).args in
-    let n = called o in
-    let e = stepped _ n.next.ensures.0 n.next.ensures.1.0 o.o.given.1 in
+    let a = c.args in
+    let e = stepped _ c.next.ensures.steps c.next.ensures.within c.in-Next.is in
     let one = ap length e.next in
     let more = total-next e in
-    let size = q.before.type_size.ensures in
-    let over : a.slot_bytes - (turn o).loop.total < 64 + (q.before.type_size.result + (12 + 16 * ((turn o).loop.count + 1))) =
+    let size = c.size_of-size.ensures in
+    let over : a.slot_bytes - c.loop-o.total < 64 + (c.size_of-size.result + (12 + 16 * (c.loop-o.count + 1))) =
     ltb-true _ _ (sym c.too_large-in-loop-o.ensures ∙ c.if-too_large-2.true) in
     record {
       sizes = sizes-large _ _ (settled (ops_in a.batch.now)) (omega arith);
-      again = (walk-next (turn o).loop.inv.0 n.next.ensures.1.1 o.o.given.1).begins;
+      again = (walk-next c.loop-o.invariant.0 c.next.ensures.keeps c.in-Next.is).begins;
     }
-
--- what a turn adds
-added : (c : goal.After-new_at-new) → let o = taken c.before.before.before in
-    c.new_at-new.result ≡ is_new (used_entries (begun (turn o)).args.table.now) o.o.given.0.0.id
-added c =
-    let o = taken c.before.before.before in
-    let start = begun (turn o) in
-    let b = start.args.table.now in
-    c.new_at-new.ensures ∙ ap new_at c.find_near-place.ensures ∙ new-at (used_entries b) (used-rising b start.pre.0) o.o.given.0.0.id
 
 pub overflow_add-new : goal.overflow_add-new
 overflow_add-new c =
-    let o = taken c.before.before.before in
-    let t = used_entries (begun (turn o)).args.table.now in
-    let room = fits c.before.before in
-    omega (arith, added c, new-one (lookup t o.o.given.0.0.id), (turn o).loop.inv.5, (begun (turn o)).good)
+    let b = c.args.table.now in
+    let t = used_entries b in
+    let id = c.in-Next.o.id in
+    let room : 64 + (c.size_of-size.result + (12 + 16 * (c.loop-o.count + 1))) ≤ c.args.slot_bytes - c.loop-o.total =
+    ltb-false _ _ (sym c.too_large-in-loop-o.ensures ∙ c.if-too_large-2.false) in
+    let added : c.new_at-new.result ≡ is_new t id = c.new_at-new.ensures ∙ ap new_at c.find_near-place.ensures ∙ new-at t (used-rising b c.requires.0) id in
+    omega (arith, added, new-one (lookup t id), c.loop-o.invariant.5)
 
 pub overflow_add-total : goal.overflow_add-total
-overflow_add-total c = let room = fits c.before.before.before in omega arith
+overflow_add-total c =
+    let room : 64 + (c.size_of-size.result + (12 + 16 * (c.loop-o.count + 1))) ≤ c.args.slot_bytes - c.loop-o.total =
+    ltb-false _ _ (sym c.too_large-in-loop-o.ensures ∙ c.if-too_large-2.false) in
+    omega arith
 
 pub loop-o-smaller : goal.loop-o-smaller
 loop-o-smaller c =
-    let o = taken c.before.before.before.before in
-    let e = stepped _ (called o).next.ensures.0 (called o).next.ensures.1.0 o.o.given.1 in
+    let e = stepped _ c.next.ensures.steps c.next.ensures.within c.in-Next.is in
     omega (arith, ap length e.next)
 
 pub loop-o-preserved : goal.loop-o-preserved
 loop-o-preserved c =
-    let o = taken c.before.before.before.before in
-    let n = called o in
-    let l = turn o in
-    let a = (begun l).args in
-    let e = stepped _ n.next.ensures.0 n.next.ensures.1.0 o.o.given.1 in
+    let a = c.args in
+    let e = stepped _ c.next.ensures.steps c.next.ensures.within c.in-Next.is in
     let one = ap length e.next in
     let more = total-next e in
-    let size = q.before.type_size.ensures in
-    let room = fits c.before.before.before in
+    let size = c.size_of-size.ensures in
+    let room : 64 + (c.size_of-size.result + (12 + 16 * (c.loop-o.count + 1))) ≤ a.slot_bytes - c.loop-o.total =
+    ltb-false _ _ (sym c.too_large-in-loop-o.ensures ∙ c.if-too_large-2.false) in
     let t = used_entries a.table.now in
-    let id = o.o.given.0.0.id in
+    let id = c.in-Next.o.id in
     let ids = ap (λ (os : List Op). new_ids t (ids_of os)) e.next in
-    let next = new-next t id (ids_of (left a.batch.now n.next.last.0 o.o.given.0.1.0)) in
-    let new = added c.before in
+    let next = new-next t id (ids_of (left a.batch.now c.next.new.order c.in-Next.after)) in
+    let new : c.new_at-new.result ≡ is_new t id = c.new_at-new.ensures ∙ ap new_at c.find_near-place.ensures ∙ new-at t (used-rising a.table.now c.requires.0) id in
     let most = new-one (lookup t id) in (
-      walk-next l.loop.inv.0 n.next.ensures.1.1 o.o.given.1,
+      walk-next c.loop-o.invariant.0 c.next.ensures.keeps c.in-Next.is,
       omega arith,
       omega arith,
       omega arith,
