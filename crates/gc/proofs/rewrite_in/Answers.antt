@@ -13,7 +13,7 @@ use Rattle.as_numbers.specs.StateWords.{state_in}
 use Rattle.gc_notes.specs.Notes.{long-enough, notes-cleared}
 use Rattle.gc.proofs.Rewrites.{rewrite-limits, rewrite-outside, rewrite-given, answered-own}
 use Rattle.gc.proofs.rewrite_in.Goals as goal
-use Rattle.gc.proofs.rewrite_in.Goals.{then-asked-eq0, else-asked-eq0+then-asked-gt3}
+use Rattle.gc.proofs.rewrite_in.Goals.{then-asked-eq0-via-then-asked-eq0, then-asked-eq0-via-else-asked-eq0+then-asked-gt3}
 
 pub returns-then-refused_in : goal.returns-then-refused_in
 returns-then-refused_in c =
@@ -45,7 +45,7 @@ returns-then-asked-eq0 c =
     let w = world a.settings (state_in a.state.now) a.claims a.heap.now a.table.now in
     let room = room_of a.places.now a.pieces.now in
     let q = c.args.asked in
-    let outside : (q.generation ≡ 0) ⊎ (3 < q.generation) = elim c.then-asked-eq0.branch [ then-asked-eq0 x ↦ inl (omega arith) | else-asked-eq0+then-asked-gt3 x ↦ inr (omega arith) ] in
+    let outside : (q.generation ≡ 0) ⊎ (3 < q.generation) = elim c.then-asked-eq0.branch [ then-asked-eq0-via-then-asked-eq0 x ↦ inl (omega arith) | then-asked-eq0-via-else-asked-eq0+then-asked-gt3 x ↦ inr (omega arith) ] in
     let clear = or-clear _ _ (sym c.refused_in.ensures ∙ c.if-refused_in.false) (sym c.too_short.ensures ∙ c.if-too_short.false) in record {
       leaves = rewrite-outside w room q.generation q.mark q.count clear outside;
       places = c.clear.ensures;
