@@ -11,9 +11,9 @@ pruned-after-requires c =
 pub returns : goal.returns
 returns c =
     let a = c.args in
-    rw (c.put_state.ensures, ← c.state_in-was.ensures) (
-      c.answer_of.ensures,
-      λ table clear.
+    rw (c.put_state.ensures, ← c.state_in-was.ensures) (record {
+      answers = c.answer_of.ensures;
+      leaves = λ table clear.
           ap₂ (λ (x : MaintainAnswer) (w : World). leaving (maintain_given x) w) c.answer_of.ensures (c.pruned-after.ensures table)
-          ∙ finish-run a.run (world a.settings c.state_in-was.result a.claims a.heap.now table) clear c.is_going.result c.is_going.ensures,
-    )
+          ∙ finish-run a.run (world a.settings c.state_in-was.result a.claims a.heap.now table) clear c.is_going.result c.is_going.ensures;
+    })

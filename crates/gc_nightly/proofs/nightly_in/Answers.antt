@@ -8,35 +8,33 @@ use Rattle.rules.specs.Condition1.{refused1}
 use Rattle.rules.proofs.Condition1Laws.{passed, passes}
 use Rattle.rules.specs.Maintenance.{Course}
 use Rattle.rules.specs.TwoCalls.{room_of, short, job_ended}
-use Rattle.rules.specs.World.{World, world, maintain_given}
+use Rattle.rules.specs.World.{world, maintain_given}
 use Rattle.as_numbers.specs.StateWords.{state_in}
 use Rattle.prune.specs.Labels.{passed-labels}
 use Rattle.gc_notes.specs.Notes.{long-enough, notes-cleared}
 use Rattle.gc_course.specs.RunLaws.{ended-own, nightly-refused, nightly-accepted}
 use Rattle.gc_nightly.proofs.nightly_in.Goals as goal
 
--- the world that the job is given
-abbrev given : goal.Start → World
-given start = let a = start.args in world a.settings (state_in a.state.now) a.claims a.heap.now a.table.now
-
--- the room of its notes
-abbrev room : goal.Start → ℕ
-room start = room_of start.args.places.now start.args.pieces.now
-
 pub returns-then-refused_in : goal.returns-then-refused_in
 returns-then-refused_in c =
-    let e = or-holds (refused1 (given c.before.before.before.before.before.before)) (short (room c.before.before.before.before.before.before) c.args.table.now) (inl (sym c.refused_in.ensures ∙ c.if-refused_in.true)) in
+    let a = c.args in
+    let w = world a.settings (state_in a.state.now) a.claims a.heap.now a.table.now in
+    let room = room_of a.places.now a.pieces.now in
+    let e = or-holds (refused1 w) (short room c.args.table.now) (inl (sym c.refused_in.ensures ∙ c.if-refused_in.true)) in
     record {
-      leaves = nightly-refused (given c.before.before.before.before.before.before) (room c.before.before.before.before.before.before) e;
+      leaves = nightly-refused w room e;
       places = refl;
       pieces = refl;
     }
 
 pub returns-then-too_short : goal.returns-then-too_short
 returns-then-too_short c =
-    let e = or-holds (refused1 (given c.before.before.before.before.before.before.before.before)) (short (room c.before.before.before.before.before.before.before.before) c.args.table.now) (inr (sym c.too_short.ensures ∙ c.if-too_short.true)) in
+    let a = c.args in
+    let w = world a.settings (state_in a.state.now) a.claims a.heap.now a.table.now in
+    let room = room_of a.places.now a.pieces.now in
+    let e = or-holds (refused1 w) (short room c.args.table.now) (inr (sym c.too_short.ensures ∙ c.if-too_short.true)) in
     record {
-      leaves = nightly-refused (given c.before.before.before.before.before.before.before.before) (room c.before.before.before.before.before.before.before.before) e;
+      leaves = nightly-refused w room e;
       places = refl;
       pieces = refl;
     }
@@ -56,13 +54,15 @@ finish-requires c =
 pub returns : goal.returns
 returns c =
     let a = c.args in
+    let w = world a.settings (state_in a.state.now) a.claims a.heap.now a.table.now in
+    let room = room_of a.places.now a.pieces.now in
     let run = c.rewrites-run.result in
     let still = passes a.settings _ _ _ c.rewrites-run.ensures.passed in
     let clear = or-clear _ _ (sym c.refused_in.ensures ∙ c.if-refused_in.false) (sym c.too_short.ensures ∙ c.if-too_short.false) in
     let answered = maintain_given c.finish.result in
     let own : answered.number ≡ 1 → ⊥ =
     subst (λ (x : MaintainAnswer). (maintain_given x).number ≡ 1 → ⊥) (sym c.finish.ensures.answers) (ended-own run.halt run.moved c.rewrites-run.ensures.own) in record {
-      leaves = c.finish.ensures.leaves c.rewrites-run.new.table still ∙ ap (λ (d : Course). job_ended d.stop d) c.rewrites-run.ensures.leaves ∙ nightly-accepted (given c.before.before.before.before.before.before.before.before.before.before.before.before.before.before.before.before.before.before.before.before.before.before.before.before.before.before.before.before.before.before.before.before.before.before.before) (room c.before.before.before.before.before.before.before.before.before.before.before.before.before.before.before.before.before.before.before.before.before.before.before.before.before.before.before.before.before.before.before.before.before.before.before) clear;
+      leaves = c.finish.ensures.leaves c.rewrites-run.new.table still ∙ ap (λ (d : Course). job_ended d.stop d) c.rewrites-run.ensures.leaves ∙ nightly-accepted w room clear;
       places = notes-cleared answered a.places.now c.rewrites-run.new.places _ own c.rewrites-run.auto.places c.clear.ensures;
       pieces = notes-cleared answered a.pieces.now c.rewrites-run.new.pieces _ own c.rewrites-run.auto.pieces c.clear-2.ensures;
     }

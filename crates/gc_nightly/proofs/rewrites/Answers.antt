@@ -1,5 +1,4 @@
 use mathlib.Core.Path.{refl, sym, ◌∙◌}
-use mathlib.Core.Logic.{⊎_elim}
 use Prim.Native.Nat.{◌-◌}
 use native.Mathlib.Omega.{arith}
 use lib.ListN.{length}
@@ -7,6 +6,7 @@ use Rattle.as_numbers.specs.StateWords.{state_in}
 use Rattle.limits.specs.Settled.{passed-bounded}
 use Rattle.gc_nightly.proofs.Midway.{midway_start, midway-halted, midway-step, midway_end}
 use Rattle.gc_nightly.proofs.rewrites.Goals as goal
+use Rattle.gc_nightly.proofs.rewrites.Goals.{then-is_going, else-is_going}
 
 pub count_in-count-requires : goal.count_in-count-requires
 count_in-count-requires c =
@@ -35,18 +35,17 @@ pub loop-generation-preserved : goal.loop-generation-preserved
 loop-generation-preserved c =
     let l = c.loop-generation in
     let turn = c.loop-generation-test.true in
-    ⊎_elim
-    (λ w.
-    let r = w.6 in
-    let k = r.kept.1.1.1 in
-    rw (w.18, w.19, w.20, w.21, w.22, w.23)
-    (midway-step _ _ _ _ _ _ _ _ _ l.generation l.run (state_in l.state) l.heap l.table l.places l.pieces l.invariant c.requires.table_in_bounds turn
-    (sym c.is_going.ensures ∙ w.0.taken) r.result.answer _ _ _ _ _ _ _
-    r.ensures.0 w.15.ensures r.ensures.1.0 r.ensures.1.1 k.0 k.1.0 k.1.1.0 k.1.1.1.0))
-    (λ w.
-    rw (w.1, w.2, w.3, w.4, w.5, w.6)
-    (midway-halted _ _ _ _ _ _ _ _ _ l.generation l.run (state_in l.state) l.heap l.table l.places l.pieces l.invariant turn (sym c.is_going.ensures ∙ w.0.left)))
-    c.if-is_going.branch-raw
+    elim c.if-is_going.branch [
+      | then-is_going w ↦
+          let r = w.rewrite_generation-course in
+          rw (w.state-is, w.heap-is, w.table-is, w.places-is, w.pieces-is, w.run-is)
+          (midway-step _ _ _ _ _ _ _ _ _ l.generation l.run (state_in l.state) l.heap l.table l.places l.pieces l.invariant c.requires.table_in_bounds turn
+          (sym c.is_going.ensures ∙ w.if-is_going.true) r.result.answer _ _ _ _ _ _ _
+          r.ensures.leaves w.halt_of.ensures r.ensures.passed r.ensures.moved r.auto.heap r.auto.table r.auto.places r.auto.pieces)
+      | else-is_going w ↦
+          rw (w.state-is, w.heap-is, w.table-is, w.places-is, w.pieces-is, w.run-is)
+          (midway-halted _ _ _ _ _ _ _ _ _ l.generation l.run (state_in l.state) l.heap l.table l.places l.pieces l.invariant turn (sym c.is_going.ensures ∙ w.if-is_going.false))
+    ]
 
 pub shape_of-heap : goal.shape_of-heap
 shape_of-heap c =
