@@ -3,7 +3,6 @@ use Rattle.std.specs.Prelude.{◌≡◌, true, false}
 use Rattle.std.proofs.Math.Path.{refl}
 use Rattle.std.proofs.Common.{◌∙◌}
 use Rattle.rules.specs.Base.{List, [], ℕ, length, map}
-use Rattle.rules.specs.Refusal.{after}
 use Rattle.rules.proofs.RefusalLaws.{decide-none, decide-first, decide-next}
 use Rattle.rules.specs.Settings.{slots_in}
 use Rattle.rules.specs.SlotFile.{views_in}

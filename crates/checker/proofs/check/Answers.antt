@@ -2,7 +2,6 @@ use mathlib.Core.Path.{sym, ap, ◌∙◌}
 use native.Mathlib.Nat.{zero-add}
 use lib.ListN.{length}
 use Rattle.rules.proofs.SettingsLaws.{heap-whole}
-use Rattle.rules.specs.Condition1Laws.{InLimits}
 use Rattle.rules.proofs.Condition1Laws.{in-limits}
 use Rattle.file_faults.proofs.Telling.{told-listing}
 use Rattle.rules.specs.Base.{List, ℕ}
@@ -20,19 +19,15 @@ returns-then-out_of_range c =
     let a = c.args in
     check-refused a.settings a.heap.now a.table.now a.listing.now (sym c.out_of_range.ensures ∙ c.if-out_of_range.true)
 
--- past 1
-limits : (c : goal.Else-out_of_range) → let a = c.args in InLimits a.settings (length a.heap.now) a.table.now
-limits c =
+pub nonzero_div-n : goal.nonzero_div-n
+nonzero_div-n c =
     let a = c.args in
-    in-limits a.settings (length a.heap.now) a.table.now (sym c.out_of_range.ensures ∙ c.if-out_of_range.false)
-
-pub UNKNOWN-div-n : goal.UNKNOWN-div-n
-UNKNOWN-div-n c = omega (arith, (limits c).settings.slot-low)
+    omega (arith, (in-limits a.settings (length a.heap.now) a.table.now (sym c.out_of_range.ensures ∙ c.if-out_of_range.false)).settings.slot-low)
 
 pub listed-requires : goal.listed-requires
 listed-requires c =
     let a = c.args in
-    let w = limits c.before.before in
+    let w = in-limits a.settings (length a.heap.now) a.table.now (sym c.out_of_range.ensures ∙ c.if-out_of_range.false) in
     (omega (arith, heap-whole a.settings (length a.heap.now) w.heap), w.heap.most, w.settings.slot-high, omega (arith, c.capacity.ensures, w.table.most))
 
 pub returns : goal.returns

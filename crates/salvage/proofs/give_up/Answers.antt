@@ -12,8 +12,8 @@ use Rattle.losses.specs.Lines.{LabelsIn, reports-front, reports-slots}
 use Rattle.losses.specs.Few.{emptying-of, report-few, report-labels}
 use Rattle.salvage.proofs.give_up.Goals as goal
 
-pub UNKNOWN-div-n : goal.UNKNOWN-div-n
-UNKNOWN-div-n c = omega (arith, c.before.before.requires.0.slot-low)
+pub nonzero_div-n : goal.nonzero_div-n
+nonzero_div-n c = omega (arith, c.requires.0.slot-low)
 
 pub list_losses-lines-requires : goal.list_losses-lines-requires
 list_losses-lines-requires c =

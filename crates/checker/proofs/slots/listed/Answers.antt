@@ -1,9 +1,8 @@
 use mathlib.Core.Path.{ap₂, ◌∙◌}
-use mathlib.Core.List.{[]}
-use Prim.Native.Nat.{◌+◌, ◌^◌, ◌<◌}
+use mathlib.Core.List.{List, []}
+use Prim.Native.Nat.{ℕ, ◌+◌, ◌^◌, ◌<◌, ◌≤◌}
 use lib.ListN.{length, length-append}
 use Rattle.faults.specs.Faults.{line_if, faults_from, closing}
-use Rattle.faults.specs.Judging.{Judged}
 use Rattle.file_faults.proofs.Telling.{tells_as, tells-then}
 use Rattle.checker.specs.SlotLines.{slots_judged}
 use Rattle.checker.proofs.SlotLines.{closing-line}
@@ -11,36 +10,32 @@ use Rattle.checker.proofs.Few.{list-fits}
 use native.Mathlib.Omega.{arith}
 use Rattle.checker.proofs.slots.listed.Goals as goal
 
--- the labels of the sound slots
-known : (c : goal.After-sound-slots) → let a = c.args in Judged a.n a.size a.heap.now c.sound-slots.result.labels
-known c =
-    record { within = c.requires.0; most = c.requires.1; labels = c.sound-slots.ensures }
-
 -- the number of lines fits
-few : (c : goal.After-sound-slots) → let a = c.args in
-    let vs = slots_judged a.n a.size a.heap.now in
-    length (faults_from 0 [] vs) + length (closing a.room vs) + 2 < 2 ^ 64
-few c =
-    let a = c.args in
-    let vs = slots_judged a.n a.size a.heap.now in
-    omega (arith, list-fits a.n a.size a.room a.heap.now c.requires.1 c.requires.2, length-append (faults_from 0 [] vs) (closing a.room vs))
+few : (n size room : ℕ) (heap : List ℕ) → n ≤ 256 → size ≤ 1048576 → room ≤ 65536
+    → let vs = slots_judged n size heap in length (faults_from 0 [] vs) + length (closing room vs) + 2 < 2 ^ 64
+few n size room heap most high w =
+    let vs = slots_judged n size heap in
+    omega (arith, list-fits n size room heap most high, w, length-append (faults_from 0 [] vs) (closing room vs))
 
 pub all_lines-count-requires : goal.all_lines-count-requires
-all_lines-count-requires c = record {
-  judged = known c.before;
-  heap_len_bound = omega (arith, few c.before);
-}
+all_lines-count-requires c =
+    let a = c.args in
+    record {
+      judged = record { within = c.requires.0; most = c.requires.1; labels = c.sound-slots.ensures };
+      heap_len_bound = omega (arith, few a.n a.size a.room a.heap.now c.requires.1 c.requires.2 c.requires.3);
+    }
 
 pub more_than-more-requires : goal.more_than-more-requires
 more_than-more-requires c =
     record {
-      judged = known c.before.before.before.before;
+      judged = record { within = c.requires.0; most = c.requires.1; labels = c.sound-slots.ensures };
       room_bound = c.requires.3;
     }
 
 pub note_if-requires : goal.note_if-requires
 note_if-requires c =
-    omega (arith, few c.before.before.before.before.before.before.before, c.all_lines-count.ensures.count)
+    let a = c.args in
+    omega (arith, few a.n a.size a.room a.heap.now c.requires.1 c.requires.2 c.requires.3, c.all_lines-count.ensures.count)
 
 pub returns : goal.returns
 returns c =

@@ -1,5 +1,5 @@
 use mathlib.Core.Path.{◌≡◌, refl, sym, ap, ◌∙◌}
-use Prim.Native.Nat.{◌-◌, zero-le}
+use Prim.Native.Nat.{zero-le}
 use lib.ListN.{length}
 use Rattle.rules.specs.FileMap.{empty_label}
 use Rattle.file_map.proofs.RecordTurns.{mapped-length}

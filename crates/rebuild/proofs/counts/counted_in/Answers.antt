@@ -1,8 +1,8 @@
 use Rattle.file_map.proofs.RecordTurns.{mapped-length}
 use mathlib.Core.Path.{◌≡◌, sym, ap, ◌∙◌}
-use mathlib.Core.Logic.{⊎_elim, inl, inr}
+use mathlib.Core.Logic.{inl, inr}
 use mathlib.Core.List.{List, map}
-use Prim.Native.Nat.{ℕ, ◌+◌, ◌*◌, ◌-◌, ◌≤◌, ◌<◌}
+use Prim.Native.Nat.{ℕ, ◌+◌, ◌*◌, ◌≤◌, ◌<◌}
 use native.Mathlib.Omega.{arith}
 use borrow.Author.Rules.{rules}
 use lib.ListN.{length, get_or, take, set, replicate, length-map}
@@ -15,6 +15,7 @@ use Rattle.ordered_files.specs.OrderLaws.{order-formed, order-finds}
 use Rattle.rebuild.specs.Records.{masked_lsn}
 use Rattle.rebuild.specs.Counting.{count-found, count-nowhere, live-start, live_end, counts-most}
 use Rattle.rebuild.proofs.counts.counted_in.Goals as goal
+use Rattle.rebuild.proofs.counts.counted_in.Goals.{then-k-lt-RECORDS+then-in_range, then-k-lt-RECORDS+else-in_range, else-k-lt-RECORDS}
 
 pub loop-i-init : goal.loop-i-init
 loop-i-init c =
@@ -60,13 +61,14 @@ loop-i-preserved c =
     let nowhere = count-nowhere ls c.requires.1 es l.i low position at _ found _ c.index-k.ensures (omega arith) in (
       l.invariant.0,
       omega arith,
-      ⊎_elim
-          (λ w.
-          w.4
-          ∙ ap (λ (ns : List ℕ). set ns c.index-k.result (get_or ns c.index-k.result 0 + 1)) l.invariant.2
-          ∙ count-found ls c.requires.1 es l.i low position at _ found _ c.index-k.ensures w.0.taken (sym w.2.ensures ∙ w.3.taken))
-          (⊎_elim (λ w. w.4 ∙ l.invariant.2 ∙ nowhere (inr (sym w.2.ensures ∙ w.3.left))) (λ w. w.1 ∙ l.invariant.2 ∙ nowhere (inl w.0.left)))
-          c.if-k-lt-RECORDS.branch-raw,
+      elim c.if-k-lt-RECORDS.branch [
+        | then-k-lt-RECORDS+then-in_range w ↦
+            w.lives-is
+            ∙ ap (λ (ns : List ℕ). set ns c.index-k.result (get_or ns c.index-k.result 0 + 1)) l.invariant.2
+            ∙ count-found ls c.requires.1 es l.i low position at _ found _ c.index-k.ensures w.if-k-lt-RECORDS.true (sym w.in_range.ensures ∙ w.if-in_range.true)
+        | then-k-lt-RECORDS+else-in_range w ↦ w.lives-is ∙ l.invariant.2 ∙ nowhere (inr (sym w.in_range.ensures ∙ w.if-in_range.false))
+        | else-k-lt-RECORDS w ↦ w.lives-is ∙ l.invariant.2 ∙ nowhere (inl w.if-k-lt-RECORDS.false)
+      ],
       len,
     )
 

@@ -1,6 +1,6 @@
 use Rattle.file_map.proofs.RecordTurns.{mapped-length}
 use mathlib.Core.Path.{sym, ap, ap₂, ◌∙◌, ◌≡◌}
-use Prim.Native.Nat.{zero-le, ℕ, ◌+◌, ◌-◌}
+use Prim.Native.Nat.{zero-le, ℕ, ◌+◌}
 use Rattle.rebuild.specs.Records.{next_from, masked_lsn, size_of}
 use Rattle.rebuild.proofs.CountTurns.{greatest-start, greatest-next, greatest-end}
 use lib.ListN.{drop, length}

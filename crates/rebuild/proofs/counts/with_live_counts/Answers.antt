@@ -1,7 +1,7 @@
 use Rattle.file_map.proofs.RecordTurns.{mapped-length}
 use mathlib.Core.Path.{ap, refl, ◌∙◌, ◌≡◌}
 use mathlib.Core.List.{List}
-use Prim.Native.Nat.{ℕ, zero-le, ◌-◌}
+use Prim.Native.Nat.{ℕ, zero-le}
 use Rattle.rules.specs.declared.Record.{Record}
 use Rattle.rules.specs.Layout.{used_entries}
 use Rattle.reopen_tests.specs.Labels.{label_at}

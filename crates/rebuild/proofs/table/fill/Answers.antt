@@ -1,7 +1,6 @@
 use mathlib.Core.Path.{sym, ap, refl, ◌∙◌}
-use mathlib.Core.Bool.{true}
 use mathlib.Core.List.{◌++◌}
-use Prim.Native.Nat.{zero-le, ◌+◌, ◌-◌}
+use Prim.Native.Nat.{zero-le, ◌+◌}
 use borrow.Author.Tests.{not-true, not-false}
 use lib.ListN.{take, drop}
 use Rattle.rules.specs.Base.{each}

@@ -1,6 +1,6 @@
 use mathlib.Core.Path.{refl, sym, ap, subst, ◌∙◌}
 use mathlib.Core.List.{[], ◌∷◌, map}
-use Prim.Native.Nat.{zero-le, ◌^◌, ◌+◌, ◌<◌, ◌-◌}
+use Prim.Native.Nat.{zero-le, ◌^◌, ◌+◌, ◌<◌}
 use borrow.Author.Tests.{not-true, not-false}
 use Rattle.rules.specs.declared.Entry.{Entry}
 use Rattle.disk_location.specs.Locations.{position_of}
@@ -8,7 +8,6 @@ use Rattle.trailer.specs.Entries.{entries-count}
 use Rattle.rebuild.specs.Latest.{InUse}
 use Rattle.rebuild.specs.Filled.{filled_none, filled-formed, rows-in-use}
 use Rattle.rebuild.proofs.FillTurns.{filled-as, chunk_in, chunk_out, entry_in, entry-out, entry-end}
-use mathlib.Core.Bool.{true}
 use lib.ListN.{take, length}
 use Rattle.rules.specs.Trailer.{absolute, entries_in}
 use Rattle.rules.specs.Table.{no_entry}

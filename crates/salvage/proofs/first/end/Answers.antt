@@ -1,5 +1,5 @@
 use mathlib.Core.Path.{ap, subst}
-use Prim.Native.Nat.{◌^◌, ◌<◌, ◌-◌}
+use Prim.Native.Nat.{◌^◌, ◌<◌}
 use Rattle.salvage.specs.Types.{SlotAnswer}
 use Rattle.losses.specs.Starts.{end_shown}
 use native.Mathlib.Omega.{arith}

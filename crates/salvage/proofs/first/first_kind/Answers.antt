@@ -1,6 +1,6 @@
 use mathlib.Core.Path.{refl, sym, ap, ◌∙◌, subst, ◌≡◌}
-use Prim.Native.Nat.{zero-le, ◌^◌, ℕ, ◌≤◌, ◌<◌, ◌-◌}
-use Rattle.rules.specs.SlotFile.{empty, view_in}
+use Prim.Native.Nat.{zero-le, ◌^◌, ℕ, ◌≤◌, ◌<◌}
+use Rattle.rules.specs.SlotFile.{empty, view_in, bytes_of_slot}
 use Rattle.rules.proofs.SlotLaws.{slots_apart}
 use Rattle.slot_file.specs.Slots.{shown_by}
 use Rattle.faults.specs.Faults.{judged}
@@ -27,13 +27,9 @@ slot_at-requires c =
     omega (arith, c.requires.size_in_bounds.0, slots_apart a.size c.loop-k.k (length a.starts.now) low)
 
 -- what slot k shows by itself
-shown-is : (c : goal.After-own-shown) → let a = c.args in
-    c.own-shown.result ≡ shown_by (get_or (slots_judged (length a.starts.now) a.size a.heap.now) c.loop-k.k empty)
-shown-is c =
-    let a = c.args in
-    let low : c.loop-k.k < length a.starts.now = omega (arith, c.loop-k.invariant.1, c.loop-k-test.true) in
-    c.own-shown.ensures ∙ ap (λ (s : List ℕ). shown_by (judged (view_in s))) c.slot_at.ensures
-    ∙ ap shown_by (sym (judged-view (length a.starts.now) a.size a.heap.now c.loop-k.k low))
+shown-is : (n size : ℕ) (heap slot : List ℕ) (k : ℕ) (s : SlotAnswer) → k < n → slot ≡ bytes_of_slot size heap k → s ≡ shown_by (judged (view_in slot)) → s ≡ shown_by (get_or (slots_judged n size heap) k empty)
+shown-is n size heap slot k s low at is =
+    is ∙ ap (λ (s : List ℕ). shown_by (judged (view_in s))) at ∙ ap shown_by (sym (judged-view n size heap k low))
 
 pub end-requires : goal.end-requires
 end-requires c = subst (λ (s : SlotAnswer). end_shown s < 2 ^ 64) (sym c.own-shown.ensures) (end_fits c.slot_at.result.now)
@@ -47,7 +43,7 @@ loop-k-preserved c =
     let inv = c.loop-k.invariant in
     let many = judged-length n a.size a.heap.now in
     let low : k < length vs = omega (arith, many, inv.1, c.loop-k-test.true) in
-    let is = shown-is c.before.before.before.before.before.before in
+    let is = shown-is n a.size a.heap.now c.slot_at.result.now k c.own-shown.result (omega (arith, inv.1, c.loop-k-test.true)) c.slot_at.ensures c.own-shown.ensures in
     let line = c.own_line-count.ensures in (
       omega arith,
       inv.1,

@@ -1,6 +1,5 @@
 use mathlib.Core.Path.{sym, ap}
 use Rattle.losses.specs.Lines.{loss_shown, reports-none, reports-as}
-use Prim.Native.Nat.{◌-◌}
 use Rattle.salvage.proofs.first.own_line.Goals as goal
 
 pub returns-in-Damaged : goal.returns-in-Damaged

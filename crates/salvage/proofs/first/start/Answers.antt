@@ -1,6 +1,5 @@
 use mathlib.Core.Path.{sym, ap, ◌∙◌}
 use Rattle.losses.specs.Starts.{start_shown}
-use Prim.Native.Nat.{◌-◌}
 use Rattle.salvage.proofs.first.start.Goals as goal
 
 pub returns-in-Holds : goal.returns-in-Holds
