@@ -1,4 +1,4 @@
-use mathlib.Core.Path.{◌≡◌, ap, ◌∙◌}
+use mathlib.Core.Path.{◌≡◌, ap, ◌∙◌, sym}
 use mathlib.Core.List.{List}
 use Prim.Native.Nat.{◌+◌, ◌-◌, ◌*◌, ◌<◌, ◌≤◌}
 use native.Mathlib.Omega.{arith}
@@ -15,7 +15,6 @@ use Rattle.batch.specs.SizeLaws.{total-next, total-end}
 use Rattle.table_merge.specs.NewIds.{new_at, is_new, new_ids, new-at, new-next, new-end, new-one}
 use Rattle.write_decision.specs.NewIds.{ids_of}
 use Rattle.write_decision.specs.SizeLaws.{sizes-fit, sizes-large}
-use mathlib.Core.Path.{sym}
 use Rattle.write_decision.proofs.sizes.Goals as goal
 
 pub returns-then-too_large-clause-sizes : goal.returns-then-too_large-clause-sizes
