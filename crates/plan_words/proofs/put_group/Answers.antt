@@ -25,14 +25,14 @@ loop-i-preserved c =
     let a = c.args in
     let inv = c.loop-i.invariant in
     elim c.if-slots-i.branch [
-      then-slots-i w ↦ (
+      | then-slots-i w ↦ (
         omega arith,
         omega arith,
         inv.2,
         rw w.words-is (length-set c.loop-i.words (c.loop-i.n + 1) c.loop-i.i ∙ inv.3),
         rw (w.words-is, w.n-is) (written-here a.slots.now a.generation _ c.loop-i.n c.loop-i.i c.loop-i.words inv.4 (omega arith) w.if-slots-i.true (omega arith)),
       )
-    | else-slots-i w ↦ (
+      | else-slots-i w ↦ (
         omega arith,
         omega arith,
         inv.2,
