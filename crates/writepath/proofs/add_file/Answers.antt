@@ -45,4 +45,4 @@ with_file-requires c =
 pub returns : goal.returns
 returns c =
     let f = filed-addable c.requires.filed in
-    added f refl c.new_label-new.ensures c.put_file.ensures c.lsns-lsns.ensures c.lives-lives.ensures c.install.ensures c.with_file.ensures
+    added f refl c.new_label-new.ensures c.put_file.ensures c.lsns-lsns.ensures c.lives-lives.ensures (c.install.ensures.lives, c.install.ensures.table) c.with_file.ensures
