@@ -1,9 +1,9 @@
 -- The call's answer, by the paper's number and values.
 use Rattle.std.specs.Prelude.{◌∷◌, ◌++◌}
-use Rattle.rules.specs.Base.{List, [], ℕ}
+use Rattle.rules.specs.Base.{List, [], ℕ, length}
 use Rattle.rules.specs.SlotFile.{View}
 use Rattle.rules.specs.World.{Given, accepted, refused}
-use Rattle.faults.specs.Faults.{faults_from, closing, Checked}
+use Rattle.faults.specs.Faults.{faults_from, closing, listing, Checked}
 use Rattle.checker.specs.Types.{Fault, CheckAnswer, Faults, CheckRefused}
 
 -- "the full number of faults"; "Refusals: 1 only"

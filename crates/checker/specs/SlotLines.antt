@@ -1,8 +1,8 @@
 -- A slot's lines by its label, and the slots one behind the other.
-use Rattle.std.specs.Prelude.{◌≡◌, Bool, false, ◌∷◌, ◌++◌}
-use Rattle.rules.specs.Base.{List, [], map, ℕ, zero, suc, get_or, drop}
+use Rattle.std.specs.Prelude.{◌≡◌, Bool, false, ◌∷◌, ◌++◌, ◌+◌}
+use Rattle.rules.specs.Base.{List, [], map, ℕ, zero, suc, get_or, drop, each}
 use Rattle.rules.specs.SlotFile.{File, View, empty, damaged, holds, views_in}
-use Rattle.rules.specs.Reopen.{file_of}
+use Rattle.rules.specs.Reopen.{file_of, meets}
 use Rattle.reopen_tests.specs.Labels.{no_file}
 use Rattle.faults.specs.Faults.{judged, line, line_if, file_faults, faults_from}
 use Rattle.checker.specs.Types.{Overlap, Nowhere, Fault, SlotAnswer, Empty, Damaged, Holds}
