@@ -4,3 +4,4 @@ pub mod Lives
 pub mod Starts
 pub mod Maintaining
 pub mod Writers
+pub mod Demands

@@ -4,4 +4,3 @@ pub mod CallContracts
 pub mod Lives
 pub mod Maintaining
 pub mod Writers
-pub mod Demands
