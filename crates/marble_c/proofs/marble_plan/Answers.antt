@@ -19,10 +19,8 @@ returns c =
     let e = c.plan_in-done.ensures.answers in
     let told = ap (λ (g : Given). g.number) c.number.ensures ∙ ap (λ (z : Planned). (answer_given z.answer).number) e ∙ ap (λ (g : Given). g.number) (plan-answered w room) in
     let same = ap (λ (z : Planned). (plan_given z).number) e ∙ ap (λ (g : Given). g.number) (plan-given w room) ∙ sym told in
-    rw (← c.claims_in-held.ensures) (
-      ap₂ given told (c.put_plan.ensures ∙ ap (λ (z : Planned). plan_words z.plan) e ∙ plan-laid w room),
-      (
-        c.plan_in-done.ensures.places ∙ ap (λ (n : ℕ). notes_left (numbered n) a.places.now) same,
-        c.plan_in-done.ensures.pieces ∙ ap (λ (n : ℕ). notes_left (numbered n) a.pieces.now) same,
-      ),
-    )
+    rw (← c.claims_in-held.ensures) (record {
+      tells = ap₂ given told (c.put_plan.ensures ∙ ap (λ (z : Planned). plan_words z.plan) e ∙ plan-laid w room);
+      places = c.plan_in-done.ensures.places ∙ ap (λ (n : ℕ). notes_left (numbered n) a.places.now) same;
+      pieces = c.plan_in-done.ensures.pieces ∙ ap (λ (n : ℕ). notes_left (numbered n) a.pieces.now) same;
+    })

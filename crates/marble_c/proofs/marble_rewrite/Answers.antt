@@ -11,13 +11,9 @@ returns c =
     let a = c.args in
     let moved = c.put_moved.ensures.tells in
     let told = ap (λ (g : Given). g.number) c.rewrite_shown-told.ensures in
-    rw (moved, c.rewrite_shown-told.ensures, ← c.claims_in-held.ensures) (
-      ap (shown_after 1) c.rewrite_in.ensures.leaves,
-      (
-        c.put_moved.ensures.puts,
-        (
-          c.rewrite_in.ensures.places ∙ ap (λ (n : ℕ). notes_left (numbered n) a.places.now) (sym told),
-          c.rewrite_in.ensures.pieces ∙ ap (λ (n : ℕ). notes_left (numbered n) a.pieces.now) (sym told),
-        ),
-      ),
-    )
+    rw (moved, c.rewrite_shown-told.ensures, ← c.claims_in-held.ensures) (record {
+      leaves = ap (shown_after 1) c.rewrite_in.ensures.leaves;
+      asked = c.put_moved.ensures.puts;
+      places = c.rewrite_in.ensures.places ∙ ap (λ (n : ℕ). notes_left (numbered n) a.places.now) (sym told);
+      pieces = c.rewrite_in.ensures.pieces ∙ ap (λ (n : ℕ). notes_left (numbered n) a.pieces.now) (sym told);
+    })
