@@ -1,9 +1,6 @@
 -- What a match on a keyword tells: its last arm, and arms of several.
 use mathlib.Core.Path.{◌≡◌, refl, sym, ap, ◌∙◌, subst}
 use mathlib.Core.Logic.{◌⊎◌, inl, inr, ⊎_elim}
-use lib.Dec.{T, T_not, eqb_refl}
-use mir.Facts.{or_no}
-use mir.Val.{has_key}
 use types.Run.{OneOf}
 use Rattle.std.specs.Prelude.{◌∷◌, ◌++◌}
 use Rattle.rules.specs.Base.{Bool, true, false, not, List, [], ℕ, map, get_or, eqb, pick}
@@ -75,35 +72,28 @@ each P (l ∷ ks) a k h =
     ⊎_elim (λ e. subst P (sym (one_number k l e)) a.0) (λ r. each P ks a.1 k r) (first-or (number l) (map number ks) (number k) h)
 
 -- ---- the last arm
--- the numbers that are not among these
-abbrev without : List ℕ → List Keyword → List ℕ
-without told [] = []
-without told (k ∷ ks) = pick (has_key told (number k)) (without told ks) (number k ∷ without told ks)
-
--- the numbers that a last arm is left with
-abbrev pub left_by : List Keyword → List ℕ
-left_by told = without (map number told) keywords
-
-not-told : (told : List ℕ) (ks : List Keyword) (x : ℕ) → OneOf (without told ks) x → T (not (has_key told x))
-not-told told [] x h = absurd h
-not-told told (k ∷ ks) x h = go (has_key told (number k)) refl (not-told told ks x) h
-  where
-    go : (t : Bool) → has_key told (number k) ≡ t → (OneOf (without told ks) x → T (not (has_key told x)))
-        → OneOf (pick t (without told ks) (number k ∷ without told ks)) x → T (not (has_key told x))
-    go true q later h = later h
-    go false q later h =
-        ⊎_elim (λ e. subst (λ (y : ℕ). T (not (has_key told y))) (sym e) (subst (λ (t : Bool). T (not t)) (sym q) tt)) later (first-or (number k) (without told ks) x h)
-
-last_one : (told : List Keyword) (z k : Keyword) → Among (told ++ (z ∷ [])) k → T (not (has_key (map number told) (number k))) → k ≡ z
-last_one [] z k p h = one_number k z p
-last_one (l ∷ told) z k p h =
-    let other = or_no (eqb (number l) (number k)) (has_key (map number told) (number k)) h in
-    ⊎_elim (λ e. absurd (T_not (eqb (number l) (number k)) other.0 (subst (λ (y : ℕ). T (eqb (number l) y)) (sym e) (eqb_refl (number l)))))
-    (λ r. last_one told z k r other.1) (first-or (number l) (map number (told ++ (z ∷ []))) (number k) p)
+-- none of these
+abbrev pub NoneOf : List Keyword → Keyword → Type 0
+NoneOf [] k = Unit {0}
+NoneOf (l ∷ ks) k = (k ≡ l → ⊥) × NoneOf ks k
 
 -- of some keywords, all but the last told before
-pub last : (told : List Keyword) (z k : Keyword) → Among (told ++ (z ∷ [])) k → OneOf (left_by told) (number k) → k ≡ z
-last told z k p h = last_one told z k p (not-told (map number told) keywords (number k) h)
+pub last : (told : List Keyword) (z k : Keyword) → Among (told ++ (z ∷ [])) k → NoneOf told k → k ≡ z
+last [] z k p h = one_number k z p
+last (l ∷ told) z k p h =
+    ⊎_elim (λ e. absurd (h.0 (one_number k l e))) (λ r. last told z k r h.1) (first-or (number l) (map number (told ++ (z ∷ []))) (number k) p)
+
+-- ---- an arm of several
+abbrev pub Is : List Keyword → Keyword → Type 0
+Is [] k = ⊥
+Is (l ∷ []) k = k ≡ l
+Is (l ∷ m ∷ ks) k = (k ≡ l) ⊎ Is (m ∷ ks) k
+
+pub among : (ks : List Keyword) (k : Keyword) → Is ks k → Among ks k
+among [] k h = absurd h
+among (l ∷ []) k h = ap number h
+among (l ∷ m ∷ ks) k (inl h) = inl (ap number h)
+among (l ∷ m ∷ ks) k (inr h) = inr (among (m ∷ ks) k h)
 
 -- ---- the commands on the lent parts
 -- those that are not
@@ -115,6 +105,77 @@ abbrev pub parts : List Keyword
 parts =
     key.Poke ∷ key.Entry ∷ key.Reopen ∷ key.Write ∷ key.Claim ∷ key.Release ∷ key.Prune ∷ key.Read ∷ key.Through ∷ key.Rewrite ∷ key.Maintain ∷ key.Counts ∷ key.Load ∷ key.Store ∷ key.Cas
     ∷ key.Max ∷ key.Bytes ∷ []
+
+-- what is none of one is one of the other
+pub left-parts : (k : Keyword) → NoneOf whole k → Among parts k
+left-parts key.Blank h = absurd (h.0 refl)
+left-parts key.Bad h = absurd (h.1.0 refl)
+left-parts key.Settings h = absurd (h.1.1.0 refl)
+left-parts key.Heap h = absurd (h.1.1.1.0 refl)
+left-parts key.Table h = absurd (h.1.1.1.1.0 refl)
+left-parts key.Poke h = inl refl
+left-parts key.Entry h = inr (inl refl)
+left-parts key.State h = absurd (h.1.1.1.1.1.0 refl)
+left-parts key.Record h = absurd (h.1.1.1.1.1.1.0 refl)
+left-parts key.Claims h = absurd (h.1.1.1.1.1.1.1.0 refl)
+left-parts key.Reopen h = inr (inr (inl refl))
+left-parts key.Write h = inr (inr (inr (inl refl)))
+left-parts key.Claim h = inr (inr (inr (inr (inl refl))))
+left-parts key.Release h = inr (inr (inr (inr (inr (inl refl)))))
+left-parts key.Prune h = inr (inr (inr (inr (inr (inr (inl refl))))))
+left-parts key.Read h = inr (inr (inr (inr (inr (inr (inr (inl refl)))))))
+left-parts key.Through h = inr (inr (inr (inr (inr (inr (inr (inr (inl refl))))))))
+left-parts key.Plan h = absurd (h.1.1.1.1.1.1.1.1.0 refl)
+left-parts key.Rewrite h = inr (inr (inr (inr (inr (inr (inr (inr (inr (inl refl)))))))))
+left-parts key.Maintain h = inr (inr (inr (inr (inr (inr (inr (inr (inr (inr (inl refl))))))))))
+left-parts key.Counts h = inr (inr (inr (inr (inr (inr (inr (inr (inr (inr (inr (inl refl)))))))))))
+left-parts key.Unsynced h = absurd (h.1.1.1.1.1.1.1.1.1.0 refl)
+left-parts key.Sync h = absurd (h.1.1.1.1.1.1.1.1.1.1.0 refl)
+left-parts key.Check h = absurd (h.1.1.1.1.1.1.1.1.1.1.1.0 refl)
+left-parts key.Salvage h = absurd (h.1.1.1.1.1.1.1.1.1.1.1.1.0 refl)
+left-parts key.Load h = inr (inr (inr (inr (inr (inr (inr (inr (inr (inr (inr (inr (inl refl))))))))))))
+left-parts key.Store h = inr (inr (inr (inr (inr (inr (inr (inr (inr (inr (inr (inr (inr (inl refl)))))))))))))
+left-parts key.Cas h = inr (inr (inr (inr (inr (inr (inr (inr (inr (inr (inr (inr (inr (inr (inl refl))))))))))))))
+left-parts key.Max h = inr (inr (inr (inr (inr (inr (inr (inr (inr (inr (inr (inr (inr (inr (inr (inl refl)))))))))))))))
+left-parts key.List h = absurd (h.1.1.1.1.1.1.1.1.1.1.1.1.1.0 refl)
+left-parts key.Dump h = absurd (h.1.1.1.1.1.1.1.1.1.1.1.1.1.1.0 refl)
+left-parts key.Bytes h = inr (inr (inr (inr (inr (inr (inr (inr (inr (inr (inr (inr (inr (inr (inr (inr refl)))))))))))))))
+left-parts key.Help h = absurd (h.1.1.1.1.1.1.1.1.1.1.1.1.1.1.1.0 refl)
+
+pub left-whole : (k : Keyword) → NoneOf parts k → Among whole k
+left-whole key.Blank h = inl refl
+left-whole key.Bad h = inr (inl refl)
+left-whole key.Settings h = inr (inr (inl refl))
+left-whole key.Heap h = inr (inr (inr (inl refl)))
+left-whole key.Table h = inr (inr (inr (inr (inl refl))))
+left-whole key.Poke h = absurd (h.0 refl)
+left-whole key.Entry h = absurd (h.1.0 refl)
+left-whole key.State h = inr (inr (inr (inr (inr (inl refl)))))
+left-whole key.Record h = inr (inr (inr (inr (inr (inr (inl refl))))))
+left-whole key.Claims h = inr (inr (inr (inr (inr (inr (inr (inl refl)))))))
+left-whole key.Reopen h = absurd (h.1.1.0 refl)
+left-whole key.Write h = absurd (h.1.1.1.0 refl)
+left-whole key.Claim h = absurd (h.1.1.1.1.0 refl)
+left-whole key.Release h = absurd (h.1.1.1.1.1.0 refl)
+left-whole key.Prune h = absurd (h.1.1.1.1.1.1.0 refl)
+left-whole key.Read h = absurd (h.1.1.1.1.1.1.1.0 refl)
+left-whole key.Through h = absurd (h.1.1.1.1.1.1.1.1.0 refl)
+left-whole key.Plan h = inr (inr (inr (inr (inr (inr (inr (inr (inl refl))))))))
+left-whole key.Rewrite h = absurd (h.1.1.1.1.1.1.1.1.1.0 refl)
+left-whole key.Maintain h = absurd (h.1.1.1.1.1.1.1.1.1.1.0 refl)
+left-whole key.Counts h = absurd (h.1.1.1.1.1.1.1.1.1.1.1.0 refl)
+left-whole key.Unsynced h = inr (inr (inr (inr (inr (inr (inr (inr (inr (inl refl)))))))))
+left-whole key.Sync h = inr (inr (inr (inr (inr (inr (inr (inr (inr (inr (inl refl))))))))))
+left-whole key.Check h = inr (inr (inr (inr (inr (inr (inr (inr (inr (inr (inr (inl refl)))))))))))
+left-whole key.Salvage h = inr (inr (inr (inr (inr (inr (inr (inr (inr (inr (inr (inr (inl refl))))))))))))
+left-whole key.Load h = absurd (h.1.1.1.1.1.1.1.1.1.1.1.1.0 refl)
+left-whole key.Store h = absurd (h.1.1.1.1.1.1.1.1.1.1.1.1.1.0 refl)
+left-whole key.Cas h = absurd (h.1.1.1.1.1.1.1.1.1.1.1.1.1.1.0 refl)
+left-whole key.Max h = absurd (h.1.1.1.1.1.1.1.1.1.1.1.1.1.1.1.0 refl)
+left-whole key.List h = inr (inr (inr (inr (inr (inr (inr (inr (inr (inr (inr (inr (inr (inl refl)))))))))))))
+left-whole key.Dump h = inr (inr (inr (inr (inr (inr (inr (inr (inr (inr (inr (inr (inr (inr (inl refl))))))))))))))
+left-whole key.Bytes h = absurd (h.1.1.1.1.1.1.1.1.1.1.1.1.1.1.1.1.0 refl)
+left-whole key.Help h = inr (inr (inr (inr (inr (inr (inr (inr (inr (inr (inr (inr (inr (inr (inr refl))))))))))))))
 
 pub lent-rest : (n bytes : List ℕ) (d : Desk) (k : Keyword) → Among whole k → bad_line d ≡ lent_by k n bytes d
 unfolding lent_by

@@ -4,7 +4,7 @@ use Rattle.rules.specs.World.{World}
 use Rattle.desk.specs.Types.{Request, Turn}
 use Rattle.desk.specs.Desk.{desk, moved, Outcome, left, called}
 use Rattle.desk.specs.Commands.{notes, lent_by}
-use Rattle.desk.proofs.Orders.{lent-rest}
+use Rattle.desk.proofs.Orders.{lent-rest, left-whole}
 use Rattle.desk.proofs.after_lent.Goals as goal
 
 pub returns-in-Poke : goal.returns-in-Poke
@@ -49,4 +49,4 @@ pub returns-in_default : goal.returns-in_default
 returns-in_default c =
     let a = c.args in
     ap (λ (t : Turn). left t a.heap.now a.table.now) c.bad_line.ensures
-    ∙ lent-rest a.n a.bytes.now (desk a.b a.heap.now a.table.now) a.keyword c.in_default.keys10
+    ∙ lent-rest a.n a.bytes.now (desk a.b a.heap.now a.table.now) a.keyword (left-whole a.keyword (c.in_default.not-Poke, (c.in_default.not-Entry, (c.in_default.not-Reopen, (c.in_default.not-Write, (c.in_default.not-Claim, (c.in_default.not-Release, (c.in_default.not-Prune, (c.in_default.not-Read, (c.in_default.not-Through, (c.in_default.not-Rewrite, (c.in_default.not-Maintain, (c.in_default.not-Counts, (c.in_default.not-Load, (c.in_default.not-Store, (c.in_default.not-Cas, (c.in_default.not-Max, (c.in_default.not-Bytes, tt))))))))))))))))))

@@ -1,7 +1,8 @@
 use mathlib.Core.Path.{refl, ◌∙◌}
 use Rattle.desk.specs.Desk.{desk}
+use Rattle.desk.specs.Kinds.{at_bench}
 use Rattle.desk.specs.Commands.{done_by}
-use Rattle.desk.proofs.Orders.{done-rest, bench-report, parts-report, bench-words, parts-words}
+use Rattle.desk.proofs.Orders.{among, left-parts, done-rest, bench-report, parts-report, bench-words, parts-words}
 use Rattle.desk.proofs.after_order.Goals as goal
 
 pub returns-in-Heap : goal.returns-in-Heap
@@ -28,10 +29,11 @@ pub returns-in-Blank : goal.returns-in-Blank
 returns-in-Blank c =
     let a = c.args in
     let d = desk a.b a.heap.now a.table.now in
+    let told = among at_bench a.keyword c.in-Blank.is in
     record {
       leaves = c.at_bench.ensures _ _ _;
-      reports = bench-report d a.report.now a.keyword c.in-Blank.keys3;
-      plans = bench-words d a.plan.now a.keyword c.in-Blank.keys3;
+      reports = bench-report d a.report.now a.keyword told;
+      plans = bench-words d a.plan.now a.keyword told;
     }
 
 pub returns-in-Salvage : goal.returns-in-Salvage
@@ -57,8 +59,10 @@ returns-in-Plan c =
 pub returns-in_default : goal.returns-in_default
 returns-in_default c =
     let a = c.args in
-    let d = desk a.b a.heap.now a.table.now in record {
-      leaves = c.lent.ensures ∙ done-rest a.n a.bytes.now d a.keyword c.in_default.keys6;
-      reports = parts-report d a.report.now a.keyword c.in_default.keys6;
-      plans = parts-words d a.plan.now a.keyword c.in_default.keys6;
+    let d = desk a.b a.heap.now a.table.now in
+    let left = left-parts a.keyword (c.in_default.not-Blank, (c.in_default.not-Bad, (c.in_default.not-Settings, (c.in_default.not-Heap, (c.in_default.not-Table, (c.in_default.not-State, (c.in_default.not-Record, (c.in_default.not-Claims, (c.in_default.not-Plan, (c.in_default.not-Unsynced, (c.in_default.not-Sync, (c.in_default.not-Check, (c.in_default.not-Salvage, (c.in_default.not-List, (c.in_default.not-Dump, (c.in_default.not-Help, tt)))))))))))))))) in
+    record {
+      leaves = c.lent.ensures ∙ done-rest a.n a.bytes.now d a.keyword left;
+      reports = parts-report d a.report.now a.keyword left;
+      plans = parts-words d a.plan.now a.keyword left;
     }

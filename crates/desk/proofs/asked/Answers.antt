@@ -28,5 +28,5 @@ returns-in-Load c = λ bytes. rw c.in-Load.is (c.load.ensures _)
 pub returns-in_default : goal.returns-in_default
 unfolding lent_by
 returns-in_default c =
-    let shown = last (key.Claim ∷ key.Release ∷ key.Read ∷ key.Counts ∷ key.Load ∷ []) key.Bytes c.args.keyword c.requires c.in_default.keys6 in
+    let shown = last (key.Claim ∷ key.Release ∷ key.Read ∷ key.Counts ∷ key.Load ∷ []) key.Bytes c.args.keyword c.requires (c.in_default.not-Claim, (c.in_default.not-Release, (c.in_default.not-Read, (c.in_default.not-Counts, (c.in_default.not-Load, tt))))) in
     λ bytes. rw shown (c.bytes.ensures _)

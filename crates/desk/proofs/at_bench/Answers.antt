@@ -54,5 +54,5 @@ pub returns-in_default : goal.returns-in_default
 unfolding done_by
 returns-in_default c =
     let told = key.Blank ∷ key.Bad ∷ key.Settings ∷ key.State ∷ key.Record ∷ key.Claims ∷ key.Unsynced ∷ key.Sync ∷ key.Check ∷ key.List ∷ key.Dump ∷ [] in
-    let help = last told key.Help c.args.keyword c.requires c.in_default.keys12 in
+    let help = last told key.Help c.args.keyword c.requires (c.in_default.not-Blank, (c.in_default.not-Bad, (c.in_default.not-Settings, (c.in_default.not-State, (c.in_default.not-Record, (c.in_default.not-Claims, (c.in_default.not-Unsynced, (c.in_default.not-Sync, (c.in_default.not-Check, (c.in_default.not-List, (c.in_default.not-Dump, tt))))))))))) in
     λ bytes heap table. rw (c.shown-in_default.ensures, help) refl

@@ -20,5 +20,5 @@ returns-in-Cas c = λ bytes heap. rw c.in-Cas.is (c.cas.ensures heap)
 pub returns-in_default : goal.returns-in_default
 unfolding lent_by
 returns-in_default c =
-    let max = last (key.Entry ∷ key.Store ∷ key.Cas ∷ []) key.Max c.args.keyword c.requires c.in_default.keys4 in
+    let max = last (key.Entry ∷ key.Store ∷ key.Cas ∷ []) key.Max c.args.keyword c.requires (c.in_default.not-Entry, (c.in_default.not-Store, (c.in_default.not-Cas, tt))) in
     λ bytes heap. rw max (c.max.ensures heap)
