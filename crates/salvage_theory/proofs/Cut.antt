@@ -30,24 +30,7 @@ use Rattle.salvage_theory.specs.Lost.{Lost}
 use Rattle.salvage_theory.proofs.Lost.{all-lost, lost-lt}
 use Rattle.salvage_theory.proofs.Emptied.{judged-emptied}
 use Rattle.salvage_theory.specs.Cut.{gave_up}
-
--- N slots are judged
-pub judged-length : (s : Settings) (heap : List ℕ) → length (judged_in s heap) ≡ slots_in s (length heap)
-judged-length s heap = length-map (views_in (slots_in s (length heap)) s.slot_bytes heap) judged ∙ views-length (slots_in s (length heap)) s.slot_bytes heap
-
--- ---- the stores, in report order
-module _ (s : Settings) (ranges : InRanges s) where
-  -- the first k stores made, the report is the rest of it
-  rest-reported : (report : List Loss) (heap : List ℕ) → HeapInRange s (length heap) → report_of s heap ≡ report
-      → (k : ℕ) → report_of s (made (take k (emptying_of s report)) heap) ≡ drop k report
-  unfolding emptying_of made
-  rest-reported [] heap h e zero = e
-  rest-reported [] heap h e (suc k) = e
-  rest-reported (x ∷ report) heap h e zero = e
-  rest-reported (x ∷ report) heap h e (suc k) =
-      let low = lost-lt (judged_in s heap) x (subst (All (Lost (judged_in s heap))) e (all-lost (judged_in s heap))).0 in
-      rest-reported report (set heap (x.slot * s.slot_bytes) 0) (subst (HeapInRange s) (sym (length-set heap (x.slot * s.slot_bytes) 0)) h)
-      (ap losses_in (judged-emptied s heap x.slot ranges h (omega (arith, judged-length s heap))) ∙ next-loss (judged_in s heap) x report e) k
+use Rattle.salvage_theory.proofs.Rest.{judged-length, rest-reported}
 
 -- and its stores end in the same heap
 rest-made : (s : Settings) (report : List Loss) (heap : List ℕ) (k : ℕ)

@@ -4,11 +4,13 @@ pub mod Next
 pub mod Nothing
 pub mod Lost
 pub mod Emptied
+pub mod Rest
 pub mod Cut
 pub mod Reopens
 pub mod Reported
 pub mod KeptFiles
 pub mod FirstBytes
 pub mod Rescued
+pub mod FaultyReport
 pub mod Witness
 pub mod Hazard

@@ -26,7 +26,8 @@ use Rattle.salvage_theory.proofs.KindLaws.{own_first}
 use Rattle.salvage_theory.proofs.Next.{next-loss}
 use Rattle.salvage_theory.specs.Lost.{Lost}
 use Rattle.salvage_theory.proofs.Lost.{all-lost, lost-lt, lost-some}
-use Rattle.salvage_theory.proofs.Cut.{judged-length, salvage-reports}
+use Rattle.salvage_theory.proofs.Rest.{judged-length}
+use Rattle.salvage_theory.proofs.Cut.{salvage-reports}
 
 -- ---- the number
 -- 14 is no slot's own fault

@@ -27,6 +27,7 @@ use Rattle.losses.specs.Salvage.{loss, first_kind, the_rest, placed, in_order, g
 use Rattle.salvage_theory.specs.Types.{Loss}
 use Rattle.salvage_theory.specs.Cut.{gave_up}
 use Rattle.salvage_theory.proofs.Cut.{salvage-reports}
+use Rattle.salvage_theory.proofs.FaultyReport.{faulty-report}
 use Rattle.salvage_theory.specs.Reopens.{rescued}
 use Rattle.salvage_theory.specs.Witness.{sound}
 
@@ -44,11 +45,6 @@ one-above-kept = refl
 pub given-up-strikes-none : second_kind (in_order (sound 0 10 20 ∷ sound 1 20 30 ∷ sound 2 40 20 ∷ [])) ≡ loss 1 Overlap ∷ []
 unfolding placed in_order given_up_behind second_kind masked_of
 given-up-strikes-none = refl
-
--- LAW: of the heap with every kind of fault: 8 and 15 ascending by slot; then of 10..30, 10..10 and 30..91 all but the first, the lower slot first
-pub faulty-report : report_of faulty.settings faulty.heap ≡ loss 0 LabelBytes ∷ loss 4 NotRising ∷ loss 3 Overlap ∷ loss 1 Overlap ∷ []
-unfolding any zeros keep each padded label_bytes five_in label_in out_of_bounds object_bytes stored_at objects_from objects_in bad_checksum decide files_in overlapping not_rising latest latest_from table_of slot_tests view_in views_in listed trailer_bytes trailer_tests entries_from entries_in misplaced le_bytes le_value groups_of read_groups number_in shift_bit shifts crc_from crc32 object_sum masked_of digits_in first_kind the_rest placed in_order given_up_behind second_kind losses_in
-faulty-report = refl
 
 -- LAW: the call, with ten words lent: four lines, and two words as they were
 pub faulty-salvaged : salvage_call faulty.settings faulty.heap faulty.table (replicate 10 99)
