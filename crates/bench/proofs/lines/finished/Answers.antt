@@ -1,10 +1,10 @@
-use mathlib.Core.Path.{sym, ◌∙◌}
+use mathlib.Core.Path.{◌≡◌, sym, ◌∙◌}
 use lib.ListN.{length}
+use mathlib.Core.Bool.{false, true≢false}
 use borrow.Author.Tests.{not-true, not-false}
-use mathlib.Core.Bool.{true≢false}
-use mathlib.Core.Logic.{⊎_elim}
 use Rattle.bench.proofs.Feeding.{last_none, last_some}
 use Rattle.bench.proofs.lines.finished.Goals as goal
+use Rattle.bench.proofs.lines.finished.Goals.{else-s-eq0-via-then-s-eq0+else-not-s, else-s-eq0-via-else-s-eq0}
 
 pub returns-then-not-s : goal.returns-then-not-s
 returns-then-not-s g c =
@@ -14,4 +14,9 @@ returns-then-not-s g c =
 pub returns : goal.returns
 returns g c =
     let a = c.args in
-    λ text h. last_some (length a.decoded.now) a.s c.taken_to-last.result c.answered-t.result a.line.now text a.heap.now a.table.now _ (λ e f. ⊎_elim (λ v. true≢false (sym (not-false a.s.long v.if-not-s.false) ∙ f)) (λ v. v.if-s-eq0.false e) c.else-s-eq0.branch-raw) c.taken_to-last.ensures c.answered-t.ensures.answers h
+    let some : a.s.held ≡ 0 → a.s.long ≡ false → ⊥ = λ e f.
+    elim c.else-s-eq0.branch [
+      | else-s-eq0-via-then-s-eq0+else-not-s w ↦ true≢false (sym (not-false a.s.long w.if-not-s.false) ∙ f)
+      | else-s-eq0-via-else-s-eq0 w ↦ w.if-s-eq0.false e
+    ] in
+    λ text h. last_some (length a.decoded.now) a.s c.taken_to-last.result c.answered-t.result a.line.now text a.heap.now a.table.now _ some c.taken_to-last.ensures c.answered-t.ensures.answers h
