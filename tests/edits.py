@@ -76,7 +76,11 @@ def refusers(said):
 def function_at(crate, module, line):
     """The function of the code in which a line stands."""
     with open(os.path.join(ROOT, 'crates', crate, 'src', module + '.rt'), encoding='utf-8') as source:
-        text = source.read().split('\n')[:line]
+        text = source.read().split('\n')
+    # an attribute above a function is its own
+    while line < len(text) and text[line - 1].lstrip().startswith('#['):
+        line += 1
+    text = text[:line]
     of, name = '', '?'
     for row in text:
         head = re.match(r'(?:unsafe )?impl(?:<[^>]*>)? (?:[\w:<>, ]+ for )?(\w+)', row)
