@@ -126,8 +126,8 @@ extern "C" {
 
 /* ---- stack: bytes below the caller that each call was never seen to pass in the tests (tests/c fails where one does). Measured on x86-64,
    not proved; what interrupts take comes on top. */
-#define MARBLE_STACK_REOPEN 146432
-#define MARBLE_STACK_WRITE 107520
+#define MARBLE_STACK_REOPEN 130048
+#define MARBLE_STACK_WRITE 93184
 #define MARBLE_STACK_READ 17408
 #define MARBLE_STACK_READ_THROUGH 17408
 #define MARBLE_STACK_CLAIM 15360
@@ -139,7 +139,7 @@ extern "C" {
 #define MARBLE_STACK_COUNTS 29696
 #define MARBLE_STACK_UNSYNCED 128
 #define MARBLE_STACK_SYNC 128
-#define MARBLE_STACK_CHECK 31744
+#define MARBLE_STACK_CHECK 21504
 #define MARBLE_STACK_SALVAGE 7168
 #define MARBLE_STACK_TABLE 128 /* each of the four table calls */
 

@@ -131,7 +131,7 @@ static size_t used[CALLS];
    and out is a loop over words that is no copy of this kind. docs/ARCHITECTURE.md, "Stack and copies", says what each is for; maintenance.c has those of plan, rewrite and the nightly job by groups and files. */
 /* 256 labels, five numbers each: a file map is longer */
 #define LABELS_BYTES (256 * 5 * sizeof(uint64_t))
-static const size_t copies_allowed[CALLS] = {13, 8, 0, 0, 0, 0, 1, 8, 82, 85, 1, 0, 0, 261, 0, 0, 0, 0, 0};
+static const size_t copies_allowed[CALLS] = {13, 7, 0, 0, 0, 0, 1, 8, 82, 85, 1, 0, 0, 1, 0, 0, 0, 0, 0};
 static size_t copies, copied[CALLS], last_copied;
 
 void *memcpy(void *to, const void *from, size_t len) {

@@ -1,57 +1,32 @@
 // An enum answer as the paper's number, 0 for success, and its values.
-ghost use Rattle.std.specs.Prelude.{◌≡◌, [], ◌∷◌, length};
+ghost use Rattle.std.specs.Prelude.{◌≡◌, [], ◌∷◌, length, Ok};
 ghost use Rattle.rules.specs.Refusal.{number_of};
 ghost use Rattle.rules.specs.World.{answer_given, read_given, maintain_given, rewrite_given, counts_given, compare_given};
-ghost use Rattle.rules.specs.World.{loaded_given, load_given, held_given, greater_given};
+ghost use Rattle.rules.specs.World.{loaded_given, load_given, greater_given};
 ghost use Rattle.as_numbers.specs.Numbered.{numbered};
 ghost use Rattle.as_numbers.specs.Shown.{given, shown, stop_shown};
 
 use crate::four_words::put_four;
-use rules::{
-    Answer, CompareAnswer, Counts, CountsAnswer, GreaterAnswer, Held, LoadAnswer, Loaded,
-    MaintainAnswer, ReadAnswer, Refusal, RewriteAnswer,
-};
+use rules::{Compared, Counts, Loaded, Lookup, Refusal, Stopped};
 
-// The table "No. | Condition".
+// The table "No. | Condition": the refusals stand in the order of their numbers, from 1 on.
 pub fn refusal_number(r: Refusal) -> u64
     ensures { result ≡ number_of r }
 {
-    match r {
-        Refusal::Limits => 1,
-        Refusal::BatchBytes => 2,
-        Refusal::ObjectSize => 3,
-        Refusal::SlotRoom => 4,
-        Refusal::NoEmptySlot => 5,
-        Refusal::TableRoom => 6,
-        Refusal::PositionsSpent => 7,
-        Refusal::LabelBytes => 8,
-        Refusal::TrailerShort => 9,
-        Refusal::Checksum => 10,
-        Refusal::EntryCount => 11,
-        Refusal::EntryPosition => 12,
-        Refusal::PresentCount => 13,
-        Refusal::Overlap => 14,
-        Refusal::NotRising => 15,
-        Refusal::CutShort => 16,
-        Refusal::OtherId => 17,
-        Refusal::NotThere => 18,
-        Refusal::EqualLocation => 19,
-        Refusal::Location => 20,
-        Refusal::Claim => 21,
-        Refusal::Generation => 22,
-    }
+    r as u64 + 1
 }
 
 // The number of an answer without values.
-pub fn number(a: Answer) -> u64
+pub fn number(a: Result<(), Refusal>) -> u64
     ensures { numbered result ≡ answer_given a }
 {
     match a {
-        Answer::Done => 0,
-        Answer::Refused(r) => refusal_number(r),
+        Ok(()) => 0,
+        Err(r) => refusal_number(r),
     }
 }
 
+// Kept: four structs and no array of a const size: theorems speak of `One` and its value, the calls for C of places by their names.
 // A number and one place.
 #[derive(Clone, Copy)]
 pub struct One {
@@ -114,12 +89,12 @@ fn loaded_shown(l: Loaded) -> Two
 }
 
 // The kind, and the raw location or 0.
-pub fn load_shown(a: LoadAnswer) -> Two
+pub fn load_shown(a: Result<Loaded, Refusal>) -> Two
     ensures { given result.number (result.first ∷ result.second ∷ []) ≡ shown 2 (load_given a) }
 {
     match a {
-        LoadAnswer::Loads(l) => loaded_shown(l),
-        LoadAnswer::LoadRefused(r) => Two {
+        Ok(l) => loaded_shown(l),
+        Err(r) => Two {
             number: refusal_number(r),
             first: 0,
             second: 0,
@@ -127,79 +102,72 @@ pub fn load_shown(a: LoadAnswer) -> Two
     }
 }
 
-// The location or 0.
-fn held_shown(h: Held) -> One
-    ensures { given result.number (result.value ∷ []) ≡ shown 1 (held_given h) }
+// A number that a call gives, or 0: of a rewrite the ids moved (request P7).
+pub fn rewrite_shown(a: Result<u64, Refusal>) -> One
+    ensures { given result.number (result.value ∷ []) ≡ shown 1 (rewrite_given a) }
 {
-    match h {
-        Held::Mapped(l) => One {
+    match a {
+        Ok(n) => One {
             number: 0,
-            value: l,
+            value: n,
         },
-        Held::Unmapped => One {
-            number: 0,
+        Err(r) => One {
+            number: refusal_number(r),
             value: 0,
         },
     }
 }
 
 // What a store-if-greater held before, or 0.
-pub fn greater_shown(a: GreaterAnswer) -> One
+pub fn greater_shown(a: Result<Option<u64>, Refusal>) -> One
     ensures { given result.number (result.value ∷ []) ≡ shown 1 (greater_given a) }
 {
-    match a {
-        GreaterAnswer::Before(h) => held_shown(h),
-        GreaterAnswer::GreaterRefused(r) => One {
-            number: refusal_number(r),
-            value: 0,
-        },
-    }
+    rewrite_shown(a.map(|held| held.unwrap_or(0)))
 }
 
 // The current location where it differs, or 0.
-pub fn compare_shown(a: CompareAnswer) -> One
+pub fn compare_shown(a: Result<Compared, Refusal>) -> One
     ensures { given result.number (result.value ∷ []) ≡ shown 1 (compare_given a) }
 {
-    match a {
-        CompareAnswer::Swapped => One {
-            number: 0,
-            value: 0,
-        },
-        CompareAnswer::Differs(l) => One {
-            number: 0,
-            value: l,
-        },
-        CompareAnswer::CompareRefused(r) => One {
-            number: refusal_number(r),
-            value: 0,
-        },
-    }
+    rewrite_shown(a.map(|compared| match compared {
+        Compared::Swapped => 0,
+        Compared::Differs(l) => l,
+    }))
 }
 
 // The kind, and the part's start and length or two zeros.
-pub fn read_shown(a: ReadAnswer) -> Three
-    ensures { given result.number (result.first ∷ result.second ∷ result.third ∷ []) ≡ shown 3 (read_given a) }
+fn lookup_shown(l: Lookup) -> Three
+    ensures { given result.number (result.first ∷ result.second ∷ result.third ∷ []) ≡ shown 3 (read_given (Ok l)) }
 {
-    match a {
-        ReadAnswer::Found(start, size) => Three {
+    match l {
+        Lookup::Found(start, size) => Three {
             number: 0,
             first: OBJECT,
             second: start,
             third: size,
         },
-        ReadAnswer::Deleted => Three {
+        Lookup::Deleted => Three {
             number: 0,
             first: DELETED,
             second: 0,
             third: 0,
         },
-        ReadAnswer::NeverWritten => Three {
+        Lookup::NeverWritten => Three {
             number: 0,
             first: NEVER_WRITTEN,
             second: 0,
             third: 0,
         },
-        ReadAnswer::ReadRefused(r) => Three {
+    }
+}
+
+// The same, or a refusal's number.
+pub fn read_shown(a: Result<Lookup, Refusal>) -> Three
+    ensures { given result.number (result.first ∷ result.second ∷ result.third ∷ []) ≡ shown 3 (read_given a) }
+{
+    match a {
+        Ok(l) => lookup_shown(l),
+        Err(r) => Three {
             number: refusal_number(r),
             first: 0,
             second: 0,
@@ -209,16 +177,22 @@ pub fn read_shown(a: ReadAnswer) -> Three
 }
 
 // The generation where maintenance stopped, or 0, and the ids moved.
-pub fn maintain_shown(a: MaintainAnswer) -> Two
+pub fn maintain_shown(a: Result<u64, Stopped>) -> Two
     ensures { given result.number (result.first ∷ result.second ∷ []) ≡ stop_shown (maintain_given a) }
 {
     match a {
-        MaintainAnswer::Moved(n) => Two {
+        Ok(n) => Two {
             number: 0,
             first: 0,
             second: n,
         },
-        MaintainAnswer::Stopped(r, generation, n) => Two {
+        Err(
+            Stopped {
+                refusal: r,
+                generation,
+                moved: n,
+            },
+        ) => Two {
             number: refusal_number(r),
             first: generation,
             second: n,
@@ -226,33 +200,17 @@ pub fn maintain_shown(a: MaintainAnswer) -> Two
     }
 }
 
-// Request P7: the ids moved, or 0.
-pub fn rewrite_shown(a: RewriteAnswer) -> One
-    ensures { given result.number (result.value ∷ []) ≡ shown 1 (rewrite_given a) }
-{
-    match a {
-        RewriteAnswer::Rewrote(n) => One {
-            number: 0,
-            value: n,
-        },
-        RewriteAnswer::RewriteRefused(r) => One {
-            number: refusal_number(r),
-            value: 0,
-        },
-    }
-}
-
 // The counts, or four zeros.
-pub fn counts_shown(a: CountsAnswer) -> Four
+pub fn counts_shown(a: Result<Counts, Refusal>) -> Four
     ensures { given result.number (result.counts.files ∷ result.counts.bytes ∷ result.counts.present ∷ result.counts.live ∷ [])
         ≡ shown 4 (counts_given a) }
 {
     match a {
-        CountsAnswer::Counted(c) => Four {
+        Ok(c) => Four {
             number: 0,
             counts: c,
         },
-        CountsAnswer::CountsRefused(r) => Four {
+        Err(r) => Four {
             number: refusal_number(r),
             counts: no_counts(),
         },

@@ -5,8 +5,5 @@ pub fn put_four(words: &mut [u64], a: u64, b: u64, c: u64, d: u64)
     requires { length words.old ≡ 4 }
     ensures { words.new ≡ a ∷ b ∷ c ∷ d ∷ [] }
 {
-    words[0] = a;
-    words[1] = b;
-    words[2] = c;
-    words[3] = d;
+    words.copy_from_slice(&[a, b, c, d]);
 }

@@ -28,11 +28,8 @@ pub fn files_in(words: &[u64]) -> FileMap
     ensures { result ≡ (state_in words.now).files }
 {
     let mut files = no_files();
-    let mut k: usize = 0;
-    while k < RECORDS {
-        let r = record_at(words, 8 + 7 * k);
-        files.records[k] = r;
-        k += 1;
+    for (k, r) in files.records.iter_mut().enumerate() {
+        *r = record_at(words, 8 + 7 * k);
     }
     files
 }
@@ -66,23 +63,24 @@ fn put_record(words: &mut [u64], at: usize, r: Record)
     requires { at + 7 ≤ length words.old }
     ensures { words.new ≡ put_at words.old at (record_words r) }
 {
-    words[at] = r.label.lsn;
-    words[at + 1] = r.label.trailer_offset;
-    words[at + 2] = r.label.file_size;
-    words[at + 3] = r.label.present_objects;
-    words[at + 4] = r.label.generation;
-    words[at + 5] = r.live;
-    words[at + 6] = r.synced;
+    words[at..at + 7].copy_from_slice(&[
+        r.label.lsn,
+        r.label.trailer_offset,
+        r.label.file_size,
+        r.label.present_objects,
+        r.label.generation,
+        r.live,
+        r.synced,
+    ]);
 }
 
-fn put_files(words: &mut [u64], files: FileMap)
+// Kept by value: lent, the compiled calls copy the file map once more.
+fn put_records(words: &mut [u64], files: FileMap)
     requires { length words.old ≡ 1801 }
     ensures { words.new ≡ put_at words.old 8 (records_words files.records) }
 {
-    let mut k: usize = 0;
-    while k < RECORDS {
+    for k in 0..RECORDS {
         put_record(words, 8 + 7 * k, files.records[k]);
-        k += 1;
     }
 }
 
@@ -90,12 +88,14 @@ fn put_settings(words: &mut [u64], s: Settings)
     requires { length words.old ≡ 1801 }
     ensures { words.new ≡ put_at words.old 0 (settings_words s) }
 {
-    words[0] = s.slot_bytes;
-    words[1] = s.file_compaction_percent;
-    words[2] = s.min_compaction_files;
-    words[3] = s.target_file_size;
-    words[4] = s.small_file_cleanup_threshold;
-    words[5] = s.max_object_size;
+    words[..6].copy_from_slice(&[
+        s.slot_bytes,
+        s.file_compaction_percent,
+        s.min_compaction_files,
+        s.target_file_size,
+        s.small_file_cleanup_threshold,
+        s.max_object_size,
+    ]);
 }
 
 // The words of a state, in the place of what stood there.
@@ -103,11 +103,9 @@ pub fn put_state(words: &mut [u64], s: State)
     requires { length words.old ≡ 1801 }
     ensures { state_in words.new ≡ s }
 {
-    let settings = s.settings;
-    let files = s.files;
-    put_settings(words, settings);
+    put_settings(words, s.settings);
     words[6] = s.heap_len;
     words[7] = s.table_len;
-    put_files(words, files);
+    put_records(words, s.files);
     words[1800] = s.next_position;
 }

@@ -1,3 +1,4 @@
 pub mod CheckTurns
 pub mod NoteLaws
 pub mod ListTurns
+pub mod ReadSteps

@@ -1,10 +1,10 @@
 -- A number or an operation that is read takes at least one byte and none past the end; an id has at most 64 bits.
-use Rattle.std.specs.Prelude.{◌≡◌, refl, Bool, true, false, List, [], ◌∷◌, ℕ, zero, suc, ◌+◌, ◌-◌, ◌^◌, ◌<◌, ◌≤◌, leb, ltb, eqb, length, take, drop, get_or}
-use Rattle.std.proofs.Common.{arith, length-drop, ltb-true, leb-true, leb-false}
+use Rattle.std.specs.Prelude.{◌≡◌, refl, Bool, true, false, List, [], ◌∷◌, ℕ, zero, suc, ◌+◌, ◌-◌, ◌^◌, ◌<◌, ◌≤◌, leb, ltb, eqb, length, take, drop, get_or, None, Some}
+use Rattle.std.proofs.Common.{ap, arith, length-drop, ltb-true, leb-true, leb-false}
+use Rattle.std.proofs.lemmas.Option.{same_Some}
 use Rattle.numbers.specs.Choice.{pick}
 use Rattle.numbers.specs.Groups.{Groups, said, bad, read_groups, or_before, bounded, number_in, saying}
-use Rattle.numbers.specs.declared.Number.{Number}
-use Rattle.numbers.specs.declared.Number.TheVariants.{Said, Malformed}
+use Rattle.numbers.specs.Answers.{Number}
 use Rattle.rules.specs.Ops.{Op, put, delete}
 use Rattle.rules.specs.Batch.{parsed, malformed, put_operation, operation_at}
 
@@ -24,22 +24,23 @@ groups-count (suc k) (b ∷ bs) v n e = go (ltb b 128) (read_groups k bs) (group
         let rest = again (suc w) j q in
         (omega arith, omega arith)
 
-pub number_behind : (k : ℕ) (s : List ℕ) (at v next : ℕ) → number_in k s at ≡ Said v next → (at < next) × (next ≤ length s) × (v < 2 ^ 64)
+pub number_behind : (k : ℕ) (s : List ℕ) (at v next : ℕ) → number_in k s at ≡ Some (v, next) → (at < next) × (next ≤ length s) × (v < 2 ^ 64)
 unfolding number_in
 number_behind k s at v next e = go (read_groups k (drop at s)) refl e
   where
-    fits : (t : Bool) (w n : ℕ) → ltb w (2 ^ 64) ≡ t → read_groups k (drop at s) ≡ said w n → pick t (Said w (at + n)) Malformed ≡ Said v next
+    fits : (t : Bool) (w n : ℕ) → ltb w (2 ^ 64) ≡ t → read_groups k (drop at s) ≡ said w n → pick {A = Number} t (Some (w, at + n)) None ≡ Some (v, next)
         → (at < next) × (next ≤ length s) × (v < 2 ^ 64)
     fits true w n t q e =
-        let here : at + n ≡ next = cc in
-        let same : w ≡ v = cc in
+        let read = same_Some _ _ e in
+        let here : at + n ≡ next = ap (λ (p : ℕ × ℕ). p.1) read in
+        let same : w ≡ v = ap (λ (p : ℕ × ℕ). p.0) read in
         let low = ltb-true w (2 ^ 64) t in
         let taken = groups-count k (drop at s) w n q in
         let room = length-drop at s in
         (omega arith, omega arith, omega arith)
     fits false w n t q e = absurd (let z : ◌≡◌ {A = ℕ} 0 1 = cc in omega arith)
 
-    go : (g : Groups) → read_groups k (drop at s) ≡ g → bounded at g ≡ Said v next → (at < next) × (next ≤ length s) × (v < 2 ^ 64)
+    go : (g : Groups) → read_groups k (drop at s) ≡ g → bounded at g ≡ Some (v, next) → (at < next) × (next ≤ length s) × (v < 2 ^ 64)
     go bad q e = absurd (let z : ◌≡◌ {A = ℕ} 0 1 = cc in omega arith)
     go (said w n) q e = fits (ltb w (2 ^ 64)) w n refl q e
 
@@ -53,7 +54,7 @@ put-behind : (s : List ℕ) (id at : ℕ) (o : Op) (next : ℕ) → id < 2 ^ 64 
 unfolding put_operation
 put-behind s id at o next low e = go (number_in 10 s at) refl e
   where
-    fits : (t : Bool) (size start : ℕ) → number_in 10 s at ≡ Said size start → leb size (length s - start) ≡ t
+    fits : (t : Bool) (size start : ℕ) → number_in 10 s at ≡ Some (size, start) → leb size (length s - start) ≡ t
         → pick t (parsed (record { id = id; content = put (take size (drop start s)) }) (start + size)) malformed ≡ parsed o next
         → Behind s at o next
     fits true size start q t e =
@@ -68,14 +69,14 @@ put-behind s id at o next low e = go (number_in 10 s at) refl e
         → saying malformed n (λ size start.
         pick (leb size (length s - start)) (parsed (record { id = id; content = put (take size (drop start s)) }) (start + size)) malformed) ≡ parsed o next
         → Behind s at o next
-    go Malformed q e = absurd (let z : ◌≡◌ {A = ℕ} 0 1 = cc in omega arith)
-    go (Said size start) q e = fits (leb size (length s - start)) size start q refl e
+    go None q e = absurd (let z : ◌≡◌ {A = ℕ} 0 1 = cc in omega arith)
+    go (Some (size, start)) q e = fits (leb size (length s - start)) size start q refl e
 
 pub operation-behind : (s : List ℕ) (at : ℕ) (o : Op) (next : ℕ) → operation_at s at ≡ parsed o next → Behind s at o next
 unfolding operation_at
 operation-behind s at o next e = go (number_in 10 s at) refl e
   where
-    tagged : (id tag : ℕ) → number_in 10 s at ≡ Said id tag → (p d b : Bool) → leb (length s) tag ≡ p
+    tagged : (id tag : ℕ) → number_in 10 s at ≡ Some (id, tag) → (p d b : Bool) → leb (length s) tag ≡ p
         → pick p malformed (pick d (parsed (record { id = id; content = delete }) (suc tag)) (pick b (put_operation s id (suc tag)) malformed)) ≡ parsed o next
         → Behind s at o next
     tagged id tag q true d b l e = absurd (let z : ◌≡◌ {A = ℕ} 0 1 = cc in omega arith)
@@ -96,5 +97,5 @@ operation-behind s at o next e = go (number_in 10 s at) refl e
         pick (leb (length s) tag) malformed
         (pick (eqb (get_or s tag 0) 0) (parsed (record { id = id; content = delete }) (suc tag)) (pick (eqb (get_or s tag 0) 1) (put_operation s id (suc tag)) malformed))) ≡ parsed o next
         → Behind s at o next
-    go Malformed q e = absurd (let z : ◌≡◌ {A = ℕ} 0 1 = cc in omega arith)
-    go (Said id tag) q e = tagged id tag q (leb (length s) tag) (eqb (get_or s tag 0) 0) (eqb (get_or s tag 0) 1) refl e
+    go None q e = absurd (let z : ◌≡◌ {A = ℕ} 0 1 = cc in omega arith)
+    go (Some (id, tag)) q e = tagged id tag q (leb (length s) tag) (eqb (get_or s tag 0) 0) (eqb (get_or s tag 0) 1) refl e

@@ -1,11 +1,10 @@
 -- An operation as numbers, read in the batch that it points into; and the operations of a batch by position.
-use Rattle.std.specs.Prelude.{Bool, false, List, [], ◌∷◌, ℕ, zero, suc, ◌+◌, ◌≤◌, leb, length, take, drop}
+use Rattle.std.specs.Prelude.{Bool, false, List, [], ◌∷◌, ℕ, zero, suc, ◌+◌, ◌≤◌, leb, length, take, drop, None, Some}
 use Rattle.numbers.specs.Choice.{pick}
 use Rattle.rules.specs.Ops.{Op, put, delete}
 use Rattle.rules.specs.Batch.{Parsed, parsed, malformed, operation_at}
 use Rattle.batch.specs.declared.Operation.{Operation}
-use Rattle.batch.specs.declared.Parse.{Parse}
-use Rattle.batch.specs.declared.Parse.TheVariants.{Holds, NotAsAbove}
+use Rattle.batch.specs.Answers.{Parse}
 
 -- a delete, or a put of the piece of the batch that the numbers name
 abbrev pub op_in : List ℕ → Operation → Op
@@ -13,13 +12,13 @@ op_in s o = record { id = o.id; content = pick o.delete delete (put (take o.len 
 
 -- what was read, as document 01's definition has it
 abbrev pub parsed_in : List ℕ → Parse → Parsed
-parsed_in s (Holds o next) = parsed (op_in s o) next
-parsed_in s NotAsAbove = malformed
+parsed_in s (Some (o, next)) = parsed (op_in s o) next
+parsed_in s None = malformed
 
 -- the body lies within the batch
 abbrev pub Inside : List ℕ → Parse → Type 0
-Inside s (Holds o next) = o.start + o.len ≤ length s
-Inside s NotAsAbove = Unit {0}
+Inside s (Some (o, next)) = o.start + o.len ≤ length s
+Inside s None = Unit {0}
 
 -- "a put of max_object_size or more", by the numbers
 abbrev pub oversize : ℕ → Operation → Bool

@@ -1,5 +1,5 @@
 -- The operations of a batch by position: one behind the other, and those of `batch_in` where that is not refused with 2.
-use Rattle.std.specs.Prelude.{◌≡◌, refl, false, List, [], ◌∷◌, ℕ, zero, suc, ◌+◌, ◌-◌, ◌^◌, ◌<◌, ◌≤◌, length, take, drop}
+use Rattle.std.specs.Prelude.{◌≡◌, refl, false, List, [], ◌∷◌, ℕ, zero, suc, ◌+◌, ◌-◌, ◌^◌, ◌<◌, ◌≤◌, length, take, drop, None, Some}
 use Rattle.std.proofs.Common.{sym, ap, ◌∙◌, ⊎_elim, arith, length-take, length-drop}
 use Rattle.std.proofs.lemmas.Bool.{lt-leb}
 use Rattle.numbers.specs.GroupLaws.{either_way}
@@ -9,8 +9,7 @@ use Rattle.rules.proofs.SettledLaws.{settled-all}
 use Rattle.rules.specs.Batch.{Parsed, parsed, malformed, operation_at, Batch, operations, not_as_above, before, batch_from, batch_in, is_malformed, ops_of}
 use Rattle.rules.proofs.BatchLaws.{batch-end, batch-bad, batch-next}
 use Rattle.batch.specs.declared.Operation.{Operation}
-use Rattle.batch.specs.declared.Parse.{Parse}
-use Rattle.batch.specs.declared.Parse.TheVariants.{Holds, NotAsAbove}
+use Rattle.batch.specs.Answers.{Parse}
 use Rattle.batch.specs.Behind.{operation-behind}
 use Rattle.batch.specs.Reading.{op_in, parsed_in, Inside, followed, walked, ops_from, ops_in}
 
@@ -116,11 +115,11 @@ unfolding ops_from
 settled-fit s = settled-all (λ (o : Op). o.id < 2 ^ 64) (ops_in s) (walked-fit (suc (length s)) s 0)
 
 -- ---- what a call of `operation_at` tells
-pub held : (s : List ℕ) (p : Parsed) (r : Parse) (o : Operation) (next : ℕ) → (parsed_in s r ≡ p) × Inside s r → r ≡ Holds o next
+pub held : (s : List ℕ) (p : Parsed) (r : Parse) (o : Operation) (next : ℕ) → (parsed_in s r ≡ p) × Inside s r → r ≡ Some (o, next)
     → (p ≡ parsed (op_in s o) next) × (o.start + o.len ≤ length s)
 held s p r o next h e = (sym h.0 ∙ ap (parsed_in s) e, rw e at h.1)
 
-pub held_none : (s : List ℕ) (p : Parsed) (r : Parse) → parsed_in s r ≡ p → r ≡ NotAsAbove → p ≡ malformed
+pub held_none : (s : List ℕ) (p : Parsed) (r : Parse) → parsed_in s r ≡ p → r ≡ None → p ≡ malformed
 held_none s p r h e = sym h ∙ ap (parsed_in s) e
 
 -- a piece within the batch has its length

@@ -1,5 +1,5 @@
 -- The walk over the operations that count: what of them is still to come.
-use Rattle.std.specs.Prelude.{◌≡◌, List, [], ◌∷◌, ◌⊎◌, ℕ, suc, ◌+◌, ◌-◌, ◌≤◌, ◌<◌, eqb, length, drop, get_or}
+use Rattle.std.specs.Prelude.{◌≡◌, List, [], ◌∷◌, ◌⊎◌, ℕ, suc, ◌+◌, ◌-◌, ◌≤◌, ◌<◌, eqb, length, drop, get_or, None, Some}
 use Rattle.numbers.specs.Choice.{pick}
 use Rattle.rules.specs.Batch.{Parsed, parsed, malformed, operation_at}
 use Rattle.rules.specs.Ops.{Op, settled}
@@ -7,8 +7,7 @@ use Rattle.batch.specs.Reading.{op_in, ops_from, ops_in}
 use Rattle.batch.specs.Order.{from_id}
 use Rattle.batch.specs.declared.Cursor.{Cursor}
 use Rattle.batch.specs.declared.Cursor.TheVariants.{InOrder, All, Listed}
-use Rattle.batch.specs.declared.Step.{Step}
-use Rattle.batch.specs.declared.Step.TheVariants.{Next, End}
+use Rattle.batch.specs.Answers.{Step}
 
 -- the lowest id that is still to come
 abbrev pub floor_of : Cursor → ℕ
@@ -49,15 +48,15 @@ pub record Begins (s : List ℕ) (order : List ℕ) (cursor : Cursor) : Type 0 w
 
 -- a step: the next operation, then what is left
 abbrev pub step_in : List ℕ → List ℕ → Step → List Op
-step_in s order (Next o cursor) = op_in s o ∷ left s order cursor
-step_in s order End = []
+step_in s order (Some (o, cursor)) = op_in s o ∷ left s order cursor
+step_in s order None = []
 
 -- its body lies within the batch
 abbrev pub StepInside : List ℕ → Step → Type 0
-StepInside s (Next o cursor) = o.start + o.len ≤ length s
-StepInside s End = Unit {0}
+StepInside s (Some (o, cursor)) = o.start + o.len ≤ length s
+StepInside s None = Unit {0}
 
 -- the order is as it was, and stays so
 abbrev pub Kept : List ℕ → List ℕ → Step → Type 0
-Kept order after (Next o cursor) = (after ≡ order) × Keeps after cursor
-Kept order after End = after ≡ order
+Kept order after (Some (o, cursor)) = (after ≡ order) × Keeps after cursor
+Kept order after None = after ≡ order

@@ -16,7 +16,7 @@ ghost use Rattle.batch.specs.Sizes.{size_in};
 ghost use Rattle.batch.specs.Walk.{Begins};
 ghost use Rattle.batch_file.specs.Steps.{entry_in, Sized};
 
-use batch::{Cursor, Operation, Step};
+use batch::{Cursor, Operation, size_of};
 use disk_location::RelativeDiskLocation;
 use rules::{Entry, LABEL_BYTES, Label, OBJECT_HEADER, TRAILER_ENTRY, TRAILER_HEAD};
 use trailer::write;
@@ -29,19 +29,8 @@ pub fn entry_of(o: Operation, position: u64) -> Entry
     let location = RelativeDiskLocation::new(position, o.delete);
     Entry {
         id: o.id,
-        location: location.raw(),
+        location: disk_location::relative_raw(location),
     }
-}
-
-// The position behind an operation's object bytes: 20 + length further, or, for a delete, the same.
-fn behind(position: u64, o: Operation) -> u64
-    requires { position + size_in o < 2 ^ 64 }
-    ensures { result ≡ position + size_in o }
-{
-    if o.delete {
-        return position;
-    }
-    position + (OBJECT_HEADER as u64 + o.len as u64)
 }
 
 // An operation's object, its body a piece of the batch. "Deletes have no object bytes."
@@ -88,20 +77,17 @@ fn put_objects(
 {
     let mut register = write::sum_count(count);
     let mut rest = left;
-    let mut position: u64 = 0;
+    let mut at: u64 = 0;
     let mut cursor = begin;
-    loop {
-        let Step::Next(o, after) = batch::next(order, batch, cursor) else {
-            return Objects {
-                left: rest,
-                checksum: write::sum_end(register),
-            };
-        };
-        let e = entry_of(o, position);
-        register = write::sum_entry(register, e);
-        rest = put_content(file, position as usize, batch, o, rest);
-        position = behind(position, o);
+    while let Some((o, after)) = batch::next(order, batch, cursor) {
+        register = write::sum_entry(register, entry_of(o, at));
+        rest = put_content(file, at as usize, batch, o, rest);
+        at += size_of(o);
         cursor = after;
+    }
+    Objects {
+        left: rest,
+        checksum: write::sum_end(register),
     }
 }
 
@@ -125,16 +111,13 @@ fn put_entries(
     let mut place = at;
     let mut position: u64 = 0;
     let mut cursor = begin;
-    loop {
-        let Step::Next(o, after) = batch::next(order, batch, cursor) else {
-            return rest;
-        };
-        let e = entry_of(o, position);
-        rest = write::put_entry(file, place, e, rest);
+    while let Some((o, after)) = batch::next(order, batch, cursor) {
+        rest = write::put_entry(file, place, entry_of(o, position), rest);
         place += TRAILER_ENTRY;
-        position = behind(position, o);
+        position += size_of(o);
         cursor = after;
     }
+    rest
 }
 
 // The trailer, from `at` on.

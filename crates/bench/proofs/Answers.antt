@@ -1,42 +1,37 @@
--- The three ends of a reading's turn.
-use mathlib.Core.Path.{◌≡◌, refl, ap, ◌∙◌, subst}
-use mathlib.Core.Bool.{true≢false, false≢true}
-use Prim.Native.Nat.{◌-◌}
-use native.Mathlib.Nat.{sub-zero}
+-- What a line's end does.
+use mathlib.Core.Path.{◌≡◌, refl, sym, subst}
 use lib.Seq.{take-append_seam}
+use Rattle.std.specs.Prelude.{Some, None}
+use Rattle.std.proofs.lemmas.Option.{none-some, same_Some}
+use Rattle.std.specs.declared.option.Option.{Option}
 use Rattle.numbers.specs.Parts.{front}
-use Rattle.rules.specs.Base.{Bool, true, false, List, ℕ, length, take, ltb, pick}
+use Rattle.rules.specs.Base.{Bool, true, false, List, ℕ, take, pick}
 use Rattle.script.specs.declared.Order.{Order}
 use Rattle.script.specs.Asked.{asked_by, order_for}
-use Rattle.desk.specs.Desk.{Desk, desk}
+use Rattle.desk.specs.Desk.{Desk}
 use Rattle.desk.specs.Commands.{done_by}
-use Rattle.desk.proofs.Lending.{least-take}
-use Rattle.bench.specs.declared.lines.Reading.{Reading}
-use Rattle.bench.specs.Lines.{Ran, after_line, next_line, Answered}
+use Rattle.bench.specs.Buffer.{too_long, held_of}
+use Rattle.bench.specs.Lines.{Ran, after_line}
+use Rattle.bench.specs.Input.{line_done}
 
-pub waits : (room : ℕ) (whole long : Bool) (s : Reading) (line : List ℕ) (d : Desk) → whole ≡ false → Answered room whole long s line d s d
-waits room true long s line d e = absurd (true≢false e)
-waits room false long s line d e = (refl, refl)
+-- a line that is too long is not there, and changes nothing
+pub lost : (cap room : ℕ) (text : List ℕ) (d : Desk) → None ≡ held_of cap text → d ≡ line_done cap room text d
+lost cap room text d = go (too_long cap text)
+  where
+    go : (t : Bool) → None ≡ pick t None (Some text) → d ≡ pick t d (after_line room text d)
+    go true e = refl
+    go false e = absurd (none-some text e)
 
-pub too_long : (room : ℕ) (whole long : Bool) (s t : Reading) (line heap table : List ℕ) → whole ≡ true → long ≡ true → t ≡ next_line s s.bench
-    → Answered room whole long s line (desk s.bench heap table) t (desk t.bench heap table)
-too_long room false long s t line heap table e f q = absurd (false≢true e)
-too_long room true false s t line heap table e f q = absurd (false≢true f)
-too_long room true true s t line heap table e f q = (q, ap (λ (x : Reading). desk x.bench heap table) q)
-
--- as much of the line as is held
-pub ran-held : (room held n : ℕ) (line : List ℕ) (before after : Desk) → n ≡ pick (ltb held (length line)) held (length line) → Ran room (take (n - 0) line) before after → Ran room (take held line) before after
-ran-held room held n line before after e ran = subst (λ (l : List ℕ). Ran room l before after) (least-take held line (n - 0) (sub-zero n ∙ e)) ran
-
--- all but the bench is as before the next line
-pub runs : (room : ℕ) (whole long : Bool) (s t : Reading) (line : List ℕ) (before after : Desk) → whole ≡ true → long ≡ false → t ≡ next_line s s.bench → Ran room line before after
-    → Answered room whole long s line before (record { bench = after.bench; taken = t.taken; held = t.held; long = t.long; whole = t.whole }) after
-runs room false long s t line before after e f q ran = absurd (false≢true e)
-runs room true true s t line before after e f q ran = absurd (true≢false f)
-runs room true false s t line before after e f q ran = (ap (λ (x : Reading). record { bench = after.bench; taken = x.taken; held = x.held; long = x.long; whole = x.whole }) q, ran)
+-- one that is there does its command
+pub kept : (cap room : ℕ) (text line : List ℕ) (before after : Desk) → Some line ≡ held_of cap text → Ran room line before after → after ≡ line_done cap room text before
+kept cap room text line before after = go (too_long cap text)
+  where
+    go : (t : Bool) → Some line ≡ pick t None (Some text) → Ran room line before after → after ≡ pick t before (after_line room text before)
+    go true e ran = absurd (none-some line (sym e))
+    go false e ran = subst (λ (l : List ℕ). Ran room l before after) (same_Some line text e) ran
 
 -- an order done with the bytes that stand in the buffer
 pub ran-order : (room : ℕ) (line buffer after : List ℕ) (o : Order) (d : Desk) → o ≡ order_for (asked_by room line) → after ≡ front (asked_by room line).bytes buffer
-    → (done_by o.keyword o.numbers (take (o.length - 0) after) d).desk ≡ after_line room line d
+    → (done_by o.keyword o.numbers (take o.length after) d).desk ≡ after_line room line d
 unfolding order_for front
-ran-order room line buffer after o d e q = rw (e, q, sub-zero, take-append_seam) refl
+ran-order room line buffer after o d e q = rw (e, q, take-append_seam) refl

@@ -1,14 +1,10 @@
 -- What bytes on standard input do to the desk, line by line.
-use Rattle.std.specs.Prelude.{◌≡◌, refl, ◌<◌, ◌∷◌, ◌++◌, ◌+◌}
-use Rattle.rules.specs.Base.{Bool, true, false, List, [], ℕ, suc, length, take, drop, ltb, eqb, pick}
-use Rattle.byte_parts.specs.Bytes.{index_of}
+use Rattle.std.specs.Prelude.{◌≡◌, refl, ◌∷◌, ◌++◌}
+use Rattle.std.specs.declared.option.Option.{Option}
+use Rattle.rules.specs.Base.{Bool, true, false, List, [], ℕ, eqb, pick}
 use Rattle.desk.specs.Desk.{Desk}
-use Rattle.bench.specs.declared.lines.Reading.{Reading}
+use Rattle.bench.specs.Buffer.{too_long, held_of}
 use Rattle.bench.specs.Lines.{after_line}
-
--- a line longer than the line buffer
-abbrev pub too_long : ℕ → List ℕ → Bool
-too_long cap text = ltb cap (length text)
 
 -- the desk at a line's end, with room for so many bytes: a line that is too long changes nothing; of any other the command is done
 abbrev pub line_done : ℕ → ℕ → List ℕ → Desk → Desk
@@ -33,48 +29,10 @@ last_done cap room (b ∷ text) d = line_done cap room (b ∷ text) d
 abbrev pub told : ℕ → ℕ → List ℕ → Desk → Desk
 told cap room input d = last_done cap room (since_end input []) (fed cap room input [] d)
 
--- ---- what a reading has of it
--- s has the text of the line that is being read, or that it is too long
-pub record Holds (s : Reading) (line text : List ℕ) : Type 0 where
-  pub long : s.long ≡ too_long (length line) text
-  pub held : s.long ≡ false → s.held ≡ length text
-  pub front : s.long ≡ false → take s.held line ≡ text
-
--- the bench is kept, and the part is behind what was held
-pub record Longer (s : Reading) (line part : List ℕ) (r : Reading) (line' : List ℕ) : Type 0 where
-  pub kept : r.bench ≡ s.bench
-  pub holds : (text : List ℕ) → Holds s line text → Holds r line' (text ++ part)
-
--- the end of a line is in the input
-abbrev pub ends : List ℕ → Bool
-ends input = ltb (index_of 10 input) (length input)
-
--- the bytes up to it, or all
-abbrev pub line_in : List ℕ → List ℕ
-line_in input = take (index_of 10 input) input
-
--- how many are taken: these, and the end
-abbrev pub taken_by : List ℕ → ℕ
-taken_by input = pick (ends input) (suc (index_of 10 input)) (length input)
-
--- r is s with the input read up to the end of the line, or all that is left of it
-pub record ReadOn (s : Reading) (input line : List ℕ) (r : Reading) (line' : List ℕ) : Type 0 where
-  pub further : s.taken < r.taken
-  pub taken : r.taken ≡ s.taken + taken_by (drop s.taken input)
-  pub whole : r.whole ≡ ends (drop s.taken input)
-  pub longer : Longer s line (line_in (drop s.taken input)) r line'
-
--- s, when so much of the input is taken, at a line's end or not
-abbrev pub taken_to : Reading → ℕ → Bool → Reading
-taken_to s taken whole = record { bench = s.bench; taken = taken; held = s.held; long = s.long; whole = whole }
-
--- s, its line too long
-abbrev pub with_long : Reading → Reading
-with_long s = record { bench = s.bench; taken = s.taken; held = s.held; long = true; whole = s.whole }
-
--- r holds the bytes since the last end of a line, and the lines before them are done
-pub record FedTo (cap room : ℕ) (input text : List ℕ) (before : Desk) (r : Reading) (line : List ℕ) (after : Desk) : Type 0 where
-  pub holds : Holds r line (since_end input text)
+-- ---- what a line buffer has of it
+-- the line buffer holds the bytes since the last end of a line, and the lines before them are done
+pub record FedTo (cap room : ℕ) (input text : List ℕ) (before : Desk) (line : Option (List ℕ)) (after : Desk) : Type 0 where
+  pub holds : line ≡ held_of cap (since_end input text)
   pub done : after ≡ fed cap room input text before
 
 -- ---- laws

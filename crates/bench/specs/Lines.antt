@@ -6,11 +6,9 @@ use Rattle.script.specs.Asked.{Asked, asked_by}
 use Rattle.script.specs.AskedLaws.{wordless-asked}
 use Rattle.script.specs.Words.{no_word}
 use Rattle.script.specs.declared.Keyword.{Keyword}
-use Rattle.desk.specs.declared.Bench.{Bench}
 use Rattle.desk.specs.Desk.{Desk, Outcome}
 use Rattle.desk.specs.Commands.{done_by}
 use Rattle.desk.specs.Failed.{failing, Kept, failed-unchanged}
-use Rattle.bench.specs.declared.lines.Reading.{Reading}
 
 -- the command that is asked for, done on a desk
 abbrev pub done_for : Asked → Desk → Outcome
@@ -23,16 +21,6 @@ after_line room line d = (done_for (asked_by room line) d).desk
 -- the line was done
 abbrev pub Ran : ℕ → List ℕ → Desk → Desk → Type 0
 Ran room line before after = after ≡ after_line room line before
-
--- the reading before a line of which nothing is read
-abbrev pub next_line : Reading → Bench → Reading
-next_line s bench = record { bench = bench; taken = s.taken; held = 0; long = false; whole = false }
-
--- a line that is not whole yet waits; one that is too long changes nothing; of any other the command is done
-abbrev pub Answered : ℕ → Bool → Bool → Reading → List ℕ → Desk → Reading → Desk → Type 0
-Answered room false long s line before t after = (t ≡ s) × (after ≡ before)
-Answered room true true s line before t after = (t ≡ next_line s s.bench) × (after ≡ before)
-Answered room true false s line before t after = (t ≡ next_line s t.bench) × Ran room line before after
 
 -- LAW: a line whose command fails changes nothing, but for `reopen` and `maintain`
 pub failed-line : (room : ℕ) (line : List ℕ) (before after : Desk) → Ran room line before after → Kept (asked_by room line).keyword

@@ -7,159 +7,96 @@ ghost use Rattle.bench.specs.Lines.{Ran};
 
 use crate::{decoded_bytes, say, show};
 use desk::{Bench, Look, Reply, Turn};
-use marble::ThroughAnswer;
-use rules::{CompareAnswer, CountsAnswer, GreaterAnswer, Held, LoadAnswer, Loaded, ReadAnswer};
+use rules::{Compared, Counts, Loaded, Lookup, Refusal};
 use std::io;
+use through::ThroughLookup;
 
 // ---- what is written for a reply: of that nothing is stated, since the kit's output states nothing
-fn body(rt: &impl Print, b: Bench, heap: &[u8], table: &[u64], id: u64) -> io::Result<()> {
-    let settings = b.settings;
-    let state = b.state;
-    let part = marble::read(settings, state, heap, table, id);
-    say::text(rt, b"ok ")?;
-    say::hex(rt, part)?;
-    say::end(rt)
+// The part of a buffer that is lent.
+fn lent<T>(buffer: &[T], count: usize) -> &[T] {
+    &buffer[..count.min(buffer.len())]
 }
 
 // The body is read again from the lent parts, which a read leaves alone.
-fn found(rt: &impl Print, b: Bench, heap: &[u8], table: &[u64], id: u64) -> io::Result<()> {
-    let h = desk::least(b.heap_len, heap.len());
-    let t = desk::least(b.table_words, table.len());
-    body(rt, b, &heap[0..h], &table[0..t], id)
-}
-
 fn read(
     rt: &impl Print,
-    answer: ReadAnswer,
+    answer: Result<Lookup, Refusal>,
     b: Bench,
     heap: &[u8],
     table: &[u64],
     id: u64,
 ) -> io::Result<()> {
     match answer {
-        ReadAnswer::Found(_, _) => found(rt, b, heap, table, id),
-        ReadAnswer::Deleted => say::text(rt, b"deleted\n"),
-        ReadAnswer::NeverWritten => say::text(rt, b"never\n"),
-        ReadAnswer::ReadRefused(r) => say::refused(rt, r),
+        Ok(Lookup::Found(_, _)) => say::named_bytes(
+            rt,
+            "ok",
+            marble::read(b.settings, b.state, heap, table, id),
+        ),
+        Ok(Lookup::Deleted) => println!(rt; "deleted"),
+        Ok(Lookup::NeverWritten) => println!(rt; "never"),
+        Err(r) => say::refused(rt, r),
     }
 }
 
 // The batch is taken out of its line again.
-fn of_batch(
-    rt: &impl Print,
-    line: &[u8],
-    decoded: &mut [u8],
-    at: u64,
-    count: u64,
-) -> io::Result<()> {
-    script::order_of(line, decoded);
-    show::bytes(rt, b"batch ", decoded, at, count)
-}
-
 fn in_batch(rt: &impl Print, line: &[u8], at: u64, count: u64) -> io::Result<()> {
     let mut decoded = decoded_bytes();
-    of_batch(rt, line, &mut decoded, at, count)
-}
-
-fn in_heap(rt: &impl Print, b: Bench, heap: &[u8], at: u64, count: u64) -> io::Result<()> {
-    let h = desk::least(b.heap_len, heap.len());
-    show::bytes(rt, b"heap ", &heap[0..h], at, count)
+    script::order_of(line, &mut decoded);
+    show::bytes(rt, "batch", &decoded, at, count)
 }
 
 fn through(
     rt: &impl Print,
-    answer: ThroughAnswer,
-    b: Bench,
+    answer: Result<ThroughLookup, Refusal>,
     line: &[u8],
     heap: &[u8],
 ) -> io::Result<()> {
     match answer {
-        ThroughAnswer::InBatch(at, count) => in_batch(rt, line, at, count),
-        ThroughAnswer::InHeap(at, count) => in_heap(rt, b, heap, at, count),
-        ThroughAnswer::ThroughDeleted => say::text(rt, b"deleted\n"),
-        ThroughAnswer::ThroughNever => say::text(rt, b"never\n"),
-        ThroughAnswer::ThroughRefused(r) => say::refused(rt, r),
+        Ok(ThroughLookup::InBatch(at, count)) => in_batch(rt, line, at, count),
+        Ok(ThroughLookup::InHeap(at, count)) => show::bytes(rt, "heap", heap, at, count),
+        Ok(ThroughLookup::ThroughDeleted) => println!(rt; "deleted"),
+        Ok(ThroughLookup::ThroughNever) => println!(rt; "never"),
+        Err(r) => say::refused(rt, r),
     }
 }
 
-fn counted(rt: &impl Print, answer: CountsAnswer) -> io::Result<()> {
+fn counted(rt: &impl Print, answer: Result<Counts, Refusal>) -> io::Result<()> {
     match answer {
-        CountsAnswer::Counted(c) => {
-            say::text(rt, b"ok")?;
-            say::number(rt, c.files)?;
-            say::number(rt, c.bytes)?;
-            say::number(rt, c.present)?;
-            say::number(rt, c.live)?;
-            say::end(rt)
-        }
-        CountsAnswer::CountsRefused(r) => say::refused(rt, r),
+        Ok(c) => println!(rt; "ok {} {} {} {}", c.files, c.bytes, c.present, c.live),
+        Err(r) => say::refused(rt, r),
     }
 }
 
-fn told(rt: &impl Print, loaded: Loaded) -> io::Result<()> {
-    match loaded {
-        Loaded::At(raw) => say::named(rt, b"ok", raw),
-        Loaded::DeletedAt(raw) => say::named(rt, b"deleted", raw),
-        Loaded::Never => say::text(rt, b"never\n"),
-    }
-}
-
-fn loaded(rt: &impl Print, answer: LoadAnswer) -> io::Result<()> {
+fn loaded(rt: &impl Print, answer: Result<Loaded, Refusal>) -> io::Result<()> {
     match answer {
-        LoadAnswer::Loads(l) => told(rt, l),
-        LoadAnswer::LoadRefused(r) => say::refused(rt, r),
+        Ok(Loaded::At(raw)) => say::named(rt, b"ok", raw),
+        Ok(Loaded::DeletedAt(raw)) => say::named(rt, b"deleted", raw),
+        Ok(Loaded::Never) => println!(rt; "never"),
+        Err(r) => say::refused(rt, r),
     }
 }
 
-fn compared(rt: &impl Print, answer: CompareAnswer) -> io::Result<()> {
+fn compared(rt: &impl Print, answer: Result<Compared, Refusal>) -> io::Result<()> {
     match answer {
-        CompareAnswer::Swapped => say::ok(rt),
-        CompareAnswer::Differs(current) => say::named(rt, b"differs", current),
-        CompareAnswer::CompareRefused(r) => say::refused(rt, r),
+        Ok(Compared::Swapped) => say::ok(rt),
+        Ok(Compared::Differs(current)) => say::named(rt, b"differs", current),
+        Err(r) => say::refused(rt, r),
     }
 }
 
-fn held_before(rt: &impl Print, held: Held) -> io::Result<()> {
-    match held {
-        Held::Mapped(raw) => say::named(rt, b"ok", raw),
-        Held::Unmapped => say::text(rt, b"ok nothing\n"),
-    }
-}
-
-fn raised(rt: &impl Print, answer: GreaterAnswer) -> io::Result<()> {
+fn raised(rt: &impl Print, answer: Result<Option<u64>, Refusal>) -> io::Result<()> {
     match answer {
-        GreaterAnswer::Before(held) => held_before(rt, held),
-        GreaterAnswer::GreaterRefused(r) => say::refused(rt, r),
+        Ok(Some(raw)) => say::named(rt, b"ok", raw),
+        Ok(None) => println!(rt; "ok nothing"),
+        Err(r) => say::refused(rt, r),
     }
 }
 
 // A comment has no answer: it is for people, and written as it stands.
 fn comment(rt: &impl Print, line: &[u8]) -> io::Result<()> {
     let from = byte_parts::find(line, 0, line.len(), b'#');
-    say::text(rt, &line[from..])?;
-    say::end(rt)
-}
-
-fn listed(rt: &impl Print, b: Bench, table: &[u64]) -> io::Result<()> {
-    let t = desk::least(b.table_words, table.len());
-    show::list(rt, b, &table[0..t])
-}
-
-fn dumped(rt: &impl Print, b: Bench, heap: &[u8], table: &[u64]) -> io::Result<()> {
-    let h = desk::least(b.heap_len, heap.len());
-    let t = desk::least(b.table_words, table.len());
-    show::dump(rt, b, &heap[0..h], &table[0..t])
-}
-
-fn checked(rt: &impl Print, b: Bench, heap: &[u8], table: &[u64], room: u64) -> io::Result<()> {
-    let h = desk::least(b.heap_len, heap.len());
-    let t = desk::least(b.table_words, table.len());
-    show::check(rt, b, &heap[0..h], &table[0..t], room)
-}
-
-fn bytes_shown(rt: &impl Print, b: Bench, heap: &[u8], at: u64, count: u64) -> io::Result<()> {
-    let h = desk::least(b.heap_len, heap.len());
-    show::bytes(rt, b"ok ", &heap[0..h], at, count)
+    rt.write_all(&line[from..])?;
+    println!(rt; "")
 }
 
 fn shown(
@@ -173,10 +110,10 @@ fn shown(
     match look {
         Look::Comment => comment(rt, line),
         Look::Help => say::help(rt),
-        Look::List => listed(rt, b, table),
-        Look::Dump => dumped(rt, b, heap, table),
-        Look::Check(room) => checked(rt, b, heap, table, room),
-        Look::Bytes(at, count) => bytes_shown(rt, b, heap, at, count),
+        Look::List => show::list(rt, b, table),
+        Look::Dump => show::dump(rt, b, heap, table),
+        Look::Check(room) => show::check(rt, b, heap, table, room),
+        Look::Bytes(at, count) => show::bytes(rt, "ok", heap, at, count),
     }
 }
 
@@ -192,12 +129,13 @@ fn written(
     plan: &[u64; 777],
 ) -> io::Result<()> {
     let b = turn.bench;
-    let reply = turn.reply;
-    match reply {
+    let heap = lent(heap, b.heap_len);
+    let table = lent(table, b.table_words);
+    match turn.reply {
         Reply::BadLine => say::bad_line(rt),
         Reply::Answered(answer) => say::answer(rt, answer),
         Reply::Read(answer) => read(rt, answer, b, heap, table, id),
-        Reply::Through(answer) => through(rt, answer, b, line, heap),
+        Reply::Through(answer) => through(rt, answer, line, heap),
         Reply::Planned(answer) => show::planned(rt, answer, plan),
         Reply::Rewrote(answer) => say::rewrote(rt, answer),
         Reply::Maintained(answer) => say::maintained(rt, answer),
@@ -250,7 +188,7 @@ pub fn after_line(
         b,
         keyword,
         numbers,
-        &decoded[0..count],
+        &decoded[..count],
         heap,
         table,
         &mut report,

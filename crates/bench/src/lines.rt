@@ -1,83 +1,13 @@
 // Standard input, cut into lines, each answered in its turn.
-ghost use Rattle.std.specs.Prelude.{◌≡◌, List, ℕ, ◌-◌, ◌≤◌, ◌<◌, length, take, eqb};
-ghost use Rattle.numbers.specs.Choice.{pick};
+ghost use Rattle.std.specs.Prelude.{◌≡◌, List, ℕ, ◌≤◌, length};
 ghost use Rattle.desk.specs.Desk.{desk};
 ghost use Rattle.desk.specs.Commands.{fresh_bench};
-ghost use Rattle.bench.specs.Lines.{next_line, Answered};
-ghost use Rattle.bench.specs.Input.{Holds, Longer, ReadOn, taken_to, with_long, FedTo, last_done, told};
+ghost use Rattle.bench.specs.Buffer.{held_of, longest};
+ghost use Rattle.bench.specs.Input.{FedTo, last_done, line_done, told};
 
-use desk::{Bench, least};
+use crate::line_buffer::LineBuffer;
+use desk::Bench;
 use std::io;
-
-// The bench; how much of the input is taken; of the line that is being read, how much is held, that it is too long, and that
-// its end was met.
-#[derive(Clone, Copy)]
-struct Reading {
-    bench: Bench,
-    taken: usize,
-    held: usize,
-    long: bool,
-    whole: bool,
-}
-
-// The line that is being read is too long.
-fn too_long(s: Reading) -> Reading
-    ensures { result ≡ with_long s }
-{
-    let mut t = s;
-    t.long = true;
-    t
-}
-
-// More of the line, unless it is too long.
-fn held(s: Reading, line: &mut [u8], part: &[u8]) -> Reading
-    ensures taken { result.taken ≡ s.taken }
-    ensures whole { result.whole ≡ s.whole }
-    ensures longer { Longer s line.old part.now result line.new }
-{
-    let n = least(s.held, line.len());
-    if line.len() - n < part.len() {
-        return too_long(s);
-    }
-    byte_parts::copy(part, &mut line[n..]);
-    let mut t = s;
-    t.held = n + part.len();
-    t
-}
-
-fn taken_to(s: Reading, at: usize, whole: bool) -> Reading
-    ensures { result ≡ taken_to s at whole }
-{
-    let mut t = s;
-    t.taken = at;
-    t.whole = whole;
-    t
-}
-
-// The input up to the end of the line, or all that is left of it.
-fn read_on(s: Reading, input: &[u8], line: &mut [u8]) -> Reading
-    requires { s.taken < length input.now }
-    ensures { ReadOn s input.now line.old result line.new }
-{
-    let from = s.taken;
-    let end = byte_parts::find(input, from, input.len(), b'\n');
-    let t = held(s, line, &input[from..end]);
-    if end == input.len() {
-        return taken_to(t, end, false);
-    }
-    taken_to(t, end + 1, true)
-}
-
-// The reading before a line of which nothing is read.
-fn next_line(s: Reading) -> Reading
-    ensures { result ≡ next_line s s.bench }
-{
-    let mut t = s;
-    t.held = 0;
-    t.long = false;
-    t.whole = false;
-    t
-}
 
 // The first failure of a write stays.
 fn note(written: &mut io::Result<()>, said: io::Result<()>) {
@@ -90,57 +20,59 @@ fn note(written: &mut io::Result<()>, said: io::Result<()>) {
 fn answered(
     rt: &impl Print,
     written: &mut io::Result<()>,
-    s: Reading,
-    line: &[u8],
+    b: Bench,
+    line: &LineBuffer,
     decoded: &mut [u8],
     heap: &mut [u8],
     table: &mut [u64],
-) -> Reading
-    ensures taken { result.taken ≡ s.taken }
-    ensures answers { Answered (length decoded.old) s.whole s.long s (take s.held line.now)
-        (desk s.bench heap.old table.old) result
-        (desk result.bench heap.new table.new) }
+) -> Bench
+    ensures { (text : List ℕ)
+        → line.now ≡ held_of longest text
+        → desk result heap.new table.new
+        ≡ line_done longest (length decoded.old) text
+        (desk b heap.old table.old) }
 {
-    if !s.whole {
-        return s;
+    match line.text() {
+        None => {
+            note(written, crate::say::bad_line(rt));
+            b
+        }
+        Some(text) => {
+            let (after, said) = crate::commands::after_line(rt, b, text, decoded, heap, table);
+            note(written, said);
+            after
+        }
     }
-    let mut t = next_line(s);
-    if s.long {
-        note(written, crate::say::bad_line(rt));
-        return t;
-    }
-    let n = least(s.held, line.len());
-    let was = s.bench;
-    let (bench, said) = crate::commands::after_line(rt, was, &line[0..n], decoded, heap, table);
-    note(written, said);
-    t.bench = bench;
-    t
 }
 
 // Each line of the input is answered when its end is met; what is behind the last end is held.
 fn lines_in(
     rt: &impl Print,
     written: &mut io::Result<()>,
-    s: Reading,
+    bench: Bench,
     input: &[u8],
-    line: &mut [u8],
+    line: &mut LineBuffer,
     decoded: &mut [u8],
     heap: &mut [u8],
     table: &mut [u64],
-) -> Reading
+) -> Bench
     ensures { (text : List ℕ)
-        → Holds s line.old text
-        → FedTo (length line.old) (length decoded.old) input.now text
-        (desk s.bench heap.old table.old) result
+        → line.old ≡ held_of longest text
+        → FedTo longest (length decoded.old) input.now text
+        (desk bench heap.old table.old)
         line.new
-        (desk result.bench heap.new table.new) }
+        (desk result heap.new table.new) }
 {
-    let mut t = taken_to(s, 0, false);
-    while t.taken < input.len() {
-        t = read_on(t, input, line);
-        t = answered(rt, written, t, line, decoded, heap, table);
+    let mut b = bench;
+    for byte in input {
+        if *byte == b'\n' {
+            b = answered(rt, written, b, line, decoded, heap, table);
+            line.clear();
+        } else {
+            line.push(*byte);
+        }
     }
-    t
+    b
 }
 
 // The next bytes of standard input: none at its end, or where it cannot be read.
@@ -154,34 +86,22 @@ fn read_some(rt: &impl Input, input: &mut [u8]) -> usize
 fn finished(
     rt: &impl Print,
     written: &mut io::Result<()>,
-    s: Reading,
-    line: &[u8],
+    b: Bench,
+    line: &LineBuffer,
     decoded: &mut [u8],
     heap: &mut [u8],
     table: &mut [u64],
 ) -> Bench
     ensures { (text : List ℕ)
-        → Holds s line.now text
+        → line.now ≡ held_of longest text
         → desk result heap.new table.new
-        ≡ last_done (length line.now) (length decoded.old) text
-        (desk s.bench heap.old table.old) }
+        ≡ last_done longest (length decoded.old) text
+        (desk b heap.old table.old) }
 {
-    if s.held == 0 && !s.long {
-        return s.bench;
+    if line.is_empty() {
+        return b;
     }
-    let last = taken_to(s, 0, true);
-    let t = answered(rt, written, last, line, decoded, heap, table);
-    t.bench
-}
-
-// None once the input has ended. A proved loop has to end, and nothing says that the input does: the turns count down from a
-// number that no run uses up.
-fn turns_left(turns: u64, got: usize) -> u64
-    requires { 0 < turns }
-    ensures fewer { result < turns }
-    ensures answers { result ≡ pick (eqb got 0) 0 (turns - 1) }
-{
-    if got == 0 { 0 } else { turns - 1 }
+    answered(rt, written, b, line, decoded, heap, table)
 }
 
 // Some input is told to the desk at the start: which, cannot be stated, since the kit states nothing of the bytes that are read.
@@ -190,28 +110,24 @@ pub fn run_all(
     rt: &(impl Print + Input),
     written: &mut io::Result<()>,
     input: &mut [u8],
-    line: &mut [u8],
     decoded: &mut [u8],
     heap: &mut [u8],
     table: &mut [u64],
 ) -> Bench
     ensures { (bytes : List ℕ)
         × (desk result heap.new table.new
-        ≡ told (length line.old) (length decoded.old) bytes
+        ≡ told longest (length decoded.old) bytes
         (desk fresh_bench heap.old table.old)) }
 {
-    let mut s = Reading {
-        bench: desk::start(),
-        taken: 0,
-        held: 0,
-        long: false,
-        whole: false,
-    };
-    let mut turns = u64::MAX;
-    while turns > 0 {
+    let mut line = LineBuffer::new();
+    let mut b = desk::start();
+    // A proved loop has to end, and nothing says that the input does: this number of turns no run uses up.
+    for _ in 0..u64::MAX {
         let n = read_some(rt, input);
-        s = lines_in(rt, written, s, &input[0..n], line, decoded, heap, table);
-        turns = turns_left(turns, n);
+        if n == 0 {
+            break;
+        }
+        b = lines_in(rt, written, b, &input[..n], &mut line, decoded, heap, table);
     }
-    finished(rt, written, s, line, decoded, heap, table)
+    finished(rt, written, b, &line, decoded, heap, table)
 }

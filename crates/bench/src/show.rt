@@ -5,30 +5,23 @@ ghost use Rattle.rules.specs.Listing.{written_in};
 
 use crate::say;
 use desk::Bench;
-use marble::{CheckAnswer, SalvageAnswer};
-use rules::{Answer, Claims, FileMap, RECORDS, Record};
+use rules::{Claims, FileMap, RECORDS, Record, Refusal};
 use std::io;
 
 // "slot lsn gen present live size"
-fn file_line(rt: &impl Print, slot: u64, r: Record) -> io::Result<()> {
+fn file_line(rt: &impl Print, slot: usize, r: Record) -> io::Result<()> {
     if file_map::is_empty(r) {
         return Ok(());
     }
-    print!(rt; "{slot}")?;
-    say::number(rt, r.label.lsn)?;
-    say::number(rt, r.label.generation)?;
-    say::number(rt, r.label.present_objects)?;
-    say::number(rt, r.live)?;
-    say::number(rt, r.label.file_size)?;
-    say::end(rt)
+    println!(rt;
+        "{slot} {} {} {} {} {}",
+        r.label.lsn, r.label.generation, r.label.present_objects, r.live, r.label.file_size
+    )
 }
 
 fn file_lines(rt: &impl Print, files: FileMap) -> io::Result<()> {
-    let mut i: usize = 0;
-    while i < RECORDS {
-        let r = files.records[i];
-        file_line(rt, i as u64, r)?;
-        i += 1;
+    for (slot, r) in files.records.iter().enumerate() {
+        file_line(rt, slot, *r)?;
     }
     Ok(())
 }
@@ -38,158 +31,95 @@ fn used(table: &[u64]) -> usize
     ensures { result ≡ length (written_in (used_entries table.now)) }
 {
     let n = location_table::capacity(table);
-    let mut k: usize = 0;
-    while k < n {
+    for k in 0..n {
         if location_table::location_at(table, k) == 0 {
             return k;
         }
-        k += 1;
     }
-    k
+    n
 }
 
 pub fn list(rt: &impl Print, b: Bench, table: &[u64]) -> io::Result<()> {
-    say::text(rt, b"slot lsn gen present live size\n")?;
-    let state = b.state;
-    let files = state.files;
-    file_lines(rt, files)?;
+    println!(rt; "slot lsn gen present live size")?;
+    file_lines(rt, b.state.files)?;
     say::named(rt, b"ids", used(table) as u64)
 }
 
-fn record_line(rt: &impl Print, slot: u64, r: Record) -> io::Result<()> {
+fn record_line(rt: &impl Print, slot: usize, r: Record) -> io::Result<()> {
     if file_map::is_empty(r) {
         return Ok(());
     }
-    say::text(rt, b"record")?;
-    say::number(rt, slot)?;
-    say::number(rt, r.label.lsn)?;
-    say::number(rt, r.label.trailer_offset)?;
-    say::number(rt, r.label.file_size)?;
-    say::number(rt, r.label.present_objects)?;
-    say::number(rt, r.label.generation)?;
-    say::number(rt, r.live)?;
-    say::number(rt, r.synced)?;
-    say::end(rt)
+    println!(rt;
+        "record {slot} {} {} {} {} {} {} {}",
+        r.label.lsn,
+        r.label.trailer_offset,
+        r.label.file_size,
+        r.label.present_objects,
+        r.label.generation,
+        r.live,
+        r.synced
+    )
 }
 
 fn record_lines(rt: &impl Print, files: FileMap) -> io::Result<()> {
-    let mut i: usize = 0;
-    while i < RECORDS {
-        let r = files.records[i];
-        record_line(rt, i as u64, r)?;
-        i += 1;
+    for (slot, r) in files.records.iter().enumerate() {
+        record_line(rt, slot, *r)?;
     }
     Ok(())
 }
 
 fn claimed_lines(rt: &impl Print, c: Claims) -> io::Result<()> {
-    let mut slot: u64 = 0;
-    while slot < RECORDS as u64 {
+    for slot in 0..RECORDS as u64 {
         if claims::is_claimed(c, slot) {
             say::named(rt, b"claimed", slot)?;
         }
-        slot += 1;
     }
     Ok(())
 }
 
-fn entry_line(rt: &impl Print, k: u64, id: u64, location: u64) -> io::Result<()> {
-    if id == 0 && location == 0 {
-        return Ok(());
-    }
-    say::text(rt, b"entry")?;
-    say::number(rt, k)?;
-    say::number(rt, id)?;
-    say::number(rt, location)?;
-    say::end(rt)
-}
-
 fn entry_lines(rt: &impl Print, table: &[u64]) -> io::Result<()> {
-    let n = location_table::capacity(table);
-    let mut k: usize = 0;
-    while k < n {
+    for k in 0..location_table::capacity(table) {
         let id = location_table::id_at(table, k);
         let location = location_table::location_at(table, k);
-        entry_line(rt, k as u64, id, location)?;
-        k += 1;
+        if id != 0 || location != 0 {
+            println!(rt; "entry {k} {id} {location}")?;
+        }
     }
     Ok(())
 }
 
 pub fn dump(rt: &impl Print, b: Bench, heap: &[u8], table: &[u64]) -> io::Result<()> {
-    let state = b.state;
-    let files = state.files;
-    let held = b.claims;
-    say::named(rt, b"next", state.next_position)?;
-    record_lines(rt, files)?;
-    claimed_lines(rt, held)?;
+    say::named(rt, b"next", b.state.next_position)?;
+    record_lines(rt, b.state.files)?;
+    claimed_lines(rt, b.claims)?;
     entry_lines(rt, table)?;
-    say::named(rt, b"heap", checksum::sum(heap) as u64)?;
-    say::text(rt, b"end\n")
+    println!(rt; "heap {}\nend", checksum::sum(heap))
 }
 
-// "fault SLOT NUMBER", and the position of an object.
-fn fault_line(
-    rt: &impl Print,
-    slot: u64,
-    refusal: u64,
-    placed: u64,
-    position: u64,
-) -> io::Result<()> {
-    say::text(rt, b"fault")?;
-    say::number(rt, slot)?;
-    say::number(rt, refusal)?;
-    if placed != 0 {
-        say::number(rt, position)?;
+// "fault SLOT NUMBER", and the position of an object where there is one.
+fn fault_line(rt: &impl Print, line: &[u64; 4]) -> io::Result<()> {
+    let [slot, refusal, placed, position] = *line;
+    if placed == 0 {
+        println!(rt; "fault {slot} {refusal}")
+    } else {
+        println!(rt; "fault {slot} {refusal} {position}")
     }
-    say::end(rt)
-}
-
-// Four words to a line.
-fn fault_lines(rt: &impl Print, listing: &[u64]) -> io::Result<()> {
-    let mut at: usize = 0;
-    while 4 <= listing.len() - at {
-        fault_line(
-            rt,
-            listing[at],
-            listing[at + 1],
-            listing[at + 2],
-            listing[at + 3],
-        )?;
-        at += 4;
-    }
-    Ok(())
 }
 
 // Each line that fits, then how many there are.
 fn faults(rt: &impl Print, count: u64, listing: &[u64]) -> io::Result<()> {
-    let lines = desk::least(count as usize, listing.len() / 4);
-    let end = lines * 4;
-    fault_lines(rt, &listing[0..end])?;
+    let (lines, _) = listing.as_chunks::<4>();
+    for line in lines.iter().take(count as usize) {
+        fault_line(rt, line)?;
+    }
     say::named(rt, b"ok", count)
 }
 
-fn checked(rt: &impl Print, answer: CheckAnswer, listing: &[u64]) -> io::Result<()> {
+fn checked(rt: &impl Print, answer: Result<u64, Refusal>, listing: &[u64]) -> io::Result<()> {
     match answer {
-        CheckAnswer::Faults(count) => faults(rt, count, listing),
-        CheckAnswer::CheckRefused(r) => say::refused(rt, r),
+        Ok(count) => faults(rt, count, listing),
+        Err(r) => say::refused(rt, r),
     }
-}
-
-// Of these words so many lines are lent.
-fn check_into(
-    rt: &impl Print,
-    b: Bench,
-    heap: &[u8],
-    table: &[u64],
-    room: u64,
-    words: &mut [u64],
-) -> io::Result<()> {
-    let settings = b.settings;
-    let lines = desk::least(room as usize, words.len() / 4);
-    let end = lines * 4;
-    let answer = marble::check(settings, heap, table, &mut words[0..end]);
-    checked(rt, answer, &words[0..end])
 }
 
 // 4,096 lines.
@@ -199,67 +129,46 @@ fn listing_words() -> [u64; 16384]
     [0u64; 16384]
 }
 
+// So many lines are lent.
 pub fn check(rt: &impl Print, b: Bench, heap: &[u8], table: &[u64], room: u64) -> io::Result<()> {
     let mut words = listing_words();
-    check_into(rt, b, heap, table, room, &mut words)
+    let end = (room as usize).min(4096) * 4;
+    let answer = marble::check(b.settings, heap, table, &mut words[..end]);
+    checked(rt, answer, &words[..end])
 }
 
-// "gave SLOT NUMBER"
-fn loss_line(rt: &impl Print, slot: u64, refusal: u64) -> io::Result<()> {
-    say::text(rt, b"gave")?;
-    say::number(rt, slot)?;
-    say::number(rt, refusal)?;
-    say::end(rt)
-}
-
-// Two words to a line.
-fn loss_lines(rt: &impl Print, report: &[u64]) -> io::Result<()> {
-    let mut at: usize = 0;
-    while 2 <= report.len() - at {
-        loss_line(rt, report[at], report[at + 1])?;
-        at += 2;
-    }
-    Ok(())
-}
-
-// Each line, then how many there are.
+// "gave SLOT NUMBER" for each slot given up, then how many there are.
 fn losses(rt: &impl Print, count: u64, report: &[u64]) -> io::Result<()> {
-    let lines = desk::least(count as usize, report.len() / 2);
-    let end = lines * 2;
-    loss_lines(rt, &report[0..end])?;
+    let (lines, _) = report.as_chunks::<2>();
+    for line in lines.iter().take(count as usize) {
+        let [slot, refusal] = *line;
+        println!(rt; "gave {slot} {refusal}")?;
+    }
     say::named(rt, b"ok", count)
 }
 
-pub fn salvaged(rt: &impl Print, answer: SalvageAnswer, report: &[u64; 512]) -> io::Result<()> {
+pub fn salvaged(
+    rt: &impl Print,
+    answer: Result<u64, Refusal>,
+    report: &[u64; 512],
+) -> io::Result<()> {
     match answer {
-        SalvageAnswer::GivenUp(count) => losses(rt, count, report),
-        SalvageAnswer::SalvageRefused(r) => say::refused(rt, r),
+        Ok(count) => losses(rt, count, report),
+        Err(r) => say::refused(rt, r),
     }
-}
-
-fn slot_numbers(rt: &impl Print, slots: &[u64]) -> io::Result<()> {
-    let mut i: usize = 0;
-    while i < slots.len() {
-        say::number(rt, slots[i])?;
-        i += 1;
-    }
-    Ok(())
 }
 
 // "group G SLOT ..", unless the group is empty: how many slots, then the slots.
-fn group_line(rt: &impl Print, generation: u64, group: &[u64]) -> io::Result<()> {
-    if group.len() == 0 {
+fn group_line(rt: &impl Print, generation: u64, group: &[u64; 257]) -> io::Result<()> {
+    let count = group[0] as usize;
+    if count == 0 {
         return Ok(());
     }
-    if group[0] == 0 {
-        return Ok(());
+    print!(rt; "group {generation}")?;
+    for slot in group[1..].iter().take(count) {
+        print!(rt; " {slot}")?;
     }
-    let n = desk::least(group[0] as usize, group.len() - 1);
-    let end = n + 1;
-    say::text(rt, b"group")?;
-    say::number(rt, generation)?;
-    slot_numbers(rt, &group[1..end])?;
-    say::end(rt)
+    println!(rt; "")
 }
 
 // "foretold N G", unless both are 0.
@@ -267,41 +176,29 @@ fn foretold_line(rt: &impl Print, refusal: u64, generation: u64) -> io::Result<(
     if refusal == 0 && generation == 0 {
         return Ok(());
     }
-    say::text(rt, b"foretold")?;
-    say::number(rt, refusal)?;
-    say::number(rt, generation)?;
-    say::end(rt)
+    println!(rt; "foretold {refusal} {generation}")
 }
 
 // "ok MARK COUNT FILES BYTES" behind what there is of groups and of a refusal.
-fn plan_lines(rt: &impl Print, plan: &[u64]) -> io::Result<()>
-    requires { length plan.now ≡ 777 }
-{
-    group_line(rt, 1, &plan[6..263])?;
-    group_line(rt, 2, &plan[263..520])?;
-    group_line(rt, 3, &plan[520..777])?;
+fn plan_lines(rt: &impl Print, plan: &[u64; 777]) -> io::Result<()> {
+    let (groups, _) = plan[6..].as_chunks::<257>();
+    for (i, group) in groups.iter().enumerate() {
+        group_line(rt, i as u64 + 1, group)?;
+    }
     foretold_line(rt, plan[4], plan[5])?;
-    say::text(rt, b"ok")?;
-    say::number(rt, plan[0])?;
-    say::number(rt, plan[1])?;
-    say::number(rt, plan[2])?;
-    say::number(rt, plan[3])?;
-    say::end(rt)
+    println!(rt; "ok {} {} {} {}", plan[0], plan[1], plan[2], plan[3])
 }
 
-pub fn planned(rt: &impl Print, answer: Answer, plan: &[u64; 777]) -> io::Result<()> {
+pub fn planned(rt: &impl Print, answer: Result<(), Refusal>, plan: &[u64; 777]) -> io::Result<()> {
     match answer {
-        Answer::Done => plan_lines(rt, plan),
-        Answer::Refused(r) => say::refused(rt, r),
+        Ok(()) => plan_lines(rt, plan),
+        Err(r) => say::refused(rt, r),
     }
 }
 
 // A word, then bytes of a buffer: the command has seen that they are there.
-pub fn bytes(rt: &impl Print, word: &[u8], buffer: &[u8], at: u64, count: u64) -> io::Result<()> {
-    let from = desk::least(at as usize, buffer.len());
-    let n = desk::least(count as usize, buffer.len() - from);
-    let end = from + n;
-    say::text(rt, word)?;
-    say::hex(rt, &buffer[from..end])?;
-    say::end(rt)
+pub fn bytes(rt: &impl Print, word: &str, buffer: &[u8], at: u64, count: u64) -> io::Result<()> {
+    let from = (at as usize).min(buffer.len());
+    let n = (count as usize).min(buffer.len() - from);
+    say::named_bytes(rt, word, &buffer[from..from + n])
 }

@@ -2,7 +2,7 @@
 
 #![tactic(auto)]
 
-ghost use Rattle.std.specs.Prelude.{◌≡◌, ◌+◌, ◌≤◌, length};
+ghost use Rattle.std.specs.Prelude.{◌≡◌, ◌==◌, ◌+◌, ◌≤◌, length, position};
 ghost use Rattle.numbers.specs.Parts.{front};
 ghost use Rattle.byte_parts.specs.Bytes.{slice, index_of};
 
@@ -11,11 +11,14 @@ pub fn copy(from: &[u8], to: &mut [u8])
     requires { length from.now ≤ length to.old }
     ensures { to.new ≡ front from.now to.old }
 {
-    let mut i: usize = 0;
-    while i < from.len() {
-        to[i] = from[i];
-        i += 1;
-    }
+    to[..from.len()].copy_from_slice(from);
+}
+
+// Where `byte` first stands.
+fn place(s: &[u8], byte: u8) -> Option<usize>
+    ensures { result ≡ position (λ b. b == byte) s.now }
+{
+    s.iter().position(|b| *b == byte)
 }
 
 // Where `byte` first stands in s[from..to], or `to`.
@@ -25,12 +28,8 @@ pub fn find(s: &[u8], from: usize, to: usize, byte: u8) -> usize
     ensures finds { result ≡ from + index_of byte (slice from to s.now) }
     ensures bounded { result ≤ to }
 {
-    let mut i = from;
-    while i < to {
-        if s[i] == byte {
-            return i;
-        }
-        i += 1;
+    match place(&s[from..to], byte) {
+        Some(i) => from + i,
+        None => to,
     }
-    to
 }

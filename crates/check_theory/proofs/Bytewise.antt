@@ -1,12 +1,11 @@
 -- A call stores bytes: of any world whose heap is bytes every call leaves a heap of bytes, where the batch of a write is bytes.
-use Rattle.std.specs.Prelude.{◌≡◌, refl, ◌⊎◌, ◌<◌, ◌≤◌, ◌∷◌, ◌++◌, ◌+◌, ◌-◌, ◌*◌, ◌^◌}
+use Rattle.std.specs.Prelude.{◌≡◌, refl, ◌⊎◌, ◌<◌, ◌≤◌, ◌∷◌, ◌++◌, ◌+◌, ◌-◌, ◌*◌, ◌^◌, Err, None, Ok, Some}
 use Rattle.std.proofs.Common.{sym, subst, inl, inr, arith}
 use Rattle.numbers.specs.LittleEndian.{Bytes, le_bytes, le-bytes}
 use Rattle.numbers.specs.Groups.{groups_of, number_in, saying}
 use Rattle.checksum.specs.Checksum.{crc32, object_sum}
 use Rattle.disk_location.specs.Locations.{raw_of}
-use Rattle.numbers.specs.declared.Number.{Number}
-use Rattle.numbers.specs.declared.Number.TheVariants.{Said, Malformed}
+use Rattle.numbers.specs.Answers.{Number}
 use Rattle.numbers.specs.GroupLaws.{groups-bytes, either_way}
 use Rattle.rules.specs.Base.{Bool, true, false, List, [], map, ℕ, zero, suc, length, get_or, take, drop, set, replicate, leb, eqb, pick, each, padded}
 use Rattle.rules.specs.BaseLaws.{All}
@@ -30,7 +29,7 @@ use Rattle.rules.specs.Table.{load, current_at}
 use Rattle.rules.specs.Maintenance.{objects_found, deletes_found, deletes_of, slot_of, found_in, found, files_of, going, stopped, Course, group, group_tests, rewrite_group}
 use Rattle.rules.specs.TwoCalls.{too_few, generation_rewritten, rewrite_call}
 use Rattle.rules.specs.World.{World, records_of, mappings, accepted, unchanged}
-use Rattle.theory.specs.Types.{Entry, Label, Refusal, Limits, Answer, Done, Refused}
+use Rattle.theory.specs.Types.{Entry, Label, Refusal, Limits, Answer}
 use Rattle.theory.proofs.Lists.{all-each, all-kept, all_set, all_replicate, every}
 use Rattle.history_theory.specs.Shards.{PartOf}
 use Rattle.history_theory.proofs.Shards.{sub-all, files-parts}
@@ -135,8 +134,8 @@ unfolding put_operation
 put-bytes s a id at = go (number_in 10 s at)
   where
     go : (n : Number) → ParsedBytes (saying malformed n (λ size start. pick (leb size (length s - start)) (parsed (record { id = id; content = put (take size (drop start s)) }) (start + size)) malformed))
-    go Malformed = tt
-    go (Said size start) = by (leb size (length s - start))
+    go None = tt
+    go (Some (size, start)) = by (leb size (length s - start))
       where
         by : (t : Bool) → ParsedBytes (pick t (parsed (record { id = id; content = put (take size (drop start s)) }) (start + size)) malformed)
         by true = all_take Byte size (drop start s) (all_drop Byte start s a)
@@ -149,8 +148,8 @@ operation-bytes s a at = go (number_in 10 s at)
     go : (n : Number) → ParsedBytes (saying malformed n (λ id tag. pick (leb (length s) tag) malformed
         (pick (eqb (get_or s tag 0) 0) (parsed (record { id = id; content = delete }) (suc tag))
         (pick (eqb (get_or s tag 0) 1) (put_operation s id (suc tag)) malformed))))
-    go Malformed = tt
-    go (Said id tag) = by (leb (length s) tag) (eqb (get_or s tag 0) 0) (eqb (get_or s tag 0) 1)
+    go None = tt
+    go (Some (id, tag)) = by (leb (length s) tag) (eqb (get_or s tag 0) 0) (eqb (get_or s tag 0) 1)
       where
         by : (t u v : Bool) → ParsedBytes (pick t malformed (pick u (parsed (record { id = id; content = delete }) (suc tag)) (pick v (put_operation s id (suc tag)) malformed)))
         by true u v = tt
@@ -185,8 +184,8 @@ write_bytes w batch a h = go (decide (write_tests w batch))
     files (o ∷ os) b = (b, tt)
 
     go : (d : Answer) → All Byte (after d (unchanged w) (record { answer = accepted []; world = installed_all (2 ^ 62) 0 w (new_files (settled (ops_of (batch_in batch)))) })).world.heap
-    go (Refused r) = h
-    go Done = files-bytes (2 ^ 62) 0 (new_files (settled (ops_of (batch_in batch)))) w (files (settled (ops_of (batch_in batch))) (settled-all OpBytes (ops_of (batch_in batch)) (from_bytes (length batch) batch a 0))) h
+    go (Err r) = h
+    go (Ok _) = files-bytes (2 ^ 62) 0 (new_files (settled (ops_of (batch_in batch)))) w (files (settled (ops_of (batch_in batch))) (settled-all OpBytes (ops_of (batch_in batch)) (from_bytes (length batch) batch a 0))) h
 
 -- ---- what a group finds is bytes of the heap
 bodies-bytes : (k position : ℕ) (bs : List ℕ) → All Byte bs → All (λ (o : Stored). All Byte o.body) (objects_from k position bs)
@@ -229,8 +228,8 @@ module _ (w : World) (h : All Byte w.heap) where
     where
       go : (a : Answer) → All Byte (after {A = Course} a (λ (r : Refusal). record { stop = stopped r g; moved = moved; world = w })
           (record { stop = going; moved = moved + length (found w ks); world = installed_all 0 g w (files_of w.settings.target_file_size (found w ks)) })).world.heap
-      go (Refused r) = h
-      go Done = files-bytes 0 g (files_of w.settings.target_file_size (found w ks)) w (found-files-bytes ks w.settings.target_file_size) h
+      go (Err r) = h
+      go (Ok _) = files-bytes 0 g (files_of w.settings.target_file_size (found w ks)) w (found-files-bytes ks w.settings.target_file_size) h
 
 rewrite-bytes : (w : World) (room g mark count : ℕ) → All Byte w.heap → All Byte (rewrite_call w room g mark count).world.heap
 unfolding generation_rewritten
@@ -245,8 +244,8 @@ unfolding prune_call
 prune-bytes w h = go (decide (refused1 w gives Limits ∷ []))
   where
     go : (a : Answer) → All Byte (after a (unchanged w) (record { answer = accepted []; world = pruned w })).world.heap
-    go (Refused r) = h
-    go Done = pruned-bytes w h
+    go (Err r) = h
+    go (Ok _) = pruned-bytes w h
 
 -- LAW: a heap of bytes stays one, of any world, any call, refused or not
 pub bytes-called : (w : World) (c : Call) → CallBytes c → Bytes w.heap → Bytes (called w c).world.heap

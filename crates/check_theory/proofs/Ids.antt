@@ -1,5 +1,5 @@
 -- "More distinct ids in sound slots than the table holds": the ids that trailers mention, and the entries of the table that a reopening makes.
-use Rattle.std.specs.Prelude.{◌≡◌, refl, ◌<◌, ◌≤◌, ◌∷◌, ◌+◌, ◌*◌}
+use Rattle.std.specs.Prelude.{◌≡◌, refl, ◌<◌, ◌≤◌, ◌∷◌, ◌+◌, ◌*◌, None, Some}
 use Rattle.std.proofs.Common.{subst, inl, inr, arith}
 use Rattle.std.proofs.lemmas.List.{length-map}
 use Rattle.rules.specs.Base.{List, [], ℕ, suc, length}
@@ -11,7 +11,7 @@ use Rattle.rules.specs.Table.{lookup}
 use Rattle.rules.specs.TableLaws.{Rising, rise, Has}
 use Rattle.rules.proofs.TableLaws.{lookup-has, has-lookup}
 use Rattle.rules.specs.Reopen.{files_in, table_of}
-use Rattle.theory.specs.Types.{Entry, Held, Mapped, Unmapped}
+use Rattle.theory.specs.Types.{Entry, Held}
 use Rattle.theory.proofs.Lists.{among-all}
 use Rattle.theory.specs.Newest.{Newest}
 use Rattle.theory.specs.Places.{rows_of}
@@ -47,8 +47,8 @@ module _ (views : List View) where
   mentioned-among x m = go (lookup (table_of (files_in views)) x) refl (newest-table views x)
     where
       go : (h : Held) → lookup (table_of (files_in views)) x ≡ h → Newest (Has (rows_of views) x) h → Among (ids_in (table_of (files_in views))) x
-      go (Mapped l) e n = has-among (table_of (files_in views)) x l (lookup-has (table_of (files_in views)) x l e)
-      go Unmapped e n =
+      go (Some l) e n = has-among (table_of (files_in views)) x l (lookup-has (table_of (files_in views)) x l e)
+      go None e n =
           absurd (n (m.location + 2 * m.file.label.lsn)
           (stands-has views x (m.location + 2 * m.file.label.lsn) m.slot
           (record { file = m.file; raw = m.location; shows = m.shows; entry = m.entry; located = refl })))

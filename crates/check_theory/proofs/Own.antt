@@ -1,6 +1,6 @@
 -- Request P5: a slot's own fault (8 to 13, then 15, slot by slot) beside reopening's order (8 to 13 over the slots, then 14, 15 and 6 over all).
 use Rattle.std.proofs.Math.Path.{◌≡◌, ap}
-use Rattle.std.specs.Prelude.{refl, ◌⊎◌, ◌<◌, ◌∷◌, ◌++◌}
+use Rattle.std.specs.Prelude.{refl, ◌⊎◌, ◌<◌, ◌∷◌, ◌++◌, Err, Ok}
 use Rattle.std.proofs.Common.{sym, ◌∙◌, subst, true≢false, inl, inr, arith}
 use Rattle.rules.specs.Base.{Bool, true, false, List, [], map, ℕ, zero, suc, length, take, drop, ltb, pick, any, each}
 use Rattle.rules.proofs.BaseLaws.{or-true, or-holds}
@@ -14,7 +14,7 @@ use Rattle.rules.specs.Condition1.{out_of_range}
 use Rattle.rules.specs.Layout.{capacity_of}
 use Rattle.rules.specs.Reopen.{view_tests, files_in, overlapping, not_rising, table_of, reopen_tests, given_up, opened, reopen_call}
 use Rattle.rules.specs.World.{World, slots_of, refused, answer_given}
-use Rattle.theory.specs.Types.{Refusal, TableRoom, Overlap, NotRising, Answer, Done, Refused, LabelAnswer, Vacant, Five, Wrong}
+use Rattle.theory.specs.Types.{Refusal, TableRoom, Overlap, NotRising, Answer, LabelAnswer, Vacant, Five, Wrong}
 use Rattle.theory.specs.Places.{view_at}
 use Rattle.theory.proofs.Places.{holds-inj, not-empty, not-damaged}
 use Rattle.theory.proofs.Files.{undamaged, no-damage-tests, overlap-apart, no-overlap}
@@ -23,7 +23,7 @@ use Rattle.faults.specs.Faults.{judged}
 use Rattle.faults.specs.Judging.{judged-at}
 use Rattle.check_theory.specs.Own.{OwnFault, EightToThirteen, AllGive, Lowest, over_all, LowestOwn, FifteenOwn}
 
-given-such : (P : Refusal → Type 0) (ts : List Test) (r : Refusal) → AllGive P ts → decide ts ≡ Refused r → P r
+given-such : (P : Refusal → Type 0) (ts : List Test) (r : Refusal) → AllGive P ts → decide ts ≡ Err r → P r
 unfolding decide
 given-such P [] r a e = absurd (let z : ◌≡◌ {A = ℕ} 0 1 = cc in omega arith)
 given-such P (true gives q ∷ ts) r a e = let same : q ≡ r = cc in subst P same a.0
@@ -51,8 +51,8 @@ view-early slot r e = go (label_in (take 64 slot)) e
     go (Five l) p = by (decide (slot_tests l slot)) refl p
       where
         by : (a : Answer) → decide (slot_tests l slot) ≡ a → after a damaged (holds (record { label = l; entries = trailer_entries l slot; objects = object_part l slot })) ≡ damaged r → EightToThirteen r
-        by Done c q = absurd (holds_not q)
-        by (Refused n) c q =
+        by (Ok _) c q = absurd (holds_not q)
+        by (Err n) c q =
             subst EightToThirteen (damaged-inj q)
             (given-such EightToThirteen (slot_tests l slot) n
             ((omega arith, omega arith), ((omega arith, omega arith), ((omega arith, omega arith), ((omega arith, omega arith), ((omega arith, omega arith), ((omega arith, omega arith), tt)))))) c)
@@ -107,23 +107,23 @@ lower-on v vs r n l = record { slot = suc l.slot; shows = l.shows; first = first
     first zero q h e = n q e
     first (suc j) q h e = l.first j q (omega arith) e
 
-decided-lowest : (views : List View) (r : Refusal) → decide (each view_tests views) ≡ Refused r → Lowest views r
+decided-lowest : (views : List View) (r : Refusal) → decide (each view_tests views) ≡ Err r → Lowest views r
 unfolding each decide
 decided-lowest [] r e = absurd (let z : ◌≡◌ {A = ℕ} 0 1 = cc in omega arith)
 decided-lowest (empty ∷ vs) r e = lower-on empty vs r (λ q. empty-not) (decided-lowest vs r e)
 decided-lowest (damaged n ∷ vs) r e = let same : n ≡ r = cc in record { slot = 0; shows = ap damaged same; first = λ j q h s. omega arith }
 decided-lowest (holds f ∷ vs) r e = lower-on (holds f) vs r (λ q. holds_not) (decided-lowest vs r e)
 
-lowest-decides : (views : List View) (r : Refusal) → Lowest views r → decide (each view_tests views) ≡ Refused r
+lowest-decides : (views : List View) (r : Refusal) → Lowest views r → decide (each view_tests views) ≡ Err r
 unfolding each decide
 lowest-decides [] r l = absurd (empty-not l.shows)
 lowest-decides (v ∷ vs) r l = go v l.slot l.shows l.first (lowest-decides vs r)
   where
     go : (v : View) (k : ℕ) → view_at (v ∷ vs) k ≡ damaged r → ((j : ℕ) (q : Refusal) → j < k → view_at (v ∷ vs) j ≡ damaged q → ⊥)
-        → (Lowest vs r → decide (each view_tests vs) ≡ Refused r) → decide (each view_tests (v ∷ vs)) ≡ Refused r
+        → (Lowest vs r → decide (each view_tests vs) ≡ Err r) → decide (each view_tests (v ∷ vs)) ≡ Err r
     go empty zero s n ih = absurd (empty-not s)
     go empty (suc k) s n ih = ih (record { slot = k; shows = s; first = λ j q h e. n (suc j) q (omega arith) e })
-    go (damaged q) zero s n ih = ap Refused (damaged-inj s)
+    go (damaged q) zero s n ih = ap Err (damaged-inj s)
     go (damaged q) (suc k) s n ih = absurd (n 0 q (omega arith) refl)
     go (holds f) zero s n ih = absurd (holds_not s)
     go (holds f) (suc k) s n ih = ih (record { slot = k; shows = s; first = λ j q h e. n (suc j) q (omega arith) e })
@@ -159,26 +159,26 @@ unfolding reopen_call decide reopen_tests given_up opened
 reopen-decides w range = rw range (go (decide (each view_tests (views_of w) ++ over_all w)))
   where
     go : (a : Answer) → (after a (given_up w) (opened w (views_of w))).answer ≡ answer_given a
-    go Done = refl
-    go (Refused r) = refl
+    go (Ok _) = refl
+    go (Err r) = refl
 
 module _ (w : World) (range : out_of_range w.settings (length w.heap) w.table ≡ false) where
   early : (k : ℕ) (r : Refusal) → view_at (views_of w) k ≡ damaged r → EightToThirteen r
   early k r e = views-early (slots_of w) w.settings.slot_bytes w.heap k r e
 
-  decided : (r : Refusal) → (reopen_call w).answer ≡ refused r → decide (each view_tests (views_of w) ++ over_all w) ≡ Refused r
-  decided r e = answer-one (decide (each view_tests (views_of w) ++ over_all w)) (Refused r) (sym (reopen-decides w range) ∙ e)
+  decided : (r : Refusal) → (reopen_call w).answer ≡ refused r → decide (each view_tests (views_of w) ++ over_all w) ≡ Err r
+  decided r e = answer-one (decide (each view_tests (views_of w) ++ over_all w)) (Err r) (sym (reopen-decides w range) ∙ e)
 
   -- request P5: reopening is refused with a number of 8 to 13 only as the lowest slot's own fault among these
   pub reopen-own : (r : Refusal) → (reopen_call w).answer ≡ refused r → EightToThirteen r → LowestOwn w r
   reopen-own r e in-range = go (done-or-refused (decide (each view_tests (views_of w))))
     where
-      go : (decide (each view_tests (views_of w)) ≡ Done) ⊎ ((q : Refusal) × (decide (each view_tests (views_of w)) ≡ Refused q)) → LowestOwn w r
+      go : (decide (each view_tests (views_of w)) ≡ Ok tt) ⊎ ((q : Refusal) × (decide (each view_tests (views_of w)) ≡ Err q)) → LowestOwn w r
       go (inl c) =
           absurd (given-such (λ (q : Refusal). EightToThirteen q → ⊥) (over_all w) r ((λ p. omega arith), ((λ p. omega arith), ((λ p. omega arith), tt)))
           (sym (decide-late (each view_tests (views_of w)) (over_all w) c) ∙ decided r e) in-range)
       go (inr (q, c)) =
-          let same : Refused q ≡ Refused r = sym (decide-early (each view_tests (views_of w)) (over_all w) q c) ∙ decided r e in
+          let same : Err q ≡ Err r = sym (decide-early (each view_tests (views_of w)) (over_all w) q c) ∙ decided r e in
           let l = decided-lowest (views_of w) r (c ∙ same) in
           record {
             slot = l.slot;
@@ -201,7 +201,7 @@ module _ (w : World) (range : out_of_range w.settings (length w.heap) w.table �
   pub own-lowest : (k : ℕ) (r : Refusal) → OwnFault w k r → EightToThirteen r → (q : Refusal) × LowestOwn w q
   own-lowest k r own in-range = go (done-or-refused (decide (each view_tests (views_of w))))
     where
-      go : (decide (each view_tests (views_of w)) ≡ Done) ⊎ ((q : Refusal) × (decide (each view_tests (views_of w)) ≡ Refused q)) → (q : Refusal) × LowestOwn w q
+      go : (decide (each view_tests (views_of w)) ≡ Ok tt) ⊎ ((q : Refusal) × (decide (each view_tests (views_of w)) ≡ Err q)) → (q : Refusal) × LowestOwn w q
       go (inl c) = absurd (undamaged (views_of w) (clear-when (each view_tests (views_of w)) c) k r (own-shown (views_of w) k r in-range own))
       go (inr (q, c)) =
           let l = decided-lowest (views_of w) q c in (
@@ -220,7 +220,7 @@ module _ (w : World) (range : out_of_range w.settings (length w.heap) w.table �
   reopen-fifteen e = go (done-or-refused (decide (each view_tests (views_of w))))
     where
       tests : (a b c : Bool) → overlapping (files_in (views_of w)) ≡ a → any (λ (f : File). not_rising f.entries) (files_in (views_of w)) ≡ b
-          → decide (each view_tests (views_of w)) ≡ Done → decide (a gives Overlap ∷ b gives NotRising ∷ c gives TableRoom ∷ []) ≡ Refused NotRising → FifteenOwn w
+          → decide (each view_tests (views_of w)) ≡ Ok tt → decide (a gives Overlap ∷ b gives NotRising ∷ c gives TableRoom ∷ []) ≡ Err NotRising → FifteenOwn w
       tests true b c p q none z = absurd (let n : ◌≡◌ {A = ℕ} 14 15 = ap (λ (x : Answer). (answer_given x).number) z in omega arith)
       tests false true c p q none z =
           let x = any_found (λ (f : File). not_rising f.entries) (views_of w) q in
@@ -233,12 +233,12 @@ module _ (w : World) (range : out_of_range w.settings (length w.heap) w.table �
       tests false false true p q none z = absurd (let n : ◌≡◌ {A = ℕ} 6 15 = ap (λ (x : Answer). (answer_given x).number) z in omega arith)
       tests false false false p q none z = absurd (let n : ◌≡◌ {A = ℕ} 0 15 = ap (λ (x : Answer). (answer_given x).number) z in omega arith)
 
-      go : (decide (each view_tests (views_of w)) ≡ Done) ⊎ ((q : Refusal) × (decide (each view_tests (views_of w)) ≡ Refused q)) → FifteenOwn w
+      go : (decide (each view_tests (views_of w)) ≡ Ok tt) ⊎ ((q : Refusal) × (decide (each view_tests (views_of w)) ≡ Err q)) → FifteenOwn w
       go (inl c) =
           tests (overlapping (files_in (views_of w))) (any (λ (f : File). not_rising f.entries) (files_in (views_of w))) (ltb (capacity_of w.table) (length (table_of (files_in (views_of w)))))
           refl refl c (sym (decide-late (each view_tests (views_of w)) (over_all w) c) ∙ decided NotRising e)
       go (inr (q, c)) =
-          let same : Refused q ≡ Refused NotRising = sym (decide-early (each view_tests (views_of w)) (over_all w) q c) ∙ decided NotRising e in
+          let same : Err q ≡ Err NotRising = sym (decide-early (each view_tests (views_of w)) (over_all w) q c) ∙ decided NotRising e in
           let l = decided-lowest (views_of w) NotRising (c ∙ same) in
           let m = (early l.slot NotRising l.shows).1 in
           absurd (omega arith)

@@ -3,6 +3,7 @@ use Rattle.std.specs.Prelude.{◌≡◌, refl, Bool, true, false, ◌||◌, ◌�
 use Rattle.std.proofs.Common.{sym, ap₂, ◌∙◌, subst, true≢false, append-nil, inl, inr, arith, add-one, take-suc}
 use Rattle.std.proofs.Math.Path.{ap}
 use Rattle.std.proofs.lemmas.List.{length-map, take-append-le}
+use Rattle.std.specs.List.{list_any}
 use Rattle.rules.specs.Base.{List, [], map, ℕ, zero, suc, length, get_or, take, drop, ltb, any, each}
 use Rattle.rules.specs.BaseLaws.{All}
 use Rattle.rules.proofs.BaseLaws.{all_take, each_append}
@@ -116,6 +117,12 @@ module _ (n size : ℕ) (heap : List ℕ) (ls : List Label) (w : Judged n size h
       ∙ ap (any (λ (m : Label). clash m l)) (labels-take k views (omega (arith, views-many)))
       ∙ clash-files l (label-some (length slot) l s.file.bounds) (take k views) (all_take Labelled k views (slots-labelled n size heap))
       ∙ ap₂ (λ (m : Label) (fs : List File). any (λ (g : File). meets g.label m) fs) same (sym (earlier-files k views (omega (arith, views-many))))
+
+-- the library's word for it
+pub any-list : {A : Type 0} (f : A → Bool) (xs : List A) → list_any f xs ≡ any f xs
+unfolding any
+any-list f [] = refl
+any-list f (x ∷ xs) = ap (λ (t : Bool). f x || t) (any-list f xs)
 
 -- ---- slot by slot
 module _ (vs : List View) (k : ℕ) where

@@ -1,15 +1,18 @@
 -- The call's answer, by the paper's number and values.
-use Rattle.std.specs.Prelude.{◌∷◌, ◌++◌}
+use Rattle.std.specs.Prelude.{◌∷◌, ◌++◌, Err, Ok, Result}
 use Rattle.rules.specs.Base.{List, [], ℕ, length}
 use Rattle.rules.specs.SlotFile.{View}
 use Rattle.rules.specs.World.{Given, accepted, refused}
 use Rattle.faults.specs.Faults.{faults_from, closing, listing, Checked}
-use Rattle.checker.specs.Types.{Fault, CheckAnswer, Faults, CheckRefused}
+use Rattle.checker.specs.Types.{Refusal, Fault}
 
 -- "the full number of faults"; "Refusals: 1 only"
+abbrev pub CheckAnswer : Type 0
+CheckAnswer = Result ℕ Refusal
+
 abbrev pub check_given : CheckAnswer → Given
-check_given (Faults n) = accepted (n ∷ [])
-check_given (CheckRefused r) = refused r
+check_given (Ok n) = accepted (n ∷ [])
+check_given (Err r) = refused r
 
 -- what the call left, as its result and the lent listing give it
 abbrev pub checked : CheckAnswer → List ℕ → Checked

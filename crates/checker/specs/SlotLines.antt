@@ -1,18 +1,17 @@
 -- A slot's lines by its label, and the slots one behind the other.
-use Rattle.std.specs.Prelude.{◌≡◌, Bool, false, ◌∷◌, ◌++◌, ◌+◌}
-use Rattle.rules.specs.Base.{List, [], map, ℕ, zero, suc, get_or, drop, each}
+use Rattle.std.specs.Prelude.{◌≡◌, Bool, false, ◌∷◌, ◌++◌, Err, Ok}
+use Rattle.rules.specs.Base.{List, [], map, ℕ, zero, suc, get_or, drop}
 use Rattle.rules.specs.SlotFile.{File, View, empty, damaged, holds, views_in}
-use Rattle.rules.specs.Reopen.{file_of, meets}
+use Rattle.rules.specs.Reopen.{file_of}
 use Rattle.reopen_tests.specs.Labels.{no_file}
 use Rattle.faults.specs.Faults.{judged, line, line_if, file_faults, faults_from}
-use Rattle.checker.specs.Types.{Overlap, Nowhere, Fault, SlotAnswer, Empty, Damaged, Holds}
+use Rattle.checker.specs.Types.{Overlap, Nowhere, Fault, SlotAnswer}
 
 -- ---- definitions
 -- the line of a slot that is not sound, if it is not empty
 abbrev pub own_line : ℕ → SlotAnswer → List Fault
-own_line slot Empty = []
-own_line slot (Damaged r) = line slot r Nowhere ∷ []
-own_line slot (Holds l) = []
+own_line slot (Err r) = line slot r Nowhere ∷ []
+own_line slot (Ok shown) = []
 
 -- a slot's lines, where it is known whether its range meets an earlier one's
 unfoldable pub slot_lines : ℕ → Bool → View → List Fault

@@ -4,9 +4,6 @@ pub use Rattle.rules.specs.declared.Label.{Label}
 pub use Rattle.rules.specs.declared.Entry.{Entry}
 pub use Rattle.rules.specs.declared.Refusal.{Refusal}
 pub use Rattle.rules.specs.declared.Refusal.TheVariants.{Limits, TableRoom, Overlap}
-pub use Rattle.faults.specs.declared.Place.TheVariants.{Nowhere}
+pub use Rattle.faults.specs.Types.{Nowhere}
 pub use Rattle.faults.specs.declared.Fault.{Fault}
-pub use Rattle.slot_file.specs.declared.SlotAnswer.{SlotAnswer}
-pub use Rattle.slot_file.specs.declared.SlotAnswer.TheVariants.{Empty, Damaged, Holds}
-pub use Rattle.checker.specs.declared.CheckAnswer.{CheckAnswer}
-pub use Rattle.checker.specs.declared.CheckAnswer.TheVariants.{Faults, CheckRefused}
+pub use Rattle.slot_file.specs.Answers.{SlotAnswer}

@@ -13,22 +13,20 @@ use limits::out_of_range;
 use location_table::capacity;
 use rules::{Refusal, Settings};
 
-// "the full number of faults"; "Refusals: 1 only"
-#[derive(Clone, Copy)]
-pub enum CheckAnswer {
-    Faults(u64),
-    CheckRefused(Refusal),
-}
-
 // Heap and table are lent to read only; of the table only the length matters. The lines that fit stand in the listing, four words each.
-pub fn check(settings: Settings, heap: &[u8], table: &[u64], listing: &mut [u64]) -> CheckAnswer
+pub fn check(
+    settings: Settings,
+    heap: &[u8],
+    table: &[u64],
+    listing: &mut [u64],
+) -> Result<u64, Refusal>
     ensures { checked result listing.new
         ≡ check_call settings heap.now table.now listing.old }
 {
     if out_of_range(settings, heap.len() as u64, table) {
-        return CheckAnswer::CheckRefused(Refusal::Limits);
+        return Err(Refusal::Limits);
     }
     let size = settings.slot_bytes as usize;
     let n = heap.len() / size;
-    CheckAnswer::Faults(listed(listing, heap, size, n, capacity(table) as u64))
+    Ok(listed(listing, heap, size, n, capacity(table) as u64))
 }

@@ -18,7 +18,6 @@ use reopen_tests::Labels;
 use reopen_tests::overlap::clash;
 use reopen_tests::slots::no_file;
 use rules::{Label, Refusal};
-use slot_file::SlotAnswer;
 use slot_file::slot::slot_at;
 
 // "In a slot the first failure of 8 to 13 and 15 is its only line."
@@ -28,9 +27,8 @@ fn own_line(listing: &mut [u64], count: u64, number: u64, slot: &[u8]) -> u64
         listing.old listing.new result }
 {
     match own(slot) {
-        SlotAnswer::Damaged(r) => note(listing, count, nowhere(number, r)),
-        SlotAnswer::Empty => count,
-        SlotAnswer::Holds(_) => count,
+        Err(r) => note(listing, count, nowhere(number, r)),
+        Ok(_) => count,
     }
 }
 
@@ -49,34 +47,23 @@ fn slot_lines(listing: &mut [u64], count: u64, number: u64, slot: &[u8], l: Labe
 }
 
 // "a sound slot whose range meets an earlier sound one's", whether that has a 14 itself or not
-fn meets_earlier(slots: Labels, k: usize) -> bool
-    requires { k < 256 }
-    ensures { result ≡ any (λ (m : Label). clash m (label_at slots.labels k)) (take k slots.labels) }
+fn meets_earlier(earlier: &[Label], l: Label) -> bool
+    ensures { result ≡ any (λ (m : Label). clash m l) earlier.now }
 {
-    let l = slots.labels[k];
-    let mut j: usize = 0;
-    while j < k {
-        if clash(slots.labels[j], l) {
-            return true;
-        }
-        j += 1;
-    }
-    false
+    earlier.iter().any(|m| clash(*m, l))
 }
 
 // "ascending by slot"
-fn all_lines(listing: &mut [u64], heap: &[u8], size: usize, n: usize, slots: Labels) -> u64
-    requires judged { Judged n size heap.now slots.labels }
+fn all_lines(listing: &mut [u64], heap: &[u8], size: usize, n: usize, slots: &Labels) -> u64
+    requires judged { Judged n size heap.now slots.now.labels }
     requires heap_len_bound { length (faults_from 0 [] (slots_judged n size heap.now)) + 2 < 2 ^ 64 }
     ensures { Tells 0 (faults_from 0 [] (slots_judged n size heap.now)) listing.old listing.new result }
 {
     let mut count: u64 = 0;
-    let mut k: usize = 0;
-    while k < n {
+    for k in 0..n {
         let l = slots.labels[k];
-        let met = meets_earlier(slots, k);
+        let met = meets_earlier(&slots.labels[..k], l);
         count = slot_lines(listing, count, k as u64, slot_at(heap, size, k), l, met);
-        k += 1;
     }
     count
 }
@@ -87,7 +74,7 @@ pub fn listed(listing: &mut [u64], heap: &[u8], size: usize, n: usize, room: u64
     ensures { Tells 0 (list_of room (slots_judged n size heap.now)) listing.old listing.new result }
 {
     let slots = sound(heap, size, n);
-    let count = all_lines(listing, heap, size, n, slots);
-    let more = more_than(heap, size, n, slots, room);
+    let count = all_lines(listing, heap, size, n, &slots);
+    let more = more_than(heap, size, n, &slots, room);
     note_if(listing, count, more, nowhere(n as u64, Refusal::TableRoom))
 }

@@ -5,8 +5,9 @@ use Prim.Native.Nat.{ℕ, zero, suc, ◌+◌, ◌-◌, ◌*◌, ◌/◌, ◌%◌
 use native.Mathlib.Numerals.{add-one}
 use native.Mathlib.Omega.{arith}
 use lib.Bits.{bit_xor, xor_comm, xor_zero_r, xor_shifted}
-use lib.ListN.{length, take, drop, get_or, length-drop, take-append-drop}
-use lib.Seq.{drop-cons, drop-drop, get_or-drop, take_all}
+use lib.ListN.{length, take, drop, get_or, take-append-drop}
+use lib.Seq.{drop-cons, get_or-drop, take_all}
+use Rattle.std.specs.List.{IsSplitAt}
 use Rattle.numbers.specs.LittleEndian.{Bytes, le_bytes, le_value, le-bytes, le-cons, le-length, le-round}
 use Rattle.checksum.specs.Checksum.{shifts, crc_from, crc-append, crc-cons, crc-nil}
 use Rattle.checksum.proofs.Linear.{xor_assoc, shifts-xor, shifts-then, shifts-down}
@@ -33,17 +34,16 @@ at_once (suc k) (b ∷ s) r h fit =
     ∙ sym (shifts-then 8 (8 * k) (bit_xor x (v * 2 ^ 8)))
     ∙ ap₂ shifts eight-more (byte-beside r b v (h 0))
 
--- k bytes of a list
-pub bytes-turn : (k : ℕ) (s : List ℕ) (i x : ℕ) → Bytes s → i + k ≤ length s
-    → crc_from (shifts (8 * k) (bit_xor x (le_value (take k (drop i s))))) (drop (i + k) s) ≡ crc_from x (drop i s)
-bytes-turn k s i x h fit =
-    let next = drop i s in
-    let bytes : Bytes next = λ j. rw (get_or-drop i s j 0) (h (i + j)) in
-    let long : k ≤ length next = omega (arith, length-drop i s) in
-    ap (λ (y : ℕ). crc_from y (drop (i + k) s)) (sym (at_once k next x bytes long))
-    ∙ ap (crc_from (crc_from x (take k next))) (sym (drop-drop k i s))
-    ∙ sym (crc-append x (take k next) (drop k next))
-    ∙ ap (crc_from x) (take-append-drop k next)
+-- the first k bytes of a list are taken off and read, and go out
+pub bytes-turn : (k : ℕ) (s word more : List ℕ) (x v y : ℕ) → Bytes s → IsSplitAt s k word more → v ≡ le_value (take k word)
+    → y ≡ shifts (8 * k) (bit_xor x v) → Bytes more × (crc_from y more ≡ crc_from x s)
+bytes-turn k s word more x v y bytes (fit, front, behind, size, left) read out =
+    let said : v ≡ le_value (take k s) = read ∙ ap le_value (take_all k word (omega arith) ∙ front) in (
+      rw behind (λ i. rw (get_or-drop k s i 0) (bytes (k + i))),
+      ap₂ crc_from (out ∙ ap (λ (n : ℕ). shifts (8 * k) (bit_xor x n)) said ∙ sym (at_once k s x bytes fit)) behind
+          ∙ sym (crc-append x (take k s) (drop k s))
+          ∙ ap (crc_from x) (take-append-drop k s),
+    )
 
 -- eight bytes of a number
 pub eight-number : (r v : ℕ) → v < 2 ^ 64 → shifts 64 (bit_xor r v) ≡ crc_from r (le_bytes 8 v)

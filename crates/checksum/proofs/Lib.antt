@@ -1,3 +1,3 @@
-pub mod LastArm
+pub mod Entries
 pub mod Linear
 pub mod ByteTurns

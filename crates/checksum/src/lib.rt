@@ -11,6 +11,8 @@ use numbers::little_endian;
 
 mod table;
 
+use table::half_out;
+
 // The register before the first byte.
 const START: u32 = 0xffff_ffff;
 
@@ -18,14 +20,14 @@ const START: u32 = 0xffff_ffff;
 fn out(w: u64) -> u32
     ensures { result ≡ shifts 32 w }
 {
-    table::shifts_32(w)
-        ^ table::shifts_28(w >> 4)
-        ^ table::shifts_24(w >> 8)
-        ^ table::shifts_20(w >> 12)
-        ^ table::shifts_16(w >> 16)
-        ^ table::shifts_12(w >> 20)
-        ^ table::shifts_8(w >> 24)
-        ^ table::shifts_4(w >> 28)
+    half_out(7, w)
+        ^ half_out(6, w >> 4)
+        ^ half_out(5, w >> 8)
+        ^ half_out(4, w >> 12)
+        ^ half_out(3, w >> 16)
+        ^ half_out(2, w >> 20)
+        ^ half_out(1, w >> 24)
+        ^ half_out(0, w >> 28)
         ^ ((w >> 32) as u32)
 }
 
@@ -48,7 +50,7 @@ fn one(r: u32, b: u8) -> u32
     ensures { result ≡ shifts 8 (bit_xor r b) }
 {
     let w = (r as u64) ^ (b as u64);
-    table::shifts_8(w) ^ table::shifts_4(w >> 4) ^ ((w >> 8) as u32)
+    half_out(1, w) ^ half_out(0, w >> 4) ^ ((w >> 8) as u32)
 }
 
 // The register after the bytes of s.
@@ -56,18 +58,17 @@ pub fn feed(r: u32, s: &[u8]) -> u32
     ensures { result ≡ crc_from r s.now }
 {
     let mut x = r;
-    let mut i: usize = 0;
-    while 8 <= s.len() - i {
-        x = eight(x, little_endian::get(&s[i..], 8));
-        i += 8;
+    let mut rest = s;
+    while let Some((word, more)) = rest.split_at_checked(8) {
+        x = eight(x, little_endian::get(word, 8));
+        rest = more;
     }
-    if 4 <= s.len() - i {
-        x = four(x, little_endian::get(&s[i..], 4));
-        i += 4;
+    if let Some((word, more)) = rest.split_at_checked(4) {
+        x = four(x, little_endian::get(word, 4));
+        rest = more;
     }
-    while i < s.len() {
-        x = one(x, s[i]);
-        i += 1;
+    for b in rest {
+        x = one(x, *b);
     }
     x
 }
@@ -81,11 +82,9 @@ pub fn feed_number(r: u32, n: usize, v: u64) -> u32
     }
     let mut x = r;
     let mut rest = v;
-    let mut i: usize = 0;
-    while i < n {
+    for _i in 0..n {
         x = one(x, (rest % 256) as u8);
-        rest = rest >> 8;
-        i += 1;
+        rest >>= 8;
     }
     x
 }

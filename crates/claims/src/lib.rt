@@ -2,9 +2,8 @@
 
 #![tactic(auto)]
 
-ghost use Rattle.std.specs.Prelude.{◌≡◌, ◌||◌, [], ◌∷◌, ◌-◌, ◌^◌, ◌<◌, leb, length};
-ghost use Rattle.std.specs.Int.Bits.{bit_or, bit_and};
-ghost use Rattle.rules.specs.Refusal.{◌gives◌, decide};
+ghost use Rattle.std.specs.Prelude.{◌≡◌, ◌||◌, [], ◌∷◌, ◌%◌, ◌^◌, leb, length};
+ghost use Rattle.rules.specs.Refusal.{◌gives◌, decide, after};
 ghost use Rattle.rules.specs.Condition1.{refused1};
 ghost use Rattle.rules.specs.FileMap.{is_empty, record_at};
 ghost use Rattle.rules.specs.Claims.{no_claims, word_of, with_word, is_claimed, claim_set, claim_cleared, claim_call, release_call};
@@ -17,7 +16,7 @@ ghost use Rattle.limits.specs.Settled.{state_of, bad_files};
 
 use file_map::is_empty;
 use limits::{Rest, bad_files, refused_apart, rest_of};
-use rules::{Answer, Claims, CountsAnswer, FileMap, RECORDS, Refusal, Settings, State};
+use rules::{Claims, Counts, FileMap, RECORDS, Refusal, Settings, State};
 
 // ---- the bits
 // "starts one without claims"
@@ -36,19 +35,13 @@ pub fn no_claims() -> Claims
 fn word_of(c: Claims, k: u64) -> u64
     ensures { result ≡ word_of c k }
 {
-    if k == 0 {
-        return c.a;
+    match k {
+        0 => c.a,
+        1 => c.b,
+        2 => c.c,
+        3 => c.d,
+        _ => 0,
     }
-    if k == 1 {
-        return c.b;
-    }
-    if k == 2 {
-        return c.c;
-    }
-    if k == 3 {
-        return c.d;
-    }
-    0
 }
 
 // Word k replaced.
@@ -56,37 +49,21 @@ fn with_word(c: Claims, k: u64, w: u64) -> Claims
     ensures { result ≡ with_word c k w }
 {
     let mut n = c;
-    if k == 0 {
-        n.a = w;
-        return n;
-    }
-    if k == 1 {
-        n.b = w;
-        return n;
-    }
-    if k == 2 {
-        n.c = w;
-        return n;
-    }
-    if k == 3 {
-        n.d = w;
-        return n;
+    match k {
+        0 => n.a = w,
+        1 => n.b = w,
+        2 => n.c = w,
+        3 => n.d = w,
+        _ => {}
     }
     n
 }
 
-fn bit_set(word: u64, bit: u64) -> u64
-    requires { bit < 64 }
-    ensures { result ≡ bit_or word (2 ^ bit) }
+// The slot's bit in its word.
+fn bit_of(slot: u64) -> u64
+    ensures { result ≡ 2 ^ (slot % 64) }
 {
-    word | (1 << bit)
-}
-
-fn bit_cleared(word: u64, bit: u64) -> u64
-    requires { bit < 64 }
-    ensures { result ≡ bit_and word (2 ^ 64 - 1 - 2 ^ bit) }
-{
-    word & !(1 << bit)
+    1 << (slot % 64)
 }
 
 pub fn is_claimed(c: Claims, slot: u64) -> bool
@@ -99,26 +76,25 @@ pub fn with_claim(c: Claims, slot: u64) -> Claims
     ensures { result ≡ claim_set c slot }
 {
     let k = slot / 64;
-    with_word(c, k, bit_set(word_of(c, k), slot % 64))
+    with_word(c, k, word_of(c, k) | bit_of(slot))
 }
 
 pub fn without_claim(c: Claims, slot: u64) -> Claims
     ensures { result ≡ claim_cleared c slot }
 {
     let k = slot / 64;
-    with_word(c, k, bit_cleared(word_of(c, k), slot % 64))
+    with_word(c, k, word_of(c, k) & !bit_of(slot))
 }
 
 // ---- the calls
-// "an empty slot": past the records there is none that is not.
+// "an empty slot": past the records there is none that is not. Kept by value: lent, the compiled calls copy the file map once more.
 fn empty_at(files: FileMap, slot: u64) -> bool
     ensures { result ≡ is_empty (record_at files.records slot) }
 {
     if RECORDS as u64 <= slot {
         return true;
     }
-    let i = slot as usize;
-    is_empty(files.records[i])
+    is_empty(files.records[slot as usize])
 }
 
 // 1; then 21 for "a slot out of range", or where the slot bars the call: it is empty, or its claim does. `bad` is what was found of the
@@ -131,29 +107,44 @@ fn decided(
     table: &[u64],
     slot: u64,
     barred: bool,
-) -> Answer
+) -> Result<(), Refusal>
     ensures { (files : FileMap) (c : Claims)
         → bad ≡ bad_files s (length heap.now) table.now files.records
         → let w = world s (state_of rest files) c heap.now table.now in
         result ≡ decide (refused1 w gives Limits ∷ (leb (slots_of w) slot || barred) gives Claim ∷ []) }
 {
     if refused_apart(s, heap.len() as u64, table, rest, bad) {
-        return Answer::Refused(Refusal::Limits);
+        return Err(Refusal::Limits);
     }
     if heap.len() as u64 / s.slot_bytes <= slot {
-        return Answer::Refused(Refusal::Claim);
+        return Err(Refusal::Claim);
     }
     if barred {
-        return Answer::Refused(Refusal::Claim);
+        return Err(Refusal::Claim);
     }
-    Answer::Done
+    Ok(())
 }
 
 // What a claim or a release answers, and the claim record after it.
 #[derive(Clone, Copy)]
 pub struct ClaimAnswer {
-    pub answer: Answer,
+    pub answer: Result<(), Refusal>,
     pub claims: Claims,
+}
+
+// The claim record is another one where the call is done, and stays where it is refused.
+fn ended(answer: Result<(), Refusal>, before: Claims, next: Claims) -> ClaimAnswer
+    ensures answers { result.answer ≡ answer }
+    ensures leaves { result.claims ≡ after answer (λ _. before) next }
+{
+    let claims = match answer {
+        Ok(()) => next,
+        Err(_) => before,
+    };
+    ClaimAnswer {
+        answer: answer,
+        claims: claims,
+    }
 }
 
 // "21 for a slot out of range, an empty slot, a claimed one (claim)"
@@ -169,29 +160,10 @@ pub fn claim(
         (world s state result.claims heap.now table.now)
         ≡ claim_call (world s state claims heap.now table.now) slot }
 {
-    let files = state.files;
-    let bad = bad_files(s, heap.len() as u64, table, files);
-    match decided(
-        s,
-        rest_of(state),
-        bad,
-        heap,
-        table,
-        slot,
-        empty_at(files, slot) | is_claimed(claims, slot),
-    ) {
-        Answer::Refused(refusal) => ClaimAnswer {
-            answer: Answer::Refused(refusal),
-            claims: claims,
-        },
-        Answer::Done => {
-            let after = with_claim(claims, slot);
-            ClaimAnswer {
-                answer: Answer::Done,
-                claims: after,
-            }
-        }
-    }
+    let bad = bad_files(s, heap.len() as u64, table, state.files);
+    let barred = empty_at(state.files, slot) | is_claimed(claims, slot);
+    let answer = decided(s, rest_of(state), bad, heap, table, slot, barred);
+    ended(answer, claims, with_claim(claims, slot))
 }
 
 // "or an unclaimed one (release)"
@@ -207,41 +179,21 @@ pub fn release(
         (world s state result.claims heap.now table.now)
         ≡ release_call (world s state claims heap.now table.now) slot }
 {
-    let files = state.files;
-    let bad = bad_files(s, heap.len() as u64, table, files);
-    match decided(
-        s,
-        rest_of(state),
-        bad,
-        heap,
-        table,
-        slot,
-        empty_at(files, slot) | !is_claimed(claims, slot),
-    ) {
-        Answer::Refused(refusal) => ClaimAnswer {
-            answer: Answer::Refused(refusal),
-            claims: claims,
-        },
-        Answer::Done => {
-            let after = without_claim(claims, slot);
-            ClaimAnswer {
-                answer: Answer::Done,
-                claims: after,
-            }
-        }
-    }
+    let bad = bad_files(s, heap.len() as u64, table, state.files);
+    let barred = empty_at(state.files, slot) | !is_claimed(claims, slot);
+    let answer = decided(s, rest_of(state), bad, heap, table, slot, barred);
+    ended(answer, claims, without_claim(claims, slot))
 }
 
 // "Files, bytes, present, live, summed over files."
-pub fn counts(s: Settings, state: State, heap: &[u8], table: &[u64]) -> CountsAnswer
+pub fn counts(s: Settings, state: State, heap: &[u8], table: &[u64]) -> Result<Counts, Refusal>
     ensures { (claims : Claims)
         → leaving (counts_given result) (world s state claims heap.now table.now)
         ≡ counts_call (world s state claims heap.now table.now) }
 {
-    let files = state.files;
-    let bad = bad_files(s, heap.len() as u64, table, files);
+    let bad = bad_files(s, heap.len() as u64, table, state.files);
     if refused_apart(s, heap.len() as u64, table, rest_of(state), bad) {
-        return CountsAnswer::CountsRefused(Refusal::Limits);
+        return Err(Refusal::Limits);
     }
-    CountsAnswer::Counted(file_map::counts(files))
+    Ok(file_map::counts(state.files))
 }

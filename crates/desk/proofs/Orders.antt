@@ -3,7 +3,7 @@ use mathlib.Core.Path.{◌≡◌, refl, sym, ap, ◌∙◌, subst}
 use mathlib.Core.Logic.{◌⊎◌, inl, inr, ⊎_elim}
 use types.Run.{OneOf}
 use Rattle.std.specs.Prelude.{◌∷◌, ◌++◌}
-use Rattle.rules.specs.Base.{Bool, true, false, not, List, [], ℕ, map, get_or, eqb, pick}
+use Rattle.rules.specs.Base.{List, [], ℕ, map, get_or}
 use Rattle.script.specs.declared.Keyword.TheVariants as key
 use Rattle.desk.specs.Types.{Keyword}
 use Rattle.desk.specs.Kinds.{at_bench, number, Among}

@@ -1,12 +1,12 @@
 -- The desk: what the console's commands are given and change; what a command leaves.
-use Rattle.std.specs.Prelude.{◌∷◌, ◌++◌}
+use Rattle.std.specs.Prelude.{◌∷◌, ◌++◌, Ok}
 use Rattle.rules.specs.Base.{List, [], ℕ, take, drop}
 use Rattle.rules.specs.Layout.{Table}
 use Rattle.rules.specs.TableCalls.{TableAfter}
 use Rattle.rules.specs.World.{World, world, Given, accepted, answer_given, read_given, rewrite_given, maintain_given, counts_given, load_given, compare_given, greater_given, After}
 use Rattle.salvage.specs.Answers.{salvage_given}
 use Rattle.through.specs.Through.{through_given}
-use Rattle.desk.specs.Types.{Done, Bench, Look, Reply, BadLine, Answered, Read, Through, Planned, Rewrote, Maintained, Counted, Marks, Loaded, Compared, Raised, Salvaged, Shown, Turn}
+use Rattle.desk.specs.Types.{Bench, Look, Reply, BadLine, Answered, Read, Through, Planned, Rewrote, Maintained, Counted, Marks, Loaded, Compared, Raised, Salvaged, Shown, Turn}
 
 -- settings, state, claims and how much of each buffer is lent; the two buffers, whole
 pub record Desk : Type 0 where
@@ -73,7 +73,7 @@ replied reply bench = record { reply = reply; bench = bench }
 
 -- `ok` to a command by hand
 abbrev pub done : Bench → Turn
-done bench = replied (Answered Done) bench
+done bench = replied (Answered (Ok tt)) bench
 
 -- "bad line, and nothing changes"
 abbrev pub bad_line : Desk → Outcome

@@ -1,11 +1,10 @@
 -- "bad line, and nothing changes"; "A refusal changes no state or buffer": a command that fails leaves the desk as it was, but for the two
 -- that document 01 names.
-use Rattle.std.specs.Prelude.{◌≡◌, refl, ◌||◌, ◌∷◌, ◌+◌}
+use Rattle.std.specs.Prelude.{◌≡◌, refl, ◌||◌, ◌∷◌, ◌+◌, Err, None, Ok, Some}
 use Rattle.std.proofs.Common.{sym, ap, ◌∙◌, take-append-drop}
 use Rattle.std.proofs.lemmas.Bool.{false≢true}
 use Rattle.rules.specs.Base.{Bool, true, false, not, List, [], ℕ, length, replicate, leb, ltb, eqb, pick}
-use Rattle.rules.specs.declared.Held.{Held}
-use Rattle.rules.specs.declared.Held.TheVariants.{Mapped, Unmapped}
+use Rattle.rules.specs.Types.{Held}
 use Rattle.rules.specs.declared.Refusal.TheVariants.{TableRoom, NotThere, EqualLocation, Location}
 use Rattle.rules.specs.Refusal.{◌gives◌, decide, after}
 use Rattle.rules.specs.Condition1.{out_of_range}
@@ -28,7 +27,7 @@ use Rattle.history_theory.specs.Writes.{Plain as PlainCall}
 use Rattle.losses.specs.Salvage.{Salvaged, salvage_call}
 use Rattle.through.specs.Through.{through_call}
 use Rattle.script.specs.declared.Keyword.TheVariants as key
-use Rattle.desk.specs.Types.{Refusal, Limits, Answer, Done, Refused, Keyword, Bench, Check, Bytes, BadLine, Shown}
+use Rattle.desk.specs.Types.{Refusal, Limits, Answer, Keyword, Bench, Check, Bytes, BadLine, Shown}
 use Rattle.desk.specs.Desk.{Desk, desk, Words, plain, found, pieced, moved, counted, marks, located, compared, raised, Said, bad-line, gave, shows, Outcome, left, replied, done, bad_line, looked, changed, world_of, desk_of, answered, called, on_table, lent_of, put_back, on_lent}
 use Rattle.desk.specs.Commands.{nth, record_from, with_state, with_record, lending_heap, lending_table, heap_by, table_by, poke_by, entry_by, check_by, bytes_by, salvage_by, notes, plan_by, lent_by, done_by}
 
@@ -111,8 +110,8 @@ sync-kept d h = go (decide (too_long (records_of (world_of d)) gives Limits ∷ 
 
     go : (a : Answer) (x : Synced) → x.answer.number ≡ 0 → not (eqb (after a gone x).answer.number 0) ≡ true
         → desk (with_state d.bench (state_with d.bench.state (after a gone x).records d.bench.state.next_position)) d.heap d.table ≡ d
-    go Done x z h = absurd (false≢true (sym (ap (λ (k : ℕ). not (eqb k 0)) z) ∙ h))
-    go (Refused r) x z h = refl
+    go (Ok _) x z h = absurd (false≢true (sym (ap (λ (k : ℕ). not (eqb k 0)) z) ∙ h))
+    go (Err r) x z h = refl
 
 -- ---- looks
 -- LAW: a check changes nothing, whatever is said
@@ -142,8 +141,8 @@ salvage-kept d h = go (decide (out_of_range d.bench.settings (length d.heap) (wo
 
     go : (a : Answer) (x : Salvaged) → x.answer.number ≡ 0 → not (eqb (after a gone x).answer.number 0) ≡ true
         → desk d.bench (after a gone x).heap d.table ≡ d
-    go Done x z h = absurd (false≢true (sym (ap (λ (k : ℕ). not (eqb k 0)) z) ∙ h))
-    go (Refused r) x z h = refl
+    go (Ok _) x z h = absurd (false≢true (sym (ap (λ (k : ℕ). not (eqb k 0)) z) ∙ h))
+    go (Err r) x z h = refl
 
 -- ---- the lent parts
 -- parts that come back as they were lent are the buffers as they were
@@ -170,12 +169,12 @@ call_kept words c p d h = world-kept words (λ (w : World). calling w c) d (refu
 -- a refused table call, of those whose success has number 0
 table_kept : (b : Table) (a : Answer) (x : TableAfter) → x.answer.number ≡ 0
     → not (eqb (after a (λ (r : Refusal). same b (refused r)) x).answer.number 0) ≡ true → (after a (λ (r : Refusal). same b (refused r)) x).table ≡ b
-table_kept b Done x z h = absurd (false≢true (sym (ap (λ (k : ℕ). not (eqb k 0)) z) ∙ h))
-table_kept b (Refused r) x z h = refl
+table_kept b (Ok _) x z h = absurd (false≢true (sym (ap (λ (k : ℕ). not (eqb k 0)) z) ∙ h))
+table_kept b (Err r) x z h = refl
 
 held-zero : (h : Held) → (held_given h).number ≡ 0
-held-zero (Mapped l) = refl
-held-zero Unmapped = refl
+held-zero (Some l) = refl
+held-zero None = refl
 
 -- it leaves the desk too
 on-table : (words : Words) (call : Table → TableAfter) (d : Desk) → (call (world_of d).table).table ≡ (world_of d).table → (called words (on_table call) d).desk ≡ d
@@ -274,13 +273,13 @@ pub reopen-limits : (n bytes : List ℕ) (d : Desk) → out_of_range (world_of (
 unfolding reopen_call decide done_by lent_by
 reopen-limits n bytes d e = back-same d (lent_by key.Reopen n bytes (lent_of d)) (world-kept plain reopen_call (lent_of d) (rw e refl))
 
-first-clear : (w : World) → out_of_range w.settings (length w.heap) w.table ≡ false → decide (out_of_range w.settings (length w.heap) w.table gives Limits ∷ []) ≡ Done
+first-clear : (w : World) → out_of_range w.settings (length w.heap) w.table ≡ false → decide (out_of_range w.settings (length w.heap) w.table gives Limits ∷ []) ≡ Ok tt
 unfolding decide
 first-clear w e = rw e refl
 
 -- LAW: refused with any other number it leaves what `given_up` says: no file, no claims, next position 1, the lent table zeroed; the heap stays
 pub reopen-given-up : (n bytes : List ℕ) (d : Desk) (r : Refusal) → out_of_range (world_of (lent_of d)).settings (length (lent_of d).heap) (world_of (lent_of d)).table ≡ false
-    → decide (reopen_tests (world_of (lent_of d)) (views_in (slots_of (world_of (lent_of d))) (world_of (lent_of d)).settings.slot_bytes (lent_of d).heap)) ≡ Refused r
+    → decide (reopen_tests (world_of (lent_of d)) (views_in (slots_of (world_of (lent_of d))) (world_of (lent_of d)).settings.slot_bytes (lent_of d).heap)) ≡ Err r
     → done_by key.Reopen n bytes d ≡ on_lent (called plain (λ (w : World). given_up w r)) d
 unfolding reopen_call done_by lent_by
 reopen-given-up n bytes d r e f =

@@ -5,18 +5,10 @@ pub use Rattle.rules.specs.declared.State.{State}
 pub use Rattle.rules.specs.declared.Claims.{Claims}
 pub use Rattle.rules.specs.declared.Refusal.{Refusal}
 pub use Rattle.rules.specs.declared.Refusal.TheVariants.{Limits}
-pub use Rattle.rules.specs.declared.Answer.{Answer}
-pub use Rattle.rules.specs.declared.Answer.TheVariants.{Done, Refused}
-pub use Rattle.rules.specs.declared.ReadAnswer.{ReadAnswer}
-pub use Rattle.rules.specs.declared.RewriteAnswer.{RewriteAnswer}
-pub use Rattle.rules.specs.declared.MaintainAnswer.{MaintainAnswer}
-pub use Rattle.rules.specs.declared.CountsAnswer.{CountsAnswer}
-pub use Rattle.rules.specs.declared.LoadAnswer.{LoadAnswer}
-pub use Rattle.rules.specs.declared.CompareAnswer.{CompareAnswer}
-pub use Rattle.rules.specs.declared.GreaterAnswer.{GreaterAnswer}
+pub use Rattle.rules.specs.Types.{Answer, ReadAnswer, RewriteAnswer, MaintainAnswer, CountsAnswer, LoadAnswer, CompareAnswer, GreaterAnswer}
 pub use Rattle.gc_course.specs.declared.Request.{Request}
-pub use Rattle.salvage.specs.declared.SalvageAnswer.{SalvageAnswer}
-pub use Rattle.through.specs.declared.ThroughAnswer.{ThroughAnswer}
+pub use Rattle.salvage.specs.Answers.{SalvageAnswer}
+pub use Rattle.through.specs.Answers.{ThroughAnswer}
 pub use Rattle.script.specs.declared.Keyword.{Keyword}
 pub use Rattle.desk.specs.declared.Bench.{Bench}
 pub use Rattle.desk.specs.declared.Look.{Look}

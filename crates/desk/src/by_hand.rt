@@ -1,5 +1,5 @@
 // Commands that change settings, buffers and state by hand.
-ghost use Rattle.std.specs.Prelude.{◌≡◌, length, replicate};
+ghost use Rattle.std.specs.Prelude.{◌≡◌};
 ghost use Rattle.rules.specs.Base.{List, ℕ};
 ghost use Rattle.desk.specs.Desk.{desk, left, done};
 ghost use Rattle.desk.specs.Commands.{settings_from, record_from, claims_from, with_settings, with_state, with_claims, state_from};
@@ -31,16 +31,6 @@ pub fn settings(b: Bench, n: [u64; 9]) -> Turn
     done(next)
 }
 
-fn zero_bytes(s: &mut [u8])
-    ensures { s.new ≡ replicate (length s.old) 0 }
-{
-    let mut i: usize = 0;
-    while i < s.len() {
-        s[i] = 0;
-        i += 1;
-    }
-}
-
 pub fn heap(b: Bench, bytes: u64, heap: &mut [u8]) -> Turn
     ensures { (table : List ℕ)
         → left result heap.new table ≡ heap_by bytes (desk b heap.old table) }
@@ -49,7 +39,7 @@ pub fn heap(b: Bench, bytes: u64, heap: &mut [u8]) -> Turn
     if (heap.len() as u64) < bytes {
         return bad_line(b);
     }
-    zero_bytes(heap);
+    heap.fill(0);
     next.heap_len = bytes as usize;
     done(next)
 }

@@ -17,13 +17,9 @@ ghost use Rattle.desk.specs.Commands.{fresh_bench, request_from, lent_by, done_b
 ghost use Rattle.desk.specs.Commands.{salvage_on, salvage_by, report_by, plan_on, plan_by, words_by};
 
 use marble::Request;
-use rules::{
-    Answer, Claims, CompareAnswer, CountsAnswer, GreaterAnswer, LoadAnswer, MaintainAnswer,
-    ReadAnswer, RewriteAnswer, Settings, State,
-};
-use salvage::SalvageAnswer;
+use rules::{Claims, Compared, Counts, Loaded, Lookup, Refusal, Settings, State, Stopped};
 use script::Keyword;
-use through::ThroughAnswer;
+use through::ThroughLookup;
 use turns::{bad_line, shown};
 
 // What lies beside the buffers, and how much of each buffer is lent: bytes of the heap, words of the table.
@@ -52,18 +48,18 @@ pub enum Look {
 #[derive(Clone, Copy)]
 pub enum Reply {
     BadLine,
-    Answered(Answer),
-    Read(ReadAnswer),
-    Through(ThroughAnswer),
-    Planned(Answer),
-    Rewrote(RewriteAnswer),
-    Maintained(MaintainAnswer),
-    Counted(CountsAnswer),
+    Answered(Result<(), Refusal>),
+    Read(Result<Lookup, Refusal>),
+    Through(Result<ThroughLookup, Refusal>),
+    Planned(Result<(), Refusal>),
+    Rewrote(Result<u64, Refusal>),
+    Maintained(Result<u64, Stopped>),
+    Counted(Result<Counts, Refusal>),
     Marks(u64),
-    Loaded(LoadAnswer),
-    Compared(CompareAnswer),
-    Raised(GreaterAnswer),
-    Salvaged(SalvageAnswer),
+    Loaded(Result<Loaded, Refusal>),
+    Compared(Result<Compared, Refusal>),
+    Raised(Result<Option<u64>, Refusal>),
+    Salvaged(Result<u64, Refusal>),
     Shown(Look),
 }
 
@@ -111,7 +107,7 @@ pub fn least(a: usize, b: usize) -> usize
     ensures within { (result ≤ a) × (result ≤ b) }
     ensures answers { result ≡ pick (ltb a b) a b }
 {
-    if a < b { a } else { b }
+    a.min(b)
 }
 
 // Commands that touch no buffer.

@@ -5,7 +5,7 @@ ghost use Rattle.desk.specs.declared.Reply.TheVariants.{BadLine, Answered, Shown
 ghost use Rattle.desk.specs.Commands.{with_state, with_claims};
 
 use crate::{Bench, Look, Reply, Turn};
-use rules::{Answer, Claims, State};
+use rules::{Claims, Refusal, State};
 
 pub fn bad_line(b: Bench) -> Turn
     ensures { result ≡ replied BadLine b }
@@ -25,7 +25,7 @@ pub fn shown(look: Look, b: Bench) -> Turn
     }
 }
 
-pub fn answered(answer: Answer, b: Bench) -> Turn
+pub fn answered(answer: Result<(), Refusal>, b: Bench) -> Turn
     ensures { result ≡ replied (Answered answer) b }
 {
     Turn {
@@ -37,7 +37,7 @@ pub fn answered(answer: Answer, b: Bench) -> Turn
 pub fn done(b: Bench) -> Turn
     ensures { result ≡ done b }
 {
-    answered(Answer::Done, b)
+    answered(Ok(()), b)
 }
 
 pub fn with_state(b: Bench, state: State) -> Bench

@@ -7,7 +7,9 @@ use lib.Bits.{bit_and, bit_or, and_block, and_mask, and_high, or_shifted, or_add
 use lib.Pow.{split, shr_mod, mod-mod-pow, shl_exact}
 use lib.Dec.{lit<, lit≤}
 use lib.Count.{count_leading_zeros}
-use Rattle.disk_location.specs.Locations.{masked_of, batch_of, digits_in}
+use mathlib.Core.Bool.{Bool, true, false}
+use mir.Val.{bool_byte}
+use Rattle.disk_location.specs.Locations.{raw_of, masked_of, batch_of, digits_in}
 
 -- bit 62 of a 64-bit number is cleared by the mask that has all bits but that
 pub mask-clears : (x : ℕ) → x < 2 ^ 64 → bit_and x (2 ^ 64 - 1 - 2 ^ 62) ≡ masked_of x
@@ -36,9 +38,10 @@ or-sets x h =
 pub low_bit : (x : ℕ) → bit_and x 1 ≡ x % 2
 low_bit x = and_mask x 1
 
--- set in what was shifted by one, it is 1 more
-pub or-one : (p : ℕ) → bit_or (p * 2) 1 ≡ p * 2 + 1
-or-one p = or_shifted p 1 1 (lit< tt)
+-- a mark set in what was shifted by one
+pub or-mark : (p : ℕ) (d : Bool) → bit_or (p * 2) (bool_byte d) ≡ raw_of p d
+or-mark p true = or_shifted p 1 1 (lit< tt)
+or-mark p false = or_shifted p 1 0 (lit< tt)
 
 -- a shift by one doubles what is below 2^63
 pub shl_one : (p : ℕ) → p < 2 ^ 63 → p * 2 % 2 ^ 64 ≡ p * 2

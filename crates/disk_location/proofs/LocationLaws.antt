@@ -1,8 +1,6 @@
 -- What the definitions of positions amount to.
-use Rattle.std.specs.Prelude.{◌≡◌, Bool, true, false, ℕ, zero, suc, ◌+◌, ◌/◌, ◌%◌, ◌^◌, ◌<◌, ◌≤◌}
+use Rattle.std.specs.Prelude.{◌≡◌, Bool, true, false, ℕ, zero, suc, ◌+◌, ◌/◌, ◌%◌, ◌^◌, ◌<◌, ◌≤◌, None, Some}
 use Rattle.std.proofs.Common.{sym, ap, ◌∙◌, arith, pow-suc, lt-ltb, le-ltb, eq-eqb, ne_eqb, lit<}
-use Rattle.disk_location.specs.declared.Located.TheVariants.{At, Refused}
-use Rattle.disk_location.specs.declared.RelativeLocated.TheVariants as relative
 use Rattle.disk_location.specs.Locations.{masked_of, batch_of, position_of, delete_of, raw_of, located_at, relative_at, digits_in}
 
 -- a position is read back from its raw location
@@ -30,20 +28,20 @@ raw-order p q false true h = omega arith
 raw-order p q false false h = omega arith
 
 -- 20 exactly where the position is 2^63 or more or the raw location 0, else the location: absolute ..
-pub located-large : (p : ℕ) (d : Bool) → 2 ^ 63 ≤ p → located_at p d ≡ Refused
+pub located-large : (p : ℕ) (d : Bool) → 2 ^ 63 ≤ p → located_at p d ≡ None
 located-large p d h = rw (le-ltb p (2 ^ 63) h)
 
-pub located-none : (p : ℕ) (d : Bool) → p < 2 ^ 63 → raw_of p d ≡ 0 → located_at p d ≡ Refused
+pub located-none : (p : ℕ) (d : Bool) → p < 2 ^ 63 → raw_of p d ≡ 0 → located_at p d ≡ None
 located-none p d h z = rw (lt-ltb p (2 ^ 63) h, eq-eqb (raw_of p d) 0 z)
 
-pub located-at : (p : ℕ) (d : Bool) → p < 2 ^ 63 → (raw_of p d ≡ 0 → ⊥) → located_at p d ≡ At (record { 0 = raw_of p d })
+pub located-at : (p : ℕ) (d : Bool) → p < 2 ^ 63 → (raw_of p d ≡ 0 → ⊥) → located_at p d ≡ Some (record { 0 = raw_of p d })
 located-at p d h some = rw (lt-ltb p (2 ^ 63) h, ne_eqb (raw_of p d) 0 some)
 
 -- .. and relative, where raw 0 is fine
-pub relative-large : (p : ℕ) (d : Bool) → 2 ^ 63 ≤ p → relative_at p d ≡ relative.Refused
+pub relative-large : (p : ℕ) (d : Bool) → 2 ^ 63 ≤ p → relative_at p d ≡ None
 relative-large p d h = rw (le-ltb p (2 ^ 63) h)
 
-pub relative-at : (p : ℕ) (d : Bool) → p < 2 ^ 63 → relative_at p d ≡ relative.At (record { 0 = raw_of p d })
+pub relative-at : (p : ℕ) (d : Bool) → p < 2 ^ 63 → relative_at p d ≡ Some (record { 0 = raw_of p d })
 relative-at p d h = rw (lt-ltb p (2 ^ 63) h)
 
 -- a position below 2^62 is what is left when the batch bit is cleared: where it was not there ..

@@ -1,10 +1,7 @@
 -- "Positions": raw locations, the batch bit and the shard number, in plain arithmetic.
-use Rattle.std.specs.Prelude.{ℕ, zero, suc, ◌+◌, ◌*◌, ◌/◌, ◌%◌, ◌^◌, Bool, true, false, ltb, eqb}
+use Rattle.std.specs.Prelude.{ℕ, zero, suc, ◌+◌, ◌*◌, ◌/◌, ◌%◌, ◌^◌, Bool, true, false, ltb, eqb, None, Some}
 use Rattle.numbers.specs.Choice.{pick}
-use Rattle.disk_location.specs.declared.Located.{Located}
-use Rattle.disk_location.specs.declared.Located.TheVariants.{At, Refused}
-use Rattle.disk_location.specs.declared.RelativeLocated.{RelativeLocated}
-use Rattle.disk_location.specs.declared.RelativeLocated.TheVariants as relative
+use Rattle.disk_location.specs.Answers.{Located, RelativeLocated}
 
 -- 1 for a delete
 abbrev pub bit_of : Bool → ℕ
@@ -27,12 +24,12 @@ delete_of raw = eqb (raw % 2) 1
 abbrev pub located_at : ℕ → Bool → Located
 located_at position delete =
     pick (ltb position (2 ^ 63))
-    (pick (eqb (raw_of position delete) 0) Refused (At (record { 0 = raw_of position delete })))
-    Refused
+    (pick (eqb (raw_of position delete) 0) None (Some (record { 0 = raw_of position delete })))
+    None
 
 -- "20 refuses a position of 2^63 or more"; "relative raw 0 is fine"
 abbrev pub relative_at : ℕ → Bool → RelativeLocated
-relative_at position delete = pick (ltb position (2 ^ 63)) (relative.At (record { 0 = raw_of position delete })) relative.Refused
+relative_at position delete = pick (ltb position (2 ^ 63)) (Some (record { 0 = raw_of position delete })) None
 
 -- what an answer is by the paper: 0 and the raw location, or a refusal's number
 pub record Told : Type 0 where
@@ -40,12 +37,12 @@ pub record Told : Type 0 where
   pub raw : ℕ
 
 abbrev pub told : Located → Told
-told (At l) = record { number = 0; raw = l.0 }
-told Refused = record { number = 20; raw = 0 }
+told (Some l) = record { number = 0; raw = l.0 }
+told None = record { number = 20; raw = 0 }
 
 abbrev pub relative_told : RelativeLocated → Told
-relative_told (relative.At l) = record { number = 0; raw = l.0 }
-relative_told relative.Refused = record { number = 20; raw = 0 }
+relative_told (Some l) = record { number = 0; raw = l.0 }
+relative_told None = record { number = 20; raw = 0 }
 
 -- "clearing one bit", 2^62: what stands below it and what stands above
 unfoldable pub masked_of : ℕ → ℕ

@@ -17,20 +17,9 @@ pub const POSITIONS: u64 = 1 << 63;
 pub struct RelativeDiskLocation(pub u64);
 
 // A raw location in the whole store.
+// Kept: a type of its own, which no one can take for a relative one; one generic type could not be made as `DiskLocation(raw)`.
 #[derive(Clone, Copy)]
 pub struct DiskLocation(pub u64);
-
-#[derive(Clone, Copy)]
-pub enum Located {
-    At(DiskLocation),
-    Refused,
-}
-
-#[derive(Clone, Copy)]
-pub enum RelativeLocated {
-    At(RelativeDiskLocation),
-    Refused,
-}
 
 fn half(raw: u64) -> u64
     ensures answers { result ≡ position_of raw }
@@ -49,62 +38,56 @@ fn shifted(position: u64, delete: bool) -> u64
     requires { position < 2 ^ 63 }
     ensures { result ≡ raw_of position delete }
 {
-    if delete {
-        return position << 1 | 1;
-    }
-    position << 1
+    position << 1 | u64::from(delete)
 }
 
-impl Located {
-    // The paper's number: 20 for a refusal, 0 for a location.
-    pub fn number(self) -> u64
-        ensures { result ≡ (told self).number }
-    {
-        match self {
-            Located::At(_) => 0,
-            Located::Refused => 20,
-        }
-    }
-
-    // The raw location, 0 for a refusal.
-    pub fn raw(self) -> u64
-        ensures { result ≡ (told self).raw }
-    {
-        match self {
-            Located::At(location) => location.raw(),
-            Located::Refused => 0,
-        }
+// The paper's number: 20 for a refusal, 0 for a location.
+pub fn number(located: Option<DiskLocation>) -> u64
+    ensures { result ≡ (told located).number }
+{
+    match located {
+        Some(_) => 0,
+        None => 20,
     }
 }
 
-impl RelativeLocated {
-    pub fn number(self) -> u64
-        ensures { result ≡ (relative_told self).number }
-    {
-        match self {
-            RelativeLocated::At(_) => 0,
-            RelativeLocated::Refused => 20,
-        }
+// The raw location, 0 for a refusal.
+pub fn raw(located: Option<DiskLocation>) -> u64
+    ensures { result ≡ (told located).raw }
+{
+    match located {
+        Some(location) => location.raw(),
+        None => 0,
     }
+}
 
-    pub fn raw(self) -> u64
-        ensures { result ≡ (relative_told self).raw }
-    {
-        match self {
-            RelativeLocated::At(location) => location.raw(),
-            RelativeLocated::Refused => 0,
-        }
+// Kept: these two beside the last two, since their clauses name a definition of their own, `relative_told`.
+pub fn relative_number(located: Option<RelativeDiskLocation>) -> u64
+    ensures { result ≡ (relative_told located).number }
+{
+    match located {
+        Some(_) => 0,
+        None => 20,
+    }
+}
+
+pub fn relative_raw(located: Option<RelativeDiskLocation>) -> u64
+    ensures { result ≡ (relative_told located).raw }
+{
+    match located {
+        Some(location) => location.raw(),
+        None => 0,
     }
 }
 
 impl RelativeDiskLocation {
-    pub fn new(position: u64, delete: bool) -> RelativeLocated
+    pub fn new(position: u64, delete: bool) -> Option<RelativeDiskLocation>
         ensures { result ≡ relative_at position delete }
     {
         if position < POSITIONS {
-            return RelativeLocated::At(RelativeDiskLocation(shifted(position, delete)));
+            return Some(RelativeDiskLocation(shifted(position, delete)));
         }
-        RelativeLocated::Refused
+        None
     }
 
     pub fn position(self) -> u64
@@ -126,29 +109,23 @@ impl RelativeDiskLocation {
     }
 
     // The same place, counted from the start of the store, in a file of that lsn.
-    pub fn to_absolute(self, lsn: u64) -> Located
+    pub fn to_absolute(self, lsn: u64) -> Option<DiskLocation>
         ensures { result ≡ located_at (position_of self.0 + lsn) (delete_of self.0) }
     {
-        let at = half(self.0);
-        if lsn < POSITIONS - at {
-            return DiskLocation::new(at + lsn, odd(self.0));
-        }
-        Located::Refused
+        let position = self.position().checked_add(lsn)?;
+        DiskLocation::new(position, self.is_delete())
     }
 }
 
 impl DiskLocation {
-    pub fn new(position: u64, delete: bool) -> Located
+    pub fn new(position: u64, delete: bool) -> Option<DiskLocation>
         ensures { result ≡ located_at position delete }
     {
-        if position < POSITIONS {
-            let raw = shifted(position, delete);
-            if raw == 0 {
-                return Located::Refused;
-            }
-            return Located::At(DiskLocation(raw));
+        let location = RelativeDiskLocation::new(position, delete)?;
+        if location.0 == 0 {
+            return None;
         }
-        Located::Refused
+        Some(DiskLocation(location.0))
     }
 
     pub fn position(self) -> u64

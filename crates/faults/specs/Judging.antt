@@ -1,15 +1,13 @@
 -- The sound slots as the code has them: by their labels.
-use Rattle.std.specs.Prelude.{◌≡◌, refl, Bool, true, false, List, [], ◌∷◌, map, ◌⊎◌, ℕ, zero, suc, ◌*◌, ◌≤◌, ◌<◌, length, get_or}
+use Rattle.std.specs.Prelude.{◌≡◌, refl, Bool, true, false, List, [], ◌∷◌, map, ◌⊎◌, ℕ, zero, suc, ◌*◌, ◌≤◌, ◌<◌, length, get_or, Err, None, Ok, Some}
 use Rattle.std.proofs.Common.{sym, ap, ◌∙◌, subst, true≢false, inl, inr, arith}
 use Rattle.std.proofs.lemmas.List.{length-map}
 use Rattle.rules.specs.FileMap.{empty_label}
 use Rattle.rules.specs.SlotFile.{View, empty, damaged, holds, bytes_of_slot, view_in, views_in}
 use Rattle.rules.proofs.SlotLaws.{views-length, views-at}
-use Rattle.rules.specs.declared.Answer.TheVariants.{Done}
 use Rattle.rules.specs.Reopen.{view_tests, file_of, not_rising}
 use Rattle.rules.specs.Refusal.{decide}
 use Rattle.rules.proofs.RefusalLaws.{decide-none}
-use Rattle.slot_file.specs.declared.SlotAnswer.TheVariants.{Empty, Damaged, Holds}
 use Rattle.slot_file.specs.Slots.{shown_by}
 use Rattle.reopen_tests.specs.Labels.{no_file, label_at, label_of, labels_of}
 use Rattle.reopen_tests.specs.Shown.{file_seen, FileAt, Shown, shown, label-at}
@@ -38,31 +36,31 @@ judges-file slot l (inr w) q = w
 
 -- what a slot shows by itself, where 15 need not be asked
 module _ (v : View) where
-  pub judged-empty : shown_by v ≡ Empty → shown_by (judged v) ≡ Empty
+  pub judged-empty : shown_by v ≡ Ok None → shown_by (judged v) ≡ Ok None
   judged-empty e = go v e
     where
-      go : (u : View) → shown_by u ≡ Empty → shown_by (judged u) ≡ Empty
+      go : (u : View) → shown_by u ≡ Ok None → shown_by (judged u) ≡ Ok None
       go empty z = refl
       go (damaged r) z = absurd (let y : ◌≡◌ {A = ℕ} 0 1 = cc in omega arith)
       go (holds f) z = absurd (let y : ◌≡◌ {A = ℕ} 0 1 = cc in omega arith)
 
-  pub judged-damaged : (r : Refusal) → shown_by v ≡ Damaged r → shown_by (judged v) ≡ Damaged r
+  pub judged-damaged : (r : Refusal) → shown_by v ≡ Err r → shown_by (judged v) ≡ Err r
   judged-damaged r e = go v e
     where
-      go : (u : View) → shown_by u ≡ Damaged r → shown_by (judged u) ≡ Damaged r
+      go : (u : View) → shown_by u ≡ Err r → shown_by (judged u) ≡ Err r
       go empty z = absurd (let y : ◌≡◌ {A = ℕ} 0 1 = cc in omega arith)
       go (damaged q) z = z
       go (holds f) z = absurd (let y : ◌≡◌ {A = ℕ} 0 1 = cc in omega arith)
 
 -- a slot that shows a file has one
-pub file-shown : (slot : List ℕ) (l : Label) → shown_by (view_in slot) ≡ Holds l → FileAt slot l
+pub file-shown : (slot : List ℕ) (l : Label) → shown_by (view_in slot) ≡ Ok (Some l) → FileAt slot l
 file-shown slot l e = go (view_in slot) refl e
   where
-    go : (v : View) → view_in slot ≡ v → shown_by v ≡ Holds l → FileAt slot l
+    go : (v : View) → view_in slot ≡ v → shown_by v ≡ Ok (Some l) → FileAt slot l
     go empty q z = absurd (let y : ◌≡◌ {A = ℕ} 0 1 = cc in omega arith)
     go (damaged r) q z = absurd (let y : ◌≡◌ {A = ℕ} 0 1 = cc in omega arith)
     go (holds f) q z =
-        let clear : decide (view_tests (view_in slot)) ≡ Done = ap (λ (v : View). decide (view_tests v)) q ∙ decide-none in
+        let clear : decide (view_tests (view_in slot)) ≡ (Ok tt) = ap (λ (v : View). decide (view_tests v)) q ∙ decide-none in
         let same : f.label ≡ l = cc in
         by l (ap label_of q ∙ same) (shown slot clear)
       where
@@ -83,7 +81,7 @@ judges slot = go (view_in slot) refl
         by true q = inl (rw (e, q) refl, rw (e, q) refl)
         by false q =
             let same : judged (view_in slot) ≡ view_in slot = rw (e, q) refl in
-            let clear : decide (view_tests (view_in slot)) ≡ Done = ap (λ (v : View). decide (view_tests v)) e ∙ decide-none in
+            let clear : decide (view_tests (view_in slot)) ≡ (Ok tt) = ap (λ (v : View). decide (view_tests v)) e ∙ decide-none in
             subst (λ (v : View). Judges slot (label_of v)) (sym same) (seen (label_of (view_in slot)) same (shown slot clear))
           where
             seen : (l : Label) → judged (view_in slot) ≡ view_in slot → Shown slot l → Judges slot l

@@ -4,6 +4,10 @@ pub use Rattle.rules.specs.declared.Label.{Label}
 pub use Rattle.rules.specs.declared.Entry.{Entry}
 pub use Rattle.rules.specs.declared.Refusal.{Refusal}
 pub use Rattle.rules.specs.declared.Refusal.TheVariants.{Limits, TableRoom, Checksum, Overlap, NotRising, CutShort, OtherId}
-pub use Rattle.faults.specs.declared.Place.{Place}
-pub use Rattle.faults.specs.declared.Place.TheVariants.{Nowhere, Object}
+pub use Rattle.std.specs.Prelude.{None as Nowhere, Some as Object}
 pub use Rattle.faults.specs.declared.Fault.{Fault}
+use Rattle.std.specs.Prelude.{Option, ℕ}
+
+-- where a fault is: nowhere, or at an object's position
+abbrev pub Place : Type 0
+Place = Option ℕ

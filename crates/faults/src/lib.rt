@@ -13,43 +13,34 @@ use reopen_tests::Labels;
 use reopen_tests::rising::falls;
 use reopen_tests::slots::{label, no_labels};
 use rules::{Label, Refusal};
-use slot_file::slot::{slot_at, trailer_part};
-use slot_file::{SlotAnswer, slot};
-
-// "for an object, its position"
-#[derive(Clone, Copy)]
-pub enum Place {
-    Nowhere,
-    Object(u64),
-}
+use slot_file::slot::{self, slot_at, trailer_part};
 
 // "each with slot number, refusal number and, for an object, its position"
 #[derive(Clone, Copy)]
 pub struct Fault {
     pub slot: u64,
     pub refusal: Refusal,
-    pub place: Place,
+    pub place: Option<u64>,
 }
 
 // 15, for a file that passed 8 to 13.
-fn rising(slot: &[u8], l: Label) -> SlotAnswer
+fn rising(slot: &[u8], l: Label) -> Result<Option<Label>, Refusal>
     requires { FileAt slot.now l }
     ensures { result ≡ shown_by (judged (view_in slot.now)) }
 {
     if falls(trailer_part(slot, l)) {
-        return SlotAnswer::Damaged(Refusal::NotRising);
+        return Err(Refusal::NotRising);
     }
-    SlotAnswer::Holds(l)
+    Ok(Some(l))
 }
 
 // "the first failure of 8 to 13 and 15", by the slot's bytes alone.
-pub fn own(slot: &[u8]) -> SlotAnswer
+pub fn own(slot: &[u8]) -> Result<Option<Label>, Refusal>
     ensures { result ≡ shown_by (judged (view_in slot.now)) }
 {
-    match slot::check(slot) {
-        SlotAnswer::Empty => SlotAnswer::Empty,
-        SlotAnswer::Damaged(r) => SlotAnswer::Damaged(r),
-        SlotAnswer::Holds(l) => rising(slot, l),
+    match slot::check(slot)? {
+        Some(l) => rising(slot, l),
+        None => Ok(None),
     }
 }
 
@@ -60,10 +51,8 @@ pub fn sound(heap: &[u8], size: usize, n: usize) -> Labels
     ensures { result.labels ≡ labels_of (map judged (views_in n size heap.now)) }
 {
     let mut slots = no_labels();
-    let mut k: usize = 0;
-    while k < n {
+    for k in 0..n {
         slots.labels[k] = label(own(slot_at(heap, size, k)));
-        k += 1;
     }
     slots
 }

@@ -1,16 +1,20 @@
 -- Lines told one behind the other, each into its four words of the lent listing.
 use Rattle.std.specs.Prelude.{◌≡◌, Bool, true, false, ◌⊎◌, ◌≤◌, ◌<◌, ◌∷◌, ◌++◌, ◌+◌, ◌-◌, ◌*◌, ◌/◌}
 use Rattle.std.proofs.Math.Path.{refl, sym}
-use Rattle.std.proofs.Common.{ap, ap₂, ◌∙◌, subst, inl, inr, zero-le, arith, add-zero, lt-ltb, le-ltb, length-append, length-set}
+use Rattle.std.proofs.Common.{ap, ap₂, ◌∙◌, subst, inl, inr, zero-le, arith, add-zero, lt-ltb, le-ltb, length-append}
 use Rattle.std.proofs.Math.Nat.{sub-zero}
 use Rattle.std.proofs.Math.Seq.{take-nil}
 use Rattle.numbers.specs.GroupLaws.{either_way}
-use Rattle.numbers.specs.Parts.{put_at, put_front, put-none, put_step, put-put, put-length}
-use Rattle.rules.specs.Base.{List, [], ℕ, suc, length, take, set, each}
+use Rattle.numbers.specs.Parts.{put_at, put_front, put-none, put-put, put-length}
+use Rattle.rules.specs.Base.{List, [], ℕ, suc, length, take, each}
 use Rattle.rules.specs.Refusal.{number_of}
 use Rattle.file_faults.specs.Types.{Place, Nowhere, Object, Fault}
+use Rattle.std.specs.Option.{is_some, unwrap_or}
+use Rattle.std.specs.Int.{from_bool}
+use borrow.Rule.Slice.PartMut.{put_mid}
+use lib.Seq.{drop-drop}
 use Rattle.faults.specs.Faults.{line_if, place_words, line_words, listing}
-use Rattle.file_faults.specs.Telling.{put_line, told_from, Tells, Going, placed, place_of}
+use Rattle.file_faults.specs.Telling.{put_line, told_from, Tells, Going}
 
 -- ---- one behind the other
 told-append : (k : ℕ) (xs ys : List Fault) (words : List ℕ) → told_from k (xs ++ ys) words ≡ told_from (k + length xs) ys (told_from k xs words)
@@ -58,37 +62,23 @@ module _ {k : ℕ} {all : List Fault} {before : List ℕ} where
     pub going-last : {rest : List Fault} {m : ℕ} {next : List ℕ} → Going k all before n rest now → Tells n rest now next m → Tells k all before next m
     going-last {rest} g t = record { count = omega (arith, g.count, t.count); words = t.words ∙ g.words }
 
-pub place-words : (p : Place) → place_words p ≡ placed p ∷ place_of p ∷ []
+-- a place's two words, as the code has them
+place-words : (p : Place) → from_bool (is_some p) ∷ unwrap_or p 0 ∷ [] ≡ place_words p
 place-words Nowhere = refl
 place-words (Object position) = refl
 
--- a line's four, as the code has them
-pub line-words : (x : Fault) (n p q : ℕ) → n ≡ number_of x.refusal → p ≡ placed x.place → q ≡ place_of x.place → x.slot ∷ n ∷ p ∷ q ∷ [] ≡ line_words x
-line-words x n p q a b c =
-    ap (λ (m : ℕ). x.slot ∷ m ∷ p ∷ q ∷ []) a
-    ∙ ap₂ (λ (i j : ℕ). x.slot ∷ number_of x.refusal ∷ i ∷ j ∷ []) b c
-    ∙ ap (λ (ws : List ℕ). x.slot ∷ number_of x.refusal ∷ ws) (sym (place-words x.place))
+-- a line's four
+pub line-words : (x : Fault) (n p q : ℕ) → n ≡ number_of x.refusal → p ≡ from_bool (is_some x.place) → q ≡ unwrap_or x.place 0 → x.slot ∷ n ∷ p ∷ q ∷ [] ≡ line_words x
+line-words x n p q a b c = rw (a, b, c) (ap (λ (ws : List ℕ). x.slot ∷ number_of x.refusal ∷ ws) (place-words x.place))
 
 -- a line has four
 pub line-length : (x : Fault) → length (line_words x) ≡ 4
-line-length x = ap (λ (ws : List ℕ). suc (suc (length ws))) (place-words x.place)
+line-length x = ap (λ (ws : List ℕ). suc (suc (length ws))) (sym (place-words x.place))
 
--- four words stored one behind the other
-pub put_four : (ws : List ℕ) (i a b c d : ℕ) → i + 4 ≤ length ws
-    → set (set (set (set ws i a) (i + 1) b) (i + 1 + 1) c) (i + 1 + 1 + 1) d ≡ put_at ws i (a ∷ b ∷ c ∷ d ∷ [])
-put_four ws i a b c d h =
-    let one = set ws i a in
-    let two = set one (i + 1) b in
-    let three = set two (i + 1 + 1) c in
-    let four = set three (i + 1 + 1 + 1) d in
-    let l1 = length-set ws i a in
-    let l2 = length-set one (i + 1) b in
-    let l3 = length-set two (i + 1 + 1) c in
-    sym (put-none four (i + 1 + 1 + 1 + 1))
-    ∙ put_step three (i + 1 + 1 + 1) d [] (omega (arith, l1, l2, l3))
-    ∙ put_step two (i + 1 + 1) c (d ∷ []) (omega (arith, l1, l2))
-    ∙ put_step one (i + 1) b (c ∷ d ∷ []) (omega (arith, l1))
-    ∙ put_step ws i a (b ∷ c ∷ d ∷ []) (omega arith)
+-- the four copied into their part `words[at..at + 4]`
+pub part-line : (words ys : List ℕ) (at n : ℕ) (x : Fault) → n ≡ 4 → ys ≡ line_words x → put_mid at n words ys ≡ put_at words at (line_words x)
+unfolding put_at
+part-line words ys at n x four e = rw (e, four, drop-drop 4 at words, line-length x) refl
 
 module _ (k : ℕ) (x : Fault) (words : List ℕ) where
   line-fits : k < length words / 4 → put_line k x words ≡ put_at words (4 * k) (line_words x)

@@ -1,9 +1,9 @@
 -- Lines told one behind the other, each into its four words of the lent listing.
-use Rattle.std.specs.Prelude.{◌≡◌, ◌∷◌, ◌+◌, ◌-◌, ◌*◌, ◌/◌}
+use Rattle.std.specs.Prelude.{◌≡◌, ◌∷◌, ◌+◌, ◌*◌, ◌/◌}
 use Rattle.numbers.specs.Parts.{put_at}
 use Rattle.rules.specs.Base.{List, [], ℕ, suc, length, ltb, pick}
-use Rattle.file_faults.specs.Types.{Place, Nowhere, Object, Fault}
-use Rattle.faults.specs.Faults.{line_words, listing}
+use Rattle.file_faults.specs.Types.{Fault}
+use Rattle.faults.specs.Faults.{line_words}
 
 -- line k in its four words, if the listing has them
 unfoldable pub put_line : ℕ → Fault → List ℕ → List ℕ
@@ -23,13 +23,3 @@ pub record Tells (k : ℕ) (xs : List Fault) (before after : List ℕ) (n : ℕ)
 pub record Going (k : ℕ) (all : List Fault) (before : List ℕ) (n : ℕ) (rest : List Fault) (now : List ℕ) : Type 0 where
   pub count : n + length rest ≡ k + length all
   pub words : told_from n rest now ≡ told_from k all before
-
--- ---- one line
--- the two words of a place
-abbrev pub placed : Place → ℕ
-placed Nowhere = 0
-placed (Object position) = 1
-
-abbrev pub place_of : Place → ℕ
-place_of Nowhere = 0
-place_of (Object position) = position

@@ -2,6 +2,5 @@
 pub use Rattle.rules.specs.declared.Entry.{Entry}
 pub use Rattle.rules.specs.declared.Refusal.{Refusal}
 pub use Rattle.rules.specs.declared.Refusal.TheVariants.{Checksum, CutShort, OtherId}
-pub use Rattle.faults.specs.declared.Place.{Place}
-pub use Rattle.faults.specs.declared.Place.TheVariants.{Nowhere, Object}
+pub use Rattle.faults.specs.Types.{Place, Nowhere, Object}
 pub use Rattle.faults.specs.declared.Fault.{Fault}

@@ -1,11 +1,11 @@
 -- A file's objects against its entries, and its entries against the objects walked.
-use Rattle.std.specs.Prelude.{◌≡◌, ◌&&◌, ◌≤◌, ◌<◌, ◌++◌, ◌+◌}
+use Rattle.std.specs.Prelude.{◌≡◌, ◌&&◌, ◌≤◌, ◌<◌, ◌++◌}
 use Rattle.std.proofs.Math.Bool.{Bool, not}
 use Rattle.rules.specs.Base.{List, [], ℕ, eqb, any, keep}
 use Rattle.disk_location.specs.Locations.{position_of, delete_of}
 use Rattle.rules.specs.Object.{Stored}
 use Rattle.stored_object.specs.Objects.{objects_at}
-use Rattle.faults.specs.Faults.{line, line_if, passes, walked, entered}
+use Rattle.faults.specs.Faults.{line, line_if, passes, entered}
 use Rattle.file_faults.specs.Types.{Entry, Checksum, OtherId, Object, Fault}
 
 -- ---- definitions

@@ -6,7 +6,6 @@ ghost use Rattle.faults.specs.Faults.{entry_faults};
 ghost use Rattle.file_faults.specs.Telling.{Tells};
 ghost use Rattle.file_faults.specs.Walks.{walked_from, meets_one, unmet, Start, Same, Gone};
 
-use crate::Sought;
 use crate::tell::{at_object, note_if};
 use disk_location::RelativeDiskLocation;
 use rules::{Entry, OBJECT_HEADER, Refusal};
@@ -51,48 +50,34 @@ fn none_here(objects: &[u8], at: u64, e: Entry) -> bool
     }
 }
 
-// The same where the walk went for an entry, which may be elsewhere.
-fn none_there(objects: &[u8], at: u64, e: Entry) -> bool
-    requires location_value { delete_of e.location ≡ false }
-    requires gone { Gone objects.now (position_of e.location) at }
-    ensures { result ≡ not (meets_one e (walked_from objects.now 0)) }
-{
-    if RelativeDiskLocation(e.location).position() == at {
-        return none_here(objects, at, e);
-    }
-    true
-}
-
-// The same from a place to set out from; and the place for the next entry.
-fn look(objects: &[u8], from: u64, e: Entry) -> Sought
-    requires { (delete_of e.location ≡ false) × Start objects.now from × Same objects.now (position_of e.location) from }
-    ensures missing { result.missing ≡ not (meets_one e (walked_from objects.now 0)) }
-    ensures next { Start objects.now result.next }
-{
-    let at = walk(objects, from, RelativeDiskLocation(e.location).position());
-    Sought {
-        missing: none_there(objects, at, e),
-        next: at,
-    }
-}
-
-// One entry: on from where the walk is, or from the front again where its position lies before that. A delete is not looked for.
-fn meet(objects: &[u8], from: u64, e: Entry) -> Sought
+// Where the walk goes for an entry: on from where it is, or from the front again where the entry's position lies before that. A delete
+// is not looked for.
+fn walk_for(objects: &[u8], from: u64, e: Entry) -> u64
     requires { Start objects.now from }
-    ensures missing { result.missing ≡ unmet objects.now e }
-    ensures next { Start objects.now result.next }
+    ensures start { Start objects.now result }
+    ensures gone { delete_of e.location ≡ false → Gone objects.now (position_of e.location) result }
 {
     let location = RelativeDiskLocation(e.location);
     if location.is_delete() {
-        return Sought {
-            missing: false,
-            next: from,
-        };
+        return from;
     }
-    if location.position() < from {
-        return look(objects, 0, e);
+    let position = location.position();
+    if position < from {
+        return walk(objects, 0, position);
     }
-    look(objects, from, e)
+    walk(objects, from, position)
+}
+
+// Whether an entry is an object's and no walked object of its id stands at its position, where the walk went for it.
+fn unmet(objects: &[u8], at: u64, e: Entry) -> bool
+    requires { delete_of e.location ≡ false → Gone objects.now (position_of e.location) at }
+    ensures { result ≡ unmet objects.now e }
+{
+    let location = RelativeDiskLocation(e.location);
+    if location.is_delete() {
+        return false;
+    }
+    location.position() != at || none_here(objects, at, e)
 }
 
 // "17 .. for each object entry at whose position no walked object of its id starts", in entry order.
@@ -108,18 +93,14 @@ pub fn entry_lines(
     ensures { Tells count (each (entry_faults slot (walked_from objects.now 0)) (entries_in trailer.now))
         listing.old listing.new result }
 {
-    let n = trailer::count(trailer);
     let mut told = count;
     let mut at: u64 = 0;
-    let mut k: u64 = 0;
-    while k < n {
+    for k in 0..trailer::count(trailer) {
         let e = trailer::entry(trailer, k);
-        let met = meet(objects, at, e);
+        at = walk_for(objects, at, e);
         let position = RelativeDiskLocation(e.location).position();
         let x = at_object(slot, Refusal::OtherId, position);
-        told = note_if(listing, told, met.missing, x);
-        at = met.next;
-        k += 1;
+        told = note_if(listing, told, unmet(objects, at, e), x);
     }
     told
 }

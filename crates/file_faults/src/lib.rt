@@ -16,13 +16,6 @@ use crate::objects::object_lines;
 use rules::Label;
 use slot_file::slot::{object_part, trailer_part};
 
-// What a search found missing, and from where the next one sets out.
-#[derive(Clone, Copy)]
-pub struct Sought {
-    pub missing: bool,
-    pub next: u64,
-}
-
 // A sound file's lines: object by object, then entry by entry.
 pub fn file_lines(listing: &mut [u64], count: u64, number: u64, slot: &[u8], l: Label) -> u64
     requires file_at { FileAt slot.now l }

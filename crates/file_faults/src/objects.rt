@@ -1,4 +1,4 @@
-ghost use Rattle.std.specs.Prelude.{◌≡◌, not, ◌+◌, ◌*◌, ◌^◌, ◌≤◌, ◌<◌, ltb, length, take, drop};
+ghost use Rattle.std.specs.Prelude.{◌≡◌, true, false, ◌+◌, ◌*◌, ◌^◌, ◌≤◌, ◌<◌, MatchOption, length, take, drop};
 ghost use Rattle.rules.specs.Base.{any, each};
 ghost use Rattle.rules.specs.Object.{stored_at, bad_checksum, objects_in};
 ghost use Rattle.rules.specs.Trailer.{count_in, entries_in};
@@ -7,7 +7,6 @@ ghost use Rattle.faults.specs.Faults.{object_faults};
 ghost use Rattle.file_faults.specs.Telling.{Tells};
 ghost use Rattle.file_faults.specs.Walks.{entered_as, object_lines};
 
-use crate::Sought;
 use crate::tell::{at_object, note, note_if};
 use disk_location::RelativeDiskLocation;
 use rules::{Entry, OBJECT_HEADER, Refusal};
@@ -27,48 +26,29 @@ fn stands(e: Entry, id: u64, position: u64) -> bool
     location.position() == position
 }
 
-// The first such entry from one number on and before another; that one if there is none.
-fn find(trailer: &[u8], from: u64, to: u64, id: u64, position: u64) -> u64
+// The first such entry from one number on and before another.
+fn find(trailer: &[u8], from: u64, to: u64, id: u64, position: u64) -> Option<u64>
     requires { (from ≤ to) × (to ≤ count_in trailer.now) × (12 + 16 * count_in trailer.now ≤ length trailer.now) }
-    ensures within { result ≤ to }
-    ensures found { ltb result to ≡ any (entered_as id position) (drop from (take to (entries_in trailer.now))) }
+    ensures { MatchOption result (any (entered_as id position) (drop from (take to (entries_in trailer.now))) ≡ false)
+        (λ k. (k < to) × (any (entered_as id position) (drop from (take to (entries_in trailer.now))) ≡ true)) }
 {
-    let mut k = from;
-    while k < to {
+    for k in from..to {
         if stands(trailer::entry(trailer, k), id, position) {
-            return k;
+            return Some(k);
         }
-        k += 1;
     }
-    to
+    None
 }
 
-// Whether there is none in the whole trailer: from a cursor to the end, then from the front to the cursor.
-fn seek(trailer: &[u8], cursor: u64, id: u64, position: u64) -> Sought
+// One in the whole trailer: from a cursor to the end, then from the front to the cursor.
+fn seek(trailer: &[u8], cursor: u64, id: u64, position: u64) -> Option<u64>
     requires cursor_bound { cursor ≤ count_in trailer.now }
     requires trailer_in_bounds { 12 + 16 * count_in trailer.now ≤ length trailer.now }
-    ensures missing { result.missing ≡ not (any (entered_as id position) (entries_in trailer.now)) }
-    ensures next { result.next ≤ count_in trailer.now }
+    ensures { MatchOption result (any (entered_as id position) (entries_in trailer.now) ≡ false)
+        (λ k. (k < count_in trailer.now) × (any (entered_as id position) (entries_in trailer.now) ≡ true)) }
 {
     let n = trailer::count(trailer);
-    let k = find(trailer, cursor, n, id, position);
-    if k < n {
-        return Sought {
-            missing: false,
-            next: k + 1,
-        };
-    }
-    let j = find(trailer, 0, cursor, id, position);
-    if j < cursor {
-        return Sought {
-            missing: false,
-            next: j + 1,
-        };
-    }
-    Sought {
-        missing: true,
-        next: cursor,
-    }
+    find(trailer, cursor, n, id, position).or_else(|| find(trailer, 0, cursor, id, position))
 }
 
 // A walked object: "10 for a bad checksum and then 17 for no object entry of its id at that position".
@@ -121,9 +101,11 @@ pub fn object_lines(
                 if h.room - (OBJECT_HEADER as u64) < h.size {
                     return note(listing, told, at_object(slot, Refusal::CutShort, position));
                 }
-                let sought = seek(trailer, cursor, h.id, position);
-                told = object_line(listing, told, slot, objects, position, h, sought.missing);
-                cursor = sought.next;
+                let found = seek(trailer, cursor, h.id, position);
+                told = object_line(listing, told, slot, objects, position, h, found.is_none());
+                if let Some(k) = found {
+                    cursor = k + 1;
+                }
                 position += OBJECT_HEADER as u64 + h.size;
             }
         }

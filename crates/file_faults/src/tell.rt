@@ -1,11 +1,11 @@
 ghost use Rattle.std.specs.Prelude.{◌≡◌, [], ◌∷◌, ◌+◌, ◌^◌, ◌<◌, ◌≤◌, length};
 ghost use Rattle.numbers.specs.Parts.{put_at};
-ghost use Rattle.faults.specs.declared.Place.TheVariants.{Nowhere, Object};
+ghost use Rattle.faults.specs.Types.{Nowhere, Object};
 ghost use Rattle.faults.specs.Faults.{line, line_if, line_words};
-ghost use Rattle.file_faults.specs.Telling.{Tells, placed, place_of};
+ghost use Rattle.file_faults.specs.Telling.{Tells};
 
 use as_numbers::answers::refusal_number;
-use faults::{Fault, Place};
+use faults::Fault;
 use rules::Refusal;
 
 pub fn nowhere(slot: u64, refusal: Refusal) -> Fault
@@ -14,7 +14,7 @@ pub fn nowhere(slot: u64, refusal: Refusal) -> Fault
     Fault {
         slot: slot,
         refusal: refusal,
-        place: Place::Nowhere,
+        place: None,
     }
 }
 
@@ -24,46 +24,22 @@ pub fn at_object(slot: u64, refusal: Refusal, position: u64) -> Fault
     Fault {
         slot: slot,
         refusal: refusal,
-        place: Place::Object(position),
+        place: Some(position),
     }
 }
 
-// Whether there is a position, and which.
-fn placed(p: Place) -> u64
-    ensures { result ≡ placed p }
-{
-    match p {
-        Place::Nowhere => 0,
-        Place::Object(_) => 1,
-    }
-}
-
-fn place_of(p: Place) -> u64
-    ensures { result ≡ place_of p }
-{
-    match p {
-        Place::Nowhere => 0,
-        Place::Object(position) => position,
-    }
-}
-
-// A line's four words.
+// A line's four words: whether there is a position, and which, are the last two.
 fn put_line(listing: &mut [u64], at: usize, x: Fault)
     requires { at + 4 ≤ length listing.old }
     ensures { listing.new ≡ put_at listing.old at (line_words x) }
 {
-    let refusal = x.refusal;
-    let place = x.place;
-    let number = refusal_number(refusal);
-    let known = placed(place);
-    let position = place_of(place);
-    let second = at + 1;
-    let third = second + 1;
-    let fourth = third + 1;
-    listing[at] = x.slot;
-    listing[second] = number;
-    listing[third] = known;
-    listing[fourth] = position;
+    let words = [
+        x.slot,
+        refusal_number(x.refusal),
+        u64::from(x.place.is_some()),
+        x.place.unwrap_or(0),
+    ];
+    listing[at..at + 4].copy_from_slice(&words);
 }
 
 // One more line, which is stored where the listing has room for it and counted in any case.

@@ -1,4 +1,5 @@
 -- One turn of the lookup over the lsns, and its end.
+use Rattle.std.specs.Prelude.{None, Some}
 use mathlib.Core.Path.{◌≡◌}
 use mathlib.Core.List.{List}
 use Prim.Native.Nat.{ℕ, ◌+◌, ◌*◌, ◌/◌, ◌<◌, ◌≤◌}
@@ -7,7 +8,7 @@ use native.Mathlib.Omega.{arith}
 use lib.ListN.{get_or, length, drop, drop_of_length-le}
 use lib.Seq.{drop-cons}
 use borrow.Author.Tests.{lt-ltb, le-ltb, le-leb, lt-leb, eq-eqb, ne_eqb}
-use Rattle.rules.specs.declared.Slot.TheVariants.{Is, NoSlot}
+use Rattle.rules.specs.Types.{Slot}
 use Rattle.rules.specs.FileMap.{Lead}
 use Rattle.file_lists.specs.Lists.{leads_lsn, lead_lsn, slot_of}
 
@@ -34,13 +35,19 @@ module _ (n i location : ℕ) (b : Lead) where
   unfolding leads_lsn
   leads-less h = simp (le-ltb _ _ h)
 
-pub slot-none : (b : Lead) → b.lsn ≡ 0 → slot_of b ≡ NoSlot
+-- the lead that a loop holds as its lsn and its slot
+abbrev pub lead_of : ℕ → Slot → Lead
+lead_of lsn slot = record { lsn = lsn; slot = number slot }
+  where
+    number : Slot → ℕ
+    number (Some k) = k
+    number None = 0
+
+-- what a lead says
+pub slot-none : (b : Lead) → b.lsn ≡ 0 → slot_of b ≡ None
 unfolding slot_of
 slot-none b h = simp (eq-eqb _ _ h)
 
-pub slot-some : (b : Lead) → (b.lsn ≡ 0 → ⊥) → slot_of b ≡ Is b.slot
+pub slot-some : (b : Lead) → (b.lsn ≡ 0 → ⊥) → slot_of b ≡ Some b.slot
 unfolding slot_of
 slot-some b h = simp (ne_eqb _ _ h)
-
-pub lead-same : {a b a' b' : ℕ} → a ≡ a' → b ≡ b' → ◌≡◌ {A = Lead} (record { lsn = a; slot = b }) (record { lsn = a'; slot = b' })
-lead-same p q = rw (p, q)

@@ -1,10 +1,9 @@
 -- What the lists say of the records: a call may look up files in the lsns and count in the live counts, and put the counts back at its end.
-use Rattle.std.specs.Prelude.{◌≡◌, refl, ◌∷◌, ◌-◌}
+use Rattle.std.specs.Prelude.{◌≡◌, refl, ◌∷◌, ◌-◌, None, Some}
 use Rattle.std.proofs.Common.{ap, ◌∙◌, arith, length-set}
 use Rattle.rules.specs.Base.{List, [], ℕ, zero, suc, length, get_or, set}
 use Rattle.rules.specs.declared.Record.{Record}
-use Rattle.rules.specs.declared.Slot.{Slot}
-use Rattle.rules.specs.declared.Slot.TheVariants.{Is, NoSlot}
+use Rattle.rules.specs.Types.{Slot}
 use Rattle.rules.specs.FileMap.{record_at, with_live, Lead, leads, lead_from, file_for, less_live}
 use Rattle.file_lists.specs.Lists.{lsns_of, lives_of, with_lives, leads_lsn, lead_lsn, slot_of, lsn_at, less_at}
 
@@ -56,10 +55,10 @@ live-with-lives (r ∷ rs) (l ∷ ls) (suc k) e = live-with-lives rs ls k (omega
 -- a live lost in the list is a live lost in the records
 pub less-with-lives : (slot : Slot) (rs : List Record) (ls : List ℕ) → length ls ≡ length rs
     → less_live slot (with_lives rs ls) ≡ with_lives rs (less_at slot ls)
-less-with-lives (Is k) rs ls e =
+less-with-lives (Some k) rs ls e =
     ap (λ (v : ℕ). set (with_lives rs ls) k (with_live (record_at (with_lives rs ls) k) (v - 1))) (live-with-lives rs ls k e) ∙ set-lives rs ls k (get_or ls k 0 - 1) e
-less-with-lives NoSlot rs ls e = refl
+less-with-lives None rs ls e = refl
 
 pub length-less : (slot : Slot) (ls : List ℕ) → length (less_at slot ls) ≡ length ls
-length-less (Is k) ls = length-set ls k (get_or ls k 0 - 1)
-length-less NoSlot ls = refl
+length-less (Some k) ls = length-set ls k (get_or ls k 0 - 1)
+length-less None ls = refl

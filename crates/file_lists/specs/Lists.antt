@@ -1,9 +1,8 @@
 -- The lsns and the live counts of the records as lists of their own.
-use Rattle.std.specs.Prelude.{◌&&◌, ◌∷◌, ◌-◌, ◌*◌}
+use Rattle.std.specs.Prelude.{◌&&◌, ◌∷◌, ◌-◌, ◌*◌, None, Some}
 use Rattle.rules.specs.Base.{List, [], map, ℕ, suc, get_or, set, leb, ltb, eqb, pick}
 use Rattle.rules.specs.declared.Record.{Record}
-use Rattle.rules.specs.declared.Slot.{Slot}
-use Rattle.rules.specs.declared.Slot.TheVariants.{Is, NoSlot}
+use Rattle.rules.specs.Types.{Slot}
 use Rattle.rules.specs.FileMap.{with_live, Lead}
 
 abbrev pub lsns_of : List Record → List ℕ
@@ -29,7 +28,7 @@ lead_lsn (n ∷ ns) i location b = lead_lsn ns (suc i) location (leads_lsn n i l
 
 -- the slot of a lead, if there is one
 unfoldable pub slot_of : Lead → Slot
-slot_of b = pick (eqb b.lsn 0) NoSlot (Is b.slot)
+slot_of b = pick (eqb b.lsn 0) None (Some b.slot)
 
 -- "the file with the greatest own location not above the one sought, the lowest slot of equals"
 unfoldable pub lsn_at : List ℕ → ℕ → Slot
@@ -37,5 +36,5 @@ lsn_at ns location = slot_of (lead_lsn ns 0 location (record { lsn = 0; slot = 0
 
 -- "loses one live (0 stays 0, and a location with no file takes none)"
 abbrev pub less_at : Slot → List ℕ → List ℕ
-less_at (Is k) ls = set ls k (get_or ls k 0 - 1)
-less_at NoSlot ls = ls
+less_at (Some k) ls = set ls k (get_or ls k 0 - 1)
+less_at None ls = ls

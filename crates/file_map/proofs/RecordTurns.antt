@@ -1,17 +1,23 @@
 -- One turn of each loop over the records, and its end.
 use mathlib.Core.Path.{◌≡◌, refl, sym, ap, ◌∙◌}
-use mathlib.Core.Bool.{true, false}
+use mathlib.Core.Bool.{Bool, true, false, not, cond}
 use mathlib.Core.List.{List, [], ◌∷◌, ◌++◌, map, append_assoc, append-nil}
 use Prim.Native.Nat.{ℕ, zero, suc, ◌+◌, ◌<◌, ◌≤◌}
 use native.Mathlib.Numerals.{add-one}
 use native.Mathlib.Omega.{arith}
 use native.Mathlib.Nat.{zero-add, add-zero, add_assoc}
+use lib.Dec.{ltb}
+use Rattle.std.specs.declared.option.Option.TheVariants.{Some, None}
 use lib.ListN.{take, get_or, set, length, drop, drop_of_length-le, length-map, length-set}
 use lib.Seq.{take-suc, set_at, length-take-le, take_all, drop-cons, get_or-take}
 use Rattle.numbers.specs.Choice.{pick}
 use Rattle.rules.specs.Base.{sum}
 use Rattle.rules.specs.declared.Record.{Record}
 use Rattle.rules.specs.declared.Counts.{Counts}
+use Rattle.std.proofs.lemmas.Bool.{ltb-false}
+use Rattle.std.proofs.lemmas.List.Sums.{prefix_len-le-length}
+use Rattle.std.specs.List.{position, position_or_len}
+use Rattle.std.specs.Option.{unwrap_or}
 use Rattle.rules.specs.FileMap.{empty_record, is_empty, record_at, with_live, slots_where, empty_slots, lowest_empty, file_count}
 use Rattle.rules.proofs.FileMapLaws.{where-here, where_next}
 use Rattle.rules.proofs.TurnLaws.{left-next, sum-next, sum-end}
@@ -54,9 +60,34 @@ pub empty-end : (n i : ℕ) (rs : List Record) → n ≤ i → n ≤ length rs �
 unfolding slots_where
 empty-end n i rs h m = ap (slots_where (λ (k : ℕ) (r : Record). is_empty r) i) (drop_of_length-le (take n rs) {i = i} (rw (length-take-le n rs m) h))
 
-pub lowest_start : (n : ℕ) (rs : List Record) → lowest_empty n rs ≡ get_or (empty_from n 0 rs) 0 n
-unfolding lowest_empty
-lowest_start n rs = ap (λ (ks : List ℕ). get_or ks 0 n) (empty-start n rs)
+-- the first of them is the first empty record's place
+pub first-empty : (i n : ℕ) (rs : List Record) → n ≡ i + length rs
+    → get_or (slots_where (λ (k : ℕ) (r : Record). is_empty r) i rs) 0 n ≡ i + position_or_len (λ (r : Record). is_empty r) rs
+unfolding slots_where
+first-empty i n [] e = e
+first-empty i n (r ∷ rs) e = go (is_empty r) (first-empty (suc i) n rs (omega arith))
+  where
+    go : (t : Bool) → get_or (slots_where (λ (k : ℕ) (r : Record). is_empty r) (suc i) rs) 0 n ≡ suc i + position_or_len (λ (r : Record). is_empty r) rs
+        → get_or (pick t (i ∷ slots_where (λ (k : ℕ) (r : Record). is_empty r) (suc i) rs) (slots_where (λ (k : ℕ) (r : Record). is_empty r) (suc i) rs)) 0 n
+        ≡ i + cond (not t) (1 + position_or_len (λ (r : Record). is_empty r) rs) 0
+    go true h = omega arith
+    go false h = omega arith
+
+-- a place below the length, or the length
+placed : (m n l : ℕ) → m ≤ l → n ≡ 0 + l → unwrap_or (cond (ltb m l) (Some m) None) n ≡ 0 + m
+placed m n l h e = go (ltb m l) refl
+  where
+    go : (b : Bool) → ltb m l ≡ b → unwrap_or (cond b (Some m) None) n ≡ 0 + m
+    go true q = omega arith
+    go false q = let k = ltb-false m l q in omega arith
+
+pub lowest_position : (n : ℕ) (rs : List Record) → n ≤ length rs → unwrap_or (position (λ (r : Record). is_empty r) (take n rs)) n ≡ lowest_empty n rs
+unfolding lowest_empty empty_slots
+lowest_position n rs h =
+    let e : n ≡ 0 + length (take n rs) = rw (length-take-le n rs h) (omega arith) in
+    let p = first-empty 0 n (take n rs) e in
+    let w = prefix_len-le-length (λ (r : Record). not (is_empty r)) (take n rs) in
+    placed (position_or_len (λ (r : Record). is_empty r) (take n rs)) n (length (take n rs)) w e ∙ sym p
 
 -- ---- the counts, some records having been counted
 unfoldable pub counts_from : ℕ → ℕ → ℕ → ℕ → List Record → Counts
@@ -125,19 +156,19 @@ copied-end f rs i ns h m = rw (drop_of_length-le ns m, take_all i rs h) (append-
 
 -- the array while i records of 256 are copied
 abbrev pub Copying : (Record → ℕ) → List Record → List ℕ → ℕ → List ℕ → Type 0
-Copying f rs zeros i ns = (i ≤ 256) × (length ns ≡ 256) × (ns ≡ copied f rs i zeros)
+Copying f rs zeros i ns = (length ns ≡ 256) × (ns ≡ copied f rs i zeros)
 
 module _ (f : Record → ℕ) (rs : List Record) (zeros : List ℕ) (l : length rs ≡ 256) (z : length zeros ≡ 256) where
   pub copying-start : Copying f rs zeros 0 zeros
-  copying-start = (omega arith, z, copied-start f rs zeros)
+  copying-start = (z, copied-start f rs zeros)
 
   module _ (i : ℕ) (ns : List ℕ) (c : Copying f rs zeros i ns) where
     pub copying-next : i < 256 → Copying f rs zeros (i + 1) (set ns i (f (record_at rs i)))
     copying-next h =
-        (omega arith, length-set ns i (f (record_at rs i)) ∙ c.1, ap (λ (ns : List ℕ). set ns i (f (record_at rs i))) c.2 ∙ copied_next f rs i zeros (omega arith) (omega arith))
+        (length-set ns i (f (record_at rs i)) ∙ c.0, ap (λ (ns : List ℕ). set ns i (f (record_at rs i))) c.1 ∙ copied_next f rs i zeros (omega arith) (omega arith))
 
     pub copying-end : 256 ≤ i → ns ≡ map f rs
-    copying-end h = c.2 ∙ copied-end f rs i zeros (omega arith) (omega arith)
+    copying-end h = c.1 ∙ copied-end f rs i zeros (omega arith) (omega arith)
 
 -- ---- live counts put into the records up to i
 unfoldable pub lives_to : ℕ → List Record → List ℕ → List Record

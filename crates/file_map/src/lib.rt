@@ -2,13 +2,13 @@
 
 #![tactic(auto)]
 
-ghost use Rattle.std.specs.Prelude.{◌≡◌, ◌<◌, ◌≤◌, set, length};
+ghost use Rattle.std.specs.Prelude.{◌≡◌, ◌<◌, ◌≤◌, set, length, position};
 ghost use Rattle.rules.specs.FileMap.{empty_label, recorded, empty_record, is_empty, with_live, no_files, lowest_empty, file_for};
 ghost use Rattle.rules.specs.Counts.{counts_of};
 ghost use Rattle.file_map.specs.Records.{labelled, fresh, state_by, Bounded};
 ghost use Rattle.file_lists.specs.Lists.{lsns_of, lives_of, with_lives};
 
-use rules::{Counts, FileMap, Label, RECORDS, Record, Settings, Slot, State};
+use rules::{Counts, FileMap, Label, RECORDS, Record, Settings, State};
 
 // ---- a label
 // A label's five numbers.
@@ -69,13 +69,7 @@ pub fn fresh(label: Label) -> Record
 pub fn is_empty(r: Record) -> bool
     ensures { result ≡ is_empty r }
 {
-    (r.label.lsn == 0)
-        & (r.label.trailer_offset == 0)
-        & (r.label.file_size == 0)
-        & (r.label.present_objects == 0)
-        & (r.label.generation == 0)
-        & (r.live == 0)
-        & (r.synced == 0)
+    r == empty()
 }
 
 // ---- the map
@@ -99,19 +93,19 @@ pub fn with_record(m: FileMap, slot: usize, r: Record) -> FileMap
     n
 }
 
+// The place of the first empty record.
+fn first_empty(records: &[Record]) -> Option<usize>
+    ensures { result ≡ position (λ r. is_empty r) records.now }
+{
+    records.iter().position(|r| is_empty(*r))
+}
+
 // "the lowest empty slot" of the heap's n; n where there is none.
 pub fn lowest_empty(m: FileMap, n: usize) -> usize
     requires { n ≤ 256 }
     ensures { result ≡ lowest_empty n m.records }
 {
-    let mut i: usize = 0;
-    while i < n {
-        if is_empty(m.records[i]) {
-            return i;
-        }
-        i += 1;
-    }
-    n
+    first_empty(&m.records[..n]).unwrap_or(n)
 }
 
 // "Files, bytes, present, live, summed over files."
@@ -123,16 +117,13 @@ pub fn counts(m: FileMap) -> Counts
     let mut bytes: u64 = 0;
     let mut present: u64 = 0;
     let mut live: u64 = 0;
-    let mut i: usize = 0;
-    while i < RECORDS {
-        let r = m.records[i];
-        if !is_empty(r) {
+    for r in &m.records {
+        if !is_empty(*r) {
             files += 1;
         }
         bytes += r.label.file_size;
         present += r.label.present_objects;
         live += r.live;
-        i += 1;
     }
     Counts {
         files: files,
@@ -163,28 +154,25 @@ pub fn state_of(
 }
 
 // ---- flat lists: a call on many ids copies the map once, not once for each id
+// Kept: two loops of one line each; one that is given a closure for the number would need more clauses on that closure than it saves.
 pub fn lsns(m: FileMap) -> [u64; RECORDS]
     ensures { result ≡ lsns_of m.records }
 {
-    let mut r = [0u64; RECORDS];
-    let mut i: usize = 0;
-    while i < RECORDS {
-        r[i] = m.records[i].label.lsn;
-        i += 1;
+    let mut lsns = [0u64; RECORDS];
+    for (i, r) in m.records.iter().enumerate() {
+        lsns[i] = r.label.lsn;
     }
-    r
+    lsns
 }
 
 pub fn lives(m: FileMap) -> [u64; RECORDS]
     ensures { result ≡ lives_of m.records }
 {
-    let mut r = [0u64; RECORDS];
-    let mut i: usize = 0;
-    while i < RECORDS {
-        r[i] = m.records[i].live;
-        i += 1;
+    let mut lives = [0u64; RECORDS];
+    for (i, r) in m.records.iter().enumerate() {
+        lives[i] = r.live;
     }
-    r
+    lives
 }
 
 pub fn with_lives(m: FileMap, lives: &[u64]) -> FileMap
@@ -192,16 +180,14 @@ pub fn with_lives(m: FileMap, lives: &[u64]) -> FileMap
     ensures { result.records ≡ with_lives m.records lives.now }
 {
     let mut n = m;
-    let mut i: usize = 0;
-    while i < RECORDS {
-        n.records[i] = with_live(n.records[i], lives[i]);
-        i += 1;
+    for (i, live) in lives.iter().enumerate() {
+        n.records[i] = with_live(n.records[i], *live);
     }
     n
 }
 
 // A lookup by the flat list of lsns.
-pub fn file_for(m: FileMap, location: u64) -> Slot
+pub fn file_for(m: FileMap, location: u64) -> Option<u64>
     ensures { result ≡ file_for m.records location }
 {
     let l = lsns(m);

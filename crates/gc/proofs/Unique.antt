@@ -3,7 +3,7 @@ use Rattle.std.specs.Prelude.{◌≡◌}
 use Rattle.std.proofs.Common.{sym, ap, ap₂, ◌∙◌}
 use Rattle.rules.specs.Base.{List, ℕ, length}
 use Rattle.rules.specs.declared.State.{State}
-use Rattle.rules.specs.declared.RewriteAnswer.{RewriteAnswer}
+use Rattle.rules.specs.Types.{RewriteAnswer}
 use Rattle.rules.proofs.Answers as answers
 use Rattle.rules.specs.TwoCalls.{notes_left}
 use Rattle.rules.specs.World.{Given, After, world}

@@ -4,7 +4,7 @@ use Rattle.rules.specs.Base.{List, ℕ}
 use Rattle.rules.specs.declared.Settings.{Settings}
 use Rattle.rules.specs.declared.State.{State}
 use Rattle.rules.specs.declared.Claims.{Claims}
-use Rattle.rules.specs.declared.RewriteAnswer.{RewriteAnswer}
+use Rattle.rules.specs.Types.{RewriteAnswer}
 use Rattle.rules.proofs.Answers as answers
 use Rattle.rules.specs.Layout.{Table}
 use Rattle.rules.specs.TwoCalls.{room_of, notes_left, rewrite_call}

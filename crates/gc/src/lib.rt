@@ -6,33 +6,23 @@ ghost use Rattle.std.specs.Prelude.{◌≡◌};
 ghost use Rattle.rules.specs.TwoCalls.{room_of, notes_left, rewrite_call};
 ghost use Rattle.rules.specs.World.{world, leaving, rewrite_given};
 ghost use Rattle.as_numbers.specs.StateWords.{state_in};
-ghost use Rattle.gc.specs.Rewrites.{answered_of};
 
-use as_numbers::state_words::put_state;
+use as_numbers::state_words::{put_state, state_in};
 use gc_course::Request;
 use gc_generation::rewrite_generation;
 use gc_notes::{clear, too_short};
-use gc_words::{refused_in, state_held};
-use rules::{Answer, Claims, Refusal, RewriteAnswer, Settings, State};
+use gc_words::refused_in;
+use rules::{Claims, Refusal, Settings, State};
 
 // What a rewrite answers, and the state after it.
 #[derive(Clone, Copy)]
 pub struct Rewritten {
-    pub answer: RewriteAnswer,
+    pub answer: Result<u64, Refusal>,
     pub state: State,
 }
 
-// "It answers ids moved, or the number alone."
-fn answered(answer: Answer, moved: u64) -> RewriteAnswer
-    ensures { result ≡ answered_of answer moved }
-{
-    match answer {
-        Answer::Done => RewriteAnswer::Rewrote(moved),
-        Answer::Refused(refusal) => RewriteAnswer::RewriteRefused(refusal),
-    }
-}
-
-// "1, then 22 outside 1..3", then the group's own, on the state's words. The lent notes are zeros after it, on 1 as they were.
+// "1, then 22 outside 1..3", then the group's own, on the state's words: "It answers ids moved, or the number alone." The lent notes are
+// zeros after it, on 1 as they were.
 pub fn rewrite_in(
     settings: Settings,
     state: &mut [u64; 1801],
@@ -42,7 +32,7 @@ pub fn rewrite_in(
     places: &mut [u32],
     pieces: &mut [u32],
     asked: Request,
-) -> RewriteAnswer
+) -> Result<u64, Refusal>
     ensures leaves { leaving (rewrite_given result)
         (world settings (state_in state.new) claims heap.new table.new)
         ≡ rewrite_call (world settings (state_in state.old) claims heap.old table.old)
@@ -51,21 +41,20 @@ pub fn rewrite_in(
     ensures pieces { pieces.new ≡ notes_left (rewrite_given result) pieces.old }
 {
     if refused_in(settings, state, heap, table) {
-        return RewriteAnswer::RewriteRefused(Refusal::Limits);
+        return Err(Refusal::Limits);
     }
     if too_short(table, places, pieces) {
-        return RewriteAnswer::RewriteRefused(Refusal::Limits);
+        return Err(Refusal::Limits);
     }
     if asked.generation == 0 || 3 < asked.generation {
         clear(places);
         clear(pieces);
-        return RewriteAnswer::RewriteRefused(Refusal::Generation);
+        return Err(Refusal::Generation);
     }
-    let course = rewrite_generation(settings, state, claims, heap, table, places, pieces, asked);
+    let answer = rewrite_generation(settings, state, claims, heap, table, places, pieces, asked);
     clear(places);
     clear(pieces);
-    let answer = course.answer;
-    answered(answer, course.moved)
+    answer
 }
 
 // The same with the state by value.
@@ -93,6 +82,6 @@ pub fn rewrite(
     );
     Rewritten {
         answer: answer,
-        state: state_held(&words),
+        state: state_in(&words),
     }
 }

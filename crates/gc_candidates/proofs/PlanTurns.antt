@@ -1,32 +1,25 @@
--- A turn of the loop that writes the plan: a list written place by place into another one of its length.
-use mathlib.Core.Path.{◌≡◌, refl, sym, ap, ◌∙◌}
-use mathlib.Core.List.{append_assoc, append-nil}
-use Prim.Native.Nat.{◌≤◌, ◌<◌}
-use native.Mathlib.Numerals.{add-one}
+-- The plan slot by slot, as it is made.
+use mathlib.Core.Path.{◌≡◌, sym, ap, ◌∙◌, subst}
+use mathlib.Core.Logic.{◌⊎◌, inl, inr}
+use Prim.Native.Nat.{zero, ◌≤◌, ◌<◌}
 use native.Mathlib.Omega.{arith}
-use lib.ListN.{drop_of_length-le}
-use lib.Seq.{take-suc, set_at, length-take-le, take_all, drop-cons}
-use Rattle.std.specs.Prelude.{◌∷◌, ◌++◌, ◌+◌}
-use Rattle.rules.specs.Base.{List, [], ℕ, suc, length, get_or, take, drop, set}
+use denote.Param.Members.{Mut, Called}
+use Rattle.std.specs.Array.{IsFromFnResult, IsFromFnResultFrom}
+use Rattle.std.specs.Prelude.{◌+◌}
+use Rattle.rules.specs.Base.{List, ℕ, suc, get_or}
+use Rattle.rules.proofs.BaseLaws.{same?}
 
--- what is written before place i, and what stood from there on
-unfoldable pub filled : List ℕ → ℕ → List ℕ → List ℕ
-filled to i from = take i to ++ drop i from
+-- ---- a list made call by call, by a function that computes h and changes nothing: h of each place
+module _ {F : Type 0} (g : Mut F (ℕ × Unit {0}) ℕ) (h : ℕ → ℕ) (f : F) (ys : List ℕ) (pure : (k r : ℕ) (q : F) → Called g f (k, tt) r q → (r ≡ h k) × (q ≡ f)) where
+  made-from : (n i : ℕ) → IsFromFnResultFrom g f ys i n → (k : ℕ) → i ≤ k → k < i + n → get_or ys k 0 ≡ h k
+  made-from zero i w k low high = absurd (omega arith)
+  made-from (suc n) i (q, y, at, call, rest) k low high =
+      let told : (y ≡ h i) × (q ≡ f) = pure i y q call in
+      go told.0 (λ later. made-from n (i + 1) (subst (λ (p : F). IsFromFnResultFrom g p ys (i + 1) n) told.1 rest) k later (omega arith)) (same? k i)
+    where
+      go : y ≡ h i → (i + 1 ≤ k → get_or ys k 0 ≡ h k) → (k ≡ i) ⊎ (k ≡ i → ⊥) → get_or ys k 0 ≡ h k
+      go here later (inl e) = ap (λ (m : ℕ). get_or ys m 0) e ∙ at.1 0 ∙ here ∙ ap h (sym e)
+      go here later (inr d) = later (omega (arith, d))
 
-pub filled-start : (to from : List ℕ) → from ≡ filled to 0 from
-unfolding filled
-filled-start to from = refl
-
-pub filled_next : (to : List ℕ) (i : ℕ) (from : List ℕ) → i < length to → i < length from → set (filled to i from) i (get_or to i 0) ≡ filled to (i + 1) from
-unfolding filled
-filled_next to i from h m =
-    let front : length (take i to) ≡ i = length-take-le i to (omega arith) in
-    ap (λ (l : List ℕ). set (take i to ++ l) i (get_or to i 0)) (drop-cons from i 0 m)
-    ∙ set_at (take i to) _ (drop (suc i) from) (get_or to i 0) i front
-    ∙ sym (append_assoc (take i to) (get_or to i 0 ∷ []) (drop (suc i) from))
-    ∙ ap (λ (l : List ℕ). l ++ drop (suc i) from) (sym (take-suc to i 0 h))
-    ∙ ap (λ (n : ℕ). take n to ++ drop n from) (sym (add-one i))
-
-pub filled-end : (to : List ℕ) (i : ℕ) (from : List ℕ) → length to ≤ i → length from ≤ i → filled to i from ≡ to
-unfolding filled
-filled-end to i from h m = rw (drop_of_length-le from m, take_all i to h) (append-nil to)
+  pub made-each : (n : ℕ) → IsFromFnResult g f ys n → (k : ℕ) → k < n → get_or ys k 0 ≡ h k
+  made-each n w k low = made-from n 0 w.each k (omega arith) (omega arith)

@@ -13,16 +13,14 @@ use claims::is_claimed;
 use disk_location::masked;
 use file_map::is_empty;
 use rules::{Claims, FileMap, RECORDS, Record, Settings};
+use std::array::from_fn;
 
 // "max(present, 1)"
 fn at_least_one(n: u64) -> u64
     ensures answers { result ≡ larger n 1 }
     ensures positive { 0 < result }
 {
-    if n <= 1 {
-        return 1;
-    }
-    n
+    n.max(1)
 }
 
 // "live × 100 / max(present, 1), rounded down, strictly below the percentage, or both file count ≥ threshold and
@@ -46,10 +44,7 @@ pub fn worth_it(s: Settings, files: u64, r: Record) -> bool
 pub fn new_generation(g: u64) -> u64
     ensures { result ≡ new_generation g }
 {
-    if 2 <= g {
-        return 3;
-    }
-    g + 1
+    g.min(2) + 1
 }
 
 // "unclaimed files with live not 0, and .."; "only files with masked lsn below the mark", the threshold "against that count".
@@ -100,26 +95,19 @@ pub fn plan(s: Settings, claims: Claims, m: FileMap, mark: u64, count: u64) -> [
     requires bounded { Bounded m.records }
     ensures { result ≡ plan_of s claims mark count m.records }
 {
-    let mut p = [0u64; RECORDS];
-    let mut i: usize = 0;
-    while i < RECORDS {
-        p[i] = plan_for(s, claims, mark, count, i as u64, m.records[i]);
-        i += 1;
-    }
-    p
+    from_fn(|slot| plan_for(s, claims, mark, count, slot as u64, m.records[slot]))
 }
 
 // How many files a group has.
 pub fn group_count(plan: &[u64], generation: u64) -> u64
     ensures { result ≡ length (planned plan.now generation) }
 {
+    // Kept: a loop; with `filter` and `count` LLVM leaves a function above apart, and a plan copies the file map once more.
     let mut n: u64 = 0;
-    let mut i: usize = 0;
-    while i < plan.len() {
-        if plan[i] == generation {
+    for number in plan {
+        if *number == generation {
             n += 1;
         }
-        i += 1;
     }
     n
 }

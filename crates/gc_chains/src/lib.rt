@@ -3,7 +3,7 @@
 
 #![tactic(auto)]
 
-ghost use Rattle.std.specs.Prelude.{ℕ, suc, ◌<◌, List, ◌≡◌, length, get_or};
+ghost use Rattle.std.specs.Prelude.{ℕ, suc, ◌<◌, List, ◌≡◌, length, get_or, MatchOption};
 ghost use Rattle.rules.specs.Layout.{table_ids, used_entries};
 ghost use Rattle.location_table.specs.Tables.{Formed};
 ghost use Rattle.gc_chains.specs.Chains.{FileOf, Linkable, Linked};
@@ -17,24 +17,16 @@ pub const FIRSTS: u64 = 4294967296;
 // Numbers of one shard are this far apart.
 const SHARDS: u32 = 65;
 
-// The file with a number: looked for at `near`, then from the front; behind the last where there is none.
-fn file_of(words: &[u64], number: u32, near: usize) -> usize
-    ensures { FileOf words.now number result }
+// The file with a number, if there is one: looked for at `near`, then from the front.
+fn file_of(words: &[u64], number: u32, near: usize) -> Option<usize>
+    ensures { MatchOption result (FileOf words.now number (length words.now))
+        (λ j. (j < length words.now) × FileOf words.now number j) }
 {
     let sought = number as u64;
-    if near < words.len() {
-        if words[near] % FIRSTS == sought {
-            return near;
-        }
+    match words.get(near) {
+        Some(word) if *word % FIRSTS == sought => Some(near),
+        _ => words.iter().position(|word| *word % FIRSTS == sought),
     }
-    let mut j: usize = 0;
-    while j < words.len() {
-        if words[j] % FIRSTS == sought {
-            return j;
-        }
-        j += 1;
-    }
-    j
 }
 
 // An entry that is moved becomes the first of its file, and its link leads to the one that was; one whose number no file has is in no
@@ -52,11 +44,10 @@ fn link_entry(place: u32, links: &mut [u32], words: &mut [u64], near: &mut [usiz
     }
     let number = links[i];
     let shard = (number % SHARDS) as usize;
-    let j = file_of(words, number, near[shard]);
-    if words.len() <= j {
+    let Some(j) = file_of(words, number, near[shard]) else {
         links[i] = 0;
         return;
-    }
+    };
     near[shard] = j;
     let word = words[j];
     links[i] = (word / FIRSTS) as u32;
@@ -71,9 +62,7 @@ pub fn link(table: &[u64], places: &[u32], links: &mut [u32], words: &mut [u64])
         links.new words.new }
 {
     let mut near = [0usize; 65];
-    let mut i = used(table);
-    while 0 < i {
-        i -= 1;
+    for i in (0..used(table)).rev() {
         link_entry(places[i], links, words, &mut near, i);
     }
 }

@@ -1,5 +1,5 @@
 -- A group's own refusals: none of its tests gives 1.
-use Rattle.std.specs.Prelude.{◌≡◌, refl, ◌<◌, ◌∷◌}
+use Rattle.std.specs.Prelude.{◌≡◌, refl, ◌<◌, ◌∷◌, Err, Ok}
 use Rattle.std.proofs.Common.{sym, subst, arith}
 use Rattle.rules.specs.Base.{Bool, true, false, List, [], ℕ, length, each, ltb, pick}
 use Rattle.rules.specs.BaseLaws.{All}
@@ -7,8 +7,7 @@ use Rattle.rules.proofs.BaseLaws.{all_append}
 use Rattle.rules.specs.declared.Entry.{Entry}
 use Rattle.rules.specs.declared.Label.{Label}
 use Rattle.rules.specs.declared.Refusal.{Refusal}
-use Rattle.rules.specs.declared.Answer.{Answer}
-use Rattle.rules.specs.declared.Answer.TheVariants.{Done, Refused}
+use Rattle.rules.specs.Types.{Answer}
 use Rattle.rules.specs.Refusal.{Test, ◌gives◌, decide, after, number_of}
 use Rattle.rules.specs.Object.{Stored}
 use Rattle.rules.specs.Trailer.{trailer_tests}
@@ -26,8 +25,8 @@ Own (b gives r) = 1 < number_of r
 
 -- an answer other than 1
 abbrev OwnAnswer : Answer → Type 0
-OwnAnswer Done = Unit {0}
-OwnAnswer (Refused r) = 1 < number_of r
+OwnAnswer (Ok _) = Unit {0}
+OwnAnswer (Err r) = 1 < number_of r
 
 -- a stop other than by 1
 abbrev pub OwnStop : Stop → Type 0
@@ -89,8 +88,8 @@ own-group generation slots moved w =
   where
     go : (a : Answer) → OwnAnswer a → (done : Course) → done.stop ≡ going
         → OwnStop (after {A = Course} a (λ (r : Refusal). record { stop = stopped r generation; moved = moved; world = w }) done).stop
-    go Done o done e = subst OwnStop (sym e) tt
-    go (Refused r) o done e = o
+    go (Ok _) o done e = subst OwnStop (sym e) tt
+    go (Err r) o done e = o
 
 -- a generation's rewrite stops by a refusal of its own, if any
 pub own-generation : (w : World) (generation mark count : ℕ) → OwnStop (generation_rewritten w generation mark count).stop

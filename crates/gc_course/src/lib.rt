@@ -1,11 +1,11 @@
-// Where the nightly job stands between two rewrites: whether one was refused, and what the job then answers.
+// What a rewrite is asked for, and where the nightly job stops.
 
 #![tactic(auto)]
 
 ghost use Rattle.std.specs.Prelude.{◌≡◌};
-ghost use Rattle.gc_course.specs.Runs.{is_going, stop_of, stop_by, answer_of};
+ghost use Rattle.gc_course.specs.Runs.{succeeds};
 
-use rules::{Answer, MaintainAnswer, Refusal};
+use rules::{Refusal, Stopped};
 
 // "rewrites one named generation", with the plan's mark and file count.
 #[derive(Clone, Copy)]
@@ -17,44 +17,14 @@ pub struct Request {
 
 // "stopping at the first call refused": its number and generation.
 #[derive(Clone, Copy)]
-pub enum Halt {
-    Going,
-    Halted(Refusal, u64),
+pub struct Halt {
+    pub refusal: Refusal,
+    pub generation: u64,
 }
 
-// Where the job stands between two rewrites.
-#[derive(Clone, Copy)]
-pub struct Run {
-    pub halt: Halt,
-    pub moved: u64,
-}
-
-// None was refused.
-pub fn is_going(halt: Halt) -> bool
-    ensures { result ≡ is_going halt }
+// "nothing is pruned. Success prunes": whether a prune is due after this answer of the rewrites.
+pub fn is_prune_due(answer: Result<u64, Stopped>) -> bool
+    ensures { result ≡ succeeds answer }
 {
-    match halt {
-        Halt::Going => true,
-        Halt::Halted(_, _) => false,
-    }
-}
-
-// What a rewrite's answer makes of the job.
-pub fn halt_of(answer: Answer, generation: u64) -> Halt
-    ensures { stop_of result ≡ stop_by generation answer }
-{
-    match answer {
-        Answer::Done => Halt::Going,
-        Answer::Refused(refusal) => Halt::Halted(refusal, generation),
-    }
-}
-
-// "gives number, generation and ids moved so far"; "gives the count of ids moved"
-pub fn answer_of(halt: Halt, moved: u64) -> MaintainAnswer
-    ensures { result ≡ answer_of halt moved }
-{
-    match halt {
-        Halt::Going => MaintainAnswer::Moved(moved),
-        Halt::Halted(refusal, generation) => MaintainAnswer::Stopped(refusal, generation, moved),
-    }
+    answer.is_ok()
 }

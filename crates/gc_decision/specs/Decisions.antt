@@ -1,11 +1,11 @@
 -- What a group is decided by: its files' checks, then 4, 5 and 7 of the files that would come out.
-use Rattle.std.specs.Prelude.{◌≡◌, ◌++◌}
+use Rattle.std.specs.Prelude.{◌≡◌, ◌++◌, Result, Err, Ok}
 use Rattle.std.proofs.Math.Path.{refl, sym, ap}
 use Rattle.std.proofs.Common.{◌∙◌}
 use Rattle.rules.specs.Base.{List, ℕ, length, each}
 use Rattle.rules.specs.declared.Settings.{Settings}
 use Rattle.rules.specs.declared.Refusal.{Refusal}
-use Rattle.rules.specs.declared.Answer.TheVariants.{Done, Refused}
+use Rattle.rules.specs.Types.{Answer}
 use Rattle.rules.specs.Refusal.{Test, decide}
 use Rattle.rules.proofs.RefusalLaws.{decide-early, decide-late, clear-when, none_rest}
 use Rattle.rules.specs.Ops.{Op, settled}
@@ -20,6 +20,11 @@ use Rattle.gc_split.specs.Tally.{tally_of, closed_of, totals_for}
 use Rattle.gc_split.specs.TotalLaws.{totals_tests}
 use Rattle.gc_split.proofs.TotalLaws.{split-totals, tests-told}
 use Rattle.gc_decision.specs.Fitting.{Fitting, fitting-clear}
+
+-- whether a result is a refusal
+abbrev pub verdict : {T : Type 0} → Result T Refusal → Answer
+verdict (Ok x) = Ok tt
+verdict (Err r) = Err r
 
 -- "Objects and deletes at their id's current location are rewritten, ascending by id (one found twice only once, as last found)"
 abbrev pub ops_in : Source → List ℕ → List Op
@@ -63,13 +68,13 @@ module _ (w : World) (slots : List ℕ) where
 -- ---- in the steps that code takes
 module _ (s : Settings) (source : Source) (slots : List ℕ) where
   -- a check refuses
-  pub decision-checked : (empty_ones base : ℕ) (r : Refusal) → decide (group_checks s.max_object_size source slots) ≡ Refused r
-      → decide (decision_tests s source slots empty_ones base) ≡ Refused r
+  pub decision-checked : (empty_ones base : ℕ) (r : Refusal) → decide (group_checks s.max_object_size source slots) ≡ Err r
+      → decide (decision_tests s source slots empty_ones base) ≡ Err r
   unfolding decision_tests
   decision-checked empty_ones base r e = decide-early _ _ r e
 
   -- none of all tests does: there is room for the files that come out
-  pub decision-fits : (empty_ones base : ℕ) → decide (decision_tests s source slots empty_ones base) ≡ Done → Fitting s.slot_bytes empty_ones base (out_of s source slots)
+  pub decision-fits : (empty_ones base : ℕ) → decide (decision_tests s source slots empty_ones base) ≡ Ok tt → Fitting s.slot_bytes empty_ones base (out_of s source slots)
   unfolding decision_tests
   decision-fits empty_ones base e =
       fitting-clear s.slot_bytes empty_ones base (out_of s source slots)
@@ -85,7 +90,7 @@ module _ (s : Settings) (source : Source) (slots : List ℕ) where
         ∙ ap (λ (os : List Op). totals_for s.slot_bytes (length os) (files_of s.target_file_size os)) found
 
     -- no check refuses: the totals decide
-    pub decision-clear : (empty_ones base : ℕ) → decide (group_checks s.max_object_size source slots) ≡ Done
+    pub decision-clear : (empty_ones base : ℕ) → decide (group_checks s.max_object_size source slots) ≡ Ok tt
         → decide (totals_tests total empty_ones base) ≡ decide (decision_tests s source slots empty_ones base)
     unfolding decision_tests
     decision-clear empty_ones base e =

@@ -18,6 +18,10 @@ use Rattle.gc_decision.specs.Orders.{Tallied, placed-short, placed-count, tallie
 abbrev pub files_in : List ℕ → List ℕ → List ℕ → List ℕ → List ℕ → List (List Op)
 files_in heap ids places pieces order = map (λ (q : ℕ). filed_ops q heap ids places pieces) order
 
+-- what they come to in all
+abbrev pub split_totals : Settings → List ℕ → List ℕ → List ℕ → Totals
+split_totals s heap ids places = closed_of s.slot_bytes (tally_of s.target_file_size s.slot_bytes (placed_ops heap ids places))
+
 module _ (s : Settings) (heap ids places : List ℕ) where
   -- the operations
   abbrev ops : List Op

@@ -1,5 +1,5 @@
 -- A group's operations by their places: turns of the loops over them, and which of them are in which file.
-use Rattle.std.specs.Prelude.{◌≡◌, refl, ◌⊎◌, ◌≤◌, ◌<◌, ◌∷◌, ◌++◌, ◌+◌, ◌^◌}
+use Rattle.std.specs.Prelude.{◌≡◌, refl, ◌⊎◌, ◌≤◌, ◌<◌, ◌∷◌, ◌++◌, ◌+◌, ◌^◌, Some}
 use Rattle.std.proofs.Common.{sym, ap, ◌∙◌, append_assoc, inl, inr, arith, eq-eqb, ne_eqb, take-suc-set}
 use Rattle.std.proofs.Math.Path.{ap₂}
 use Rattle.std.proofs.Math.Numerals.{add-one}
@@ -8,7 +8,6 @@ use Rattle.std.proofs.lemmas.List.{set-get_or}
 use Rattle.numbers.specs.Parts.{put_at, put_step, put-none}
 use Rattle.rules.specs.Base.{Bool, true, false, List, [], ℕ, length, get_or, set, take, drop, eqb, pick, suc}
 use Rattle.rules.proofs.TurnLaws.{left-next}
-use Rattle.rules.specs.declared.Held.TheVariants.{Mapped}
 use Rattle.rules.specs.Table.{loaded_of}
 use Rattle.rules.specs.Ops.{put, delete, Op, size_of, shard_for}
 use Rattle.gc_split.specs.Tally.{Tally, taking, tally_from, piece_in, pieces_from, in_piece}
@@ -168,7 +167,7 @@ measured heap id place moved whole is shard size =
 -- ---- a turn over the entries that are placed, and the end
 module _ (size : ℕ) (lsns ls ms : List ℕ) (i : ℕ) where
   pub places-next : i < length ls → i < length ms
-      → places_for size lsns (drop i ls) (drop i ms) ≡ place_for size lsns (loaded_of (Mapped (get_or ls i 0))) (get_or ms i 0) ∷ places_for size lsns (drop (i + 1) ls) (drop (i + 1) ms)
+      → places_for size lsns (drop i ls) (drop i ms) ≡ place_for size lsns (loaded_of (Some (get_or ls i 0))) (get_or ms i 0) ∷ places_for size lsns (drop (i + 1) ls) (drop (i + 1) ms)
   unfolding places_for
   places-next h g = ap₂ (places_for size lsns) (left-next ls i 0 h) (left-next ms i 0 g)
 

@@ -1,10 +1,9 @@
 -- Operations that stand in the heap: a number for each entry of the table. 0 where nothing is moved, 1 for a delete, else the place of an object.
-use Rattle.std.specs.Prelude.{◌≡◌, ◌≤◌, ◌<◌, ◌∷◌, ◌+◌, ◌-◌, ◌*◌, ◌^◌}
+use Rattle.std.specs.Prelude.{◌≡◌, ◌≤◌, ◌<◌, ◌∷◌, ◌+◌, ◌-◌, ◌*◌, ◌^◌, Some}
 use Rattle.numbers.specs.LittleEndian.{le_value}
 use Rattle.rules.specs.Base.{true, false, List, [], ℕ, length, get_or, take, drop, eqb, pick}
 use Rattle.rules.specs.Object.{object_bytes}
 use Rattle.rules.specs.Ops.{Op, size_of, shard_for}
-use Rattle.rules.specs.declared.Held.TheVariants.{Mapped}
 use Rattle.rules.specs.declared.Loaded.{Loaded}
 use Rattle.rules.specs.declared.Loaded.TheVariants.{At, DeletedAt, Never}
 use Rattle.rules.specs.Layout.{Table, used_entries}
@@ -110,7 +109,7 @@ place_for size lsns loaded mark = pick (eqb mark 0) 0 (place_in size lsns loaded
 unfoldable pub places_for : ℕ → List ℕ → List ℕ → List ℕ → List ℕ
 places_for size lsns [] ms = []
 places_for size lsns (l ∷ ls) [] = []
-places_for size lsns (l ∷ ls) (m ∷ ms) = place_for size lsns (loaded_of (Mapped l)) m ∷ places_for size lsns ls ms
+places_for size lsns (l ∷ ls) (m ∷ ms) = place_for size lsns (loaded_of (Some l)) m ∷ places_for size lsns ls ms
 
 -- an object's position is one of a file of that lsn
 abbrev pub InFile : ℕ → Loaded → Type 0
@@ -128,4 +127,4 @@ pub record Placeable (lsns : List ℕ) (loaded : Loaded) (mark : ℕ) : Type 0 w
 pub record Placeables (lsns ls ms places : List ℕ) : Type 0 where
   pub marks : length ls ≤ length ms
   pub room : length ls ≤ length places
-  pub each : (i : ℕ) → i < length ls → Placeable lsns (loaded_of (Mapped (get_or ls i 0))) (get_or ms i 0)
+  pub each : (i : ℕ) → i < length ls → Placeable lsns (loaded_of (Some (get_or ls i 0))) (get_or ms i 0)

@@ -38,11 +38,8 @@ pub fn place_all(table: &[u64], marks: &[u32], lsns: &[u64], slot_bytes: u64, pl
         (places_for slot_bytes lsns.now (table_locations table.now) marks.now)
         places.old }
 {
-    let n = used(table);
-    let mut i: usize = 0;
-    while i < n {
+    for i in 0..used(table) {
         let loaded = loaded_at(table, i);
         places[i] = place_of(loaded, marks[i], lsns, slot_bytes);
-        i += 1;
     }
 }

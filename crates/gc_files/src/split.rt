@@ -75,16 +75,13 @@ pub fn split(
         (tally shards.old cuts.old totals) }
 {
     let mut t = totals;
-    let n = used(table);
-    let mut i: usize = 0;
-    while i < n {
+    for i in 0..used(table) {
         let e = Placed {
             at: i,
             id: id_at(table, i),
             place: places[i],
         };
         t = split_entry(heap, e, shards, cuts, pieces, t, settings);
-        i += 1;
     }
     t
 }

@@ -2,7 +2,7 @@
 
 #![tactic(auto)]
 
-ghost use Rattle.std.specs.Prelude.{◌≡◌, ◌≤◌, ◌<◌, length};
+ghost use Rattle.std.specs.Prelude.{◌≡◌, ◌≤◌, ◌<◌, length, IfOk};
 ghost use Rattle.rules.specs.Layout.{capacity_of};
 ghost use Rattle.rules.specs.Condition1Laws.{Passed};
 ghost use Rattle.rules.specs.TwoCalls.{generation_rewritten};
@@ -14,9 +14,9 @@ use gc_candidates::group_count;
 use gc_course::Request;
 use gc_group::Group;
 use gc_notes::clear;
-use gc_rewrite::{Course, rewrite_group};
+use gc_rewrite::rewrite_group;
 use gc_words::candidates_in;
-use rules::{Answer, Claims, Settings};
+use rules::{Claims, Refusal, Settings};
 
 // A generation's group as mark and count give it, rewritten; one of too few files is left: "a generation that yields no group succeeds with
 // count 0".
@@ -29,24 +29,21 @@ pub fn rewrite_generation(
     places: &mut [u32],
     pieces: &mut [u32],
     asked: Request,
-) -> Course
+) -> Result<u64, Refusal>
     requires passed_2 { Passed settings (length heap.old) table.old (state_in state.old) }
     requires table_in_bounds { (capacity_of table.old ≤ length places.old) × (capacity_of table.old ≤ length pieces.old) }
     requires generation_nonzero { (0 < asked.generation) × (asked.generation ≤ 3) }
-    ensures leaves { course_given asked.generation result.answer result.moved
+    ensures leaves { course_given asked.generation result
         (world settings (state_in state.new) claims heap.new table.new)
         ≡ generation_rewritten (world settings (state_in state.old) claims heap.old table.old)
         asked.generation asked.mark asked.count }
     ensures passed { Passed settings (length heap.new) table.new (state_in state.new) }
-    ensures moved { result.moved ≤ 65536 }
+    ensures moved { IfOk result (λ moved. moved ≤ 65536) }
 {
     let candidates = candidates_in(settings, state, claims, asked.mark, asked.count);
     let generation = asked.generation;
     if group_count(&candidates, generation) < settings.min_compaction_files {
-        return Course {
-            answer: Answer::Done,
-            moved: 0,
-        };
+        return Ok(0);
     }
     let group = Group {
         settings: settings,

@@ -1,5 +1,5 @@
 -- The checks of a file and of a group, in the steps that code takes.
-use Rattle.std.specs.Prelude.{◌≡◌, Bool, ◌⊎◌, ◌≤◌, ◌<◌, ◌∷◌, ◌++◌, ◌+◌, ◌^◌}
+use Rattle.std.specs.Prelude.{◌≡◌, Bool, ◌⊎◌, ◌≤◌, ◌<◌, ◌∷◌, ◌++◌, ◌+◌, ◌^◌, Err, Ok}
 use Rattle.std.proofs.Math.Path.{refl, ap}
 use Rattle.std.proofs.Common.{sym, ◌∙◌, inl, inr, arith}
 use Rattle.std.proofs.Math.Bool.{true, false}
@@ -11,19 +11,16 @@ use Rattle.rules.specs.declared.Entry.{Entry}
 use Rattle.rules.specs.declared.Label.{Label}
 use Rattle.rules.specs.declared.Refusal.{Refusal}
 use Rattle.rules.specs.declared.Refusal.TheVariants.{ObjectSize, NotThere, CutShort, Checksum, Location}
-use Rattle.rules.specs.declared.Answer.{Answer}
-use Rattle.rules.specs.declared.Answer.TheVariants.{Done, Refused}
-use Rattle.disk_location.specs.declared.Located.{Located}
+use Rattle.rules.specs.Types.{Answer, Held}
+use Rattle.disk_location.specs.Answers.{Located}
 use Rattle.disk_location.specs.Locations.{position_of, delete_of, told, located_at}
 use Rattle.disk_location.proofs.LocationLaws.{located-large, located-at}
 use Rattle.rules.specs.Refusal.{Test, decide, NoneHolds}
 use Rattle.rules.proofs.RefusalLaws.{clear-when, decide-none, decide-early, decide-late}
-use Rattle.rules.specs.declared.Held.{Held}
 use Rattle.rules.specs.declared.Loaded.{Loaded}
 use Rattle.rules.specs.Table.{load, loaded_of, never_written, no_entry}
 use Rattle.rules.specs.TableLaws.{Rising}
-use Rattle.location_table.specs.declared.Place.{Place}
-use Rattle.location_table.specs.declared.Place.TheVariants.{Found, Gap}
+use Rattle.location_table.specs.Answers.{Place}
 use Rattle.location_table.specs.Places.{place}
 use Rattle.location_table.specs.EntryLaws.{found-tells, gap-tells}
 use Rattle.location_table.specs.LoadLaws.{either-kind}
@@ -46,8 +43,8 @@ never-at es r x = go (place es x) refl
     n = record { id = x; location = 0 }
 
     go : (p : Place) → place es x ≡ p → never_at p ≡ never_written (load es x)
-    go (Found k) e = sym (ap (λ (h : Held). never_written (loaded_of h)) (found-tells es r n k e).lookup-is ∙ either-kind (λ (l : Loaded). never_written l ≡ false) (get_or es k no_entry).location refl refl)
-    go (Gap k) e = sym (ap (λ (h : Held). never_written (loaded_of h)) (gap-tells es r n k e).lookup-is)
+    go (Ok k) e = sym (ap (λ (h : Held). never_written (loaded_of h)) (found-tells es r n k e).lookup-is ∙ either-kind (λ (l : Loaded). never_written l ≡ false) (get_or es k no_entry).location refl refl)
+    go (Err k) e = sym (ap (λ (h : Held). never_written (loaded_of h)) (gap-tells es r n k e).lookup-is)
 
 -- they come first of all that a group is tested for
 pub group-tests : (w : World) (slots : List ℕ) (files : List (List Op))
@@ -78,7 +75,7 @@ file-tests limit table r slot =
     ap (λ (ts : List Test). trailer_tests (trailer_part r slot) ++ (each (moved_tests limit table) (objects_in (object_part r slot)) ++ ts))
     (each_keep (λ (e : Entry). delete_of e.location) (delete_tests r.lsn table) (entries_in (trailer_part r slot)))
 
-pub moved-whole : (limit : ℕ) (table : List Entry) (o : Stored) → decide (moved_tests limit table o) ≡ Done → Whole limit table o
+pub moved-whole : (limit : ℕ) (table : List Entry) (o : Stored) → decide (moved_tests limit table o) ≡ Ok tt → Whole limit table o
 unfolding moved_tests NoneHolds
 moved-whole limit table o e =
     let n = clear-when (moved_tests limit table o) e in
@@ -89,18 +86,18 @@ module _ (limit : ℕ) (table : List Entry) (objects : List ℕ) (position : ℕ
   abbrev here : Stored
   here = stored_at position (drop position objects)
 
-  pub moved-large : limit ≤ h.size → decide (moved_tests limit table here) ≡ Refused ObjectSize
+  pub moved-large : limit ≤ h.size → decide (moved_tests limit table here) ≡ Err ObjectSize
   unfolding moved_tests decide
   moved-large a = rw (le-ltb here.room 20 (omega (arith, header-room objects position h w, (header-fits objects position h w).0)), le-leb limit here.size (omega (arith, header-size objects position h w))) refl
 
-  pub moved-never : h.size < limit → never_written (load table h.id) ≡ true → decide (moved_tests limit table here) ≡ Refused NotThere
+  pub moved-never : h.size < limit → never_written (load table h.id) ≡ true → decide (moved_tests limit table here) ≡ Err NotThere
   unfolding moved_tests decide
   moved-never a b =
       let u : never_written (load table here.id) ≡ true = rw (header-id objects position h w) at b in
       rw (le-ltb here.room 20 (omega (arith, header-room objects position h w, (header-fits objects position h w).0)), lt-leb limit here.size (omega (arith, header-size objects position h w)), u) refl
 
   module _ (a : h.size < limit) (b : never_written (load table h.id) ≡ false) where
-    pub moved-short : h.room < 20 + h.size → decide (moved_tests limit table here) ≡ Refused CutShort
+    pub moved-short : h.room < 20 + h.size → decide (moved_tests limit table here) ≡ Err CutShort
     unfolding moved_tests decide
     moved-short d =
         let u : never_written (load table here.id) ≡ false = rw (header-id objects position h w) at b in
@@ -112,7 +109,7 @@ module _ (limit : ℕ) (table : List Entry) (objects : List ℕ) (position : ℕ
         ) refl
 
     -- the checksum decides
-    pub moved_sum : 20 + h.size ≤ h.room → decide (moved_tests limit table here) ≡ pick (bad_checksum here) (Refused Checksum) Done
+    pub moved_sum : 20 + h.size ≤ h.room → decide (moved_tests limit table here) ≡ pick (bad_checksum here) (Err Checksum) (Ok tt)
     unfolding moved_tests decide
     moved_sum d =
         let u : never_written (load table here.id) ≡ false = rw (header-id objects position h w) at b in
@@ -130,7 +127,7 @@ module _ (limit : ℕ) (table : List Entry) (objects : List ℕ) (position : ℕ
   abbrev rest : ℕ → Answer
   rest at = decide (each (moved_tests limit table) (objects_at objects at))
 
-  pub walk_end : length objects ≤ position → rest position ≡ Done
+  pub walk_end : length objects ≤ position → rest position ≡ Ok tt
   unfolding each
   walk_end h = ap (λ (os : List Stored). decide (each (moved_tests limit table) os)) (objects-end objects position h) ∙ decide-none
 
@@ -141,7 +138,7 @@ module _ (limit : ℕ) (table : List Entry) (objects : List ℕ) (position : ℕ
   walk_step h = ap (λ (os : List Stored). decide (each (moved_tests limit table) os)) (objects-next objects position h)
 
   -- "header past T (16)"
-  pub walk-cut : CutOff objects position → rest position ≡ Refused CutShort
+  pub walk-cut : CutOff objects position → rest position ≡ Err CutShort
   unfolding moved_tests stored_at decide
   walk-cut w =
       let n = length-drop position objects in
@@ -149,16 +146,16 @@ module _ (limit : ℕ) (table : List Entry) (objects : List ℕ) (position : ℕ
       walk_step w.begins ∙ rw (lt-ltb (length (drop position objects)) 20 (omega arith)) refl
 
   module _ (h : Header) (w : Walked objects position h) where
-    pub walk_refused : (r : Refusal) → decide (moved_tests limit table (stored_at position (drop position objects))) ≡ Refused r → rest position ≡ Refused r
+    pub walk_refused : (r : Refusal) → decide (moved_tests limit table (stored_at position (drop position objects))) ≡ Err r → rest position ≡ Err r
     walk_refused r e = walk_step (header-begins objects position h w) ∙ decide-early _ _ r e
 
-    pub walk-on : decide (moved_tests limit table (stored_at position (drop position objects))) ≡ Done → rest position ≡ rest (position + (20 + h.size))
+    pub walk-on : decide (moved_tests limit table (stored_at position (drop position objects))) ≡ Ok tt → rest position ≡ rest (position + (20 + h.size))
     walk-on e =
         walk_step (header-begins objects position h w) ∙ decide-late _ _ e
         ∙ ap (λ (n : ℕ). rest (position + (20 + n))) (sym (ap (λ (x : Header). x.size) w.header))
 
     -- an object that passes lies within
-    pub walk_inside : decide (moved_tests limit table (stored_at position (drop position objects))) ≡ Done → position + (20 + h.size) ≤ length objects
+    pub walk_inside : decide (moved_tests limit table (stored_at position (drop position objects))) ≡ Ok tt → position + (20 + h.size) ≤ length objects
     unfolding stored_at
     walk_inside e =
         let whole = (moved-whole limit table (stored_at position (drop position objects)) e).room in
@@ -169,17 +166,17 @@ module _ (limit : ℕ) (table : List Entry) (objects : List ℕ) (position : ℕ
 
 -- ---- an entry, test by test
 module _ (lsn : ℕ) (table : List Entry) (e : Entry) where
-  pub entry-object : delete_of e.location ≡ false → decide (entry_tests lsn table e) ≡ Done
+  pub entry-object : delete_of e.location ≡ false → decide (entry_tests lsn table e) ≡ Ok tt
   unfolding entry_tests
   entry-object d = rw d decide-none
 
   module _ (d : delete_of e.location ≡ true) where
-    pub entry-great : 2 ^ 63 ≤ position_of e.location + lsn → decide (entry_tests lsn table e) ≡ Refused Location
+    pub entry-great : 2 ^ 63 ≤ position_of e.location + lsn → decide (entry_tests lsn table e) ≡ Err Location
     unfolding entry_tests delete_tests decide
     entry-great h = rw (d, le-leb (2 ^ 63) (position_of e.location + lsn) h) refl
 
     -- the table decides
-    pub entry-mapped : position_of e.location + lsn < 2 ^ 63 → decide (entry_tests lsn table e) ≡ pick (never_written (load table e.id)) (Refused NotThere) Done
+    pub entry-mapped : position_of e.location + lsn < 2 ^ 63 → decide (entry_tests lsn table e) ≡ pick (never_written (load table e.id)) (Err NotThere) (Ok tt)
     unfolding entry_tests delete_tests decide
     entry-mapped h = rw (d, lt-leb (2 ^ 63) (position_of e.location + lsn) h) refl
 
@@ -196,27 +193,27 @@ located-number p = go (either_way p (2 ^ 63))
 
 -- ---- a file, part by part
 module _ (limit : ℕ) (table : List Entry) (r : Label) (slot : List ℕ) where
-  pub file-trailer : (n : Refusal) → decide (trailer_tests (trailer_part r slot)) ≡ Refused n → decide (file_tests limit table r slot) ≡ Refused n
+  pub file-trailer : (n : Refusal) → decide (trailer_tests (trailer_part r slot)) ≡ Err n → decide (file_tests limit table r slot) ≡ Err n
   file-trailer n e = ap decide (file-tests limit table r slot) ∙ decide-early _ _ n e
 
-  module _ (clear : decide (trailer_tests (trailer_part r slot)) ≡ Done) where
-    pub file-object : (n : Refusal) → decide (each (moved_tests limit table) (objects_in (object_part r slot))) ≡ Refused n → decide (file_tests limit table r slot) ≡ Refused n
+  module _ (clear : decide (trailer_tests (trailer_part r slot)) ≡ Ok tt) where
+    pub file-object : (n : Refusal) → decide (each (moved_tests limit table) (objects_in (object_part r slot))) ≡ Err n → decide (file_tests limit table r slot) ≡ Err n
     file-object n e = ap decide (file-tests limit table r slot) ∙ decide-late _ _ clear ∙ decide-early _ _ n e
 
-    pub file-deletes : decide (each (moved_tests limit table) (objects_in (object_part r slot))) ≡ Done
+    pub file-deletes : decide (each (moved_tests limit table) (objects_in (object_part r slot))) ≡ Ok tt
         → decide (file_tests limit table r slot) ≡ decide (each (entry_tests r.lsn table) (entries_in (trailer_part r slot)))
     file-deletes e = ap decide (file-tests limit table r slot) ∙ decide-late _ _ clear ∙ decide-late _ _ e
 
 -- ---- a group, file by file
 module _ (limit : ℕ) (s : Source) (k : ℕ) (ks : List ℕ) where
-  pub group-refused : (n : Refusal) → decide (file_tests limit s.table (file_at s k) (bytes_at s k)) ≡ Refused n → decide (group_checks limit s (k ∷ ks)) ≡ Refused n
+  pub group-refused : (n : Refusal) → decide (file_tests limit s.table (file_at s k) (bytes_at s k)) ≡ Err n → decide (group_checks limit s (k ∷ ks)) ≡ Err n
   unfolding group_checks each
   group-refused n e = decide-early _ _ n e
 
-  pub group-on : decide (file_tests limit s.table (file_at s k) (bytes_at s k)) ≡ Done → decide (group_checks limit s (k ∷ ks)) ≡ decide (group_checks limit s ks)
+  pub group-on : decide (file_tests limit s.table (file_at s k) (bytes_at s k)) ≡ Ok tt → decide (group_checks limit s (k ∷ ks)) ≡ decide (group_checks limit s ks)
   unfolding group_checks each
   group-on e = decide-late _ _ e
 
-pub group-none : (limit : ℕ) (s : Source) → decide (group_checks limit s []) ≡ Done
+pub group-none : (limit : ℕ) (s : Source) → decide (group_checks limit s []) ≡ Ok tt
 unfolding group_checks each
 group-none limit s = decide-none

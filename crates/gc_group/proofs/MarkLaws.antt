@@ -1,5 +1,5 @@
 -- The marked entries are what the group found.
-use Rattle.std.specs.Prelude.{◌≡◌, ◌⊎◌, ◌≤◌, ◌<◌, ◌||◌, ◌∷◌, ◌++◌, ◌+◌, ◌-◌, ◌^◌}
+use Rattle.std.specs.Prelude.{◌≡◌, ◌⊎◌, ◌≤◌, ◌<◌, ◌||◌, ◌∷◌, ◌++◌, ◌+◌, ◌-◌, ◌^◌, None, Some}
 use Rattle.std.proofs.Math.Path.{refl, ap}
 use Rattle.std.proofs.Common.{sym, ap₂, ◌∙◌, subst, inl, inr, le_of_suc-le-suc, not-suc-le-zero, arith, eq-eqb, ne_eqb}
 use Rattle.std.proofs.lemmas.List.{length-replicate}
@@ -8,9 +8,8 @@ use Rattle.rules.specs.BaseLaws.{All}
 use Rattle.rules.proofs.BaseLaws.{all_map, same?, all_append, any_append}
 use Rattle.rules.specs.declared.Entry.{Entry}
 use Rattle.rules.specs.declared.Label.{Label}
-use Rattle.rules.specs.declared.Held.{Held}
-use Rattle.rules.specs.declared.Held.TheVariants.{Mapped, Unmapped}
-use Rattle.disk_location.specs.declared.Located.{Located}
+use Rattle.rules.specs.Types.{Held}
+use Rattle.disk_location.specs.Answers.{Located}
 use Rattle.disk_location.specs.Locations.{position_of, delete_of, raw_of, told, located_at}
 use Rattle.disk_location.proofs.LocationLaws.{delete-raw, located-none, located-at}
 use Rattle.rules.specs.Object.{Stored, stored_at, objects_in}
@@ -139,10 +138,10 @@ pub found-stands : (s : Source) (k : ℕ) → All (Stands s k) (found_at s k)
 found-stands s k = found-each s k (Stands s k) (AtPosition (object_part (file_at s k) (bytes_at s k))) (objects-stand (object_part (file_at s k) (bytes_at s k))) (found-object s k) (found-delete s k)
 
 word-zero : (s : Source) (h : Held) → word_of s h 0 ≡ silent
-word-zero s (Mapped l) = refl
-word-zero s Unmapped = refl
+word-zero s (Some l) = refl
+word-zero s None = refl
 
-word_some : (s : Source) (l k : ℕ) → word_of s (Mapped l) (suc k) ≡ last (content_at s l k)
+word_some : (s : Source) (l k : ℕ) → word_of s (Some l) (suc k) ≡ last (content_at s l k)
 word_some s l k = let e : suc k - 1 ≡ k = omega arith in rw (ne_eqb (suc k) 0 (λ z. omega arith), e) refl
 
 said_here : (o : Op) (x : ℕ) → o.id ≡ x → said_by o x ≡ last o.content
@@ -197,14 +196,14 @@ mark-blank (e ∷ es) (suc n) x = go (mark-blank es n x) (same? e.id x)
     go ih (inr q) = mark-next e es 0 (replicate n 0) x q ∙ ih
 
 -- marking changes the marks of its ids
-mark-marked : (m : ℕ) (ids : List ℕ) (es : List Entry) (ms : List ℕ) (x l : ℕ) → length es ≤ length ms → lookup es x ≡ Mapped l
+mark-marked : (m : ℕ) (ids : List ℕ) (es : List Entry) (ms : List ℕ) (x l : ℕ) → length es ≤ length ms → lookup es x ≡ Some l
     → mark_at es (marked m ids es ms) x ≡ pick (among x ids) m (mark_at es ms x)
 unfolding marked lookup
 mark-marked m ids [] ms x l n h = absurd (let z : ◌≡◌ {A = ℕ} 0 1 = cc in omega arith)
 mark-marked m ids (e ∷ es) [] x l n h = absurd (not-suc-le-zero n)
 mark-marked m ids (e ∷ es) (v ∷ ms) x l n h = go (λ q. mark-marked m ids es ms x l (le_of_suc-le-suc n) q) (same? e.id x)
   where
-    go : (lookup es x ≡ Mapped l → mark_at es (marked m ids es ms) x ≡ pick (among x ids) m (mark_at es ms x)) → (e.id ≡ x) ⊎ (e.id ≡ x → ⊥)
+    go : (lookup es x ≡ Some l → mark_at es (marked m ids es ms) x ≡ pick (among x ids) m (mark_at es ms x)) → (e.id ≡ x) ⊎ (e.id ≡ x → ⊥)
         → mark_at (e ∷ es) (pick (among e.id ids) m v ∷ marked m ids es ms) x ≡ pick (among x ids) m (mark_at (e ∷ es) (v ∷ ms) x)
     go ih (inl q) =
         mark-here e es (pick (among e.id ids) m v) (marked m ids es ms) x q ∙ ap (λ (y : ℕ). pick (among y ids) m v) q
@@ -228,14 +227,14 @@ word-marked s k ids ms x n = go (lookup s.table x) refl
     none true = refl
     none false = refl
 
-    some : (t : Bool) (l m : ℕ) → word_of s (Mapped l) (pick t (suc k) m) ≡ or_earlier (pick t (word_of s (Mapped l) (suc k)) silent) (word_of s (Mapped l) m)
-    some true l m = word_some s l k ∙ sym (ap (λ (w : Last). or_earlier w (word_of s (Mapped l) m)) (word_some s l k))
+    some : (t : Bool) (l m : ℕ) → word_of s (Some l) (pick t (suc k) m) ≡ or_earlier (pick t (word_of s (Some l) (suc k)) silent) (word_of s (Some l) m)
+    some true l m = word_some s l k ∙ sym (ap (λ (w : Last). or_earlier w (word_of s (Some l) m)) (word_some s l k))
     some false l m = refl
 
     go : (h : Held) → lookup s.table x ≡ h
         → word_of s h (mark_at s.table (marked (suc k) ids s.table ms) x) ≡ or_earlier (pick (among x ids) (word_of s h (suc k)) silent) (word_of s h (mark_at s.table ms x))
-    go Unmapped e = none (among x ids)
-    go (Mapped l) e = ap (word_of s (Mapped l)) (mark-marked (suc k) ids s.table ms x l n e) ∙ some (among x ids) l (mark_at s.table ms x)
+    go None e = none (among x ids)
+    go (Some l) e = ap (word_of s (Some l)) (mark-marked (suc k) ids s.table ms x l n e) ∙ some (among x ids) l (mark_at s.table ms x)
 
 -- slot by slot
 word-from : (s : Source) (slots ms : List ℕ) (x : ℕ) → length s.table ≤ length ms
@@ -425,14 +424,14 @@ module _ (table : List Entry) (id location : ℕ) where
   unfolding current
   by-held h e = ap (λ (t : Bool). pick t (id ∷ []) []) (current-mapped (lookup table id) location ∙ ap (λ (x : Held). mapped_to x location) e)
 
-  pub current-here : lookup table id ≡ Mapped location → current table id location ≡ id ∷ []
-  current-here h = by-held (Mapped location) h ∙ rw (eq-eqb location location refl) refl
+  pub current-here : lookup table id ≡ Some location → current table id location ≡ id ∷ []
+  current-here h = by-held (Some location) h ∙ rw (eq-eqb location location refl) refl
 
-  pub current-other : (l : ℕ) → lookup table id ≡ Mapped l → (l ≡ location → ⊥) → current table id location ≡ []
-  current-other l h n = by-held (Mapped l) h ∙ rw (ne_eqb l location n) refl
+  pub current-other : (l : ℕ) → lookup table id ≡ Some l → (l ≡ location → ⊥) → current table id location ≡ []
+  current-other l h n = by-held (Some l) h ∙ rw (ne_eqb l location n) refl
 
-  pub current-none : lookup table id ≡ Unmapped → current table id location ≡ []
-  current-none h = by-held Unmapped h
+  pub current-none : lookup table id ≡ None → current table id location ≡ []
+  current-none h = by-held None h
 
 module _ (lsn : ℕ) (table : List Entry) (e : Entry) where
   pub delete-here : delete_of e.location ≡ true → delete_id lsn table e ≡ current table e.id (absolute lsn e).location

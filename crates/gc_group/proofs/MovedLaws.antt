@@ -1,5 +1,5 @@
 -- The marked entries one by one: a turn over them, and what is known of their objects once the group's checks are clear.
-use Rattle.std.specs.Prelude.{◌≡◌, ◌⊎◌, ◌≤◌, ◌<◌, ◌∷◌, ◌+◌, ◌-◌}
+use Rattle.std.specs.Prelude.{◌≡◌, ◌⊎◌, ◌≤◌, ◌<◌, ◌∷◌, ◌+◌, ◌-◌, Ok, Some}
 use Rattle.std.proofs.Math.Path.{refl}
 use Rattle.std.proofs.Common.{sym, ap, ap₂, ◌∙◌, subst, true≢false, inl, inr, le_of_suc-le-suc, not-suc-le-zero, drop_of_length-le, drop-cons}
 use Rattle.std.proofs.Math.Numerals.{add-one}
@@ -10,10 +10,8 @@ use Rattle.rules.specs.Base.{Bool, true, false, List, [], ℕ, zero, suc, length
 use Rattle.rules.specs.BaseLaws.{All}
 use Rattle.rules.proofs.BaseLaws.{same?, all_both, replicate-at}
 use Rattle.rules.specs.declared.Entry.{Entry}
-use Rattle.rules.specs.declared.Held.TheVariants.{Mapped}
 use Rattle.rules.specs.declared.Loaded.{Loaded}
 use Rattle.rules.specs.declared.Loaded.TheVariants.{At, DeletedAt}
-use Rattle.rules.specs.declared.Answer.TheVariants.{Done}
 use Rattle.disk_location.specs.Locations.{position_of, delete_of, raw_of}
 use Rattle.disk_location.proofs.LocationLaws.{delete-raw}
 use Rattle.rules.specs.Refusal.{decide}
@@ -75,14 +73,14 @@ found-delete : (limit : ℕ) (s : Source) (k : ℕ) (e : Entry) → delete_of e.
     → current_at (load s.table e.id) (absolute (file_at s k).lsn e).location ≡ true → Found limit s k (record { id = e.id; content = delete })
 found-delete limit s k e d h =
     let location = raw_of (position_of e.location + (file_at s k).lsn) (delete_of e.location) in
-    let told : loaded_of (Mapped location) ≡ DeletedAt location = rw (delete-raw (position_of e.location + (file_at s k).lsn) (delete_of e.location), d) refl in
+    let told : loaded_of (Some location) ≡ DeletedAt location = rw (delete-raw (position_of e.location + (file_at s k).lsn) (delete_of e.location), d) refl in
     record {
       location = location;
       mapped = current-is (lookup s.table e.id) location h;
       backed = λ n. absurd (let z : ◌≡◌ {A = Loaded} (DeletedAt location) (At location) = sym told ∙ n in let y : ◌≡◌ {A = ℕ} 0 1 = cc in omega arith);
     }
 
-found_all : (limit : ℕ) (s : Source) (k : ℕ) → decide (file_tests limit s.table (file_at s k) (bytes_at s k)) ≡ Done → All (Found limit s k) (found_at s k)
+found_all : (limit : ℕ) (s : Source) (k : ℕ) → decide (file_tests limit s.table (file_at s k) (bytes_at s k)) ≡ Ok tt → All (Found limit s k) (found_at s k)
 found_all limit s k clear =
     let part = object_part (file_at s k) (bytes_at s k) in
     found-each s k (Found limit s k) (λ (o : Stored). AtPosition part o × Whole limit s.table o)
@@ -99,7 +97,7 @@ among_one R (o ∷ os) x a e = go (among_one R os x a.1) (same? o.id x)
     go ih (inl q) = (o, q, a.0)
     go ih (inr q) = ih (sym (among_next x o.id (ids_of os) q) ∙ e)
 
-found-backed : (limit : ℕ) (s : Source) (k : ℕ) → Rising 0 s.table → decide (file_tests limit s.table (file_at s k) (bytes_at s k)) ≡ Done
+found-backed : (limit : ℕ) (s : Source) (k : ℕ) → Rising 0 s.table → decide (file_tests limit s.table (file_at s k) (bytes_at s k)) ≡ Ok tt
     → (i : ℕ) → i < length s.table → among (get_or s.table i no_entry).id (ids_of (found_at s k)) ≡ true → Backed limit s (get_or s.table i no_entry) k
 found-backed limit s k r clear i h a =
     let e = get_or s.table i no_entry in
@@ -117,7 +115,7 @@ get_d-marked m ids (e ∷ es) (n ∷ ns) zero h l = refl
 get_d-marked m ids (e ∷ es) (n ∷ ns) (suc i) h l = get_d-marked m ids es ns i (le_of_suc-le-suc h) (le_of_suc-le-suc l)
 
 good-from : (limit : ℕ) (s : Source) (P : ℕ → Type 0) → Rising 0 s.table → (slots ms : List ℕ) → length s.table ≤ length ms
-    → All (λ (k : ℕ). decide (file_tests limit s.table (file_at s k) (bytes_at s k)) ≡ Done) slots → All P slots → Good limit s P ms → Good limit s P (marks_from s slots ms)
+    → All (λ (k : ℕ). decide (file_tests limit s.table (file_at s k) (bytes_at s k)) ≡ Ok tt) slots → All P slots → Good limit s P ms → Good limit s P (marks_from s slots ms)
 unfolding marks_from
 good-from limit s P r [] ms n clear all good = good
 good-from limit s P r (k ∷ ks) ms n clear all good =
@@ -134,7 +132,7 @@ good-from limit s P r (k ∷ ks) ms n clear all good =
         subst (λ (m : ℕ). P m × Backed limit s (get_or s.table i no_entry) m) q (all.0, found-backed limit s k r clear.0 i h a)
     go i j h false a e = good i j h e
 
-pub marks-backed : (limit : ℕ) (s : Source) (P : ℕ → Type 0) (slots : List ℕ) (n : ℕ) → Rising 0 s.table → length s.table ≤ n → decide (group_checks limit s slots) ≡ Done → All P slots
+pub marks-backed : (limit : ℕ) (s : Source) (P : ℕ → Type 0) (slots : List ℕ) (n : ℕ) → Rising 0 s.table → length s.table ≤ n → decide (group_checks limit s slots) ≡ Ok tt → All P slots
     → (i k : ℕ) → i < length s.table → get_or (marks_of s n slots) i 0 ≡ suc k → P k × Backed limit s (get_or s.table i no_entry) k
 unfolding marks_of group_checks
 marks-backed limit s P slots n r h clear all =

@@ -1,13 +1,12 @@
 -- The checks of a file and of a group, in the steps that code takes.
-use Rattle.std.specs.Prelude.{◌≡◌, Bool, ◌≤◌, ◌<◌, ◌+◌}
+use Rattle.std.specs.Prelude.{◌≡◌, Bool, ◌≤◌, ◌<◌, ◌+◌, Err, Ok}
 use Rattle.std.proofs.Math.Bool.{true, false}
 use Rattle.rules.specs.Base.{List, [], ℕ, pick, each}
 use Rattle.rules.specs.declared.Entry.{Entry}
 use Rattle.disk_location.specs.Locations.{delete_of}
 use Rattle.rules.specs.Refusal.{Test}
 use Rattle.rules.specs.Table.{load, never_written}
-use Rattle.location_table.specs.declared.Place.{Place}
-use Rattle.location_table.specs.declared.Place.TheVariants.{Found, Gap}
+use Rattle.location_table.specs.Answers.{Place}
 use Rattle.location_table.specs.Places.{place}
 use Rattle.rules.specs.Object.{Stored, bad_checksum}
 use Rattle.rules.specs.Maintenance.{delete_tests, file_tests}
@@ -15,8 +14,8 @@ use Rattle.gc_group.specs.Source.{Source, file_at, bytes_at}
 
 -- "id unmapped", by the place of the id
 abbrev pub never_at : Place → Bool
-never_at (Found k) = false
-never_at (Gap k) = true
+never_at (Ok k) = false
+never_at (Err k) = true
 
 -- one entry of a trailer: "delete entries: sum too great (20), id unmapped (18)"
 unfoldable pub entry_tests : ℕ → List Entry → Entry → List Test

@@ -1,9 +1,8 @@
 -- What a group found, remembered as one mark for each entry of the table: 0, or the slot where it was found last, plus 1.
-use Rattle.std.specs.Prelude.{◌∷◌, ◌++◌, ◌+◌, ◌-◌}
+use Rattle.std.specs.Prelude.{◌∷◌, ◌++◌, ◌+◌, ◌-◌, Some}
 use Rattle.rules.specs.Base.{Bool, false, List, [], map, ℕ, suc, drop, replicate, eqb, pick, any}
 use Rattle.rules.specs.declared.Entry.{Entry}
 use Rattle.rules.specs.declared.Label.{Label}
-use Rattle.rules.specs.declared.Held.TheVariants.{Mapped}
 use Rattle.rules.specs.declared.Loaded.{Loaded}
 use Rattle.rules.specs.declared.Loaded.TheVariants.{At, DeletedAt, Never}
 use Rattle.disk_location.specs.Locations.{position_of, delete_of, raw_of}
@@ -72,7 +71,7 @@ loaded_content s Never k = delete
 
 -- of the entry at a location
 unfoldable pub content_at : Source → ℕ → ℕ → Content
-content_at s location k = loaded_content s (loaded_of (Mapped location)) k
+content_at s location k = loaded_content s (loaded_of (Some location)) k
 
 -- the marked entries in table order, each with its content in the slot of its mark
 unfoldable pub marked_ops : Source → List Entry → List ℕ → List Op

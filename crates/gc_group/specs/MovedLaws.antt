@@ -1,8 +1,7 @@
 -- The marked entries one by one: a turn over them, and what is known of their objects once the group's checks are clear.
-use Rattle.std.specs.Prelude.{◌≡◌, ◌≤◌, ◌<◌, ◌-◌}
+use Rattle.std.specs.Prelude.{◌≡◌, ◌≤◌, ◌<◌, ◌-◌, Some}
 use Rattle.rules.specs.Base.{List, ℕ, suc, length, get_or}
 use Rattle.rules.specs.declared.Entry.{Entry}
-use Rattle.rules.specs.declared.Held.TheVariants.{Mapped}
 use Rattle.rules.specs.declared.Loaded.TheVariants.{At}
 use Rattle.disk_location.specs.Locations.{position_of}
 use Rattle.rules.specs.Table.{lookup, loaded_of, load, no_entry}
@@ -19,12 +18,12 @@ pub record Moves (limit : ℕ) (s : Source) (e : Entry) (k : ℕ) : Type 0 where
 
 -- if load tells of an object
 abbrev pub Backed : ℕ → Source → Entry → ℕ → Type 0
-Backed limit s e k = loaded_of (Mapped e.location) ≡ At e.location → Moves limit s e k
+Backed limit s e k = loaded_of (Some e.location) ≡ At e.location → Moves limit s e k
 
 -- what is found, with where it stands
 pub record Found (limit : ℕ) (s : Source) (k : ℕ) (o : Op) : Type 0 where
   pub location : ℕ
-  pub mapped : lookup s.table o.id ≡ Mapped location
+  pub mapped : lookup s.table o.id ≡ Some location
   pub backed : Backed limit s (record { id = o.id; location = location }) k
 
 -- every mark is of a slot of the group, and its object stands there whole

@@ -1,7 +1,6 @@
-ghost use Rattle.std.specs.Prelude.{◌≡◌, ◌+◌, ◌*◌, ◌^◌, ◌<◌, ◌≤◌, length, replicate};
+ghost use Rattle.std.specs.Prelude.{◌≡◌, ◌+◌, ◌*◌, ◌^◌, ◌<◌, ◌≤◌, length, Ok};
 ghost use Rattle.rules.specs.Base.{each};
 ghost use Rattle.rules.specs.BaseLaws.{All};
-ghost use Rattle.rules.specs.declared.Answer.TheVariants.{Done};
 ghost use Rattle.rules.specs.Refusal.{decide};
 ghost use Rattle.rules.specs.Object.{objects_in};
 ghost use Rattle.rules.specs.Trailer.{count_in, entries_in};
@@ -19,13 +18,20 @@ ghost use Rattle.gc_group.specs.Marks.{found_file, ids_of, current, object_id, d
 use crate::Group;
 use crate::check::{check_deletes, check_object};
 use disk_location::{DiskLocation, RelativeDiskLocation};
-use location_table::{Place, find, find_near, location_at, number_of};
-use rules::{Answer, Entry, FileMap, Label, OBJECT_HEADER, RECORDS, Refusal};
+use location_table::{find, find_near, location_at, number_of};
+use rules::{Entry, FileMap, Label, OBJECT_HEADER, Refusal};
 use slot_file::slot::{object_part, slot_at, trailer_part};
 use stored_object::{Step, object};
 
 // The entry at an id's place takes the mark where this is its current location.
-fn mark_at(table: &[u64], marks: &mut [u32], found: Place, id: u64, location: u64, mark: u32)
+fn mark_at(
+    table: &[u64],
+    marks: &mut [u32],
+    found: Result<usize, usize>,
+    id: u64,
+    location: u64,
+    mark: u32,
+)
     requires formed { Formed table.now × (found ≡ place (used_entries table.now) id) }
     requires table_in_bounds { length (table_ids table.now) ≤ length marks.old }
     ensures { marks.new ≡ marked mark
@@ -33,13 +39,10 @@ fn mark_at(table: &[u64], marks: &mut [u32], found: Place, id: u64, location: u6
         (used_entries table.now)
         marks.old }
 {
-    match found {
-        Place::Found(i) => {
-            if location_at(table, i) == location {
-                marks[i] = mark;
-            }
+    if let Ok(i) = found {
+        if location_at(table, i) == location {
+            marks[i] = mark;
         }
-        Place::Gap(_) => {}
     }
 }
 
@@ -52,13 +55,13 @@ fn mark_objects(
     marks: &mut [u32],
     mark: u32,
     limit: u64,
-) -> Answer
+) -> Result<(), Refusal>
     requires objects_bound { lsn + length objects.now < 2 ^ 63 }
     requires formed { Formed table.now }
     requires table_in_bounds { length (table_ids table.now) ≤ length marks.old }
     ensures answers { result
         ≡ decide (each (moved_tests limit (used_entries table.now)) (objects_in objects.now)) }
-    ensures marks { result ≡ Done → marks.new ≡ marked mark
+    ensures marks { result ≡ Ok tt → marks.new ≡ marked mark
         (each (object_id lsn (used_entries table.now)) (objects_in objects.now))
         (used_entries table.now)
         marks.old }
@@ -67,16 +70,20 @@ fn mark_objects(
     let mut position: u64 = 0;
     loop {
         match object::step(objects, position) {
-            Step::End => return Answer::Done,
-            Step::HeaderCut => return Answer::Refused(Refusal::CutShort),
+            Step::End => return Ok(()),
+            Step::HeaderCut => return Err(Refusal::CutShort),
             Step::Here(h) => {
                 let found = find_near(table, h.id, near);
-                match check_object(objects, position, h, found, limit) {
-                    Answer::Refused(refusal) => return Answer::Refused(refusal),
-                    Answer::Done => {}
-                }
+                check_object(objects, position, h, found, limit)?;
                 let location = DiskLocation::new(lsn + position, false);
-                mark_at(table, marks, found, h.id, location.raw(), mark);
+                mark_at(
+                    table,
+                    marks,
+                    found,
+                    h.id,
+                    disk_location::raw(location),
+                    mark,
+                );
                 near = number_of(found);
                 position += OBJECT_HEADER as u64 + h.size;
             }
@@ -102,7 +109,7 @@ fn mark_delete(e: Entry, lsn: u64, table: &[u64], marks: &mut [u32], mark: u32)
             marks,
             found,
             e.id,
-            location.to_absolute(lsn).raw(),
+            disk_location::raw(location.to_absolute(lsn)),
             mark,
         );
     }
@@ -119,11 +126,8 @@ fn mark_deletes(trailer: &[u8], lsn: u64, table: &[u64], marks: &mut [u32], mark
         (used_entries table.now)
         marks.old }
 {
-    let n = trailer::count(trailer);
-    let mut k: u64 = 0;
-    while k < n {
+    for k in 0..trailer::count(trailer) {
         mark_delete(trailer::entry(trailer, k), lsn, table, marks, mark);
-        k += 1;
     }
 }
 
@@ -135,41 +139,22 @@ pub fn mark_file(
     marks: &mut [u32],
     mark: u32,
     limit: u64,
-) -> Answer
+) -> Result<(), Refusal>
     requires lies { Lies (length slot.now) l }
     requires formed { Formed table.now }
     requires table_in_bounds { length (table_ids table.now) ≤ length marks.old }
     ensures answers { result ≡ decide (file_tests limit (used_entries table.now) l slot.now) }
-    ensures marks { result ≡ Done → marks.new ≡ marked mark
+    ensures marks { result ≡ Ok tt → marks.new ≡ marked mark
         (ids_of (found_file (used_entries table.now) l slot.now))
         (used_entries table.now)
         marks.old }
 {
     let trailer = trailer_part(slot, l);
-    match trailer::check(trailer) {
-        Answer::Refused(refusal) => return Answer::Refused(refusal),
-        Answer::Done => {}
-    }
-    match mark_objects(object_part(slot, l), l.lsn, table, marks, mark, limit) {
-        Answer::Refused(refusal) => return Answer::Refused(refusal),
-        Answer::Done => {}
-    }
-    match check_deletes(trailer, l.lsn, table) {
-        Answer::Refused(refusal) => return Answer::Refused(refusal),
-        Answer::Done => {}
-    }
+    trailer::check(trailer)?;
+    mark_objects(object_part(slot, l), l.lsn, table, marks, mark, limit)?;
+    check_deletes(trailer, l.lsn, table)?;
     mark_deletes(trailer, l.lsn, table, marks, mark);
-    Answer::Done
-}
-
-fn unmark(marks: &mut [u32])
-    ensures { marks.new ≡ replicate (length marks.old) 0 }
-{
-    let mut i: usize = 0;
-    while i < marks.len() {
-        marks[i] = 0;
-        i += 1;
-    }
+    Ok(())
 }
 
 // "All files of a group are checked before it writes, ascending by slot": what is found is marked while it is checked, and the marks of a
@@ -183,34 +168,28 @@ pub fn mark_group(
     table: &[u64],
     marks: &mut [u32],
     lsns: &mut [u64],
-) -> Answer
+) -> Result<(), Refusal>
     requires ready { Ready group.settings.slot_bytes (length heap.now) m.records plan.now group.generation }
     requires formed { Formed table.now }
     requires table_in_bounds { (length (table_ids table.now) ≤ length marks.old) × (length lsns.old ≡ 256) }
     ensures answers { result ≡ decide (group_checks group.settings.max_object_size
         (source group.settings.slot_bytes heap.now m.records (used_entries table.now))
         (planned plan.now group.generation)) }
-    ensures marks { result ≡ Done → marks.new ≡ marks_of
+    ensures marks { result ≡ Ok tt → marks.new ≡ marks_of
         (source group.settings.slot_bytes heap.now m.records (used_entries table.now))
         (length marks.old)
         (planned plan.now group.generation) }
-    ensures lsns { result ≡ Done → lsns.new ≡ lsns_of m.records }
+    ensures lsns { result ≡ Ok tt → lsns.new ≡ lsns_of m.records }
 {
-    unmark(marks);
-    let mut i: usize = 0;
-    while i < RECORDS {
-        let r = m.records[i];
+    marks.fill(0);
+    for (i, r) in m.records.iter().enumerate() {
         let l = r.label;
         lsns[i] = l.lsn;
         if plan[i] == group.generation {
             let slot = slot_at(heap, group.settings.slot_bytes as usize, i);
             let mark = i as u32 + 1;
-            match mark_file(slot, l, table, marks, mark, group.settings.max_object_size) {
-                Answer::Refused(refusal) => return Answer::Refused(refusal),
-                Answer::Done => {}
-            }
+            mark_file(slot, l, table, marks, mark, group.settings.max_object_size)?;
         }
-        i += 1;
     }
-    Answer::Done
+    Ok(())
 }

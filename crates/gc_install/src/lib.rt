@@ -18,7 +18,7 @@ ghost use Rattle.gc_writer.specs.Walk.{piece_ops};
 ghost use Rattle.gc_writer.specs.Writing.{Writing};
 ghost use Rattle.gc_install.specs.Placing.{Placing};
 
-use gc_writer::PieceFile;
+use gc_writer::{PieceFile, Sizes};
 use install::StoredFile;
 use rules::{Label, Settings, State};
 
@@ -32,7 +32,7 @@ fn put_piece(
     new: Label,
 )
     requires { Writing file.start file.slot_bytes
-        heap.old (table_ids table.now) places.now links.now file.first file.count file.total }
+        heap.old (table_ids table.now) places.now links.now file.first file.sizes.count file.sizes.total }
     ensures { heap.new ≡ made (file_stores file.start (label_bytes new)
         (file_bytes (piece_ops file.first heap.old table.now places.now links.now)))
         heap.old }
@@ -49,16 +49,6 @@ pub struct NewFile {
     pub slot: usize,
 }
 
-// The same with its count of entries and T.
-#[derive(Clone, Copy)]
-struct SizedFile {
-    first: u32,
-    generation: u64,
-    slot: usize,
-    count: u64,
-    total: u64,
-}
-
 // The file of a piece in its slot, then table, live counts, record and next position by the trailer that stands there.
 fn add_at(
     settings: Settings,
@@ -67,27 +57,27 @@ fn add_at(
     table: &mut [u64],
     places: &[u32],
     links: &[u32],
-    file: SizedFile,
+    file: NewFile,
+    sizes: Sizes,
 ) -> State
     requires addable { Addable 0 (piece_ops file.first heap.old table.old places.now links.now)
-        settings state heap.old table.old file.slot file.count file.total }
+        settings state heap.old table.old file.slot sizes.count sizes.total }
     requires writing { Writing (file.slot * settings.slot_bytes) settings.slot_bytes
-        heap.old (table_ids table.old) places.now links.now file.first file.count file.total }
+        heap.old (table_ids table.old) places.now links.now file.first sizes.count sizes.total }
     ensures { (c : Claims) → world settings result c heap.new table.new
         ≡ installed 0 file.generation (world settings state c heap.old table.old)
         (piece_ops file.first heap.old table.old places.now links.now) }
 {
     // "lsn = base without the batch bit", the new generation
     let base = state.next_position;
-    let new = install::new_label(base, file.count, file.total, file.generation);
+    let new = install::new_label(base, sizes.count, sizes.total, file.generation);
     let slot_bytes = settings.slot_bytes;
     let start = file.slot * slot_bytes as usize;
     let written = PieceFile {
         first: file.first,
         start: start,
         slot_bytes: slot_bytes,
-        count: file.count,
-        total: file.total,
+        sizes: sizes,
     };
     put_piece(heap, table, places, links, written, new);
     let files = state.files;
@@ -95,8 +85,8 @@ fn add_at(
     let mut lives = file_map::lives(files);
     let stored = StoredFile {
         start: start,
-        count: file.count,
-        total: file.total,
+        count: sizes.count,
+        total: sizes.total,
         lsn: new.lsn,
     };
     install::install(&lsns, &mut lives, table, heap, stored);
@@ -139,12 +129,5 @@ pub fn add_piece(
         + (length (objects_of (piece_ops file.first heap.old table.old places.now links.now)) + 1) }
 {
     let sizes = gc_writer::sized(heap, table, places, links, file.first);
-    let sized = SizedFile {
-        first: file.first,
-        generation: file.generation,
-        slot: file.slot,
-        count: sizes.count,
-        total: sizes.total,
-    };
-    add_at(settings, state, heap, table, places, links, sized)
+    add_at(settings, state, heap, table, places, links, file, sizes)
 }

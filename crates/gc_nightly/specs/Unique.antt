@@ -3,7 +3,7 @@ use Rattle.std.specs.Prelude.{◌≡◌}
 use Rattle.std.proofs.Common.{ap₂}
 use Rattle.rules.specs.Base.{List, ℕ, length}
 use Rattle.rules.specs.declared.State.{State}
-use Rattle.rules.specs.declared.MaintainAnswer.{MaintainAnswer}
+use Rattle.rules.specs.Types.{MaintainAnswer}
 use Rattle.rules.proofs.Answers as answers
 use Rattle.rules.specs.TwoCalls.{nightly_call}
 use Rattle.rules.specs.World.{maintain_given}

@@ -10,21 +10,21 @@ ghost use Rattle.rules.specs.TwoCalls.{room_of, notes_left, job_of, job_ended, n
 ghost use Rattle.rules.specs.World.{world, leaving, maintain_given};
 ghost use Rattle.as_numbers.specs.StateWords.{state_in};
 ghost use Rattle.prune.specs.Labels.{LabelsIn};
-ghost use Rattle.gc_course.specs.Runs.{stop_of, standing, answer_of};
+ghost use Rattle.gc_course.specs.Runs.{stop_in, standing};
 ghost use Rattle.gc_course.specs.Own.{OwnStop};
 
 use as_numbers::state_words::{put_state, state_in};
-use gc_course::{Halt, Request, Run, answer_of, halt_of, is_going};
+use gc_course::{Request, is_prune_due};
 use gc_generation::rewrite_generation;
 use gc_notes::{clear, too_short};
-use gc_words::{count_in, refused_in, state_held};
+use gc_words::{count_in, refused_in};
 use prune::pruned;
-use rules::{Claims, MaintainAnswer, Refusal, Settings, State};
+use rules::{Claims, Refusal, Settings, State, Stopped};
 
 // What the nightly job answers, and the state after it.
 #[derive(Clone, Copy)]
 pub struct Maintained {
-    pub answer: MaintainAnswer,
+    pub answer: Result<u64, Stopped>,
     pub state: State,
 }
 
@@ -38,64 +38,55 @@ fn rewrites(
     table: &mut [u64],
     places: &mut [u32],
     pieces: &mut [u32],
-) -> Run
+) -> Result<u64, Stopped>
     requires passed_2 { Passed settings (length heap.old) table.old (state_in state.old) }
     requires table_in_bounds { (capacity_of table.old ≤ length places.old) × (capacity_of table.old ≤ length pieces.old) }
     ensures leaves { standing result (world settings (state_in state.new) claims heap.new table.new)
         ≡ job_of (world settings (state_in state.old) claims heap.old table.old)
         (room_of places.old pieces.old) }
     ensures passed { Passed settings (length heap.new) table.new (state_in state.new) }
-    ensures own { OwnStop (stop_of result.halt) }
+    ensures own { OwnStop (stop_in result) }
 {
     let mark = state[1800];
     let count = count_in(state);
-    let mut run = Run {
-        halt: Halt::Going,
-        moved: 0,
-    };
-    let mut generation: u64 = 1;
-    while generation <= 3 {
-        let halt = run.halt;
-        if is_going(halt) {
-            let asked = Request {
-                generation: generation,
-                mark: mark,
-                count: count,
-            };
-            let course = rewrite_generation(
-                settings, state, claims, heap, table, places, pieces, asked,
-            );
-            let answer = course.answer;
-            run = Run {
-                halt: halt_of(answer, generation),
-                moved: run.moved + course.moved,
-            };
+    let mut moved: u64 = 0;
+    for generation in 1..=3 {
+        let asked = Request {
+            generation: generation,
+            mark: mark,
+            count: count,
+        };
+        match rewrite_generation(settings, state, claims, heap, table, places, pieces, asked) {
+            Ok(ids) => moved += ids,
+            Err(refusal) => {
+                return Err(Stopped {
+                    refusal,
+                    generation,
+                    moved,
+                });
+            }
         }
-        generation += 1;
     }
-    run
+    Ok(moved)
 }
 
 // "nothing is pruned. Success prunes and gives the count of ids moved."
 fn finish(
     settings: Settings,
-    run: Run,
+    answer: Result<u64, Stopped>,
     state: &mut [u64; 1801],
     claims: Claims,
     heap: &mut [u8],
-) -> MaintainAnswer
+)
     requires { LabelsIn settings.slot_bytes (state_in state.old).files.records (length heap.old) }
-    ensures answers { result ≡ answer_of run.halt run.moved }
-    ensures leaves { (table : List ℕ)
+    ensures { (table : List ℕ)
         → refused1 (world settings (state_in state.old) claims heap.old table) ≡ false
-        → leaving (maintain_given result) (world settings (state_in state.new) claims heap.new table)
-        ≡ job_ended (stop_of run.halt) (standing run (world settings (state_in state.old) claims heap.old table)) }
+        → leaving (maintain_given answer) (world settings (state_in state.new) claims heap.new table)
+        ≡ job_ended (stop_in answer) (standing answer (world settings (state_in state.old) claims heap.old table)) }
 {
-    let end = run.halt;
     let was = state_in(state);
-    let after = pruned(settings, was, claims, heap, is_going(end));
+    let after = pruned(settings, was, claims, heap, is_prune_due(answer));
     put_state(state, after);
-    answer_of(end, run.moved)
 }
 
 // "the nightly job becomes plan, rewrite 1, 2, 3, then prune, stopping at the first call refused", on the state's words. The lent notes are
@@ -108,7 +99,7 @@ pub fn nightly_in(
     table: &mut [u64],
     places: &mut [u32],
     pieces: &mut [u32],
-) -> MaintainAnswer
+) -> Result<u64, Stopped>
     ensures leaves { leaving (maintain_given result)
         (world settings (state_in state.new) claims heap.new table.new)
         ≡ nightly_call (world settings (state_in state.old) claims heap.old table.old)
@@ -117,15 +108,24 @@ pub fn nightly_in(
     ensures pieces { pieces.new ≡ notes_left (maintain_given result) pieces.old }
 {
     if refused_in(settings, state, heap, table) {
-        return MaintainAnswer::Stopped(Refusal::Limits, 0, 0);
+        return Err(Stopped {
+            refusal: Refusal::Limits,
+            generation: 0,
+            moved: 0,
+        });
     }
     if too_short(table, places, pieces) {
-        return MaintainAnswer::Stopped(Refusal::Limits, 0, 0);
+        return Err(Stopped {
+            refusal: Refusal::Limits,
+            generation: 0,
+            moved: 0,
+        });
     }
-    let run = rewrites(settings, state, claims, heap, table, places, pieces);
+    let answer = rewrites(settings, state, claims, heap, table, places, pieces);
     clear(places);
     clear(pieces);
-    finish(settings, run, state, claims, heap)
+    finish(settings, answer, state, claims, heap);
+    answer
 }
 
 // The same with the state by value.
@@ -150,6 +150,6 @@ pub fn nightly(
     let answer = nightly_in(settings, &mut words, claims, heap, table, places, pieces);
     Maintained {
         answer: answer,
-        state: state_held(&words),
+        state: state_in(&words),
     }
 }

@@ -22,9 +22,5 @@ pub fn too_short(table: &[u64], places: &[u32], pieces: &[u32]) -> bool
 pub fn clear(notes: &mut [u32])
     ensures { notes.new ≡ replicate (length notes.old) 0 }
 {
-    let mut i: usize = 0;
-    while i < notes.len() {
-        notes[i] = 0;
-        i += 1;
-    }
+    notes.fill(0);
 }

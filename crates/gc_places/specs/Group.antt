@@ -1,9 +1,8 @@
 -- Where everything that a group found stands: a place for each entry of the table that is moved.
-use Rattle.std.specs.Prelude.{◌≡◌, ◌≤◌, ◌<◌, ◌^◌}
+use Rattle.std.specs.Prelude.{◌≡◌, ◌≤◌, ◌<◌, ◌^◌, Ok}
 use Rattle.numbers.specs.LittleEndian.{Bytes}
 use Rattle.rules.specs.Base.{List, ℕ, length, get_or, each}
 use Rattle.rules.specs.declared.Record.{Record}
-use Rattle.rules.specs.declared.Answer.TheVariants.{Done}
 use Rattle.rules.specs.Refusal.{decide}
 use Rattle.rules.specs.Ops.{settled}
 use Rattle.rules.specs.Layout.{Table, table_ids, used_entries}
@@ -19,7 +18,7 @@ pub record Checked (limit size : ℕ) (heap : List ℕ) (records : List Record) 
   pub low : 64 ≤ size
   pub high : size ≤ 2 ^ 20
   pub ready : Ready size (length heap) records plan generation
-  pub clear : decide (group_checks limit (source size heap records (used_entries table)) (planned plan generation)) ≡ Done
+  pub clear : decide (group_checks limit (source size heap records (used_entries table)) (planned plan generation)) ≡ Ok tt
   pub formed : Formed table
   pub wide : length (table_ids table) ≤ n
   pub bytes : Bytes heap

@@ -1,5 +1,5 @@
 -- The places of a group's marked entries: what stands there is what the group found.
-use Rattle.std.specs.Prelude.{◌≡◌, ◌⊎◌, ◌≤◌, ◌<◌, ◌∷◌, ◌++◌, ◌+◌, ◌-◌, ◌*◌, ◌^◌}
+use Rattle.std.specs.Prelude.{◌≡◌, ◌⊎◌, ◌≤◌, ◌<◌, ◌∷◌, ◌++◌, ◌+◌, ◌-◌, ◌*◌, ◌^◌, Ok, Some}
 use Rattle.std.proofs.Math.Path.{refl, sym, ap, ap₂, subst}
 use Rattle.std.proofs.Common.{◌∙◌, inl, inr, le_of_suc-le-suc, not-suc-le-zero, length-drop, get_or-drop, length-take-le, take_at}
 use native.Mathlib.Omega.{arith}
@@ -16,8 +16,6 @@ use Rattle.rules.specs.declared.Entry.{Entry}
 use Rattle.rules.specs.declared.Label.{Label}
 use Rattle.rules.specs.declared.Record.{Record}
 use Rattle.rules.specs.declared.Settings.{Settings}
-use Rattle.rules.specs.declared.Answer.TheVariants.{Done}
-use Rattle.rules.specs.declared.Held.TheVariants.{Mapped}
 use Rattle.rules.specs.declared.Loaded.{Loaded}
 use Rattle.rules.specs.declared.Loaded.TheVariants.{At, DeletedAt}
 use Rattle.rules.specs.Refusal.{decide}
@@ -52,7 +50,7 @@ use Rattle.gc_places.specs.Group.{Checked, Kept, InGroup}
 -- settings in their ranges have slots of a fitting size
 pub group-checked : (s : Settings) (heap : List ℕ) (records : List Record) (plan : List ℕ) (generation : ℕ) (table : Table) (n : ℕ) → InRanges s
     → Ready s.slot_bytes (length heap) records plan generation
-    → decide (group_checks s.max_object_size (source s.slot_bytes heap records (used_entries table)) (planned plan generation)) ≡ Done
+    → decide (group_checks s.max_object_size (source s.slot_bytes heap records (used_entries table)) (planned plan generation)) ≡ Ok tt
     → Formed table → length (table_ids table) ≤ n → Bytes heap → Checked s.max_object_size s.slot_bytes heap records plan generation table n
 group-checked s heap records plan generation table n ranges ready clear formed wide bytes =
     record { low = omega (arith, ranges.slot-low); high = ranges.slot-high; ready = ready; clear = clear; formed = formed; wide = wide; bytes = bytes }
@@ -66,7 +64,7 @@ places-length size lsns (l ∷ ls) [] h = absurd (not-suc-le-zero h)
 places-length size lsns (l ∷ ls) (m ∷ ms) h = ap suc (places-length size lsns ls ms (le_of_suc-le-suc h))
 
 -- that of entry i
-places-at : (size : ℕ) (lsns ls ms : List ℕ) (i : ℕ) → i < length ls → i < length ms → get_or (places_for size lsns ls ms) i 0 ≡ place_for size lsns (loaded_of (Mapped (get_or ls i 0))) (get_or ms i 0)
+places-at : (size : ℕ) (lsns ls ms : List ℕ) (i : ℕ) → i < length ls → i < length ms → get_or (places_for size lsns ls ms) i 0 ≡ place_for size lsns (loaded_of (Some (get_or ls i 0))) (get_or ms i 0)
 unfolding places_for
 places-at size lsns [] ms i h g = absurd (not-suc-le-zero h)
 places-at size lsns (l ∷ ls) [] i h g = absurd (not-suc-le-zero g)
@@ -212,7 +210,7 @@ module _ (limit size : ℕ) (heap : List ℕ) (records : List Record) (plan : Li
 
   -- what load tells of it
   abbrev loaded : ℕ → Loaded
-  loaded i = loaded_of (Mapped (get_or ls i 0))
+  loaded i = loaded_of (Some (get_or ls i 0))
 
   -- the place in slot k of an entry of which load tells that
   abbrev place : Loaded → ℕ → ℕ
@@ -237,8 +235,8 @@ module _ (limit size : ℕ) (heap : List ℕ) (records : List Record) (plan : Li
     stood-delete i k h few told =
         let is_one = place-gone size lsns (get_or ls i 0) k in
         let next : suc k ≡ k + 1 = omega arith in
-        let content : loaded_content from (loaded_of (Mapped (entry_at i).location)) k ≡ delete =
-        ap (λ (l : ℕ). loaded_content from (loaded_of (Mapped l)) k) (sym (used-location table i h)) ∙ ap (λ (o : Loaded). loaded_content from o k) told in
+        let content : loaded_content from (loaded_of (Some (entry_at i).location)) k ≡ delete =
+        ap (λ (l : ℕ). loaded_content from (loaded_of (Some l)) k) (sym (used-location table i h)) ∙ ap (λ (o : Loaded). loaded_content from o k) told in
         record {
           some = omega (arith, is_one);
           op = place-delete size heap lsns (get_or ls i 0) k (suc k) next (get_or is i 0) ∙ ap₂ (λ (x : ℕ) (c : Content). record { id = x; content = c }) (used-id table i h) (sym content);
@@ -271,8 +269,8 @@ module _ (limit size : ℕ) (heap : List ℕ) (records : List Record) (plan : Li
         let stands = place-object size heap lsns location k (suc k) next (get_or is i 0) r a.low whole room lies.short in
         let is_at = place-object-is size lsns location k in
         let there : position_of location - r.lsn ≡ p = ap (λ (m : ℕ). position_of location - m) (sym lsn) in
-        let content : loaded_content from (loaded_of (Mapped (entry_at i).location)) k ≡ put (stored_at p (drop p part)).body =
-        ap (λ (l : ℕ). loaded_content from (loaded_of (Mapped l)) k) (sym at) ∙ ap (λ (o : Loaded). loaded_content from o k) told
+        let content : loaded_content from (loaded_of (Some (entry_at i).location)) k ≡ put (stored_at p (drop p part)).body =
+        ap (λ (l : ℕ). loaded_content from (loaded_of (Some l)) k) (sym at) ∙ ap (λ (o : Loaded). loaded_content from o k) told
         ∙ ap (λ (m : ℕ). put (stored_at m (drop m part)).body) there in
         record {
           some = omega (arith, is_at);
@@ -289,7 +287,7 @@ module _ (limit size : ℕ) (heap : List ℕ) (records : List Record) (plan : Li
         let w = marks-backed limit from (λ (j : ℕ). (j < length plan) × (get_or plan j 0 ≡ generation)) slots n (used-rising table a.formed) fits a.clear (planned-all plan generation) i k h e in
         let few : k < 256 = omega (arith, w.0.0, a.ready.slots) in
         either-kind (λ (o : Loaded). loaded i ≡ o → Stood i k o) (get_or ls i 0) (stood-delete i k h few)
-        (λ told. stood-object i k h few w.0.1 told (w.1 (subst (λ (l : ℕ). loaded_of (Mapped l) ≡ At l) (used-location table i h) told))) refl
+        (λ told. stood-object i k h few w.0.1 told (w.1 (subst (λ (l : ℕ). loaded_of (Some l) ≡ At l) (used-location table i h) told))) refl
 
     -- an entry behind the used ones has no mark
     unmarked : (i k : ℕ) → length (used_entries table) ≤ i → get_or marks i 0 ≡ suc k → ⊥

@@ -2,8 +2,7 @@
 
 #![tactic(auto)]
 
-ghost use Rattle.std.specs.Prelude.{◌≡◌, ◌≤◌, length, replicate};
-ghost use Rattle.rules.specs.declared.Answer.TheVariants.{Done};
+ghost use Rattle.std.specs.Prelude.{◌≡◌, ◌≤◌, length, replicate, Ok};
 ghost use Rattle.rules.specs.Refusal.{decide};
 ghost use Rattle.rules.specs.SettingsLaws.{InRanges};
 ghost use Rattle.rules.specs.Layout.{table_ids, used_entries};
@@ -16,7 +15,7 @@ ghost use Rattle.gc_places.specs.Group.{GroupPlaced};
 use gc_files::marked::place_all;
 use gc_group::Group;
 use gc_group::marks::mark_group;
-use rules::{Answer, FileMap, RECORDS};
+use rules::{FileMap, RECORDS, Refusal};
 
 // The group's checks; where none refuses it, "Objects and deletes at their id's current location .. one found twice only
 // once, as last found": a place for each, 0 for every other entry. `marks` is room for a mark of each entry, whatever
@@ -29,7 +28,7 @@ pub fn place_group(
     table: &[u64],
     marks: &mut [u32],
     places: &mut [u32],
-) -> Answer
+) -> Result<(), Refusal>
     requires in_ranges { InRanges group.settings }
     requires ready { Ready group.settings.slot_bytes (length heap.now) m.records plan.now group.generation }
     requires formed { Formed table.now }
@@ -39,14 +38,11 @@ pub fn place_group(
     ensures answers { result ≡ decide (group_checks group.settings.max_object_size
         (source group.settings.slot_bytes heap.now m.records (used_entries table.now))
         (planned plan.now group.generation)) }
-    ensures places { result ≡ Done → GroupPlaced group.settings.slot_bytes heap.now m.records
+    ensures places { result ≡ Ok tt → GroupPlaced group.settings.slot_bytes heap.now m.records
         plan.now group.generation table.now places.new }
 {
     let mut lsns = [0u64; RECORDS];
-    match mark_group(group, heap, m, plan, table, marks, &mut lsns) {
-        Answer::Refused(refusal) => return Answer::Refused(refusal),
-        Answer::Done => {}
-    }
+    mark_group(group, heap, m, plan, table, marks, &mut lsns)?;
     place_all(table, marks, &lsns, group.settings.slot_bytes, places);
-    Answer::Done
+    Ok(())
 }

@@ -3,7 +3,7 @@ use mathlib.Core.Path.{◌≡◌, refl, sym, ap, ◌∙◌, subst}
 use Prim.Native.Nat.{◌≤◌, ◌<◌, ◌-◌}
 use native.Mathlib.Nat.{sub_self}
 use native.Mathlib.Omega.{arith}
-use Rattle.std.specs.Prelude.{◌∷◌, ◌+◌, ◌^◌}
+use Rattle.std.specs.Prelude.{◌∷◌, ◌+◌, ◌^◌, None}
 use Rattle.rules.specs.Base.{List, [], ℕ, zero, suc}
 use Rattle.rules.specs.SettingsLaws.{InRanges}
 use Rattle.rules.specs.Install.{empty_of}
@@ -11,7 +11,6 @@ use Rattle.rules.specs.Maintenance.{going, group}
 use Rattle.rules.specs.TwoCalls.{mark_of, count_of, foretelling, foretold_from, forecast_of}
 use Rattle.rules.specs.World.{World}
 use Rattle.gc_candidates.specs.Plan.{planned, group-planned}
-use Rattle.gc_course.specs.declared.Halt.TheVariants.{Going}
 use Rattle.gc_course.specs.Runs.{stop_of, generations_from}
 use Rattle.gc_group.specs.Source.{source_in}
 use Rattle.gc_plan.specs.declared.Forecast.{Forecast}
@@ -29,7 +28,7 @@ module _ (w : World) where
 
   -- before the first
   pub foretelling-start : empty_of w ≤ 256 → (empty mark : ℕ) → mark < 2 ^ 64 → empty ≡ empty_of w → mark ≡ mark_of w
-      → Foretelling 1 (record { halt = Going; files = 0; bytes = 0; room = record { empty = empty; base = mark } })
+      → Foretelling 1 (record { halt = None; files = 0; bytes = 0; room = record { empty = empty; base = mark } })
   unfolding forecast_of
   foretelling-start few empty mark low e q = record {
     left = 3;

@@ -1,13 +1,12 @@
 -- What is foretold group by group, as the code keeps it, and that it is what the definitions foretell.
-use Rattle.std.specs.Prelude.{◌≡◌, ◌≤◌, ◌<◌, ◌∷◌, ◌++◌, ◌+◌, ◌-◌, ◌*◌, ◌^◌}
+use Rattle.std.specs.Prelude.{◌≡◌, ◌≤◌, ◌<◌, ◌∷◌, ◌++◌, ◌+◌, ◌-◌, ◌*◌, ◌^◌, Err, Ok, Option, Some, None}
 use Rattle.std.proofs.Math.Path.{refl, sym, ap}
 use Rattle.std.proofs.Common.{◌∙◌, true≢false, arith, lt-ltb, le-ltb}
 use Rattle.rules.specs.Base.{Bool, true, false, List, [], ℕ, length, ltb, pick, sum}
 use Rattle.rules.specs.BaseLaws.{All}
 use Rattle.rules.specs.declared.Settings.{Settings}
 use Rattle.rules.specs.declared.Refusal.{Refusal}
-use Rattle.rules.specs.declared.Answer.{Answer}
-use Rattle.rules.specs.declared.Answer.TheVariants.{Done, Refused}
+use Rattle.rules.specs.Types.{Answer}
 use Rattle.rules.specs.SettingsLaws.{InRanges}
 use Rattle.rules.specs.Refusal.{Test, decide, after}
 use Rattle.rules.specs.Ops.{Op, file_bytes}
@@ -20,7 +19,6 @@ use Rattle.gc_group.specs.Source.{Source, source_in}
 use Rattle.gc_split.specs.declared.Totals.{Totals}
 use Rattle.gc_split.specs.Tally.{totals_for}
 use Rattle.gc_course.specs.declared.Halt.{Halt}
-use Rattle.gc_course.specs.declared.Halt.TheVariants.{Going, Halted}
 use Rattle.gc_course.specs.Runs.{is_going, stop_of}
 use Rattle.gc_decision.specs.Decisions.{ops_in, out_of, totals_in, decision_tests, decision-world, decision-fits, totals-world}
 use Rattle.gc_decision.specs.Sizes.{total-bytes}
@@ -30,24 +28,28 @@ use Rattle.gc_plan.specs.declared.Forecast.{Forecast}
 abbrev pub bytes_by : Totals → ℕ
 bytes_by t = t.positions + 11 * t.files + 16 * t.entries
 
--- what is foretold after a group: "slots used and the base grow from group to group"
-abbrev pub joined_by : ℕ → Totals → Forecast → Answer → Forecast
-joined_by generation t f (Refused r) = record { halt = Halted r generation; files = f.files; bytes = f.bytes; room = f.room }
-joined_by generation t f Done = record {
-  halt = Going;
+-- what is foretold after a group that nothing refuses: "slots used and the base grow from group to group"
+abbrev pub joined_with : Totals → Forecast → Forecast
+joined_with t f = record {
+  halt = None;
   files = f.files + t.files;
   bytes = f.bytes + bytes_by t;
   room = record { empty = f.room.empty - t.files; base = f.room.base + t.positions };
 }
+
+-- what is foretold after a group
+abbrev pub joined_by : ℕ → Totals → Forecast → Answer → Forecast
+joined_by generation t f (Err r) = record { halt = Some (record { refusal = r; generation = generation }); files = f.files; bytes = f.bytes; room = f.room }
+joined_by generation t f (Ok _) = joined_with t f
 
 -- a group's tests as the code takes them, by what room is left
 abbrev pub tests_left : Settings → Source → List ℕ → Forecast → List Test
 tests_left s source slots f = decision_tests s source slots f.room.empty f.room.base
 
 -- a group foretold: nothing more once one is refused; one of too few files is passed over
-unfoldable pub foretold_by : Settings → Source → ℕ → List ℕ → Forecast → Halt → Forecast
-foretold_by s source generation slots f (Halted r g) = f
-foretold_by s source generation slots f Going =
+unfoldable pub foretold_by : Settings → Source → ℕ → List ℕ → Forecast → Option Halt → Forecast
+foretold_by s source generation slots f (Some h) = f
+foretold_by s source generation slots f None =
     pick (ltb (length slots) s.min_compaction_files) f (joined_by generation (totals_in s source slots) f (decide (tests_left s source slots f)))
 
 -- ---- in the steps that code takes
@@ -57,17 +59,17 @@ module _ (s : Settings) (source : Source) (generation : ℕ) (slots : List ℕ) 
   unfolding foretold_by
   foretold-halted e = go f.halt e
     where
-      go : (h : Halt) → is_going h ≡ false → f ≡ foretold_by s source generation slots f h
-      go Going e = absurd (true≢false e)
-      go (Halted r g) e = refl
+      go : (h : Option Halt) → is_going h ≡ false → f ≡ foretold_by s source generation slots f h
+      go None e = absurd (true≢false e)
+      go (Some h) e = refl
 
   -- none was refused: by the group's files
-  going-by : is_going f.halt ≡ true → foretold_by s source generation slots f Going ≡ foretold_by s source generation slots f f.halt
+  going-by : is_going f.halt ≡ true → foretold_by s source generation slots f None ≡ foretold_by s source generation slots f f.halt
   going-by e = go f.halt e
     where
-      go : (h : Halt) → is_going h ≡ true → foretold_by s source generation slots f Going ≡ foretold_by s source generation slots f h
-      go Going e = refl
-      go (Halted r g) e = absurd (true≢false (sym e))
+      go : (h : Option Halt) → is_going h ≡ true → foretold_by s source generation slots f None ≡ foretold_by s source generation slots f h
+      go None e = refl
+      go (Some h) e = absurd (true≢false (sym e))
 
   -- too few
   pub foretold-few : is_going f.halt ≡ true → length slots < s.min_compaction_files → f ≡ foretold_by s source generation slots f f.halt
@@ -76,7 +78,7 @@ module _ (s : Settings) (source : Source) (generation : ℕ) (slots : List ℕ) 
 
   -- enough: as they are decided
   pub foretold-group : is_going f.halt ≡ true → s.min_compaction_files ≤ length slots
-      → (a : Answer) (t : Totals) → a ≡ decide (tests_left s source slots f) → (a ≡ Done → t ≡ totals_in s source slots)
+      → (a : Answer) (t : Totals) → a ≡ decide (tests_left s source slots f) → (a ≡ Ok tt → t ≡ totals_in s source slots)
       → joined_by generation t f a ≡ foretold_by s source generation slots f f.halt
   unfolding foretold_by
   foretold-group e h a t q told =
@@ -84,9 +86,9 @@ module _ (s : Settings) (source : Source) (generation : ℕ) (slots : List ℕ) 
       ∙ ap (joined_by generation (totals_in s source slots) f) q
       ∙ (rw (le-ltb (length slots) s.min_compaction_files h) at (going-by e))
     where
-      totals : (a : Answer) → (a ≡ Done → t ≡ totals_in s source slots) → joined_by generation t f a ≡ joined_by generation (totals_in s source slots) f a
-      totals (Refused r) told = refl
-      totals Done told = ap (λ (u : Totals). joined_by generation u f Done) (told refl)
+      totals : (a : Answer) → (a ≡ Ok tt → t ≡ totals_in s source slots) → joined_by generation t f a ≡ joined_by generation (totals_in s source slots) f a
+      totals (Err r) told = refl
+      totals (Ok _) told = ap (λ (u : Totals). joined_by generation u f (Ok tt)) (told refl)
 
 -- ---- bounds
 -- the files take empty slots, and each a slot's bytes at most; the base is a number of the code
@@ -122,7 +124,7 @@ last-position base (ops ∷ files) low h = omega (arith, h (omega arith))
 
 module _ (s : Settings) (source : Source) (slots : List ℕ) (f : Forecast) (ranges : InRanges s) (b : Within f) where
   -- a group that is not refused fits
-  pub fits-done : decide (tests_left s source slots f) ≡ Done → Fits (totals_in s source slots) f
+  pub fits-done : decide (tests_left s source slots f) ≡ Ok tt → Fits (totals_in s source slots) f
   unfolding totals_in totals_for
   fits-done e =
       let files = out_of s source slots in
@@ -145,7 +147,7 @@ pub record Standing (w : World) (f : Forecast) : Type 0 where
   pub base : mark_of w ≤ f.room.base
 
 -- as the plan starts
-pub standing-start : (w : World) → empty_of w ≤ 256 → mark_of w < 2 ^ 64 → Standing w (record { halt = Going; files = 0; bytes = 0; room = record { empty = empty_of w; base = mark_of w } })
+pub standing-start : (w : World) → empty_of w ≤ 256 → mark_of w < 2 ^ 64 → Standing w (record { halt = None; files = 0; bytes = 0; room = record { empty = empty_of w; base = mark_of w } })
 standing-start w few low = record { bounds = record { slots = omega (arith, few); bytes = omega arith; last = low }; slots = omega arith; base = omega arith }
 
 module _ (w : World) (generation : ℕ) (slots : List ℕ) (f : Forecast) (here : Standing w f) where
@@ -163,7 +165,7 @@ module _ (w : World) (generation : ℕ) (slots : List ℕ) (f : Forecast) (here 
 
   -- what a group that is not refused adds
   done-is : let files = files_of w.settings.target_file_size (found w slots) in
-      forecast_in w (joined_by generation (totals_in w.settings (source_in w) slots) f Done) ≡ record {
+      forecast_in w (joined_by generation (totals_in w.settings (source_in w) slots) f (Ok tt)) ≡ record {
         stop = going;
         files = f.files + length files;
         bytes = f.bytes + sum (λ (ops : List Op). length (file_bytes ops)) files;
@@ -197,8 +199,8 @@ module _ (w : World) (generation : ℕ) (slots : List ℕ) (f : Forecast) (here 
             bytes = f.bytes + sum (λ (ops : List Op). length (file_bytes ops)) files;
             positions = f.room.base - mark_of w + positions_in files;
           })
-      by (Refused r) = refl
-      by Done = done-is
+      by (Err r) = refl
+      by (Ok _) = done-is
 
       decided : forecast_in w (joined_by generation (totals_in w.settings (source_in w) slots) f (decide (tests_left w.settings (source_in w) slots f)))
           ≡ foretold w generation slots (forecast_in w f)
@@ -209,21 +211,21 @@ module _ (w : World) (generation : ℕ) (slots : List ℕ) (f : Forecast) (here 
       chosen true = refl
       chosen false = decided
 
-      go : (h : Halt) → forecast_in w (foretold_by w.settings (source_in w) generation slots f h) ≡ foretelling (stop_of h) w generation (forecast_in w f)
-      go (Halted r g) = refl
-      go Going = rw (← e) (chosen (ltb (length slots) w.settings.min_compaction_files))
+      go : (h : Option Halt) → forecast_in w (foretold_by w.settings (source_in w) generation slots f h) ≡ foretelling (stop_of h) w generation (forecast_in w f)
+      go (Some h) = refl
+      go None = rw (← e) (chosen (ltb (length slots) w.settings.min_compaction_files))
 
   -- and stands in the world as well
   pub standing-next : InRanges w.settings → Standing w (foretold_by w.settings (source_in w) generation slots f f.halt)
   unfolding foretold_by
   standing-next ranges = go f.halt
     where
-      joins : (a : Answer) → (a ≡ Done → Fits (totals_in w.settings (source_in w) slots) f)
+      joins : (a : Answer) → (a ≡ Ok tt → Fits (totals_in w.settings (source_in w) slots) f)
           → Standing w (joined_by generation (totals_in w.settings (source_in w) slots) f a)
-      joins (Refused r) h =
+      joins (Err r) h =
           let b = here.bounds in
           record { bounds = record { slots = b.slots; bytes = b.bytes; last = b.last }; slots = here.slots; base = here.base }
-      joins Done h =
+      joins (Ok _) h =
           let b = here.bounds in
           let t = h refl in
           record {
@@ -236,6 +238,6 @@ module _ (w : World) (generation : ℕ) (slots : List ℕ) (f : Forecast) (here 
       chosen true = here
       chosen false = joins (decide (tests_left w.settings (source_in w) slots f)) (fits-done w.settings (source_in w) slots f ranges here.bounds)
 
-      go : (h : Halt) → Standing w (foretold_by w.settings (source_in w) generation slots f h)
-      go (Halted r g) = here
-      go Going = chosen (ltb (length slots) w.settings.min_compaction_files)
+      go : (h : Option Halt) → Standing w (foretold_by w.settings (source_in w) generation slots f h)
+      go (Some h) = here
+      go None = chosen (ltb (length slots) w.settings.min_compaction_files)

@@ -1,12 +1,11 @@
 -- What the call `plan` gives.
-use Rattle.std.specs.Prelude.{◌≡◌, ◌⊎◌, ◌<◌, ◌∷◌, ◌++◌}
+use Rattle.std.specs.Prelude.{◌≡◌, ◌⊎◌, ◌<◌, ◌∷◌, ◌++◌, Err, Ok, Option, Some, None}
 use Rattle.std.proofs.Math.Path.{refl}
 use Rattle.std.proofs.Common.{sym, ap, ◌∙◌, inl, inr, arith, eq-eqb, ne_eqb}
 use Rattle.std.proofs.lemmas.List.{length-map}
 use Rattle.std.proofs.Math.ListN.{get_or-map}
 use Rattle.rules.specs.Base.{Bool, true, false, List, [], map, ℕ, suc, length, get_or, replicate, ltb, eqb, pick}
 use Rattle.rules.proofs.BaseLaws.{same?}
-use Rattle.rules.specs.declared.Answer.TheVariants.{Done, Refused}
 use Rattle.rules.specs.declared.Refusal.TheVariants.{Limits}
 use Rattle.rules.specs.Refusal.{◌gives◌, after, decide}
 use Rattle.rules.proofs.RefusalLaws.{decide-none, decide-first, decide-next, after-refused, after-done}
@@ -15,7 +14,6 @@ use Rattle.rules.specs.TwoCalls.{refused_noting, mark_of, count_of, planned_slot
 use Rattle.rules.specs.World.{World, records_of, Given, accepted, refused}
 use Rattle.gc_candidates.specs.Plan.{plan_of, planned, planned_from, group-planned}
 use Rattle.gc_course.specs.declared.Halt.{Halt}
-use Rattle.gc_course.specs.declared.Halt.TheVariants.{Going, Halted}
 use Rattle.gc_course.specs.Runs.{stop_of}
 use Rattle.gc_plan.specs.declared.PlanValues.{PlanValues}
 use Rattle.gc_plan.specs.declared.Planned.{Planned}
@@ -39,9 +37,9 @@ planned_generations w = due_in w.settings.min_compaction_files (candidates_of w)
 
 -- ---- the whole answer
 -- a refusal foretold, or none, as the code has it
-abbrev pub halt_of : Stop → Halt
-halt_of going = Going
-halt_of (stopped r g) = Halted r g
+abbrev pub halt_of : Stop → Option Halt
+halt_of going = None
+halt_of (stopped r g) = Some (record { refusal = r; generation = g })
 
 -- a plan
 unfoldable pub plan_in : World → PlanValues
@@ -57,13 +55,13 @@ plan_in w = record {
 -- 1, and a plan of zeros beside it
 abbrev pub no_plan : Planned
 no_plan = record {
-  answer = Refused Limits;
-  plan = record { mark = 0; count = 0; files = 0; bytes = 0; foretold = Going; slots = replicate 256 0 };
+  answer = Err Limits;
+  plan = record { mark = 0; count = 0; files = 0; bytes = 0; foretold = None; slots = replicate 256 0 };
 }
 
 -- "`plan` refuses with 1 only"
 unfoldable pub plan_result : World → ℕ → Planned
-plan_result w room = pick (refused_noting w room) no_plan (record { answer = Done; plan = plan_in w })
+plan_result w room = pick (refused_noting w room) no_plan (record { answer = Ok tt; plan = plan_in w })
 
 -- the values of a plan, in the order of the definitions
 abbrev pub values_of : PlanValues → List ℕ
@@ -125,9 +123,9 @@ halt-stop going = refl
 halt-stop (stopped r g) = refl
 
 -- and back
-stop-halt : (h : Halt) → halt_of (stop_of h) ≡ h
-stop-halt Going = refl
-stop-halt (Halted r g) = refl
+stop-halt : (h : Option Halt) → halt_of (stop_of h) ≡ h
+stop-halt None = refl
+stop-halt (Some h) = refl
 
 values-are : (w : World) → values_of (plan_in w) ≡ plan_values w
 unfolding plan_in plan_values
@@ -138,7 +136,7 @@ pub plan-given : (w : World) (room : ℕ) → plan_given (plan_result w room) �
 unfolding plan_given plan_result plan_call
 plan-given w room = go (refused_noting w room)
   where
-    go : (b : Bool) → plan_given (pick b no_plan (record { answer = Done; plan = plan_in w })) ≡ after (decide (b gives Limits ∷ [])) refused (accepted (plan_values w))
+    go : (b : Bool) → plan_given (pick b no_plan (record { answer = Ok tt; plan = plan_in w })) ≡ after (decide (b gives Limits ∷ [])) refused (accepted (plan_values w))
     go true = sym (after-refused _ Limits _ _ (decide-first true Limits [] refl))
     go false = ap accepted (values-are w) ∙ sym (after-done _ _ _ (decide-next false Limits [] refl ∙ decide-none))
 
@@ -171,7 +169,7 @@ unfolding plan_result
 plan-refused w room e = rw e refl
 
 -- not 1
-pub plan-accepted : (w : World) (room : ℕ) → refused_noting w room ≡ false → (p : PlanValues) → p ≡ plan_in w → record { answer = Done; plan = p } ≡ plan_result w room
+pub plan-accepted : (w : World) (room : ℕ) → refused_noting w room ≡ false → (p : PlanValues) → p ≡ plan_in w → record { answer = Ok tt; plan = p } ≡ plan_result w room
 unfolding plan_result
 plan-accepted w room e p q = rw (e, q) refl
 
@@ -181,6 +179,6 @@ unfolding plan_given
 notes-kept r e notes = rw e refl
 
 -- any other answer is not 1
-pub plan-own : (p : PlanValues) → (plan_given (record { answer = Done; plan = p })).number ≡ 1 → ⊥
+pub plan-own : (p : PlanValues) → (plan_given (record { answer = Ok tt; plan = p })).number ≡ 1 → ⊥
 unfolding plan_given
 plan-own p e = omega arith

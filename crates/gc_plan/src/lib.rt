@@ -3,8 +3,7 @@
 
 #![tactic(auto)]
 
-ghost use Rattle.std.specs.Prelude.{◌≡◌, ◌*◌, ◌≤◌, length};
-ghost use Rattle.rules.specs.declared.Answer.TheVariants.{Done};
+ghost use Rattle.std.specs.Prelude.{◌≡◌, ◌*◌, ◌≤◌, length, Ok};
 ghost use Rattle.rules.specs.Layout.{table_ids, used_entries, capacity_of};
 ghost use Rattle.rules.specs.SettingsLaws.{InRanges};
 ghost use Rattle.rules.specs.Condition1Laws.{Passed};
@@ -14,18 +13,18 @@ ghost use Rattle.location_table.specs.Tables.{Formed};
 ghost use Rattle.as_numbers.specs.StateWords.{state_in};
 ghost use Rattle.gc_candidates.specs.Plan.{planned};
 ghost use Rattle.gc_group.specs.Source.{source, Ready};
-ghost use Rattle.gc_plan.specs.Forecasts.{bytes_by, joined_by, foretold_by, Within, Fits};
+ghost use Rattle.gc_plan.specs.Forecasts.{bytes_by, joined_with, foretold_by, Within, Fits};
 ghost use Rattle.gc_plan.specs.Plans.{due_for, due_in, plan_in, no_plan, plan_result, plan_given};
 
 use as_numbers::state_words::{files_in, put_state};
 use gc_candidates::group_count;
-use gc_course::{Halt, is_going};
+use gc_course::Halt;
 use gc_decision::{Room, decide_group};
 use gc_group::Group;
 use gc_notes::{clear, too_short};
 use gc_split::Totals;
 use gc_words::{candidates_in, count_in, empties, mark_in, refused_in};
-use rules::{Answer, Claims, FileMap, RECORDS, Refusal, Settings, State};
+use rules::{Claims, FileMap, RECORDS, Refusal, Settings, State};
 
 // What a plan gives. `slots` has, for each slot, the generation whose rewrite takes its file, or 0.
 #[derive(Clone, Copy)]
@@ -34,14 +33,15 @@ pub struct PlanValues {
     pub count: u64,
     pub files: u64,
     pub bytes: u64,
-    pub foretold: Halt,
+    pub foretold: Option<Halt>,
     pub slots: [u64; RECORDS],
 }
 
 // "`plan` refuses with 1 only": a plan of zeros beside it then.
+// Kept: not Result<PlanValues, Refusal>, since the law `plan-laid` has the words of the plan beside a refusal, zeros.
 #[derive(Clone, Copy)]
 pub struct Planned {
-    pub answer: Answer,
+    pub answer: Result<(), Refusal>,
     pub plan: PlanValues,
 }
 
@@ -49,7 +49,7 @@ pub struct Planned {
 // next group.
 #[derive(Clone, Copy)]
 struct Forecast {
-    halt: Halt,
+    halt: Option<Halt>,
     files: u64,
     bytes: u64,
     room: Room,
@@ -63,30 +63,22 @@ fn file_bytes(total: Totals) -> u64
     total.positions + 11 * total.files + 16 * total.entries
 }
 
-// What is foretold after a group: "slots used and the base grow from group to group".
-fn joined(f: Forecast, generation: u64, answer: Answer, total: Totals) -> Forecast
+// What is foretold after a group that nothing refuses: "slots used and the base grow from group to group".
+fn joined(f: Forecast, total: Totals) -> Forecast
     requires within { Within f }
-    requires fits { answer ≡ Done → Fits total f }
-    ensures { result ≡ joined_by generation total f answer }
+    requires fits { Fits total f }
+    ensures { result ≡ joined_with total f }
 {
     let room = f.room;
     let files = total.files;
     let positions = total.positions;
-    match answer {
-        Answer::Refused(refusal) => Forecast {
-            halt: Halt::Halted(refusal, generation),
-            files: f.files,
-            bytes: f.bytes,
-            room: room,
-        },
-        Answer::Done => Forecast {
-            halt: Halt::Going,
-            files: f.files + files,
-            bytes: f.bytes + file_bytes(total),
-            room: Room {
-                empty: room.empty - files,
-                base: room.base + positions,
-            },
+    Forecast {
+        halt: None,
+        files: f.files + files,
+        bytes: f.bytes + file_bytes(total),
+        room: Room {
+            empty: room.empty - files,
+            base: room.base + positions,
         },
     }
 }
@@ -113,8 +105,7 @@ fn foretell(
         (source group.settings.slot_bytes heap.now m.records (used_entries table.now))
         group.generation (planned plan.now group.generation) f f.halt }
 {
-    let halt = f.halt;
-    if !is_going(halt) {
+    if f.halt.is_some() {
         return f;
     }
     let generation = group.generation;
@@ -122,11 +113,18 @@ fn foretell(
         return f;
     }
     clear(places);
-    let room = f.room;
-    let decision = decide_group(group, room, heap, m, plan, table, pieces, places);
-    let answer = decision.answer;
-    let total = decision.total;
-    joined(f, generation, answer, total)
+    match decide_group(group, f.room, heap, m, plan, table, pieces, places) {
+        Ok(decision) => joined(f, decision.total),
+        Err(refusal) => Forecast {
+            halt: Some(Halt {
+                refusal,
+                generation,
+            }),
+            files: f.files,
+            bytes: f.bytes,
+            room: f.room,
+        },
+    }
 }
 
 // The same by the state's words.
@@ -173,10 +171,8 @@ fn due(plan: &[u64], least: u64) -> [u64; RECORDS]
     ensures { result ≡ due_in least plan.now }
 {
     let mut slots = [0u64; RECORDS];
-    let mut i: usize = 0;
-    while i < RECORDS {
-        slots[i] = due_for(plan, least, plan[i]);
-        i += 1;
+    for (i, generation) in plan.iter().enumerate() {
+        slots[i] = due_for(plan, least, *generation);
     }
     slots
 }
@@ -200,7 +196,7 @@ fn worked_out(
     let count = count_in(state);
     let candidates = candidates_in(settings, state, claims, mark, count);
     let mut f = Forecast {
-        halt: Halt::Going,
+        halt: None,
         files: 0,
         bytes: 0,
         room: Room {
@@ -208,14 +204,12 @@ fn worked_out(
             base: mark,
         },
     };
-    let mut generation: u64 = 1;
-    while generation <= 3 {
+    for generation in 1..=3 {
         let group = Group {
             settings: settings,
             generation: generation,
         };
         f = foretell_in(group, state, heap, table, &candidates, places, pieces, f);
-        generation += 1;
     }
     let foretold = f.halt;
     PlanValues {
@@ -233,13 +227,13 @@ fn refused() -> Planned
     ensures { result ≡ no_plan }
 {
     Planned {
-        answer: Answer::Refused(Refusal::Limits),
+        answer: Err(Refusal::Limits),
         plan: PlanValues {
             mark: 0,
             count: 0,
             files: 0,
             bytes: 0,
-            foretold: Halt::Going,
+            foretold: None,
             slots: [0u64; RECORDS],
         },
     }
@@ -272,7 +266,7 @@ pub fn plan_in(
     clear(places);
     clear(pieces);
     Planned {
-        answer: Answer::Done,
+        answer: Ok(()),
         plan: worked,
     }
 }

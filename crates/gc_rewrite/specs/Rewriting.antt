@@ -1,5 +1,5 @@
 -- A group decided, chained, then rewritten: what each step asks for and leaves.
-use Rattle.std.specs.Prelude.{◌≡◌, ◌≤◌}
+use Rattle.std.specs.Prelude.{◌≡◌, ◌≤◌, Result, Err, Ok, IfOk}
 use Rattle.std.proofs.Math.Path.{sym, ap}
 use Rattle.std.proofs.Common.{ap₂, ◌∙◌, subst, zero-add, arith}
 use Rattle.rules.specs.Base.{false, List, ℕ, length, get_or, take}
@@ -7,8 +7,7 @@ use Rattle.rules.specs.declared.Settings.{Settings}
 use Rattle.rules.specs.declared.State.{State}
 use Rattle.rules.specs.declared.Claims.{Claims}
 use Rattle.rules.specs.declared.Refusal.{Refusal}
-use Rattle.rules.specs.declared.Answer.{Answer}
-use Rattle.rules.specs.declared.Answer.TheVariants.{Done, Refused}
+use Rattle.rules.specs.Types.{Answer}
 use Rattle.rules.specs.Refusal.{Test, decide}
 use Rattle.rules.specs.Settings.{slots_in}
 use Rattle.rules.specs.Ops.{Op}
@@ -54,10 +53,10 @@ module _ (s : Settings) (t : State) (heap table plan : List ℕ) (generation : �
   group_decision = decision_tests s from (planned plan generation) (empty_in s t.files heap) t.next_position
 
   -- what it leaves
-  pub record Regrouped (answer : Answer) (moved : ℕ) (r : State) (heap' table' : List ℕ) : Type 0 where
-    pub course : (c : Claims) → course_given generation answer moved (world s r c heap' table') ≡ rewrite_group generation (planned plan generation) 0 (world s t c heap table)
+  pub record Regrouped (answer : Result ℕ Refusal) (r : State) (heap' table' : List ℕ) : Type 0 where
+    pub course : (c : Claims) → course_given generation answer (world s r c heap' table') ≡ rewrite_group generation (planned plan generation) 0 (world s t c heap table)
     pub limits : Passed s (length heap') table' r
-    pub count : moved ≤ 65536
+    pub count : IfOk answer (λ (moved : ℕ). moved ≤ 65536)
     pub kept : Kept t r
 
   -- the tests are the group's own
@@ -66,11 +65,11 @@ module _ (s : Settings) (t : State) (heap table plan : List ℕ) (generation : �
   tests-are c a e = ap decide (sym (decision-group (world s t c heap table) (planned plan generation))) ∙ e
 
   -- a refusal: nothing is changed
-  pub group-stopped : (r : Refusal) → Passed s (length heap) table t → decide group_decision ≡ Refused r → Regrouped (Refused r) 0 t heap table
+  pub group-stopped : (r : Refusal) → Passed s (length heap) table t → decide group_decision ≡ Err r → Regrouped (Err r) t heap table
   group-stopped r limits e = record {
-    course = λ c. sym (group-kept generation (planned plan generation) 0 (world s t c heap table) r (tests-are c (Refused r) e));
+    course = λ c. sym (group-kept generation (planned plan generation) 0 (world s t c heap table) r (tests-are c (Err r) e));
     limits = limits;
-    count = omega arith;
+    count = tt;
     kept = λ k some. some;
   }
 
@@ -82,7 +81,7 @@ module _ (s : Settings) (t : State) (heap table plan : List ℕ) (generation : �
       pub filled : Filled t plan generation
       pub wide : length (table_ids table) ≤ length places
       pub numbered : length (table_ids table) ≤ length pieces
-      pub clear : decide group_decision ≡ Done
+      pub clear : decide group_decision ≡ Ok tt
       pub placed : GroupPlaced s.slot_bytes heap t.files.records plan generation table places
       pub split : SplitUp s heap (table_ids table) places pieces order total
 
@@ -134,13 +133,13 @@ module _ (s : Settings) (t : State) (heap table plan : List ℕ) (generation : �
 
       -- the group as its definition rewrites it
       rewritten : (c : Claims) → let w = world s t c heap table in
-          course_given generation Done (length ops) (installed_all 0 generation w (files_of s.target_file_size ops)) ≡ rewrite_group generation (planned plan generation) 0 w
+          course_given generation (Ok (length ops)) (installed_all 0 generation w (files_of s.target_file_size ops)) ≡ rewrite_group generation (planned plan generation) 0 w
       unfolding found
       rewritten c =
           let w = world s t c heap table in
-          ap (λ (os : List Op). course_given generation Done (length os) (installed_all 0 generation w (files_of s.target_file_size os))) d.placed.0
-          ∙ ap (λ (n : ℕ). course_given generation Done n (installed_all 0 generation w (files_of s.target_file_size (found w (planned plan generation))))) (sym (zero-add (length (found w (planned plan generation)))))
-          ∙ sym (group-added generation (planned plan generation) 0 w (tests-are c Done d.clear))
+          ap (λ (os : List Op). course_given generation (Ok (length os)) (installed_all 0 generation w (files_of s.target_file_size os))) d.placed.0
+          ∙ ap (λ (n : ℕ). course_given generation (Ok n) (installed_all 0 generation w (files_of s.target_file_size (found w (planned plan generation))))) (sym (zero-add (length (found w (planned plan generation)))))
+          ∙ sym (group-added generation (planned plan generation) 0 w (tests-are c (Ok tt) d.clear))
 
       -- what chaining their entries asks for
       decided-linkable : Linkable (table_ids table) places pieces (take total.files order) (length (used_entries table))
@@ -179,10 +178,10 @@ module _ (s : Settings) (t : State) (heap table plan : List ℕ) (generation : �
       -- and what it leaves
       pub decided-rewritten : (r : State) (heap' table' : List ℕ)
           → PutAll s generation t heap table (files_in heap (table_ids table) places pieces (take total.files order)) r heap' table'
-          → Regrouped Done total.entries r heap' table'
+          → Regrouped (Ok total.entries) r heap' table'
       decided-rewritten r heap' table' p = record {
         course = λ c.
-            ap₂ (λ (n : ℕ) (w : World). course_given generation Done n w) entries-are
+            ap₂ (λ (n : ℕ) (w : World). course_given generation (Ok n) w) entries-are
             (p.worlds c ∙ ap (installed_all 0 generation (world s t c heap table)) (ap (files_in heap (table_ids table) places pieces) same-order ∙ sym filed))
             ∙ rewritten c;
         limits = p.limits;

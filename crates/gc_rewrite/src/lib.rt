@@ -2,9 +2,8 @@
 
 #![tactic(auto)]
 
-ghost use Rattle.std.specs.Prelude.{◌≡◌, ◌≤◌, length, replicate};
+ghost use Rattle.std.specs.Prelude.{◌≡◌, ◌≤◌, length, replicate, IfOk};
 ghost use Rattle.rules.specs.declared.Claims.{Claims};
-ghost use Rattle.rules.specs.declared.Answer.TheVariants.{Done};
 ghost use Rattle.rules.specs.Refusal.{decide};
 ghost use Rattle.rules.specs.Layout.{table_ids};
 ghost use Rattle.rules.specs.Condition1Laws.{Passed};
@@ -13,6 +12,7 @@ ghost use Rattle.rules.specs.World.{world};
 ghost use Rattle.as_numbers.specs.StateWords.{state_in};
 ghost use Rattle.gc_candidates.specs.Plan.{planned};
 ghost use Rattle.gc_group.specs.Source.{Ready};
+ghost use Rattle.gc_decision.specs.Decisions.{verdict};
 ghost use Rattle.gc_decision.specs.Empties.{Listed, empties_in, empty_in};
 ghost use Rattle.gc_decision.specs.Splits.{files_in};
 ghost use Rattle.gc_chains.specs.Chains.{chains_in};
@@ -26,14 +26,7 @@ use gc_decision::{Decision, Room, decide_group};
 use gc_group::Group;
 use gc_install::{NewFile, add_piece};
 use gc_words::empties;
-use rules::{Answer, RECORDS, State};
-
-// A group's answer and the ids moved.
-#[derive(Clone, Copy)]
-pub struct Course {
-    pub answer: Answer,
-    pub moved: u64,
-}
+use rules::{RECORDS, Refusal, State};
 
 // The files of a group with these words, in order, each written and added. The lowest empty slot of each is the next of
 // a list.
@@ -56,18 +49,14 @@ fn put_files(
         result heap.new table.new }
 {
     let mut after = state;
-    let mut file: usize = 0;
-    while file < words.len() {
-        let first = (words[file] / FIRSTS) as u32;
-        let slot = frees[file] as usize;
+    for (file, word) in words.iter().enumerate() {
         let new = NewFile {
-            first: first,
+            first: (word / FIRSTS) as u32,
             generation: group.generation,
-            slot: slot,
+            slot: frees[file] as usize,
         };
         let settings = group.settings;
         after = add_piece(settings, after, heap, table, places, links, new);
-        file += 1;
     }
     after
 }
@@ -107,7 +96,7 @@ fn decided(
     table: &[u64],
     pieces: &mut [u32],
     places: &mut [u32],
-) -> Decision
+) -> Result<Decision, Refusal>
     requires passed { Passed group.settings (length heap.now) table.now (state_in state.now) }
     requires ready { Ready group.settings.slot_bytes (length heap.now) (state_in state.now).files.records
         plan.now group.generation }
@@ -116,11 +105,11 @@ fn decided(
     requires table_in_bounds { (length (table_ids table.now) ≤ length places.old)
         × (length (table_ids table.now) ≤ length pieces.old)
         × (places.old ≡ replicate (length places.old) 0) }
-    ensures answers { result.answer ≡ decide (group_decision group.settings
+    ensures answers { verdict result ≡ decide (group_decision group.settings
         (state_in state.now) heap.now table.now plan.now group.generation) }
-    ensures splits { result.answer ≡ Done → Decided group.settings
+    ensures splits { IfOk result (λ d. Decided group.settings
         (state_in state.now) heap.now table.now plan.now group.generation
-        places.new pieces.new result.order result.total }
+        places.new pieces.new d.order d.total) }
 {
     let files = files_in(state);
     let room = Room {
@@ -130,7 +119,7 @@ fn decided(
     decide_group(group, room, heap, files, plan, table, pieces, places)
 }
 
-// A group decided, then rewritten; a refusal changes nothing but the notes.
+// A group decided, then rewritten: the ids moved. A refusal changes nothing but the notes.
 pub fn rewrite_group(
     group: Group,
     state: &mut [u64; 1801],
@@ -139,7 +128,7 @@ pub fn rewrite_group(
     plan: &[u64],
     places: &mut [u32],
     pieces: &mut [u32],
-) -> Course
+) -> Result<u64, Refusal>
     requires passed_2 { Passed group.settings (length heap.old) table.old (state_in state.old) }
     requires ready { Ready group.settings.slot_bytes (length heap.old) (state_in state.old).files.records
         plan.now group.generation }
@@ -148,31 +137,20 @@ pub fn rewrite_group(
     requires table_in_bounds { (length (table_ids table.old) ≤ length places.old)
         × (length (table_ids table.old) ≤ length pieces.old)
         × (places.old ≡ replicate (length places.old) 0) }
-    ensures leaves { (c : Claims) → course_given group.generation result.answer result.moved
+    ensures leaves { (c : Claims) → course_given group.generation result
         (world group.settings (state_in state.new) c heap.new table.new)
         ≡ rewrite_group group.generation (planned plan.now group.generation) 0
         (world group.settings (state_in state.old) c heap.old table.old) }
     ensures passed { Passed group.settings (length heap.new) table.new (state_in state.new) }
-    ensures moved { result.moved ≤ 65536 }
+    ensures moved { IfOk result (λ moved. moved ≤ 65536) }
     ensures length { length heap.new ≡ length heap.old }
     ensures keeps { Kept (state_in state.old) (state_in state.new) }
 {
     let mut frees = [0u64; RECORDS];
     let empty = empties(group.settings, state, heap, &mut frees);
-    let decision = decided(group, empty, state, heap, plan, table, pieces, places);
-    let answer = decision.answer;
-    match answer {
-        Answer::Refused(refusal) => {
-            return Course {
-                answer: Answer::Refused(refusal),
-                moved: 0,
-            };
-        }
-        Answer::Done => {}
-    }
+    let mut decision = decided(group, empty, state, heap, plan, table, pieces, places)?;
     let total = decision.total;
-    let mut order = decision.order;
-    let n = total.files as usize;
+    let files = total.files as usize;
     put_in(
         group,
         state,
@@ -180,11 +158,8 @@ pub fn rewrite_group(
         table,
         places,
         pieces,
-        &mut order[..n],
+        &mut decision.order[..files],
         &frees,
     );
-    Course {
-        answer: Answer::Done,
-        moved: total.entries,
-    }
+    Ok(total.entries)
 }

@@ -1,5 +1,5 @@
 -- A file that comes out is the operations of one piece, in order.
-use Rattle.std.specs.Prelude.{◌≡◌, ◌<◌, ◌∷◌, ◌++◌, ◌+◌, ◌-◌, ◌/◌, ◌%◌}
+use Rattle.std.specs.Prelude.{◌≡◌, ◌<◌, ◌∷◌, ◌++◌, ◌+◌, ◌/◌, ◌%◌}
 use Rattle.rules.specs.Base.{List, [], map, ℕ, length, get_or, set, take}
 use Rattle.rules.specs.BaseLaws.{All}
 use Rattle.rules.specs.Ops.{Op}

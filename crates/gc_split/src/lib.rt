@@ -3,7 +3,7 @@
 
 #![tactic(auto)]
 
-ghost use Rattle.std.specs.Prelude.{◌≡◌, ◌||◌, ◌++◌, ◌+◌, ◌*◌, ◌^◌, ◌≤◌, ◌<◌, eqb, length, get_or, set, take};
+ghost use Rattle.std.specs.Prelude.{◌≡◌, ◌++◌, ◌+◌, ◌*◌, ◌^◌, ◌≤◌, ◌<◌, eqb, length, get_or, set, take};
 ghost use Rattle.numbers.specs.Choice.{pick};
 ghost use Rattle.numbers.specs.Parts.{front, put_at};
 ghost use Rattle.rules.specs.Refusal.{decide};
@@ -12,7 +12,7 @@ ghost use Rattle.gc_split.specs.Tally.{sizes_in, counts_in, rounds_in, tally, pi
 ghost use Rattle.gc_split.specs.Tally.{closing_rests, rest_of, rests_from, Within, Closable, Numbered};
 
 use new_file::{spent, too_large};
-use rules::{Answer, Refusal, Settings};
+use rules::{Refusal, Settings};
 
 // A split's list for the 65 shards: their sizes, then their entries, then how often each was cut off.
 pub const SHARD_LIST: usize = 195;
@@ -22,21 +22,13 @@ const COUNTS_AT: usize = 65;
 const ROUNDS_AT: usize = 130;
 
 // Entries taken, files closed, the sum of T + 1 over these, and whether one is too large for a slot.
+// Kept: `large` is a test of its own, which no other field depends on; the definition `totals_for` has it beside the sums.
 #[derive(Clone, Copy)]
 pub struct Totals {
     pub entries: u64,
     pub files: u64,
     pub positions: u64,
     pub large: bool,
-}
-
-fn either(a: bool, b: bool) -> bool
-    ensures { result ≡ (a || b) }
-{
-    if a {
-        return true;
-    }
-    b
 }
 
 // A file more, of that many object bytes and entries.
@@ -46,10 +38,10 @@ fn closed(t: Totals, slot_bytes: u64, size: u64, count: u64) -> Totals
 {
     let large = too_large(slot_bytes, size, count);
     Totals {
-        entries: t.entries,
         files: t.files + 1,
         positions: t.positions + (size + 1),
-        large: either(t.large, large),
+        large: t.large || large,
+        ..t
     }
 }
 
@@ -131,9 +123,7 @@ pub fn join(
     enter(shards, shard, size);
     Totals {
         entries: t.entries + 1,
-        files: t.files,
-        positions: t.positions,
-        large: t.large,
+        ..t
     }
 }
 
@@ -163,10 +153,8 @@ fn close_rests(sizes: &[u64], counts: &[u64], totals: Totals, slot_bytes: u64) -
     ensures { result ≡ closing_rests slot_bytes counts.now sizes.now totals }
 {
     let mut t = totals;
-    let mut n: usize = 0;
-    while n < counts.len() {
-        t = closed_rest(t, slot_bytes, sizes[n], counts[n]);
-        n += 1;
+    for (size, count) in sizes.iter().zip(counts) {
+        t = closed_rest(t, slot_bytes, *size, *count);
     }
     t
 }
@@ -181,22 +169,22 @@ pub fn close_shards(shards: &[u64], totals: Totals, slot_bytes: u64) -> Totals
 }
 
 // "4, 5, 7 are decided first, for the whole group": by the totals of all its files.
-pub fn decided(t: Totals, empty: u64, base: u64) -> Answer
+pub fn decided(t: Totals, empty: u64, base: u64) -> Result<(), Refusal>
     ensures { result ≡ decide (totals_tests t empty base) }
 {
     if t.large {
-        return Answer::Refused(Refusal::SlotRoom);
+        return Err(Refusal::SlotRoom);
     }
     if empty < t.files {
-        return Answer::Refused(Refusal::NoEmptySlot);
+        return Err(Refusal::NoEmptySlot);
     }
     if t.files == 0 {
-        return Answer::Done;
+        return Ok(());
     }
     if spent(base, t.positions) {
-        return Answer::Refused(Refusal::PositionsSpent);
+        return Err(Refusal::PositionsSpent);
     }
-    Answer::Done
+    Ok(())
 }
 
 // What is left of a shard takes the next place, if there is anything.
@@ -219,10 +207,8 @@ fn rests(counts: &[u64], rounds: &[u64], rests: &mut [u64]) -> usize
     ensures writes { rests.new ≡ front (rests_from 0 counts.now rounds.now) rests.old }
 {
     let mut left: usize = 0;
-    let mut n: usize = 0;
-    while n < counts.len() {
+    for n in 0..counts.len() {
         left = put_rest(rests, left, counts[n], piece(n, rounds[n]));
-        n += 1;
     }
     left
 }

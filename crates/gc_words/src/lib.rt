@@ -15,7 +15,7 @@ ghost use Rattle.gc_decision.specs.Empties.{Listed, empties_in, empty_in};
 use as_numbers::state_words::{files_in, state_in};
 use gc_candidates::plan;
 use gc_decision::empty_slots;
-use rules::{Claims, RECORDS, Settings, State};
+use rules::{Claims, RECORDS, Settings};
 
 // Refusal 1, of the state in its words.
 pub fn refused_in(settings: Settings, state: &[u64; 1801], heap: &[u8], table: &[u64]) -> bool
@@ -75,11 +75,4 @@ pub fn empties(settings: Settings, state: &[u64; 1801], heap: &[u8], frees: &mut
 {
     let files = files_in(state);
     empty_slots(settings, files, heap, frees)
-}
-
-// The state that its words hold, for a caller that is not told how many there are after a call.
-pub fn state_held(words: &[u64; 1801]) -> State
-    ensures { result ≡ state_in words.now }
-{
-    state_in(words)
 }

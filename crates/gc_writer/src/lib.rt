@@ -211,14 +211,13 @@ fn put_trailer(
     put_entries(heap, at + TRAILER_HEAD, table, places, links, first, rest)
 }
 
-// The file of a piece: the piece's first entry, where its slot begins and how long that is, its count of entries and T.
+// The file of a piece: the piece's first entry and its sizes, where its slot begins and how long that is.
 #[derive(Clone, Copy)]
 pub struct PieceFile {
     pub first: u32,
     pub start: usize,
     pub slot_bytes: u64,
-    pub count: u64,
-    pub total: u64,
+    pub sizes: Sizes,
 }
 
 // Such a file and its label into its slot, in the order of the file's run.
@@ -232,16 +231,32 @@ pub fn write_piece(
     k: u64,
 ) -> u64
     requires { Writing file.start file.slot_bytes
-        heap.old (table_ids table.now) places.now links.now file.first file.count file.total }
+        heap.old (table_ids table.now) places.now links.now file.first file.sizes.count file.sizes.total }
     ensures { Made k (file_stores file.start (label_bytes new)
         (file_bytes (piece_ops file.first heap.old table.now places.now links.now)))
         heap.old heap.new result }
 {
     let start = file.start + LABEL_BYTES;
-    let objects = put_objects(heap, start, table, places, links, file.first, file.count, k);
-    let trailer = start + file.total as usize;
+    let objects = put_objects(
+        heap,
+        start,
+        table,
+        places,
+        links,
+        file.first,
+        file.sizes.count,
+        k,
+    );
+    let trailer = start + file.sizes.total as usize;
     let behind_trailer = put_trailer(
-        heap, trailer, table, places, links, file.first, file.count, objects,
+        heap,
+        trailer,
+        table,
+        places,
+        links,
+        file.first,
+        file.sizes.count,
+        objects,
     );
     slot_writer::label::put(heap, file.start, new, behind_trailer)
 }

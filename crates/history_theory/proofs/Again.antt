@@ -1,12 +1,12 @@
 -- Reopening a store of the invariant: accepted, with the same table, records and live counts, every file's mark set, and a next position
 -- above every file.
-use Rattle.std.specs.Prelude.{◌≡◌, refl, ◌≤◌}
+use Rattle.std.specs.Prelude.{◌≡◌, refl, ◌≤◌, None, Some}
 use Rattle.std.proofs.Common.{sym, ap, ◌∙◌, subst, arith, ext_get_or}
 use Rattle.std.proofs.lemmas.List.{length-map}
 use Rattle.disk_location.proofs.LocationLaws.{masked-pos}
 use borrow.Author.Tests.{le-ltb}
 use Rattle.rules.specs.Base.{List, [], ℕ, length, each}
-use Rattle.theory.specs.Types.{Label, Record, Entry, Held, Mapped, Unmapped, Slot, Is, NoSlot}
+use Rattle.theory.specs.Types.{Label, Record, Entry, Held, Slot}
 use Rattle.rules.specs.Refusal.{decide, NoneHolds}
 use Rattle.rules.proofs.RefusalLaws.{decide-clear, none-append}
 use Rattle.rules.proofs.Condition1Laws.{limits-in}
@@ -37,12 +37,12 @@ unfolding picture_says
 says-next p n x = held (lookup p.table x)
   where
     found : (o : Slot) (l : ℕ) → slot_says (record { views = p.views; records = p.records; table = p.table; next = n }) o l x ≡ slot_says p o l x
-    found NoSlot l = refl
-    found (Is k) l = refl
+    found None l = refl
+    found (Some k) l = refl
 
     held : (o : Held) → held_says (record { views = p.views; records = p.records; table = p.table; next = n }) o x ≡ held_says p o x
-    held Unmapped = refl
-    held (Mapped l) = held_same (record { views = p.views; records = p.records; table = p.table; next = n }) p l x (found (file_for p.records l) l)
+    held None = refl
+    held (Some l) = held_same (record { views = p.views; records = p.records; table = p.table; next = n }) p l x (found (file_for p.records l) l)
 
 module _ (w : World) (told : ℕ → Said) (s : SoundWorld w told) where
   fits : length (views_of w) ≤ 256

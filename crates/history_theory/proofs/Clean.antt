@@ -1,12 +1,12 @@
 -- DEMAND 3 from any clean heap: one that a reopening accepts and whose files are whole, whoever wrote them.
-use Rattle.std.specs.Prelude.{◌≡◌, refl, ◌⊎◌, ◌<◌, ◌≤◌, ◌∷◌, ◌+◌, ◌-◌, ◌*◌, ◌%◌, ◌^◌}
+use Rattle.std.specs.Prelude.{◌≡◌, refl, ◌⊎◌, ◌<◌, ◌≤◌, ◌∷◌, ◌+◌, ◌-◌, ◌*◌, ◌%◌, ◌^◌, None, Some}
 use Rattle.std.proofs.Common.{sym, ◌∙◌, inl, inr, length-take, get_or-drop, eq-eqb, ne_eqb}
 use Rattle.std.proofs.Math.Path.{ap, subst}
 use Rattle.std.proofs.Math.Nat.{pow-le-pow_right}
 use native.Mathlib.Omega.{arith}
 use Rattle.std.proofs.lemmas.Bool.{eqb-false}
 use Rattle.rules.specs.Base.{Bool, true, false, List, [], map, ℕ, zero, suc, length, take, drop, eqb, pick}
-use Rattle.theory.specs.Types.{Entry, Record, ReadAnswer, Answer, Held, Mapped, Unmapped, Slot}
+use Rattle.theory.specs.Types.{Entry, Record, ReadAnswer, Answer, Held, Slot}
 use Rattle.numbers.specs.LittleEndian.{Bytes, le_below}
 use Rattle.disk_location.specs.Locations.{position_of, delete_of}
 use Rattle.rules.specs.BaseLaws.{All}
@@ -102,7 +102,7 @@ starts-clear objects (o ∷ os) x p a b (inr h) = starts-clear objects os x p a.
 
 module _ (w : World) (told : ℕ → Said) (s : SoundWorld w told) where
   -- a mapped id is put or deleted
-  mapped-says : (x l : ℕ) → lookup (mappings w) x ≡ Mapped l → (c : Content) × (held_says (picture_of w) (Mapped l) x ≡ last_says (last c))
+  mapped-says : (x l : ℕ) → lookup (mappings w) x ≡ Some l → (c : Content) × (held_says (picture_of w) (Some l) x ≡ last_says (last c))
   mapped-says x l e =
       let m = go (delete_of l) refl (table-stands (bounds_of w) (picture_of w) told s.sound x l e) in
       (m.0, held-says (picture_of w) l x (delete_of l) refl ∙ m.1)
@@ -158,10 +158,10 @@ unfolding picture_says
 sound-heard w told s = sound-told w told (engine (heard_at w)) (λ x. go x (lookup (mappings w) x) refl) s
   where
     go : (x : ℕ) (h : Held) → lookup (mappings w) x ≡ h → told x ≡ engine (heard_at w) x
-    go x Unmapped e =
+    go x None e =
         sym (s.sound.says x) ∙ ap (λ (h : Held). held_says (picture_of w) h x) e
         ∙ sym (ap last_says (last-each (content_of w) (mappings w) x ∙ ap (λ (h : Held). pick (unmapped h) silent (last (content_of w x))) e))
-    go x (Mapped l) e =
+    go x (Some l) e =
         let m = mapped-says w told s x l e in
         let t : told x ≡ last_says (last m.0) = sym (s.sound.says x) ∙ ap (λ (h : Held). held_says (picture_of w) h x) e ∙ m.1 in
         t ∙ ap (λ (c : Content). last_says (last c)) (sym (read-content w told s x m.0 t))

@@ -1,9 +1,9 @@
 -- A group rewritten on a store of the invariant, refused or not: nothing else is said of any id.
-use Rattle.std.specs.Prelude.{◌≡◌, ◌≤◌, ◌∷◌, ◌++◌, ◌+◌}
+use Rattle.std.specs.Prelude.{◌≡◌, ◌≤◌, ◌∷◌, ◌++◌, ◌+◌, Err, Ok}
 use Rattle.std.proofs.Math.Path.{refl}
 use Rattle.std.proofs.Common.{arith}
 use Rattle.rules.specs.Base.{Bool, true, false, List, [], ℕ, length, ltb, pick, each}
-use Rattle.theory.specs.Types.{Refusal, Answer, Done, Refused}
+use Rattle.theory.specs.Types.{Refusal, Answer}
 use Rattle.rules.specs.BaseLaws.{All}
 use Rattle.rules.proofs.BaseLaws.{all_map}
 use Rattle.rules.specs.Refusal.{decide, after, NoneHolds}
@@ -52,7 +52,7 @@ module _ (history : List Op) where
       sound-rewritten history g (f ∷ fs) w s aged r a.fits a.slots b
 
   -- none of a group's tests holds: each of its files stands, and the invariant holds again
-  pub group-rewritten : (g : ℕ) → g ≤ 255 → (slots : List ℕ) (w : World) → SoundWorld w (engine history) → decide (group_tests w slots (files_of w.settings.target_file_size (found w slots))) ≡ Done
+  pub group-rewritten : (g : ℕ) → g ≤ 255 → (slots : List ℕ) (w : World) → SoundWorld w (engine history) → decide (group_tests w slots (files_of w.settings.target_file_size (found w slots))) ≡ Ok tt
       → AllStood 0 g w (files_of w.settings.target_file_size (found w slots)) × SoundWorld (installed_all 0 g w (files_of w.settings.target_file_size (found w slots))) (engine history)
   unfolding group_tests
   group-rewritten g aged slots w s e =
@@ -68,8 +68,8 @@ module _ (history : List Op) where
       go : (a : Answer) → decide (group_tests w slots (files_of w.settings.target_file_size (found w slots))) ≡ a
           → SoundWorld (after {A = Course} a (λ (r : Refusal). record { stop = stopped r g; moved = moved; world = w })
           (record { stop = going; moved = moved + length (found w slots); world = installed_all 0 g w (files_of w.settings.target_file_size (found w slots)) })).world (engine history)
-      go (Refused r) e = s
-      go Done e = (group-rewritten g aged slots w s e).1
+      go (Err r) e = s
+      go (Ok _) e = (group-rewritten g aged slots w s e).1
 
   -- one generation: skipped, rewritten or refused
   pub sound-onward : (stop : Stop) (g : ℕ) → g ≤ 255 → (slots : List ℕ) (c : Course) → SoundWorld c.world (engine history) → SoundWorld (onward stop g slots c).world (engine history)

@@ -1,12 +1,12 @@
 -- Request P6: what each call leaves of the marks. "clear on writing, set by a sync call, set on reopening; an empty record has it clear".
-use Rattle.std.specs.Prelude.{◌≡◌, refl, ◌⊎◌, ◌<◌, ◌≤◌, ◌&&◌, ◌||◌, ◌∷◌, ◌++◌, ◌+◌, ◌-◌, ◌^◌}
+use Rattle.std.specs.Prelude.{◌≡◌, refl, ◌⊎◌, ◌<◌, ◌≤◌, ◌&&◌, ◌||◌, ◌∷◌, ◌++◌, ◌+◌, ◌-◌, ◌^◌, Err, Ok}
 use Rattle.std.proofs.Common.{sym, ap, ◌∙◌, subst, inl, inr, zero-add, arith, get_or-set_same, get_or-set_other, eq-eqb, ne_eqb}
 use Rattle.std.proofs.Math.ListN.{get_or-eq_default}
 use Rattle.std.proofs.Math.Seq.{set_out}
 use Rattle.disk_location.proofs.LocationLaws.{masked-pos}
 use Rattle.numbers.specs.GroupLaws.{either_way}
 use Rattle.rules.specs.Base.{Bool, true, false, not, List, [], map, ℕ, zero, suc, length, set, replicate, ltb, eqb, pick, sum}
-use Rattle.theory.specs.Types.{Entry, Label, Record, Answer, Done, Refused, Refusal, Limits}
+use Rattle.theory.specs.Types.{Entry, Label, Record, Answer, Refusal, Limits}
 use Rattle.rules.specs.Refusal.{◌gives◌, decide, after}
 use Rattle.rules.specs.BaseLaws.{All}
 use Rattle.rules.proofs.BaseLaws.{same?}
@@ -118,8 +118,8 @@ carries-group generation slots moved w = go (decide (group_tests w slots (files_
 
     go : (a : Answer) → Carries 0 w (after {A = Course} a (λ (r : Refusal). record { stop = stopped r generation; moved = moved; world = w })
         (record { stop = going; moved = moved + length (found w slots); world = installed_all 0 generation w files })).world
-    go Done = carries-all 0 generation w files
-    go (Refused r) = carries_same 0 w
+    go (Ok _) = carries-all 0 generation w files
+    go (Err r) = carries_same 0 w
 
 -- LAW: of any world, whatever the answer: write, rewrite, prune and, below, the nightly job carry the marks
 pub write-carries : (w : World) (bytes : List ℕ) → Carries (2 ^ 62) w (write_call w bytes).world
@@ -127,8 +127,8 @@ unfolding write_call written
 write-carries w bytes = go (decide (write_tests w bytes))
   where
     go : (a : Answer) → Carries (2 ^ 62) w (after a (unchanged w) (record { answer = accepted []; world = written w (settled (ops_of (batch_in bytes))) })).world
-    go Done = carries-all (2 ^ 62) 0 w (new_files (settled (ops_of (batch_in bytes))))
-    go (Refused r) = carries_same (2 ^ 62) w
+    go (Ok _) = carries-all (2 ^ 62) 0 w (new_files (settled (ops_of (batch_in bytes))))
+    go (Err r) = carries_same (2 ^ 62) w
 
 pub rewrite-carries : (w : World) (room g mark count : ℕ) → Carries 0 w (rewrite_call w room g mark count).world
 unfolding generation_rewritten
@@ -144,8 +144,8 @@ unfolding prune_call
 prune-carries w = go (decide (refused1 w gives Limits ∷ []))
   where
     go : (a : Answer) → Carries 0 w (after a (unchanged w) (record { answer = accepted []; world = pruned w })).world
-    go Done = carries-pruned 0 w
-    go (Refused r) = carries_same 0 w
+    go (Ok _) = carries-pruned 0 w
+    go (Err r) = carries_same 0 w
 
 -- calls one after another, as far as none is refused
 carries-together : (cs : List Call) → All (λ (c : Call). (w : World) → Carries 0 w (called w c).world) cs → (moved : ℕ) (w : World) → Carries 0 w (together moved w cs).world
@@ -194,11 +194,11 @@ reopen-marks w n = go (out_of_range w.settings (length w.heap) w.table) (decide 
     abandoned = none-of-views [] [] 256
 
     go : (b : Bool) (a : Answer)
-        → ((after (pick b (Refused Limits) Done) (unchanged w) (after a (given_up w) (opened w (views_of w)))).answer.number ≡ 1 → ⊥)
-        → unsynced_in (records_of (after (pick b (Refused Limits) Done) (unchanged w) (after a (given_up w) (opened w (views_of w)))).world) ≡ 0
+        → ((after (pick b (Err Limits) (Ok tt)) (unchanged w) (after a (given_up w) (opened w (views_of w)))).answer.number ≡ 1 → ⊥)
+        → unsynced_in (records_of (after (pick b (Err Limits) (Ok tt)) (unchanged w) (after a (given_up w) (opened w (views_of w)))).world) ≡ 0
     go true a m = absurd (m refl)
-    go false (Refused r) m = abandoned
-    go false Done m = none-of-views (table_of (files_in (views_of w))) (views_of w) (256 - length (views_of w))
+    go false (Err r) m = abandoned
+    go false (Ok _) m = none-of-views (table_of (files_in (views_of w))) (views_of w) (256 - length (views_of w))
 
 -- ---- on a store of the invariant
 module _ (w : World) (told : ℕ → Said) (s : SoundWorld w told) where
@@ -259,12 +259,12 @@ pub write-marks : (w : World) (history : List Op) → SoundWorld w (engine histo
 unfolding write_call written installed_all
 write-marks w history s batch e some k = go (decide (write_tests w batch)) refl e
   where
-    files : (os : List Op) → ops_in batch ≡ os → 0 < length os → decide (write_tests w batch) ≡ Done
+    files : (os : List Op) → ops_in batch ≡ os → 0 < length os → decide (write_tests w batch) ≡ Ok tt
         → is_unsynced (record_at (records_of (written w os)) k) ≡ (eqb k (new_slot w) || is_unsynced (record_at (records_of w) k))
     files [] q h d = absurd (omega arith)
     files (o ∷ os) q h d = installed-marks w (engine history) s (2 ^ 62) 0 (o ∷ os) (fits-write w history s batch o os q (write-accepted w batch d)) k
 
     go : (a : Answer) → decide (write_tests w batch) ≡ a → (after a (unchanged w) (record { answer = accepted []; world = written w (ops_in batch) })).answer ≡ accepted []
         → is_unsynced (record_at (records_of (after a (unchanged w) (record { answer = accepted []; world = written w (ops_in batch) })).world) k) ≡ (eqb k (new_slot w) || is_unsynced (record_at (records_of w) k))
-    go Done d f = files (ops_in batch) refl some d
-    go (Refused r) d f = absurd (refused-not r (ap (λ (g : Given). g.number) f))
+    go (Ok _) d f = files (ops_in batch) refl some d
+    go (Err r) d f = absurd (refused-not r (ap (λ (g : Given). g.number) f))

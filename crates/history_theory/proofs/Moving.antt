@@ -1,9 +1,9 @@
 -- What maintenance finds in a group is current: an object or a delete at its id's location is what the engine says of it.
-use Rattle.std.specs.Prelude.{◌≡◌, refl, ◌<◌, ◌≤◌, ◌∷◌, ◌+◌, ◌-◌, ◌*◌, ◌%◌, ◌^◌}
+use Rattle.std.specs.Prelude.{◌≡◌, refl, ◌<◌, ◌≤◌, ◌∷◌, ◌+◌, ◌-◌, ◌*◌, ◌%◌, ◌^◌, Err, Ok, Some}
 use Rattle.std.proofs.Math.Path.{sym, ap}
 use Rattle.std.proofs.Common.{◌∙◌, subst, arith, length-take, length-drop, drop-drop}
 use Rattle.rules.specs.Base.{true, false, List, [], ℕ, zero, suc, length, drop, eqb, keep, each}
-use Rattle.theory.specs.Types.{Entry, Label, Record, Answer, Done, Refused, Held, Mapped, Slot, Is}
+use Rattle.theory.specs.Types.{Entry, Label, Record, Answer, Held, Slot}
 use Rattle.disk_location.specs.Locations.{position_of, delete_of, raw_of}
 use Rattle.disk_location.proofs.LocationLaws.{delete-raw}
 use Rattle.rules.specs.BaseLaws.{All}
@@ -54,8 +54,8 @@ own_body : (x : ℕ) (o : Stored) (t : Last) → object_says x o ≡ last_says t
 own_body x o t e = go (decide (object_tests x o)) e
   where
     go : (a : Answer) → after a broken (body o.body) ≡ last_says t → last_says t ≡ body o.body
-    go Done e = sym e
-    go (Refused r) e = absurd (not-broken t e)
+    go (Ok _) e = sym e
+    go (Err r) e = absurd (not-broken t e)
 
 -- a delete's mark stays with it
 delete-absolute : (lsn : ℕ) (e : Entry) → delete_of (absolute lsn e).location ≡ delete_of e.location
@@ -79,7 +79,7 @@ module _ (w : World) (history : List Op) (s : SoundWorld w (engine history)) whe
 
   -- LAW: an object at its id's current location
   current-object : (k : ℕ) (f : File) (o : Stored) → view_at (views_of w) k ≡ holds f → StandsIn f.objects o
-      → lookup (mappings w) o.id ≡ Mapped (raw_of ((record_at (records_of w) k).label.lsn + o.position) false) → engine history o.id ≡ body o.body
+      → lookup (mappings w) o.id ≡ Some (raw_of ((record_at (records_of w) k).label.lsn + o.position) false) → engine history o.id ≡ body o.body
   unfolding picture_says
   current-object k f o h t e =
       own_body o.id o (last_on history o.id) (
@@ -97,7 +97,7 @@ module _ (w : World) (history : List Op) (s : SoundWorld w (engine history)) whe
       inside : o.position ≤ f.label.trailer_offset
       inside = let a = objects-inside k f h in let c = t.1 in omega arith
 
-      at : file_for (records_of w) (raw_of ((record_at (records_of w) k).label.lsn + o.position) false) ≡ Is k
+      at : file_for (records_of w) (raw_of ((record_at (records_of w) k).label.lsn + o.position) false) ≡ Some k
       at =
           let l = lsn in
           let n : raw_of ((record_at (records_of w) k).label.lsn + o.position) false ≡ 2 * o.position + 2 * f.label.lsn = omega arith in
@@ -109,13 +109,13 @@ module _ (w : World) (history : List Op) (s : SoundWorld w (engine history)) whe
       place = omega arith
 
   -- LAW: a delete at its id's current location
-  current-delete : (x l : ℕ) → delete_of l ≡ true → lookup (mappings w) x ≡ Mapped l → engine history x ≡ gone
+  current-delete : (x l : ℕ) → delete_of l ≡ true → lookup (mappings w) x ≡ Some l → engine history x ≡ gone
   unfolding picture_says
   current-delete x l d e =
       sym (s.sound.says x) ∙ ap (λ (c : Held). held_says (picture_of w) c x) e
       ∙ held-says (picture_of w) l x true d
 
-  narrow : (x l : ℕ) → lookup (mappings w) x ≡ Mapped l → x < 2 ^ 64
+  narrow : (x l : ℕ) → lookup (mappings w) x ≡ Some l → x < 2 ^ 64
   narrow x l e = s.sound.narrow x l (lookup-has (mappings w) x l e)
 
   objects-movable : (k : ℕ) (f : File) → view_at (views_of w) k ≡ holds f → (r : Label) → r ≡ (record_at (records_of w) k).label
@@ -127,7 +127,7 @@ module _ (w : World) (history : List Op) (s : SoundWorld w (engine history)) whe
       (stored_objects r (slot_of w k))
       (λ o t q.
       let m = current-is (lookup (mappings w) o.id) (raw_of (r.lsn + o.position) false) q in
-      (current-object k f o h t (m ∙ ap (λ (c : Label). Mapped (raw_of (c.lsn + o.position) false)) e), narrow o.id (raw_of (r.lsn + o.position) false) m))
+      (current-object k f o h t (m ∙ ap (λ (c : Label). Some (raw_of (c.lsn + o.position) false)) e), narrow o.id (raw_of (r.lsn + o.position) false) m))
       (subst (λ (bs : List ℕ). All (StandsIn f.objects) (objects_in bs)) same (objects-stand f.objects))
     where
       same : f.objects ≡ object_part r (slot_of w k)

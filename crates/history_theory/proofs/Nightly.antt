@@ -1,9 +1,9 @@
 -- Request P7: "the nightly job becomes plan, rewrite 1, 2, 3, then prune, stopping at the first call refused"; so demand 3 holds of the job as of its calls.
-use Rattle.std.specs.Prelude.{◌≡◌, ◌∷◌, ◌+◌}
+use Rattle.std.specs.Prelude.{◌≡◌, ◌∷◌, ◌+◌, Err, Ok}
 use Rattle.std.proofs.Math.Path.{refl}
 use Rattle.std.proofs.Common.{sym, ap, ◌∙◌, subst, inl, inr, arith}
 use Rattle.rules.specs.Base.{Bool, true, false, List, [], ℕ, get_or, eqb, pick}
-use Rattle.theory.specs.Types.{Refusal, Limits, Answer, Done, Refused, Moved, Stopped}
+use Rattle.theory.specs.Types.{Refusal, Limits, Answer, stopped_with}
 use Rattle.rules.specs.BaseLaws.{All}
 use Rattle.rules.specs.Refusal.{◌gives◌, decide, after}
 use Rattle.rules.proofs.Answers.{known}
@@ -71,8 +71,8 @@ plan-gives w room = go (decide (refused_noting w room gives Limits ∷ []))
     go : (a : Answer) → (after {A = Given} a refused (accepted (plan_values w))).number ≡ 0
         → (get_or (after {A = Given} a refused (accepted (plan_values w))).values 0 0 ≡ mark_of w)
         × (get_or (after {A = Given} a refused (accepted (plan_values w))).values 1 0 ≡ count_of w)
-    go (Refused r) e = absurd (refused-not r e)
-    go Done e = (refl, refl)
+    go (Err r) e = absurd (refused-not r e)
+    go (Ok _) e = (refl, refl)
 
 -- once refused, no generation goes on
 job-stopped : (gs : List ℕ) (room mark count : ℕ) (r : Refusal) (g moved : ℕ) (w : World)
@@ -98,11 +98,11 @@ module _ (room mark count : ℕ) where
   prune-last moved w = go (decide (refused1 w gives Limits ∷ []))
     where
       go : (a : Answer)
-          → after {A = After} a (λ (r : Refusal). leaving (maintain_given (Stopped r 0 moved)) w) (leaving (maintain_given (Moved moved)) (pruned w))
+          → after {A = After} a (λ (r : Refusal). leaving (maintain_given (Err (stopped_with r 0 moved))) w) (leaving (maintain_given (Ok moved)) (pruned w))
           ≡ (let b = after a (unchanged w) (record { answer = accepted []; world = pruned w }) in
           pick (eqb b.answer.number 0) (leaving (accepted (moved ∷ [])) b.world) (leaving (record { number = b.answer.number; values = 0 ∷ moved ∷ [] }) b.world))
-      go (Refused r) = rw (known r).some
-      go Done = refl
+      go (Err r) = rw (known r).some
+      go (Ok _) = refl
 
   rewrites-made : (gs : List ℕ) (moved : ℕ) (w : World) → job_on gs going moved w ≡ together moved w (rewrites gs)
   unfolding job_from together
@@ -135,11 +135,11 @@ unfolding nightly_call job_of plan_call together
 job-made w room = go (decide (refused_noting w room gives Limits ∷ []))
   where
     go : (a : Answer)
-        → after {A = After} a (λ (r : Refusal). leaving (maintain_given (Stopped r 0 0)) w) (job_on room (mark_of w) (count_of w) (1 ∷ 2 ∷ 3 ∷ []) going 0 w)
+        → after {A = After} a (λ (r : Refusal). leaving (maintain_given (Err (stopped_with r 0 0))) w) (job_on room (mark_of w) (count_of w) (1 ∷ 2 ∷ 3 ∷ []) going 0 w)
         ≡ (let b = after {A = Given} a refused (accepted (plan_values w)) in
         pick (eqb b.number 0) (together 0 w (rewrites room (mark_of w) (count_of w) (1 ∷ 2 ∷ 3 ∷ []))) (leaving (record { number = b.number; values = 0 ∷ 0 ∷ [] }) w))
-    go (Refused r) = rw (known r).some
-    go Done = rewrites-made room (mark_of w) (count_of w) (1 ∷ 2 ∷ 3 ∷ []) 0 w
+    go (Err r) = rw (known r).some
+    go (Ok _) = rewrites-made room (mark_of w) (count_of w) (1 ∷ 2 ∷ 3 ∷ []) 0 w
 
 -- LAW: the job is a life of its calls, of any world, and the engine hears nothing
 pub job-lived : (w : World) (history : List Op) (room : ℕ)

@@ -1,9 +1,9 @@
 -- Request P7: a rewrite of one named generation, of any world, whatever numbers it is given.
-use Rattle.std.specs.Prelude.{◌≡◌, refl, ◌⊎◌, ◌≤◌}
+use Rattle.std.specs.Prelude.{◌≡◌, refl, ◌⊎◌, ◌≤◌, Err, Ok}
 use Rattle.std.proofs.Common.{sym, ap, ◌∙◌, subst, inl, inr, ⊎_elim}
 use Rattle.std.proofs.lemmas.Bool.{not-false}
 use Rattle.rules.specs.Base.{Bool, true, false, List, ℕ, length, ltb, pick, within}
-use Rattle.theory.specs.Types.{Refusal, Answer, Done, Refused}
+use Rattle.theory.specs.Types.{Refusal, Answer}
 use Rattle.rules.proofs.BaseLaws.{within-true}
 use Rattle.rules.specs.Refusal.{decide, after, NoneHolds}
 use Rattle.rules.proofs.RefusalLaws.{clear-when, done-or-refused}
@@ -25,7 +25,7 @@ rewrite-world w room g mark count =
     answered-world c.stop c.moved c.world
 
 -- neither 1 nor 22 held: a generation of 1..3
-pub generation-named : (w : World) (room g : ℕ) → decide (rewrite_tests w room g) ≡ Done → (1 ≤ g) × (g ≤ 3)
+pub generation-named : (w : World) (room g : ℕ) → decide (rewrite_tests w room g) ≡ Ok tt → (1 ≤ g) × (g ≤ 3)
 unfolding rewrite_tests NoneHolds
 generation-named w room g e = within-true 1 3 g (not-false (within 1 3 g) (clear-when (rewrite_tests w room g) e).1.0)
 
@@ -37,8 +37,8 @@ rewrite-leaves P w room g mark count before named = subst P (sym (rewrite-world 
   where
     go : (a : Answer) → decide (rewrite_tests w room g) ≡ a
         → P (after {A = Course} a (λ (r : Refusal). record { stop = stopped r g; moved = 0; world = w }) (generation_rewritten w g mark count)).world
-    go (Refused r) e = before
-    go Done e = let n = generation-named w room g e in named n.0 n.1
+    go (Err r) e = before
+    go (Ok _) e = let n = generation-named w room g e in named n.0 n.1
 
 group-stops : (g : ℕ) (slots : List ℕ) (w : World) → StopsOrKeeps w g (rewrite_group g slots 0 w)
 group-stops g slots w =
@@ -53,9 +53,9 @@ rewrite-stops w room g mark count = go (decide (rewrite_tests w room g)) (ltb (l
     go : (a : Answer) (b : Bool)
         → StopsOrKeeps w g (after {A = Course} a (λ (r : Refusal). record { stop = stopped r g; moved = 0; world = w })
         (pick b (record { stop = going; moved = 0; world = w }) (rewrite_group g (group w g mark count) 0 w)))
-    go (Refused r) b = inr (r, refl)
-    go Done true = inl refl
-    go Done false = group-stops g (group w g mark count) w
+    go (Err r) b = inr (r, refl)
+    go (Ok _) true = inl refl
+    go (Ok _) false = group-stops g (group w g mark count) w
 
 -- LAW: "A refusal changes no state or buffer"
 pub rewrite-refused : (w : World) (room g mark count : ℕ) → ((rewrite_call w room g mark count).answer.number ≡ 0 → ⊥) → (rewrite_call w room g mark count).world ≡ w

@@ -1,8 +1,8 @@
 -- Calls that store nothing and bring no put and no delete: each is one clause of `quietly` and one of `undisturbed`.
-use Rattle.std.specs.Prelude.{refl, ◌||◌, ◌∷◌}
+use Rattle.std.specs.Prelude.{refl, ◌||◌, ◌∷◌, Err, Ok}
 use Rattle.std.proofs.Common.{ap}
 use Rattle.rules.specs.Base.{not, []}
-use Rattle.theory.specs.Types.{Claims, Limits, Claim, Answer, Done, Refused}
+use Rattle.theory.specs.Types.{Claims, Limits, Claim, Answer}
 use Rattle.rules.specs.Refusal.{◌gives◌, decide, after}
 use Rattle.rules.specs.Condition1.{refused1}
 use Rattle.rules.specs.Claims.{is_claimed, not_a_file, claim_set, claim_cleared, with_claims, claim_call, release_call}
@@ -13,8 +13,8 @@ use Rattle.history_theory.specs.Quiet.{QuietCall, claim, release, sync, plan, qu
 
 -- a call that changes the claims alone
 by-claims : (w : World) (c : Claims) (a : Answer) → Undisturbed w (after a (unchanged w) (record { answer = accepted []; world = with_claims w c }))
-by-claims w c (Refused r) = record { heap = refl; settings = refl; sound = λ told s. s; refused = λ n. refl }
-by-claims w c Done = record {
+by-claims w c (Err r) = record { heap = refl; settings = refl; sound = λ told s. s; refused = λ n. refl }
+by-claims w c (Ok _) = record {
   heap = refl;
   settings = refl;
   sound = λ told s.

@@ -1,8 +1,8 @@
 -- A read on a store of the invariant gives what the plain engine says.
-use Rattle.std.specs.Prelude.{◌≡◌, refl, ◌≤◌, ◌+◌, ◌-◌, ◌*◌}
+use Rattle.std.specs.Prelude.{◌≡◌, refl, ◌≤◌, ◌+◌, ◌-◌, ◌*◌, Err, None, Ok, Some}
 use Rattle.std.proofs.Common.{sym, ap, ◌∙◌, subst, arith, length-take, length-drop, take-take, drop-drop, length-take-le, ltb-false, le-ltb}
 use Rattle.rules.specs.Base.{Bool, true, false, List, ℕ, length, take, drop, pick}
-use Rattle.theory.specs.Types.{Record, Refusal, Answer, Done, Refused, ReadAnswer, Found, ReadRefused, Held, Mapped, Unmapped, At, DeletedAt, Slot, Is, NoSlot}
+use Rattle.theory.specs.Types.{Record, Refusal, Answer, ReadAnswer, Found, Held, At, DeletedAt, Slot}
 use Rattle.disk_location.specs.Locations.{position_of, delete_of}
 use Rattle.rules.specs.Refusal.{decide, after, NoneHolds}
 use Rattle.rules.proofs.RefusalLaws.{clear-when, decide-clear}
@@ -58,8 +58,8 @@ says : (x : ℕ) (o : Stored) (b : List ℕ) → object_says x o ≡ body b → 
 says x o b h = go (decide (object_tests x o)) refl h
   where
     go : (a : Answer) → decide (object_tests x o) ≡ a → after a broken (body o.body) ≡ body b → Says x o b
-    go Done e q = record { clear = clear-when (object_tests x o) e; is = cc }
-    go (Refused r) e q = absurd (let z : ◌≡◌ {A = ℕ} 0 1 = cc in omega arith)
+    go (Ok _) e q = record { clear = clear-when (object_tests x o) e; is = cc }
+    go (Err r) e q = absurd (let z : ◌≡◌ {A = ℕ} 0 1 = cc in omega arith)
 
 rooms : (x : ℕ) (o : Stored) → NoneHolds (object_tests x o) → (20 ≤ o.room) × (20 + o.size ≤ o.room)
 unfolding object_tests NoneHolds
@@ -85,8 +85,8 @@ object-loud : (x : ℕ) (o : Stored) → (object_says x o ≡ unheard → ⊥) �
 object-loud x o = go (decide (object_tests x o))
   where
     go : (a : Answer) → (after a broken (body o.body) ≡ unheard → ⊥) × (after a broken (body o.body) ≡ gone → ⊥)
-    go Done = (λ e. let z : ◌≡◌ {A = ℕ} 0 1 = cc in omega arith, λ e. let z : ◌≡◌ {A = ℕ} 0 1 = cc in omega arith)
-    go (Refused r) = (λ e. let z : ◌≡◌ {A = ℕ} 0 1 = cc in omega arith, λ e. let z : ◌≡◌ {A = ℕ} 0 1 = cc in omega arith)
+    go (Ok _) = (λ e. let z : ◌≡◌ {A = ℕ} 0 1 = cc in omega arith, λ e. let z : ◌≡◌ {A = ℕ} 0 1 = cc in omega arith)
+    go (Err r) = (λ e. let z : ◌≡◌ {A = ℕ} 0 1 = cc in omega arith, λ e. let z : ◌≡◌ {A = ℕ} 0 1 = cc in omega arith)
 
 -- its body is so many of its bytes
 pub body_is : (position : ℕ) (bs : List ℕ) → (stored_at position bs).body ≡ take (stored_at position bs).size (drop 20 bs)
@@ -146,16 +146,16 @@ part-of-heap heap size k file_size position m h =
 module _ (w : World) (told : ℕ → Said) (s : SoundWorld w told) where
   -- LAW: a body that stands in a file's object bytes is found, as a part of the heap
   object-read : (k position x : ℕ) (f : File) (b : List ℕ) → view_at (views_of w) k ≡ holds f → place_says f position x ≡ body b
-      → (read_object w x k (object_in w k position) ≡ Found (body_start w k position) (length b)) × (take (length b) (drop (body_start w k position) w.heap) ≡ b)
+      → (read_object w x k (object_in w k position) ≡ Ok (Found (body_start w k position) (length b))) × (take (length b) (drop (body_start w k position) w.heap) ≡ b)
   object-read k position x f b h e =
       let z = shown w k f h in
       let slot = bytes_of_slot w.settings.slot_bytes w.heap k in
       let r = read_back position f.label.trailer_offset x f.objects (file_in f.label slot) b (sym z.1.objects) e in
       let q : (record_at (records_of w) k).label.file_size ≡ f.label.file_size = ap (λ (r : Record). r.label.file_size) (record-holds (views_of w) (records_of w) s.sound.filed k f h) in (
         ap (λ (n : ℕ). read_object w x k (stored_at position (drop position (take n (drop 64 slot))))) q
-            ∙ ap (λ (a : Answer). after a ReadRefused (Found (found_at (file_in f.label slot)) (stored_at position (drop position (file_in f.label slot))).size)) (decide-clear _ r.clear)
-            ∙ ap (Found (found_at (file_in f.label slot))) r.size
-            ∙ ap (λ (n : ℕ). Found (k * w.settings.slot_bytes + 64 + n + 20) (length b)) (stored-position position (drop position (file_in f.label slot))),
+            ∙ ap (λ (a : Answer). after a Err (Ok (Found (found_at (file_in f.label slot)) (stored_at position (drop position (file_in f.label slot))).size))) (decide-clear _ r.clear)
+            ∙ ap (λ (n : ℕ). Ok (Found (found_at (file_in f.label slot)) n)) r.size
+            ∙ ap (λ (n : ℕ). Ok (Found (k * w.settings.slot_bytes + 64 + n + 20) (length b))) (stored-position position (drop position (file_in f.label slot))),
         sym (part-of-heap w.heap w.settings.slot_bytes k f.label.file_size position (length b) r.room) ∙ r.part,
       )
     where
@@ -163,12 +163,12 @@ module _ (w : World) (told : ℕ → Said) (s : SoundWorld w told) where
       found_at bytes = k * w.settings.slot_bytes + 64 + (stored_at position (drop position bytes)).position + 20
 
   -- what the picture says of an id, a read gives
-  view-read : (x l k : ℕ) (v : View) → view_at (views_of w) k ≡ v → (t : Last) → view_says v (position_of l - (record_at (records_of w) k).label.lsn) x ≡ last_says t → Reads w (read_file w x l (Is k)) t
+  view-read : (x l k : ℕ) (v : View) → view_at (views_of w) k ≡ v → (t : Last) → view_says v (position_of l - (record_at (records_of w) k).label.lsn) x ≡ last_says t → Reads w (read_file w x l (Some k)) t
   view-read x l k empty h t e = absurd (not-broken t e)
   view-read x l k (damaged r) h t e = absurd (not-broken t e)
   view-read x l k (holds f) h t e = go t e
     where
-      go : (t : Last) → place_says f (position_of l - (record_at (records_of w) k).label.lsn) x ≡ last_says t → Reads w (read_file w x l (Is k)) t
+      go : (t : Last) → place_says f (position_of l - (record_at (records_of w) k).label.lsn) x ≡ last_says t → Reads w (read_file w x l (Some k)) t
       go silent e = absurd ((object-loud x (stored_at (position_of l - (record_at (records_of w) k).label.lsn) (drop (position_of l - (record_at (records_of w) k).label.lsn) f.objects))).0 e)
       go (last delete) e = absurd ((object-loud x (stored_at (position_of l - (record_at (records_of w) k).label.lsn) (drop (position_of l - (record_at (records_of w) k).label.lsn) f.objects))).1 e)
       go (last (put b)) e =
@@ -176,14 +176,14 @@ module _ (w : World) (told : ℕ → Said) (s : SoundWorld w told) where
           (body_start w k (position_of l - (record_at (records_of w) k).label.lsn), r.0, ap (λ (a : ReadAnswer). part_of a w.heap) r.0 ∙ r.1)
 
   slot_read : (x l : ℕ) (o : Slot) (t : Last) → slot_says (picture_of w) o l x ≡ last_says t → Reads w (read_file w x l o) t
-  slot_read x l NoSlot t e = absurd (not-broken t e)
-  slot_read x l (Is k) t e = view-read x l k (view_at (views_of w) k) refl t e
+  slot_read x l None t e = absurd (not-broken t e)
+  slot_read x l (Some k) t e = view-read x l k (view_at (views_of w) k) refl t e
 
   held-read : (x : ℕ) (o : Held) (t : Last) → held_says (picture_of w) o x ≡ last_says t → Reads w (read_loaded w x (loaded_of o)) t
-  held-read x Unmapped silent e = refl
-  held-read x Unmapped (last (put b)) e = absurd (let z : ◌≡◌ {A = ℕ} 0 1 = cc in omega arith)
-  held-read x Unmapped (last delete) e = absurd (let z : ◌≡◌ {A = ℕ} 0 1 = cc in omega arith)
-  held-read x (Mapped l) t e = go (delete_of l) t e
+  held-read x None silent e = refl
+  held-read x None (last (put b)) e = absurd (let z : ◌≡◌ {A = ℕ} 0 1 = cc in omega arith)
+  held-read x None (last delete) e = absurd (let z : ◌≡◌ {A = ℕ} 0 1 = cc in omega arith)
+  held-read x (Some l) t e = go (delete_of l) t e
     where
       go : (d : Bool) (t : Last) → loaded_says (picture_of w) (pick d (DeletedAt l) (At l)) x ≡ last_says t
           → Reads w (read_loaded w x (pick d (DeletedAt l) (At l))) t

@@ -1,11 +1,11 @@
 -- Files of current contents added one after another: nothing else is said of any id.
-use Rattle.std.specs.Prelude.{◌≡◌, ◌<◌, ◌≤◌, min, ◌∷◌, ◌+◌, ◌*◌, ◌^◌}
+use Rattle.std.specs.Prelude.{◌≡◌, ◌<◌, ◌≤◌, min, ◌∷◌, ◌+◌, ◌*◌, ◌^◌, None, Some}
 use Rattle.std.proofs.Math.Path.{refl}
 use Rattle.std.proofs.Common.{sym, ap, ◌∙◌, subst, inl, inr, zero-le, length-take, length-set, get_or-take, get_or-set_other, ltb-true, ltb-false, eqb-true}
 use native.Mathlib.Omega.{arith}
 use Rattle.std.proofs.Math.ListN.{get_or-eq_default}
 use Rattle.rules.specs.Base.{Bool, true, false, List, [], ℕ, zero, suc, length, set, take, ltb, eqb, pick, sum}
-use Rattle.theory.specs.Types.{Record, Settings, Held, Mapped, Unmapped}
+use Rattle.theory.specs.Types.{Record, Settings, Held}
 use Rattle.rules.specs.BaseLaws.{All}
 use Rattle.rules.proofs.BaseLaws.{all_map}
 use Rattle.rules.specs.Settings.{slots_in}
@@ -171,16 +171,16 @@ module _ (history : List Op) where
 
   -- no id is new to the table
   all-mapped : (w : World) → SoundWorld w (engine history) → (file : List Op) → Rewritable (engine history) file → (lsn x l : ℕ) → Has (rows_for lsn 0 file) x l
-      → (m : ℕ) × (lookup (mappings w) x ≡ Mapped m)
+      → (m : ℕ) × (lookup (mappings w) x ≡ Some m)
   unfolding picture_says
   all-mapped w s file r lsn x l h = go (lookup (mappings w) x) refl
     where
       a : (q : ℕ) × Has (entries_of 0 file) x q × (l ≡ q + 2 * lsn)
       a = absolute-has lsn (entries_of 0 file) x l h
 
-      go : (o : Held) → lookup (mappings w) x ≡ o → (m : ℕ) × (lookup (mappings w) x ≡ Mapped m)
-      go (Mapped m) e = (m, e)
-      go Unmapped e =
+      go : (o : Held) → lookup (mappings w) x ≡ o → (m : ℕ) × (lookup (mappings w) x ≡ Some m)
+      go (Some m) e = (m, e)
+      go None e =
           let d = entry-stands 0 file x a.0 a.1 in
           let t = stands-all (Movable (engine history)) 0 file r.current x d.content _ d.stands in
           absurd (heard-of d.content (sym (ap (λ (c : Held). held_says (picture_of w) c x) e) ∙ s.sound.says x ∙ t.0))

@@ -1,11 +1,11 @@
 -- A store in which no object is of max_object_size or more stays one: 3 refuses no batch that would bring one, and a rewrite makes none.
-use Rattle.std.specs.Prelude.{◌≡◌, ◌⊎◌, ◌≤◌, ◌∷◌, ◌+◌, ◌^◌}
+use Rattle.std.specs.Prelude.{◌≡◌, ◌⊎◌, ◌≤◌, ◌∷◌, ◌+◌, ◌^◌, Err, Ok}
 use Rattle.std.proofs.Math.Path.{refl, ap, subst}
 use Rattle.std.proofs.Common.{sym, ◌∙◌, inl, inr, arith, length-take}
 use Rattle.std.proofs.Math.Logic.{⊎_elim}
 use borrow.Author.Tests.{leb-false, lt-leb}
 use Rattle.rules.specs.Base.{Bool, true, false, List, [], ℕ, zero, suc, length, set, take, drop, leb, ltb, pick, any, keep, each}
-use Rattle.theory.specs.Types.{Settings, Entry, Label, Record, Refusal, Answer, Done, Refused}
+use Rattle.theory.specs.Types.{Settings, Entry, Label, Record, Refusal, Answer}
 use Rattle.disk_location.specs.Locations.{delete_of, raw_of}
 use Rattle.rules.specs.BaseLaws.{All}
 use Rattle.rules.proofs.BaseLaws.{all_map, all_append, all_both, any_false, any-clear}
@@ -99,8 +99,8 @@ module _ (w : World) (history : List Op) (s : SoundWorld w (engine history)) (sm
           (subst (λ (l : List Op). any_too_large w.settings.max_object_size l ≡ false) e (small-settled w.settings.max_object_size (ops_of (batch_in bytes)) a.small)) small
 
       go : (a : Answer) → decide (write_tests w bytes) ≡ a → SmallWorld (after a (unchanged w) (record { answer = accepted []; world = written w (settled (ops_of (batch_in bytes))) })).world
-      go (Refused r) e = small
-      go Done e = files (ops_in bytes) refl (write-accepted w bytes e)
+      go (Err r) e = small
+      go (Ok _) e = files (ops_in bytes) refl (write-accepted w bytes e)
 
   -- LAW: files removed
   pub small-pruned : SmallWorld (pruned w)
@@ -158,8 +158,8 @@ module _ (w : World) (history : List Op) (s : SoundWorld w (engine history)) (sm
       go : (a : Answer) → decide (group_tests w ks (files_of w.settings.target_file_size (found w ks))) ≡ a
           → SmallWorld (after {A = Course} a (λ (r : Refusal). record { stop = stopped r g; moved = moved; world = w })
           (record { stop = going; moved = moved + length (found w ks); world = installed_all 0 g w (files_of w.settings.target_file_size (found w ks)) })).world
-      go (Refused r) e = small
-      go Done e =
+      go (Err r) e = small
+      go (Ok _) e =
           small-installed-all 0 g (files_of w.settings.target_file_size (found w ks)) w (group-rewritten history g aged ks w s e).0
           (files-small ks w.settings.target_file_size) small
 

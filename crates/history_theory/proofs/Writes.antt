@@ -1,8 +1,8 @@
 -- Calls in a reader's words: where the file of an accepted write stands, what is read and reopened after it; that every other call leaves reads as they were; that refused calls change nothing.
-use Rattle.std.specs.Prelude.{◌≡◌, refl, ◌<◌, ◌∷◌, ◌++◌, ◌^◌}
+use Rattle.std.specs.Prelude.{◌≡◌, refl, ◌<◌, ◌∷◌, ◌++◌, ◌^◌, Err, Ok}
 use Rattle.std.proofs.Common.{sym, ap, ◌∙◌, subst, arith}
 use Rattle.rules.specs.Base.{false, List, [], ℕ, length}
-use Rattle.theory.specs.Types.{Limits, Answer, Done, Refused, ReadAnswer}
+use Rattle.theory.specs.Types.{Limits, Answer, ReadAnswer}
 use Rattle.rules.specs.Refusal.{◌gives◌, decide, after}
 use Rattle.rules.specs.Condition1.{out_of_range, refused1}
 use Rattle.rules.specs.Prune.{pruned, prune_call}
@@ -48,16 +48,16 @@ left_over (last (put body)) b = refl
 left_over (last delete) b = refl
 
 -- none of 1 to 7 held
-accepted-done : (w : World) (batch : List ℕ) → (write_call w batch).answer ≡ accepted [] → decide (write_tests w batch) ≡ Done
+accepted-done : (w : World) (batch : List ℕ) → (write_call w batch).answer ≡ accepted [] → decide (write_tests w batch) ≡ Ok tt
 unfolding write_call
 accepted-done w batch e = go (decide (write_tests w batch)) e
   where
-    go : (a : Answer) → (after a (unchanged w) (record { answer = accepted []; world = written w (settled (ops_of (batch_in batch))) })).answer ≡ accepted [] → a ≡ Done
-    go Done e = refl
-    go (Refused r) e = absurd (refused-not r (ap (λ (g : Given). g.number) e))
+    go : (a : Answer) → (after a (unchanged w) (record { answer = accepted []; world = written w (settled (ops_of (batch_in batch))) })).answer ≡ accepted [] → a ≡ Ok tt
+    go (Ok _) e = refl
+    go (Err r) e = absurd (refused-not r (ap (λ (g : Given). g.number) e))
 
 -- so its file was added
-file-stands : (w : World) (history : List Op) → SoundWorld w (engine history) → (batch : List ℕ) → decide (write_tests w batch) ≡ Done
+file-stands : (w : World) (history : List Op) → SoundWorld w (engine history) → (batch : List ℕ) → decide (write_tests w batch) ≡ Ok tt
     → 0 < length (ops_in batch) → ((write_call w batch).world ≡ installed (2 ^ 62) 0 w (ops_in batch)) × Stood (2 ^ 62) 0 w (ops_in batch)
 unfolding write_call written installed_all
 file-stands w history s batch e some = rw e (go (ops_in batch) refl some)
@@ -120,8 +120,8 @@ any-reads-stay w range blank = lived-reads-stay (born w) (born-starts w range bl
 
 or-unchanged : (w v : World) (a : Answer) → ((after a (unchanged w) (record { answer = accepted []; world = v })).answer.number ≡ 0 → ⊥)
     → (after a (unchanged w) (record { answer = accepted []; world = v })).world ≡ w
-or-unchanged w v Done n = absurd (n refl)
-or-unchanged w v (Refused r) n = refl
+or-unchanged w v (Ok _) n = absurd (n refl)
+or-unchanged w v (Err r) n = refl
 
 -- LAW: "A refusal changes no state or buffer", on any world
 pub refused-unchanged : (w : World) (c : Call) → Plain c → ((called w c).answer.number ≡ 0 → ⊥) → (called w c).world ≡ w

@@ -1,10 +1,10 @@
 -- A write on a store of the invariant: refused, nothing changes; accepted, the engine hears the batch.
-use Rattle.std.specs.Prelude.{◌≡◌, ◌<◌, ◌∷◌, ◌++◌, ◌^◌}
+use Rattle.std.specs.Prelude.{◌≡◌, ◌<◌, ◌∷◌, ◌++◌, ◌^◌, Err, Ok}
 use Rattle.std.proofs.Math.Path.{refl, ap, subst}
 use Rattle.std.proofs.Common.{sym, ◌∙◌, inr, zero-le}
 use native.Mathlib.Omega.{arith}
 use Rattle.rules.specs.Base.{Bool, List, [], ℕ, length, pick}
-use Rattle.theory.specs.Types.{Answer, Done, Refused}
+use Rattle.theory.specs.Types.{Answer}
 use Rattle.rules.specs.Refusal.{decide, after}
 use Rattle.rules.proofs.Answers.{known}
 use Rattle.rules.specs.Ops.{Op, objects_of, entries_of, settled}
@@ -94,5 +94,5 @@ module _ (w : World) (history : List Op) (s : SoundWorld w (engine history)) (by
       go : (a : Answer) → decide (write_tests w bytes) ≡ a
           → SoundWorld (after a (unchanged w) (record { answer = accepted []; world = written w (settled (ops_of (batch_in bytes))) })).world
           (engine (heard history bytes (after a (unchanged w) (record { answer = accepted []; world = written w (settled (ops_of (batch_in bytes))) })).answer))
-      go (Refused r) e = subst (λ (b : Bool). SoundWorld w (engine (pick b (history ++ ops_of (batch_in bytes)) history))) (sym (known r).some) s
-      go Done e = written-sound (ops_in bytes) refl (write-accepted w bytes e)
+      go (Err r) e = subst (λ (b : Bool). SoundWorld w (engine (pick b (history ++ ops_of (batch_in bytes)) history))) (sym (known r).some) s
+      go (Ok _) e = written-sound (ops_in bytes) refl (write-accepted w bytes e)

@@ -1,7 +1,7 @@
 -- DEMAND 3 from any clean heap: one that a reopening accepts and whose files are whole, whoever wrote them.
-use Rattle.std.specs.Prelude.{◌≡◌, ◌-◌}
+use Rattle.std.specs.Prelude.{◌≡◌, ◌-◌, Err, Ok}
 use Rattle.rules.specs.Base.{List, [], map, ℕ}
-use Rattle.theory.specs.Types.{Entry, ReadAnswer, Found, Deleted, NeverWritten, ReadRefused}
+use Rattle.theory.specs.Types.{Entry, ReadAnswer, Found, Deleted, NeverWritten}
 use Rattle.numbers.specs.LittleEndian.{Bytes}
 use Rattle.rules.specs.Refusal.{after}
 use Rattle.rules.specs.Ops.{Content, put, delete, Op}
@@ -22,10 +22,10 @@ pub record Clean (w : World) : Type 0 where
 
 -- what a read gives, as the content of an operation
 abbrev pub content_by : ReadAnswer → List ℕ → Content
-content_by (Found start size) part = put part
-content_by Deleted part = delete
-content_by NeverWritten part = delete
-content_by (ReadRefused r) part = delete
+content_by (Ok (Found start size)) part = put part
+content_by (Ok Deleted) part = delete
+content_by (Ok NeverWritten) part = delete
+content_by (Err r) part = delete
 
 -- of an id
 abbrev pub content_of : World → ℕ → Content

@@ -1,5 +1,5 @@
 -- A read on a store of the invariant gives what the plain engine says.
-use Rattle.std.specs.Prelude.{◌≡◌, ◌≤◌, ◌+◌, ◌-◌, ◌*◌}
+use Rattle.std.specs.Prelude.{◌≡◌, ◌≤◌, ◌+◌, ◌-◌, ◌*◌, Ok}
 use Rattle.rules.specs.Base.{List, ℕ, length, take, drop}
 use Rattle.theory.specs.Types.{ReadAnswer, Found, Deleted, NeverWritten}
 use Rattle.rules.specs.Refusal.{after, NoneHolds}
@@ -12,9 +12,9 @@ use Rattle.theory.specs.Picture.{body}
 
 -- what a read answers, by the last operation on the id: never written where there is none, deleted after a delete
 abbrev pub Reads : World → ReadAnswer → Last → Type 0
-Reads w answer silent = answer ≡ NeverWritten
-Reads w answer (last delete) = answer ≡ Deleted
-Reads w answer (last (put b)) = (start : ℕ) × (answer ≡ Found start (length b)) × (part_of answer w.heap ≡ b)
+Reads w answer silent = answer ≡ Ok NeverWritten
+Reads w answer (last delete) = answer ≡ Ok Deleted
+Reads w answer (last (put b)) = (start : ℕ) × (answer ≡ Ok (Found start (length b))) × (part_of answer w.heap ≡ b)
 
 -- ---- an object that says a body
 pub record Says (x : ℕ) (o : Stored) (b : List ℕ) : Type 0 where

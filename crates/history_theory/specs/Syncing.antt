@@ -1,7 +1,7 @@
 -- Request P6: a sync of the state's own records, all of them or some.
-use Rattle.std.specs.Prelude.{◌∷◌, ◌++◌}
+use Rattle.std.specs.Prelude.{◌∷◌, ◌++◌, Err, Ok}
 use Rattle.rules.specs.Base.{Bool, List, [], ℕ, take, drop, any, pick}
-use Rattle.theory.specs.Types.{Record, Limits, Done, Refused}
+use Rattle.theory.specs.Types.{Record, Limits}
 use Rattle.rules.specs.Refusal.{after}
 use Rattle.rules.specs.World.{World, records_of, state_with, accepted, refused}
 use Rattle.rules.specs.Sync.{is_unsynced, Synced, marked_all, sync_call}
@@ -19,7 +19,7 @@ synced w = record {
 -- by whether the list is too long
 abbrev pub synced_by : List Record → Bool → Synced
 synced_by rs t =
-    after (pick t (Refused Limits) Done) (λ r. record { answer = refused r; records = rs })
+    after (pick t (Err Limits) (Ok tt)) (λ r. record { answer = refused r; records = rs })
     (record { answer = accepted (pick (any is_unsynced rs) 1 0 ∷ []); records = marked_all rs })
 
 -- ---- a host may lend fewer of the state's records: as many as `count` from slot `from` on

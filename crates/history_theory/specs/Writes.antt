@@ -1,7 +1,7 @@
 -- Calls in a reader's words: where the file of an accepted write stands, what is read and reopened after it; that every other call leaves reads as they were; that refused calls change nothing.
-use Rattle.std.specs.Prelude.{◌≡◌, ◌<◌, ◌^◌}
+use Rattle.std.specs.Prelude.{◌≡◌, ◌<◌, ◌^◌, Err, Ok}
 use Rattle.rules.specs.Base.{List, [], ℕ, length}
-use Rattle.theory.specs.Types.{Refusal, ReadAnswer, Found, Deleted, NeverWritten, ReadRefused}
+use Rattle.theory.specs.Types.{Refusal, ReadAnswer, Found, Deleted, NeverWritten}
 use Rattle.rules.specs.Refusal.{◌gives◌}
 use Rattle.rules.specs.Ops.{put, delete}
 use Rattle.rules.specs.SettledLaws.{Last, silent, last, last_on}
@@ -25,10 +25,10 @@ pub data Got : Type 0 where
 
 -- by the answer
 abbrev pub got_by : ReadAnswer → List ℕ → Got
-got_by (Found start size) part = bytes part
-got_by Deleted part = deleted
-got_by NeverWritten part = never
-got_by (ReadRefused r) part = unread r
+got_by (Ok (Found start size)) part = bytes part
+got_by (Ok Deleted) part = deleted
+got_by (Ok NeverWritten) part = never
+got_by (Err r) part = unread r
 
 -- of an id
 abbrev pub got : World → ℕ → Got

@@ -1,12 +1,11 @@
 -- "Each id takes its new location": a trailer's entries stored into the table.
-use Rattle.std.specs.Prelude.{◌≡◌, refl, ◌<◌, ◌≤◌, ◌+◌, ◌*◌, ◌^◌}
+use Rattle.std.specs.Prelude.{◌≡◌, refl, ◌<◌, ◌≤◌, ◌+◌, ◌*◌, ◌^◌, None, Some}
 use Rattle.std.proofs.Math.Path.{ap}
 use Rattle.rules.specs.Base.{false, List, map, ℕ, length, get_or, take, drop}
 use Rattle.std.proofs.Common.{arith}
 use Rattle.disk_location.specs.Locations.{position_of}
 use Rattle.rules.specs.declared.Entry.{Entry}
-use Rattle.rules.specs.declared.Held.{Held}
-use Rattle.rules.specs.declared.Held.TheVariants.{Mapped, Unmapped}
+use Rattle.rules.specs.Types.{Held}
 use Rattle.rules.specs.Trailer.{absolute, count_in, entries_in}
 use Rattle.rules.specs.Table.{lookup, insert, insert_all, full}
 use Rattle.rules.proofs.TableLaws.{insert-all-length, insert-new, full-mapped, full-room}
@@ -57,5 +56,5 @@ pub room-now : (t : List Entry) (n : Entry) (rest : List Entry) (capacity : ℕ)
 room-now t n rest capacity fits = go (lookup t n.id) refl
   where
     go : (h : Held) → lookup t n.id ≡ h → full t capacity n.id ≡ false
-    go (Mapped l) e = full-mapped t capacity n.id l e
-    go Unmapped e = full-room t capacity n.id (omega (arith, insert-new t n e, (insert-all-length (insert t n) rest).0))
+    go (Some l) e = full-mapped t capacity n.id l e
+    go None e = full-room t capacity n.id (omega (arith, insert-new t n e, (insert-all-length (insert t n) rest).0))

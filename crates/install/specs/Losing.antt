@@ -1,5 +1,5 @@
 -- Live counts that a file's entries take from the files that held their ids before.
-use Rattle.std.specs.Prelude.{◌≡◌, refl, ◌⊎◌, ◌<◌, ◌≤◌, ◌&&◌, ◌∷◌, ◌+◌, ◌*◌}
+use Rattle.std.specs.Prelude.{◌≡◌, refl, ◌⊎◌, ◌<◌, ◌≤◌, ◌&&◌, ◌∷◌, ◌+◌, ◌*◌, None, Some}
 use Rattle.std.proofs.Common.{sym, ◌∙◌, inl, inr, ⊎_elim, arith}
 use Rattle.std.proofs.Math.Path.{ap}
 use Rattle.rules.specs.Base.{Bool, true, false, List, [], ℕ, suc, length, get_or, drop, leb, ltb, eqb, pick}
@@ -8,8 +8,7 @@ use Rattle.rules.specs.declared.Entry.{Entry}
 use Rattle.rules.specs.declared.Record.{Record}
 use Rattle.rules.specs.declared.Loaded.{Loaded}
 use Rattle.rules.specs.declared.Loaded.TheVariants.{At, DeletedAt, Never}
-use Rattle.rules.specs.declared.Slot.{Slot}
-use Rattle.rules.specs.declared.Slot.TheVariants.{Is, NoSlot}
+use Rattle.rules.specs.Types.{Slot}
 use Rattle.rules.specs.Ops.{Op, entries_of, size_of}
 use Rattle.rules.specs.Table.{load}
 use Rattle.rules.specs.FileMap.{Lead, less_live}
@@ -27,7 +26,7 @@ losing_by table (e ∷ es) rs = losing_by table es (less_live (file_holding rs (
 abbrev pub slot_holding : List ℕ → Loaded → Slot
 slot_holding lsns (At l) = lsn_at lsns l
 slot_holding lsns (DeletedAt l) = lsn_at lsns l
-slot_holding lsns Never = NoSlot
+slot_holding lsns Never = None
 
 -- the same on the list of live counts
 unfoldable pub losing_lives : List ℕ → List Entry → List Entry → List ℕ → List ℕ
@@ -83,17 +82,17 @@ lead-slot (n ∷ ns) i location b = go (λ l. lead-slot ns (suc i) location l) (
     go on true = inr (⊎_elim (λ e. omega (arith, ap (λ (l : Lead). l.slot) e)) (λ h. omega arith) (on (record { lsn = n; slot = i })))
     go on false = ⊎_elim inl (λ h. inr (omega arith)) (on b)
 
-pub found_within : (ns : List ℕ) (location k : ℕ) → lsn_at ns location ≡ Is k → k < length ns
+pub found_within : (ns : List ℕ) (location k : ℕ) → lsn_at ns location ≡ Some k → k < length ns
 unfolding lsn_at slot_of
 found_within ns location k h = go (lead_lsn ns 0 location start) (lead-slot ns 0 location start) h
   where
     start : Lead
     start = record { lsn = 0; slot = 0 }
 
-    go : (l : Lead) → (l ≡ start) ⊎ (l.slot < 0 + length ns) → slot_of l ≡ Is k → k < length ns
-    go l (inl e) q = absurd (let w : NoSlot ≡ Is k = sym (rw e refl) ∙ q in let z : ◌≡◌ {A = ℕ} 0 1 = cc in omega arith)
+    go : (l : Lead) → (l ≡ start) ⊎ (l.slot < 0 + length ns) → slot_of l ≡ Some k → k < length ns
+    go l (inl e) q = absurd (let w : None ≡ Some k = sym (rw e refl) ∙ q in let z : ◌≡◌ {A = ℕ} 0 1 = cc in omega arith)
     go l (inr s) q = either (eqb l.lsn 0) q
       where
-        either : (t : Bool) → pick t NoSlot (Is l.slot) ≡ Is k → k < length ns
+        either : (t : Bool) → pick t None (Some l.slot) ≡ Some k → k < length ns
         either true w = absurd (let z : ◌≡◌ {A = ℕ} 0 1 = cc in omega arith)
         either false w = let e : l.slot ≡ k = cc in omega arith

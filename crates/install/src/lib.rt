@@ -17,7 +17,7 @@ ghost use Rattle.install.specs.Losing.{slot_holding, losing_lives};
 ghost use Rattle.file_map.specs.Records.{labelled, fresh};
 ghost use Rattle.install.specs.Adding.{taken, with_taken, Placed, trailer_at, Installable};
 
-use location_table::{Place, find_near, load_found, number_of, store_found};
+use location_table::{find_near, load_found, number_of, store_found};
 use ordered_files::{ORDER, file_among, put_if};
 use rules::{Entry, FileMap, LABEL_BYTES, Label, Loaded, State, TRAILER_ENTRY, TRAILER_HEAD};
 use table_merge::absolute;
@@ -40,8 +40,9 @@ fn lose_one(lsns: &[u64], order: &[u64], ordered: bool, lives: &mut [u64], loade
     ensures { lives.new ≡ less_at (slot_holding lsns.now loaded) lives.old }
 {
     match loaded {
-        Loaded::At(location) => lose_at(lsns, order, ordered, lives, location),
-        Loaded::DeletedAt(location) => lose_at(lsns, order, ordered, lives, location),
+        Loaded::At(location) | Loaded::DeletedAt(location) => {
+            lose_at(lsns, order, ordered, lives, location)
+        }
         Loaded::Never => {}
     }
 }
@@ -64,16 +65,13 @@ fn lose_all(
         (entries_in trailer.now)
         lives.old }
 {
-    let n = trailer::count(trailer);
     let mut near: usize = 0;
-    let mut k: u64 = 0;
-    while k < n {
+    for k in 0..trailer::count(trailer) {
         let e = trailer::entry(trailer, k);
         let place = find_near(table, e.id, near);
         let loaded = load_found(table, place, e.id);
         lose_one(lsns, order, ordered, lives, loaded);
         near = number_of(place);
-        k += 1;
     }
 }
 
@@ -95,7 +93,7 @@ fn lose(lsns: &[u64], lives: &mut [u64], table: &[u64], trailer: &[u8])
 }
 
 // "Each id takes its new location", for one entry, at its id's place.
-fn store_one(table: &mut [u64], at: Place, e: Entry, lsn: u64)
+fn store_one(table: &mut [u64], at: Result<usize, usize>, e: Entry, lsn: u64)
     requires { Formed table.old
         × (at ≡ place (used_entries table.old) e.id)
         × (position_of e.location + lsn < 2 ^ 63)
@@ -118,15 +116,12 @@ fn one_by_one(table: &mut [u64], trailer: &[u8], lsn: u64)
         ≤ capacity_of table.old) }
     ensures { table.new ≡ with_taken table.old lsn (entries_in trailer.now) }
 {
-    let n = trailer::count(trailer);
     let mut near: usize = 0;
-    let mut k: u64 = 0;
-    while k < n {
+    for k in 0..trailer::count(trailer) {
         let e = trailer::entry(trailer, k);
         let place = find_near(table, e.id, near);
         store_one(table, place, e, lsn);
         near = number_of(place);
-        k += 1;
     }
 }
 
@@ -152,9 +147,8 @@ fn store_all(table: &mut [u64], trailer: &[u8], lsn: u64)
 fn state_with(state: State, files: FileMap, next_position: u64) -> State
     ensures { result ≡ state_with state files.records next_position }
 {
-    let settings = state.settings;
     file_map::state_of(
-        settings,
+        state.settings,
         state.heap_len,
         state.table_len,
         files,

@@ -4,7 +4,7 @@
 
 ghost use Rattle.std.specs.Prelude.{◌≡◌, false, ◌<◌, ◌≤◌};
 ghost use Rattle.rules.specs.declared.FileMap.{FileMap};
-ghost use Rattle.rules.specs.Settings.{defaults, in_ranges, heap_in_range, same_settings};
+ghost use Rattle.rules.specs.Settings.{defaults, in_ranges, heap_in_range};
 ghost use Rattle.rules.specs.SettingsLaws.{InRanges};
 ghost use Rattle.rules.specs.Condition1Laws.{InLimits};
 ghost use Rattle.rules.specs.Condition1.{out_of_range, bad_record, condition_one};
@@ -65,17 +65,6 @@ pub fn out_of_range(s: Settings, heap: u64, table: &[u64]) -> bool
     !lengths_in_range(table)
 }
 
-fn same_settings(s: Settings, t: Settings) -> bool
-    ensures { result ≡ same_settings s t }
-{
-    (s.slot_bytes == t.slot_bytes)
-        & (s.file_compaction_percent == t.file_compaction_percent)
-        & (s.min_compaction_files == t.min_compaction_files)
-        & (s.target_file_size == t.target_file_size)
-        & (s.small_file_cleanup_threshold == t.small_file_cleanup_threshold)
-        & (s.max_object_size == t.max_object_size)
-}
-
 // What a state holds beside its records.
 #[derive(Clone, Copy)]
 pub struct Rest {
@@ -101,8 +90,7 @@ pub fn rest_of(state: State) -> Rest
 fn the_states(s: Settings, heap: u64, entries: u64, rest: Rest) -> bool
     ensures { result ≡ the_states s heap entries rest }
 {
-    let t = rest.settings;
-    same_settings(s, t) & (heap == rest.heap_len) & (entries == rest.table_len)
+    (s == rest.settings) & (heap == rest.heap_len) & (entries == rest.table_len)
 }
 
 // "a non-empty record at slot N or above, outside 8's bounds, or with present over file_size or live over the table's length"; or with a
@@ -138,12 +126,10 @@ pub fn bad_files(s: Settings, heap: u64, table: &[u64], files: FileMap) -> bool
     if !within(128, 1048576, s.slot_bytes) {
         return true;
     }
-    let mut i: usize = 0;
-    while i < RECORDS {
-        if bad_record(s, heap, table, i as u64, files.records[i]) {
+    for (i, r) in files.records.iter().enumerate() {
+        if bad_record(s, heap, table, i as u64, *r) {
             return true;
         }
-        i += 1;
     }
     false
 }

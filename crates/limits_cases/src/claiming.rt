@@ -5,49 +5,31 @@ use rules::{Claims, State};
 use std::io;
 use test_host::{number, text};
 
-// The answer, and the four words of the claim record after it.
-fn show(rt: &impl Print, r: ClaimAnswer) -> io::Result<Claims> {
-    let a = r.answer;
-    answer(rt, a)?;
+// The call and its slot, the answer, and the four words of the claim record after it.
+fn show(rt: &impl Print, word: &[u8], slot: u64, r: ClaimAnswer) -> io::Result<Claims> {
+    text(rt, word)?;
+    number(rt, slot)?;
+    answer(rt, r.answer)?;
     let c = r.claims;
-    number(rt, c.a)?;
-    number(rt, c.b)?;
-    number(rt, c.c)?;
-    number(rt, c.d)?;
+    for w in [c.a, c.b, c.c, c.d] {
+        number(rt, w)?;
+    }
     text(rt, b"\n")?;
-    Ok(r.claims)
+    Ok(c)
 }
 
+const HEAP: [u8; 256] = [0; 256];
+
+const TABLE: [u64; 4] = [3, 10, 7, 13];
+
 fn claim(rt: &impl Print, claims: Claims, state: State, slot: u64) -> io::Result<Claims> {
-    text(rt, b"claim")?;
-    number(rt, slot)?;
-    show(
-        rt,
-        claims::claim(
-            settings(),
-            state,
-            claims,
-            &[0u8; 256],
-            &[3u64, 10, 7, 13],
-            slot,
-        ),
-    )
+    let r = claims::claim(settings(), state, claims, &HEAP, &TABLE, slot);
+    show(rt, b"claim", slot, r)
 }
 
 fn release(rt: &impl Print, claims: Claims, state: State, slot: u64) -> io::Result<Claims> {
-    text(rt, b"release")?;
-    number(rt, slot)?;
-    show(
-        rt,
-        claims::release(
-            settings(),
-            state,
-            claims,
-            &[0u8; 256],
-            &[3u64, 10, 7, 13],
-            slot,
-        ),
-    )
+    let r = claims::release(settings(), state, claims, &HEAP, &TABLE, slot);
+    show(rt, b"release", slot, r)
 }
 
 // "21 for a slot out of range, an empty slot, a claimed one (claim) or an unclaimed one (release)"; and 1 first: for next position 0,

@@ -1,5 +1,5 @@
 use as_numbers::answers::refusal_number;
-use rules::{Answer, CountsAnswer};
+use rules::{Counts, Refusal};
 use std::io;
 use test_host::{number, text};
 
@@ -11,22 +11,21 @@ pub fn refused(rt: &impl Print, b: bool) -> io::Result<()> {
     text(rt, b" ok")
 }
 
-pub fn answer(rt: &impl Print, a: Answer) -> io::Result<()> {
+pub fn answer(rt: &impl Print, a: Result<(), Refusal>) -> io::Result<()> {
     match a {
-        Answer::Done => text(rt, b" ok"),
-        Answer::Refused(r) => number(rt, refusal_number(r)),
+        Ok(()) => text(rt, b" ok"),
+        Err(r) => number(rt, refusal_number(r)),
     }
 }
 
-pub fn counted(rt: &impl Print, a: CountsAnswer) -> io::Result<()> {
+pub fn counted(rt: &impl Print, a: Result<Counts, Refusal>) -> io::Result<()> {
     match a {
-        CountsAnswer::Counted(c) => {
-            number(rt, c.files)?;
-            number(rt, c.bytes)?;
-            number(rt, c.present)?;
-            number(rt, c.live)?;
+        Ok(c) => {
+            for n in [c.files, c.bytes, c.present, c.live] {
+                number(rt, n)?;
+            }
         }
-        CountsAnswer::CountsRefused(r) => test_host::refused(rt, r)?,
+        Err(r) => test_host::refused(rt, r)?,
     }
     text(rt, b"\n")
 }

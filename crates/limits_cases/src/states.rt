@@ -32,13 +32,14 @@ pub fn store() -> State {
     with(1, file())
 }
 
-// What counts answers for the store with this state.
-fn counts(rt: &impl Print, word: &[u8], state: State) -> io::Result<()> {
+// What counts answers for this state and table.
+fn counts_of(rt: &impl Print, word: &[u8], state: State, table: &[u64]) -> io::Result<()> {
     text(rt, word)?;
-    counted(
-        rt,
-        claims::counts(settings(), state, &[0u8; 256], &[3u64, 10, 7, 13]),
-    )
+    counted(rt, claims::counts(settings(), state, &[0u8; 256], table))
+}
+
+fn counts(rt: &impl Print, word: &[u8], state: State) -> io::Result<()> {
+    counts_of(rt, word, state, &[3u64, 10, 7, 13])
 }
 
 // "lengths or settings not those of the state", and "next position 0"
@@ -60,29 +61,11 @@ fn not_the_states(rt: &impl Print) -> io::Result<()> {
 
 // "a table not in the form above"
 fn tables(rt: &impl Print) -> io::Result<()> {
-    let heap = [0u8; 256];
-    text(rt, b"ids not rising:")?;
-    counted(
-        rt,
-        claims::counts(settings(), store(), &heap, &[7u64, 10, 7, 13]),
-    )?;
-    text(rt, b"used behind unused:")?;
-    counted(
-        rt,
-        claims::counts(settings(), store(), &heap, &[0u64, 0, 7, 13]),
-    )?;
-    text(rt, b"an id without a location:")?;
-    counted(
-        rt,
-        claims::counts(settings(), store(), &heap, &[3u64, 10, 7, 0]),
-    )?;
-    text(rt, b"odd length:")?;
-    counted(
-        rt,
-        claims::counts(settings(), store(), &heap, &[3u64, 10, 7, 13, 0]),
-    )?;
-    text(rt, b"nothing used:")?;
-    counted(rt, claims::counts(settings(), store(), &heap, &[0u64; 4]))
+    counts_of(rt, b"ids not rising:", store(), &[7u64, 10, 7, 13])?;
+    counts_of(rt, b"used behind unused:", store(), &[0u64, 0, 7, 13])?;
+    counts_of(rt, b"an id without a location:", store(), &[3u64, 10, 7, 0])?;
+    counts_of(rt, b"odd length:", store(), &[3u64, 10, 7, 13, 0])?;
+    counts_of(rt, b"nothing used:", store(), &[0u64; 4])
 }
 
 // "a non-empty record at slot N or above, outside 8's bounds, or with present over file_size or live over the table's length"

@@ -6,40 +6,25 @@ ghost use Rattle.std.specs.Prelude.{◌≡◌, length};
 
 use rules::{FileMap, Record, Settings, State};
 use std::io;
-use test_host::{no_claims, no_state, text};
-
-fn number(rt: &impl Print, n: u64, end: &[u8]) -> io::Result<()> {
-    print!(rt; "{n}")?;
-    text(rt, end)
-}
+use test_host::{no_claims, no_state};
 
 // An empty record has no line.
-fn show_file(rt: &impl Print, slot: u64, r: Record) -> io::Result<()> {
+fn show_file(rt: &impl Print, slot: usize, r: Record) -> io::Result<()> {
     if file_map::is_empty(r) {
         return Ok(());
     }
-    number(rt, slot, b" ")?;
-    number(rt, r.label.lsn, b" ")?;
-    number(rt, r.label.generation, b" ")?;
-    number(rt, r.label.present_objects, b" ")?;
-    number(rt, r.live, b" ")?;
-    number(rt, r.label.file_size, b"\n")
+    println!(rt;
+        "{slot} {} {} {} {} {}",
+        r.label.lsn, r.label.generation, r.label.present_objects, r.live, r.label.file_size
+    )
 }
 
-fn show_files(rt: &impl Print, files: FileMap) -> io::Result<()> {
-    let mut slot: usize = 0;
-    while slot < 256 {
-        show_file(rt, slot as u64, files.records[slot])?;
-        slot += 1;
+fn show(rt: &impl Print, files: FileMap, used: usize) -> io::Result<()> {
+    println!(rt; "slot lsn gen present live size")?;
+    for (slot, r) in files.records.iter().enumerate() {
+        show_file(rt, slot, *r)?;
     }
-    Ok(())
-}
-
-fn show(rt: &impl Print, files: FileMap, used: u64) -> io::Result<()> {
-    text(rt, b"slot lsn gen present live size\n")?;
-    show_files(rt, files)?;
-    text(rt, b"ids ")?;
-    number(rt, used, b"\n")
+    println!(rt; "ids {used}")
 }
 
 // A store that refusal 1 bars has no listing.
@@ -53,9 +38,7 @@ fn list(
     if marble::refused(settings, heap.len() as u64, table, state) {
         return Ok(());
     }
-    let used = location_table::used(table) as u64;
-    let files = state.files;
-    show(rt, files, used)
+    show(rt, state.files, location_table::used(table))
 }
 
 fn heap_bytes() -> [u8; 4096]

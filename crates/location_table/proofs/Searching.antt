@@ -1,4 +1,5 @@
 -- What a search in the table keeps, and what it has shown when it stops: any search, one entry after another or by halving.
+use Rattle.std.specs.Prelude.{Err, Ok}
 use mathlib.Core.Path.{◌≡◌, sym, ap}
 use mathlib.Core.Logic.{◌⊎◌, inl, inr}
 use Prim.Native.Nat.{ℕ, zero, suc, ◌+◌, ◌*◌, ◌^◌, ◌<◌, ◌≤◌, zero-le}
@@ -10,7 +11,6 @@ use Rattle.disk_location.proofs.LocationLaws.{digits-hold, digits-least}
 use Rattle.rules.specs.Table.{no_entry}
 use Rattle.rules.specs.Layout.{Table, table_ids, table_locations, capacity_of, used_entries}
 use Rattle.rules.proofs.LayoutLaws.{used-length}
-use Rattle.location_table.specs.declared.Place.TheVariants.{Found, Gap}
 use Rattle.location_table.specs.Places.{place}
 use Rattle.location_table.specs.Tables.{Formed}
 use Rattle.location_table.specs.Halving.{halvings}
@@ -56,18 +56,18 @@ module _ (t : Table) (x : ℕ) where
     pub not-below-here : (m : ℕ) → x ≤ get_or (table_ids t) m 0 → NotBelow t x m
     not-below-here m h = record { least = λ u. let e = used-id t m u in omega arith }
 
-    pub gap-end : (k : ℕ) → Below t x k → capacity_of t ≤ k → Gap k ≡ place (used_entries t) x
+    pub gap-end : (k : ℕ) → Below t x k → capacity_of t ≤ k → Err k ≡ place (used_entries t) x
     gap-end k b h =
         let q = used-length t in
         sym (place-gap (used_entries t) k x b.less b.within (λ u. absurd (lt_irrefl 0 (omega arith))))
 
-    pub gap-free : (k : ℕ) → Below t x k → get_or (table_locations t) k 0 ≡ 0 → Gap k ≡ place (used_entries t) x
+    pub gap-free : (k : ℕ) → Below t x k → get_or (table_locations t) k 0 ≡ 0 → Err k ≡ place (used_entries t) x
     gap-free k b z =
         let q = zero-unused t formed k z in
         sym (place-gap (used_entries t) k x b.less b.within (λ u. absurd (lt_irrefl 0 (omega arith))))
 
     -- a used entry of the id is its place, however it was met
-    pub found_here : (k : ℕ) → (get_or (table_locations t) k 0 ≡ 0 → ⊥) → x ≡ get_or (table_ids t) k 0 → Found k ≡ place (used_entries t) x
+    pub found_here : (k : ℕ) → (get_or (table_locations t) k 0 ≡ 0 → ⊥) → x ≡ get_or (table_ids t) k 0 → Ok k ≡ place (used_entries t) x
     found_here k z h =
         let u = not-zero-used t formed k z in
         let e = used-id t k u in
@@ -76,7 +76,7 @@ module _ (t : Table) (x : ℕ) where
         sym (place_found (used_entries t) k x before u (omega arith))
 
     -- where the ends of a halving meet at an entry that is another
-    pub gap-met : (k : ℕ) → Below t x k → NotBelow t x k → (get_or (table_locations t) k 0 ≡ 0 → ⊥) → (x ≡ get_or (table_ids t) k 0 → ⊥) → Gap k ≡ place (used_entries t) x
+    pub gap-met : (k : ℕ) → Below t x k → NotBelow t x k → (get_or (table_locations t) k 0 ≡ 0 → ⊥) → (x ≡ get_or (table_ids t) k 0 → ⊥) → Err k ≡ place (used_entries t) x
     gap-met k b n z h =
         let u = not-zero-used t formed k z in
         let e = used-id t k u in

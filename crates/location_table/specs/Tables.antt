@@ -1,6 +1,6 @@
 -- The table, and what the functions below the four calls do to it.
-use Rattle.std.specs.Prelude.{◌≡◌, ◌∷◌, ◌++◌, ◌+◌, ◌-◌, ◌*◌, ◌%◌}
-use Rattle.rules.specs.Base.{Bool, true, not, List, ℕ, zero, suc, length, get_or, set, take, drop, pick}
+use Rattle.std.specs.Prelude.{◌≡◌, ◌∷◌, ◌++◌, ◌+◌, ◌-◌, ◌*◌, ◌%◌, Option, None, Some}
+use Rattle.rules.specs.Base.{Bool, true, not, List, ℕ, suc, length, set, take, drop, pick}
 use Rattle.rules.specs.Layout.{Table, table_ids, table_locations, in_form, capacity_of, used_entries}
 use Rattle.rules.specs.Table.{full}
 use Rattle.rules.specs.World.{Given}
@@ -15,10 +15,10 @@ pub record Formed (b : Table) : Type 0 where
   pub even : length b % 2 ≡ 0
   pub form : in_form b ≡ true
 
--- the least id that may stand at i
-unfoldable pub least_at : List ℕ → ℕ → ℕ
-least_at ids zero = 0
-least_at ids (suc k) = suc (get_or ids k 0)
+-- the least id that may stand behind the last one, if there is one
+abbrev pub least_behind : Option ℕ → ℕ
+least_behind None = 0
+least_behind (Some last) = suc last
 
 -- entry k replaced
 abbrev pub with_pair : Table → ℕ → ℕ → ℕ → Table

@@ -1,5 +1,5 @@
 -- Lines told one behind the other, each into its two words of the lent report, and the slots that they name.
-use Rattle.std.specs.Prelude.{◌≡◌, refl, ◌≤◌, ◌∷◌, ◌++◌, ◌+◌, ◌*◌}
+use Rattle.std.specs.Prelude.{◌≡◌, refl, ◌≤◌, ◌∷◌, ◌++◌, ◌+◌, ◌*◌, Err, None, Ok, Some}
 use Rattle.std.proofs.Math.Path.{sym}
 use Rattle.std.proofs.Common.{ap, ap₂, ◌∙◌, subst, arith, add-zero, zero-add, length-append, length-set}
 use Rattle.numbers.specs.Parts.{front, put_at, put_front, put-none, put_step, put-put}
@@ -8,15 +8,14 @@ use Rattle.rules.specs.BaseLaws.{All}
 use Rattle.rules.proofs.BaseLaws.{each_append}
 use Rattle.rules.specs.SlotFile.{View, empty, damaged, holds}
 use Rattle.slot_file.specs.Slots.{shown_by}
-use Rattle.losses.specs.Types.{SlotAnswer, Empty, Damaged, Holds, Loss}
+use Rattle.losses.specs.Types.{SlotAnswer, Loss}
 use Rattle.losses.specs.Salvage.{loss, own_loss, loss_words}
 
 -- ---- definitions
 -- the line of a slot by what it shows
 abbrev pub loss_shown : ℕ → SlotAnswer → List Loss
-loss_shown slot Empty = []
-loss_shown slot (Damaged r) = loss slot r ∷ []
-loss_shown slot (Holds l) = []
+loss_shown slot (Err r) = loss slot r ∷ []
+loss_shown slot (Ok shown) = []
 
 -- behind k lines these were told; so many there are now
 pub record Reports (k : ℕ) (xs : List Loss) (before after : List ℕ) (n : ℕ) : Type 0 where

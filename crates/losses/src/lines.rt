@@ -28,11 +28,9 @@ pub fn empty_slots(heap: &mut [u8], slot_bytes: u64, report: &[u64], lines: u64,
     ensures { Made left (emptying slot_bytes (slots_told lines report.now)) heap.old heap.new result }
 {
     let mut rest = left;
-    let mut i: u64 = 0;
-    while i < lines {
+    for i in 0..lines {
         let slot = report[2 * i as usize];
         rest = stores::put_number(heap, (slot * slot_bytes) as usize, 1, 0, rest);
-        i += 1;
     }
     rest
 }

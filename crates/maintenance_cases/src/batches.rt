@@ -10,10 +10,8 @@ pub fn byte(batch: &mut [u8], at: usize, b: u8) {
 }
 
 fn fill(batch: &mut [u8], start: usize, end: usize, b: u8) {
-    let mut at = start;
-    while at < end {
+    for at in start..end {
         byte(batch, at, b);
-        at += 1;
     }
 }
 
@@ -62,10 +60,8 @@ pub fn make(batch: &mut [u8], pairs: &[u64]) -> usize
     ensures { result ≤ 2048 }
 {
     let mut end: usize = 0;
-    let mut i: usize = 0;
-    while i < pairs.len() / 2 {
-        end = operation(batch, end, pairs[2 * i], pairs[2 * i + 1]);
-        i += 1;
+    for pair in pairs.chunks_exact(2) {
+        end = operation(batch, end, pair[0], pair[1]);
     }
     end
 }

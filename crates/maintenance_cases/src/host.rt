@@ -4,30 +4,26 @@ use rules::{Claims, Settings, State};
 use std::io;
 use test_host::{no_claims, no_state};
 
-// What is changed by hand before the maintenance: generations of the first three files and the next position, where not 0; a heap byte;
-// of the second file the record's file_size and the trailer's checksum, where not 0; the first word of the claims.
+// What is changed by hand before the maintenance: the generations of the first three files and the next position; a heap byte; of the
+// second file the record's file_size and the trailer's checksum; the first word of the claims.
 #[derive(Clone, Copy)]
 pub struct ByHand {
-    pub first: u64,
-    pub second: u64,
-    pub third: u64,
-    pub damaged: usize,
-    pub size: u64,
-    pub sum: u64,
-    pub next: u64,
+    pub generations: [Option<u64>; 3],
+    pub damaged: Option<usize>,
+    pub size: Option<u64>,
+    pub sum: Option<u32>,
+    pub next: Option<u64>,
     pub claimed: u64,
 }
 
-// Nothing: the heap has no byte 8,192.
+// Nothing, and no slot claimed.
 pub fn nothing() -> ByHand {
     ByHand {
-        first: 0,
-        second: 0,
-        third: 0,
-        damaged: 8192,
-        size: 0,
-        sum: 0,
-        next: 0,
+        generations: [None; 3],
+        damaged: None,
+        size: None,
+        sum: None,
+        next: None,
         claimed: 0,
     }
 }
@@ -69,76 +65,39 @@ pub fn write(
     after
 }
 
-fn aged(state: State, slot: usize, generation: u64) -> State {
-    if 256 <= slot {
-        return state;
-    }
-    let mut n = state;
-    let mut m = state.files;
-    m.records[slot].label.generation = generation;
-    n.files = m;
-    n
-}
-
-fn moved_on(state: State, next: u64) -> State {
-    if next == 0 {
-        return state;
-    }
-    let mut n = state;
-    n.next_position = next;
-    n
-}
-
-fn dated(state: State, slot: usize, generation: u64) -> State {
-    if generation == 0 {
-        return state;
-    }
-    aged(state, slot, generation)
-}
-
-fn resized(state: State, size: u64) -> State {
-    if size == 0 {
-        return state;
-    }
-    let mut n = state;
-    let mut m = state.files;
-    m.records[1].label.file_size = size;
-    n.files = m;
-    n
-}
-
-fn turned(b: u8) -> u8 {
-    255 - b
-}
-
-fn damage(heap: &mut [u8], at: usize) {
-    if at < heap.len() {
-        heap[at] = turned(heap[at]);
-    }
-}
-
 // The second file of these cases has its trailer at byte 51, 1,024 + 64 + 51 of the heap.
-fn seal(heap: &mut [u8], sum: u64) {
-    if sum == 0 {
-        return;
-    }
-    batches::byte(heap, 1139, (sum % 256) as u8);
-    batches::byte(heap, 1140, (sum / 256 % 256) as u8);
-    batches::byte(heap, 1141, (sum / 65536 % 256) as u8);
-    batches::byte(heap, 1142, (sum / 16777216 % 256) as u8);
-}
+const SEAL: usize = 1139;
 
 pub fn heap_by_hand(heap: &mut [u8], hand: ByHand) {
-    damage(heap, hand.damaged);
-    seal(heap, hand.sum);
+    if let Some(at) = hand.damaged {
+        if at < heap.len() {
+            let byte = heap[at];
+            heap[at] = !byte;
+        }
+    }
+    if let Some(sum) = hand.sum {
+        for (i, byte) in sum.to_le_bytes().iter().enumerate() {
+            batches::byte(heap, SEAL + i, *byte);
+        }
+    }
 }
 
 pub fn state_by_hand(state: State, hand: ByHand) -> State {
-    let a = dated(state, 0, hand.first);
-    let b = dated(a, 1, hand.second);
-    let c = dated(b, 2, hand.third);
-    let d = resized(c, hand.size);
-    moved_on(d, hand.next)
+    let mut files = state.files;
+    for (slot, generation) in hand.generations.iter().enumerate() {
+        if let Some(generation) = generation {
+            files.records[slot].label.generation = *generation;
+        }
+    }
+    if let Some(size) = hand.size {
+        files.records[1].label.file_size = size;
+    }
+    let mut after = state;
+    after.files = files;
+    if let Some(next) = hand.next {
+        after.next_position = next;
+    }
+    after
 }
 
 pub fn maintain(

@@ -15,10 +15,8 @@ use std::io;
 // All ids of a case are below 8.
 fn reads(rt: &impl Print, s: Settings, state: State, heap: &[u8], table: &[u64]) -> io::Result<()> {
     test_host::text(rt, b"reads")?;
-    let mut id: u64 = 1;
-    while id < 8 {
+    for id in 1..8 {
         host::read(rt, s, state, heap, table, id)?;
-        id += 1;
     }
     test_host::text(rt, b"\n")
 }
@@ -73,7 +71,7 @@ fn p6(rt: &impl Print) -> io::Result<()> {
 // "generations 0, 3, 255 give 1, 3, 3."
 fn p7(rt: &impl Print, generation: u64) -> io::Result<()> {
     let mut hand = nothing();
-    hand.first = generation;
+    hand.generations[0] = Some(generation);
     test_host::text(rt, b"P7")?;
     test_host::number(rt, generation)?;
     test_host::text(rt, b"\n")?;
@@ -131,8 +129,7 @@ fn three_files(rt: &impl Print, s: Settings, hand: ByHand, length: u64) -> io::R
 
 fn generations() -> ByHand {
     let mut hand = nothing();
-    hand.second = 1;
-    hand.third = 2;
+    hand.generations = [None, Some(1), Some(2)];
     hand
 }
 
@@ -150,7 +147,7 @@ fn groups(rt: &impl Print) -> io::Result<()> {
     three_files(rt, settings(75, 1, 1024, 256), claimed, 5)?;
     test_host::text(rt, b"one of two\n")?;
     let mut two = nothing();
-    two.third = 1;
+    two.generations[2] = Some(1);
     three_files(rt, settings(75, 2, 1024, 256), two, 5)
 }
 
@@ -192,19 +189,19 @@ fn small_files(rt: &impl Print) -> io::Result<()> {
 fn damaged(rt: &impl Print) -> io::Result<()> {
     test_host::text(rt, b"10 in the second group\n")?;
     let mut hand = generations();
-    hand.damaged = 1108;
+    hand.damaged = Some(1108);
     three_files(rt, settings(75, 1, 1024, 256), hand, 5)?;
     test_host::text(rt, b"10 in the first group\n")?;
-    hand.damaged = 84;
+    hand.damaged = Some(84);
     three_files(rt, settings(75, 1, 1024, 256), hand, 5)?;
     test_host::text(rt, b"length\n")?;
-    hand.damaged = 83;
+    hand.damaged = Some(83);
     three_files(rt, settings(75, 1, 1024, 256), hand, 5)?;
     test_host::text(rt, b"length, small\n")?;
-    hand.damaged = 76;
+    hand.damaged = Some(76);
     three_files(rt, settings(75, 1, 1024, 256), hand, 5)?;
     test_host::text(rt, b"id\n")?;
-    hand.damaged = 68;
+    hand.damaged = Some(68);
     three_files(rt, settings(75, 1, 1024, 256), hand, 5)
 }
 
@@ -213,19 +210,19 @@ fn damaged(rt: &impl Print) -> io::Result<()> {
 fn trailers(rt: &impl Print) -> io::Result<()> {
     test_host::text(rt, b"9 in the second group\n")?;
     let mut hand = generations();
-    hand.size = 70;
+    hand.size = Some(70);
     three_files(rt, settings(75, 1, 1024, 256), hand, 5)?;
     test_host::text(rt, b"trailer of 20 bytes\n")?;
-    hand.size = 71;
+    hand.size = Some(71);
     three_files(rt, settings(75, 1, 1024, 256), hand, 5)?;
     test_host::text(rt, b"11 in the second group\n")?;
-    hand.size = 0;
-    hand.damaged = 1143;
-    hand.sum = 2185209830;
+    hand.size = None;
+    hand.damaged = Some(1143);
+    hand.sum = Some(2185209830);
     three_files(rt, settings(75, 1, 1024, 256), hand, 5)?;
     test_host::text(rt, b"20 in the second group\n")?;
-    hand.damaged = 1182;
-    hand.sum = 958860330;
+    hand.damaged = Some(1182);
+    hand.sum = Some(958860330);
     three_files(rt, settings(75, 1, 1024, 256), hand, 5)
 }
 
@@ -255,10 +252,10 @@ fn refused(rt: &impl Print) -> io::Result<()> {
     three_files(rt, settings(75, 1, 1024, 256), generations(), 9)?;
     test_host::text(rt, b"7\n")?;
     let mut hand = generations();
-    hand.next = 4611686018427387854;
+    hand.next = Some(4611686018427387854);
     three_files(rt, settings(75, 1, 1024, 256), hand, 5)?;
     test_host::text(rt, b"7 in the second group\n")?;
-    hand.next = 4611686018427387853;
+    hand.next = Some(4611686018427387853);
     three_files(rt, settings(75, 1, 1024, 256), hand, 5)
 }
 

@@ -1,16 +1,22 @@
 // What a call answered.
-use rules::{Counts, CountsAnswer, MaintainAnswer};
+use rules::{Counts, Refusal, Stopped};
 use std::io;
 use test_host::{number, refused, text};
 
 // Ids moved; or number, generation and ids moved before.
-pub fn maintained(rt: &impl Print, a: MaintainAnswer) -> io::Result<()> {
+pub fn maintained(rt: &impl Print, a: Result<u64, Stopped>) -> io::Result<()> {
     match a {
-        MaintainAnswer::Moved(moved) => {
+        Ok(moved) => {
             text(rt, b"maintain ok")?;
             number(rt, moved)
         }
-        MaintainAnswer::Stopped(refusal, generation, moved) => {
+        Err(
+            Stopped {
+                refusal,
+                generation,
+                moved,
+            },
+        ) => {
             text(rt, b"maintain")?;
             refused(rt, refusal)?;
             number(rt, generation)?;
@@ -27,10 +33,10 @@ fn four(rt: &impl Print, c: Counts) -> io::Result<()> {
     number(rt, c.live)
 }
 
-pub fn counted(rt: &impl Print, a: CountsAnswer) -> io::Result<()> {
+pub fn counted(rt: &impl Print, a: Result<Counts, Refusal>) -> io::Result<()> {
     match a {
-        CountsAnswer::Counted(c) => four(rt, c)?,
-        CountsAnswer::CountsRefused(r) => {
+        Ok(c) => four(rt, c)?,
+        Err(r) => {
             text(rt, b"counts")?;
             refused(rt, r)?;
         }

@@ -1,10 +1,10 @@
 -- C: where the ids of a rewritten group are after the group and after the call, and what is left of its files.
-use Rattle.std.specs.Prelude.{◌≡◌, refl, ◌⊎◌, ◌<◌, ◌≤◌, ◌∷◌, ◌^◌}
+use Rattle.std.specs.Prelude.{◌≡◌, refl, ◌⊎◌, ◌<◌, ◌≤◌, ◌∷◌, ◌^◌, Ok, Some}
 use Rattle.std.proofs.Common.{sym, ◌∙◌, true≢false, inl, inr, ⊎_elim, arith, ne_eqb, ltb-false, le-ltb}
 use Rattle.std.proofs.Math.Path.{ap, subst}
 use Rattle.rules.specs.Base.{Bool, true, false, List, [], ℕ, zero, suc, length, ltb, pick, keep}
-use Rattle.theory.specs.Types.{Record, Settings, Claims, Refusal, Done, Moved, Mapped, Is}
-use Rattle.rules.specs.BaseLaws.{All, Some}
+use Rattle.theory.specs.Types.{Record, Settings, Claims, Refusal}
+use Rattle.rules.specs.BaseLaws.{All, Some as SomeOf}
 use Rattle.rules.proofs.BaseLaws.{all_map, same?, order}
 use Rattle.rules.specs.Refusal.{decide}
 use Rattle.rules.specs.Condition1.{out_of_range}
@@ -50,7 +50,7 @@ use Rattle.maintenance_theory.proofs.Relocated.{group-relocates}
 use Rattle.maintenance_theory.specs.Finished.{before, AnswersBut}
 use Rattle.maintenance_theory.proofs.Finished.{maintain-answer}
 use Rattle.maintenance_theory.specs.Exactly.{Inside}
-use Rattle.maintenance_theory.proofs.Exactly.{moved-exactly, is_one}
+use Rattle.maintenance_theory.proofs.Exactly.{moved-exactly}
 use Rattle.maintenance_theory.specs.FirstRefused.{generations, Due, FirstRefused, new_files, finishing, finished_from, with_finished, Clears, Passes}
 use Rattle.maintenance_theory.proofs.FirstRefused.{settings-finished, reached, reached-found, never_both, maintain-ends}
 use Rattle.maintenance_theory.specs.Covered.{InFile}
@@ -65,9 +65,9 @@ use Rattle.maintenance_theory.specs.Afterwards.{Finishes, Rewrote, Rewrites}
 module _ (history : List Op) (u : World) (s : SoundWorld u (engine history)) (g : ℕ) (aged : g ≤ 255) (ks : List ℕ) (files : All (λ (k : ℕ). 0 < (record_at (records_of u) k).label.lsn) ks)
     (sizes : Oversized u ks → ⊥) (enough : Enough u (files_of u.settings.target_file_size (found u ks))) where
   -- no test of it holds
-  pub done : decide (group_tests u ks (files_of u.settings.target_file_size (found u ks))) ≡ Done
+  pub done : decide (group_tests u ks (files_of u.settings.target_file_size (found u ks))) ≡ Ok tt
   done =
-      decided-one u (files_of u.settings.target_file_size (found u ks)) _ Done
+      decided-one u (files_of u.settings.target_file_size (found u ks)) _ (Ok tt)
       (group-decided u ks (files_of u.settings.target_file_size (found u ks))
       (⊎_elim (λ z. absurd (sizes z.1)) (λ pass. pass) (sources-decided u history s ks files [])))
       enough
@@ -86,7 +86,7 @@ module _ (history : List Op) (u : World) (s : SoundWorld u (engine history)) (g 
       files-arrive history g (files_of u.settings.target_file_size (found u ks)) u s aged (files-rewritable history u s ks u.settings.target_file_size)
       enough.room.fits enough.room.slots (enough.positions (some-length (files_of u.settings.target_file_size (found u ks)) c)) x c
     where
-      some-length : (fs : List (List Op)) → Some (InFile x) fs → 0 < length fs
+      some-length : (fs : List (List Op)) → SomeOf (InFile x) fs → 0 < length fs
       some-length [] e = absurd e
       some-length (f ∷ fs) e = omega arith
 
@@ -104,10 +104,10 @@ module _ (history : List Op) (u : World) (s : SoundWorld u (engine history)) (g 
       here = stood-all-remain 0 g (files_of u.settings.target_file_size (found u ks)) u stood.0 k z.0 z.1
 
       -- no id is in the file
-      no : (x l : ℕ) → lookup (mappings v) x ≡ Mapped l → file_for (records_of v) l ≡ Is k → (b : Bool) → heard_in (found u ks) x ≡ b → ⊥
+      no : (x l : ℕ) → lookup (mappings v) x ≡ Some l → file_for (records_of v) l ≡ Some k → (b : Bool) → heard_in (found u ks) x ≡ b → ⊥
       no x l e q true h =
           let y = group-arrived x h in
-          let i : y.slot ≡ k = is_one (sym y.found ∙ ap (file_for (records_of v)) (mapped-one (sym y.table ∙ e)) ∙ q) in
+          let i : y.slot ≡ k = mapped-one (sym y.found ∙ ap (file_for (records_of v)) (mapped-one (sym y.table ∙ e)) ∙ q) in
           places.not-empty (sym y.free ∙ ap (view_at (views_of u)) i ∙ z.1)
       no x l e q false h =
           let y = group-left x h in
@@ -117,17 +117,17 @@ module _ (history : List Op) (u : World) (s : SoundWorld u (engine history)) (g 
       none : (x l : ℕ) → Has (mappings v) x l → in_range z.0.label (masked_at l) ≡ false
       none x l h = go (same? t.0 k)
         where
-          e : lookup (mappings v) x ≡ Mapped l
+          e : lookup (mappings v) x ≡ Some l
           e = has-lookup 0 (mappings v) (table-rising (bounds_of v) (picture_of v) (engine history) stood.1.sound) x l h
 
           t : (j : ℕ) × Stands (views_of v) x l j
           t = table-stands (bounds_of v) (picture_of v) (engine history) stood.1.sound x l e
 
-          q : file_for (records_of v) l ≡ Is t.0
+          q : file_for (records_of v) l ≡ Some t.0
           q = own-file (views_of v) (records_of v) stood.1.sound.filed x l t.0 t.1
 
           go : (t.0 ≡ k) ⊎ (t.0 ≡ k → ⊥) → in_range z.0.label (masked_at l) ≡ false
-          go (inl i) = absurd (no x l e (q ∙ ap Is i) (heard_in (found u ks) x) refl)
+          go (inl i) = absurd (no x l e (q ∙ ap Some i) (heard_in (found u ks) x) refl)
           go (inr n) = sym (found-in-range (views_of v) (records_of v) stood.1.sound.filed x l t.0 k t.1 z.0 here) ∙ ap (is_at k) q ∙ ne_eqb t.0 k n
 
   -- LAW: a group that nothing refuses
@@ -189,7 +189,7 @@ module _ (history : List Op) (v : World) (s : SoundWorld v (engine history)) whe
     file = a.file;
     free = a.free;
     table = a.table;
-    found = q ∙ ap Is j;
+    found = q ∙ ap Some j;
     shows = ap (view_at (views_of (pruned v))) (sym j) ∙ kept.0 ∙ ap (view_at (views_of v)) j ∙ a.shows;
     generation = a.generation;
   }
@@ -197,14 +197,14 @@ module _ (history : List Op) (v : World) (s : SoundWorld v (engine history)) whe
       t : (k : ℕ) × Stands (views_of (pruned v)) x a.location k
       t = table-stands (bounds_of (pruned v)) (picture_of (pruned v)) (engine history) (sound-pruned v (engine history) s).sound x a.location a.table
 
-      q : file_for (records_of (pruned v)) a.location ≡ Is t.0
+      q : file_for (records_of (pruned v)) a.location ≡ Some t.0
       q = own-file (views_of (pruned v)) (records_of (pruned v)) (sound-pruned v (engine history) s).sound.filed x a.location t.0 t.1
 
       kept : (view_at (views_of (pruned v)) t.0 ≡ view_at (views_of v) t.0) × (record_at (records_of (pruned v)) t.0 ≡ record_at (records_of v) t.0)
       kept = ⊎_elim (λ c. c) (λ c. absurd (places.not-empty (sym c.1 ∙ t.1.shows))) (each-slot v (engine history) s t.0)
 
       j : t.0 ≡ a.slot
-      j = is_one (
+      j = mapped-one (
           sym (own-file (views_of v) (records_of v) s.sound.filed x a.location t.0
           (record { file = t.1.file; raw = t.1.raw; shows = sym kept.0 ∙ t.1.shows; entry = t.1.entry; located = t.1.located }))
           ∙ a.found)
@@ -277,7 +277,7 @@ module _ (history : List Op) (w : World) (s : SoundWorld w (engine history)) whe
       out true h =
           let y = (moved-exactly u history t.0 (start_group w m)
           (all_map (λ (k : ℕ). 0 < (record_at (records_of w) k).label.lsn) (λ (k : ℕ). 0 < (record_at (records_of u) k).label.lsn) (start_group w m) t.1 (group-files w history s m))).only x h in
-          let e : a.slot ≡ y.2.0 = is_one (sym a.found ∙ ap (file_for (records_of u)) (mapped-one (sym a.table ∙ y.1)) ∙ y.2.2) in
+          let e : a.slot ≡ y.2.0 = mapped-one (sym a.found ∙ ap (file_for (records_of u)) (mapped-one (sym a.table ∙ y.1)) ∙ y.2.2) in
           let z = still g (inl i) (λ h b c. p h b (omega arith)) m y.2.0 y.2.1 in
           absurd (places.not-empty (sym a.free ∙ ap (view_at (views_of (with_finished w (before g)))) e ∙ z.1))
 
@@ -345,7 +345,7 @@ module _ (history : List Op) (w : World) (s : SoundWorld w (engine history)) whe
         go (inr (inr l)) = absurd (never_both history w s h r e.due e.refused (f.passes h e.generation (omega arith)))
 
     -- success: the group's slots are empty
-    success : (n : ℕ) → (maintain_call w).answer ≡ maintain_given (Moved n) → (k : ℕ) → Among (start_group w g) k
+    success : (n : ℕ) → (maintain_call w).answer ≡ maintain_given (Ok n) → (k : ℕ) → Among (start_group w g) k
         → (view_at (views_of (pruned (with_finished w (before 4)))) k ≡ empty) × (record_at (records_of (pruned (with_finished w (before 4)))) k ≡ empty_record)
     success n a k i =
         let p : Below 4 = λ h b l. ((maintain-ends history w s).succeeds n a).0 h b in

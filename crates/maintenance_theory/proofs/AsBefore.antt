@@ -1,11 +1,11 @@
 -- The nightly job, plan, rewrite 1, 2 and 3, prune, gives what the old call gives, on any store of the invariant: answer, table, records, next position and heap.
-use Rattle.std.specs.Prelude.{◌≡◌, ◌<◌, ◌≤◌, ◌∷◌, ◌++◌, ◌+◌}
+use Rattle.std.specs.Prelude.{◌≡◌, ◌<◌, ◌≤◌, ◌∷◌, ◌++◌, ◌+◌, Err, Ok}
 use Rattle.std.proofs.Math.Path.{refl, ap, subst}
 use Rattle.std.proofs.Common.{sym, ◌∙◌, inl, inr, zero-add, add-zero}
 use native.Mathlib.Omega.{arith}
 use borrow.Author.Tests.{le-ltb}
 use Rattle.rules.specs.Base.{Bool, true, false, List, [], ℕ, length, ltb, pick, keep, sum}
-use Rattle.theory.specs.Types.{Refusal, Answer, Done, Refused, Moved}
+use Rattle.theory.specs.Types.{Refusal, Answer}
 use Rattle.rules.specs.BaseLaws.{All}
 use Rattle.rules.specs.Refusal.{decide, after}
 use Rattle.rules.specs.Condition1.{out_of_range}
@@ -50,8 +50,8 @@ group-onward g ks moved w = go (decide (group_tests w ks (files_of w.settings.ta
         (record { stop = going; moved = n + length (found w ks); world = installed_all 0 g w (files_of w.settings.target_file_size (found w ks)) })
 
     go : (a : Answer) → course moved a ≡ record { stop = (course 0 a).stop; moved = moved + (course 0 a).moved; world = (course 0 a).world }
-    go Done = ap (λ (n : ℕ). record { stop = going; moved = moved + n; world = installed_all 0 g w (files_of w.settings.target_file_size (found w ks)) }) (sym (zero-add (length (found w ks))))
-    go (Refused r) = ap (λ (n : ℕ). record { stop = stopped r g; moved = n; world = w }) (sym (add-zero moved))
+    go (Ok _) = ap (λ (n : ℕ). record { stop = going; moved = moved + n; world = installed_all 0 g w (files_of w.settings.target_file_size (found w ks)) }) (sym (zero-add (length (found w ks))))
+    go (Err r) = ap (λ (n : ℕ). record { stop = stopped r g; moved = n; world = w }) (sym (add-zero moved))
 
 -- a generation skipped, rewritten or refused leaves what a group leaves
 grown-onward : (stop : Stop) (g : ℕ) (ks : List ℕ) (c : Course) → Grown c.world (onward stop g ks c).world
@@ -207,7 +207,7 @@ module _ (history : List Op) (start : World) (st : SoundWorld start (engine hist
     job-rewrote g f = subst (RewroteAs start g) (sym job-as-before) (finished-rewrote history start st g f)
 
     -- N: where there is room for all new files it succeeds
-    pub job-within : Suffices start → (nightly_call start room).answer ≡ maintain_given (Moved (sum (live_of start) generations))
+    pub job-within : Suffices start → (nightly_call start room).answer ≡ maintain_given (Ok (sum (live_of start) generations))
     job-within h = ap (λ (a : After). a.answer) job-as-before ∙ maintain-within history start st h
 
 -- ---- on any store that calls left, whatever calls these were

@@ -1,9 +1,9 @@
 -- On a store of the invariant a file of a group is refused with 3 only, where an object of it is of max_object_size or more.
-use Rattle.std.specs.Prelude.{◌≡◌, refl, ◌⊎◌, ◌<◌, ◌∷◌, ◌++◌, ◌+◌, ◌*◌, ◌^◌}
+use Rattle.std.specs.Prelude.{◌≡◌, refl, ◌⊎◌, ◌<◌, ◌∷◌, ◌++◌, ◌+◌, ◌*◌, ◌^◌, Err, None, Some}
 use Rattle.std.proofs.Common.{sym, ◌∙◌, subst, true≢false, inl, inr, arith}
 use Rattle.std.proofs.lemmas.Bool.{lt-leb}
 use Rattle.rules.specs.Base.{Bool, true, false, List, [], ℕ, leb, any, keep, pick, each}
-use Rattle.theory.specs.Types.{Entry, Record, Refusal, ObjectSize, Refused, Held, Mapped, Unmapped}
+use Rattle.theory.specs.Types.{Entry, Record, Refusal, ObjectSize, Held}
 use Rattle.disk_location.specs.Locations.{masked_of, position_of, delete_of, raw_of}
 use Rattle.rules.specs.BaseLaws.{All}
 use Rattle.rules.proofs.BaseLaws.{all_append, any-clear, or-holds}
@@ -58,12 +58,12 @@ none_only X [] n = tt
 none_only X (b gives r ∷ ts) n = (inl n.0, none_only X ts n.1)
 
 -- what comes before the others decides only with 3
-pub only-decides : (X : Type 0) (ts us : List Test) (r : Refusal) → All (OnlySize X) ts → decide (ts ++ us) ≡ Refused r → ((r ≡ ObjectSize) × X) ⊎ (decide us ≡ Refused r)
+pub only-decides : (X : Type 0) (ts us : List Test) (r : Refusal) → All (OnlySize X) ts → decide (ts ++ us) ≡ Err r → ((r ≡ ObjectSize) × X) ⊎ (decide us ≡ Err r)
 unfolding decide
 only-decides X [] us r a e = inr e
 only-decides X (true gives q ∷ ts) us r a e = go a.0
   where
-    go : (true ≡ false) ⊎ ((q ≡ ObjectSize) × X) → ((r ≡ ObjectSize) × X) ⊎ (decide us ≡ Refused r)
+    go : (true ≡ false) ⊎ ((q ≡ ObjectSize) × X) → ((r ≡ ObjectSize) × X) ⊎ (decide us ≡ Err r)
     go (inl z) = absurd (true≢false z)
     go (inr (z, x)) = let y : q ≡ r = cc in inl (sym y ∙ z, x)
 only-decides X (false gives q ∷ ts) us r a e = only-decides X ts us r a.1 e
@@ -97,8 +97,8 @@ module _ (w : World) (history : List Op) (s : SoundWorld w (engine history)) whe
   mentioned-mapped k f h x l a = go (lookup (mappings w) x) (table-newest (bounds_of w) (picture_of w) (engine history) s.sound x)
     where
       go : (o : Held) → Newest (Has (rows_of (views_of w)) x) o → never_written (loaded_of o) ≡ false
-      go (Mapped m) n = never-unmapped (Mapped m)
-      go Unmapped n =
+      go (Some m) n = never-unmapped (Some m)
+      go None n =
           absurd (n (l + 2 * f.label.lsn) (stands-has (views_of w) x (l + 2 * f.label.lsn) k (record { file = f; raw = l; shows = h; entry = a; located = refl })))
 
   sum_fits : (f : File) → WellMade f → (x l : ℕ) → Has f.entries x l → position_of l + f.label.lsn < 2 ^ 63

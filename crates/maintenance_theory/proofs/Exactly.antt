@@ -1,10 +1,10 @@
 -- C: what maintenance moves are exactly the ids whose current location is in a file of a rewritten group; the count is their number.
-use Rattle.std.specs.Prelude.{◌≡◌, ◌⊎◌, ◌<◌, ◌≤◌, ◌&&◌, ◌∷◌, ◌++◌, ◌+◌, ◌^◌}
+use Rattle.std.specs.Prelude.{◌≡◌, ◌⊎◌, ◌<◌, ◌≤◌, ◌&&◌, ◌∷◌, ◌++◌, ◌+◌, ◌^◌, Err, None, Ok, Some}
 use Rattle.std.proofs.Math.Path.{refl, sym, ap}
 use Rattle.std.proofs.Common.{◌∙◌, subst, true≢false, inl, inr, ⊎_elim, arith}
 use borrow.Author.Tests.{eqb-true, eq-eqb}
 use Rattle.rules.specs.Base.{Bool, true, false, not, List, [], ℕ, length, ltb, pick, any, keep, each, sum}
-use Rattle.theory.specs.Types.{Entry, Record, Refusal, Answer, Done, Refused, Moved, Stopped, Held, Mapped, Unmapped, Slot, Is, NoSlot}
+use Rattle.theory.specs.Types.{Entry, Record, Refusal, Answer, Held, Slot, stopped_with}
 use Rattle.rules.specs.BaseLaws.{All}
 use Rattle.rules.proofs.BaseLaws.{all_map, or-true, or-holds}
 use Rattle.rules.specs.Refusal.{decide, after}
@@ -56,9 +56,9 @@ use Rattle.theory.proofs.Lists.{all-each, all_among, among-get}
 use Rattle.maintenance_theory.specs.Exactly.{InSlots, Inside, Exactly, turn, goes_on, rewritten, ids_moved, Moves, Same}
 
 -- ---- tests and facts
-is-at : (k : ℕ) (o : Slot) → is_at k o ≡ true → o ≡ Is k
-is-at k (Is j) h = ap Is (eqb-true j k h)
-is-at k NoSlot h = absurd (true≢false (sym h))
+is-at : (k : ℕ) (o : Slot) → is_at k o ≡ true → o ≡ Some k
+is-at k (Some j) h = ap Some (eqb-true j k h)
+is-at k None h = absurd (true≢false (sym h))
 
 any-slot : (p : ℕ → Bool) (ks : List ℕ) → any p ks ≡ true → (k : ℕ) × Among ks k × (p k ≡ true)
 unfolding any
@@ -81,23 +81,23 @@ module _ (w : World) (history : List Op) (s : SoundWorld w (engine history)) whe
   rises = table-rising (bounds_of w) (picture_of w) (engine history) s.sound
 
   -- the file that lookup finds is the one in whose range a location is
-  range-file : (x l k : ℕ) (f : File) → view_at (views_of w) k ≡ holds f → lookup (mappings w) x ≡ Mapped l → is_at k (file_for (records_of w) l) ≡ in_range f.label (masked_at l)
+  range-file : (x l k : ℕ) (f : File) → view_at (views_of w) k ≡ holds f → lookup (mappings w) x ≡ Some l → is_at k (file_for (records_of w) l) ≡ in_range f.label (masked_at l)
   range-file x l k f h e =
       let t = table-stands (bounds_of w) (picture_of w) (engine history) s.sound x l e in
       found-in-range (views_of w) (records_of w) s.sound.filed x l t.0 k t.1 f h
 
   -- what is found is mapped
-  said-mapped : (x : ℕ) (c : Content) → engine history x ≡ last_says (last c) → (l : ℕ) × (lookup (mappings w) x ≡ Mapped l)
+  said-mapped : (x : ℕ) (c : Content) → engine history x ≡ last_says (last c) → (l : ℕ) × (lookup (mappings w) x ≡ Some l)
   unfolding picture_says
   said-mapped x c told = go (lookup (mappings w) x) refl
     where
-      go : (h : Held) → lookup (mappings w) x ≡ h → (l : ℕ) × (lookup (mappings w) x ≡ Mapped l)
-      go (Mapped l) e = (l, e)
-      go Unmapped e = absurd (heard-of c (sym (ap (λ (m : Held). held_says (picture_of w) m x) e) ∙ s.sound.says x ∙ told))
+      go : (h : Held) → lookup (mappings w) x ≡ h → (l : ℕ) × (lookup (mappings w) x ≡ Some l)
+      go (Some l) e = (l, e)
+      go None e = absurd (heard-of c (sym (ap (λ (m : Held). held_says (picture_of w) m x) e) ∙ s.sound.says x ∙ told))
 
   -- where it is mapped to
   abbrev Placed : List ℕ → Op → Type 0
-  Placed ks o = (l : ℕ) → lookup (mappings w) o.id ≡ Mapped l → InSlots w ks l
+  Placed ks o = (l : ℕ) → lookup (mappings w) o.id ≡ Some l → InSlots w ks l
 
   placed-in : (ks : List ℕ) (k : ℕ) → Among ks k → 0 < (record_at (records_of w) k).label.lsn → All (Placed ks) (found_in w k)
   placed-in ks k a some =
@@ -153,11 +153,11 @@ module _ (w : World) (history : List Op) (s : SoundWorld w (engine history)) whe
         (λ x l a. let e = has-lookup 0 (mappings w) rises x l a in both_ways _ _ (λ h. here x l e (only x h)) (λ h. every x (there x l e (any-slot _ ks h))));
   }
     where
-      here : (x l : ℕ) → lookup (mappings w) x ≡ Mapped l → Inside w ks x → any (λ (k : ℕ). is_at k (file_for (records_of w) l)) ks ≡ true
+      here : (x l : ℕ) → lookup (mappings w) x ≡ Some l → Inside w ks x → any (λ (k : ℕ). is_at k (file_for (records_of w) l)) ks ≡ true
       here x l e (m, d, (k, a, q)) =
           slot-any (λ (k : ℕ). is_at k (file_for (records_of w) l)) ks k a (ap (λ (n : ℕ). is_at k (file_for (records_of w) n)) (mapped-one (sym e ∙ d)) ∙ ap (is_at k) q ∙ eq-eqb k k refl)
 
-      there : (x l : ℕ) → lookup (mappings w) x ≡ Mapped l → (k : ℕ) × Among ks k × (is_at k (file_for (records_of w) l) ≡ true) → Inside w ks x
+      there : (x l : ℕ) → lookup (mappings w) x ≡ Some l → (k : ℕ) × Among ks k × (is_at k (file_for (records_of w) l) ≡ true) → Inside w ks x
       there x l e (k, a, q) = (l, e, (k, a, is-at k (file_for (records_of w) l) q))
 
   -- LAW: what a group of files moves, in the world in which it is rewritten
@@ -174,8 +174,8 @@ refused-same g ks moved w = go (decide (group_tests w ks (files_of w.settings.ta
         (record { stop = going; moved = moved + length (found w ks); world = installed_all 0 g w (files_of w.settings.target_file_size (found w ks)) })
 
     go : (a : Answer) → goes_on (course a).stop ≡ false → (course a).world ≡ w
-    go Done e = absurd (true≢false e)
-    go (Refused r) e = refl
+    go (Ok _) e = absurd (true≢false e)
+    go (Err r) e = refl
 
 -- a group adds what it found, or nothing
 group-adds : (g : ℕ) (ks : List ℕ) (moved : ℕ) (w : World) → (rewrite_group g ks moved w).moved ≡ moved + pick (goes_on (rewrite_group g ks moved w).stop) (length (found w ks)) 0
@@ -187,8 +187,8 @@ group-adds g ks moved w = go (decide (group_tests w ks (files_of w.settings.targ
         (record { stop = going; moved = moved + length (found w ks); world = installed_all 0 g w (files_of w.settings.target_file_size (found w ks)) })
 
     go : (a : Answer) → (course a).moved ≡ moved + pick (goes_on (course a).stop) (length (found w ks)) 0
-    go Done = refl
-    go (Refused r) = omega arith
+    go (Ok _) = refl
+    go (Err r) = omega arith
 
 -- a turn adds the ids that it found, where the group is rewritten
 turn-adds : (start : World) (stop : Stop) (g : ℕ) (c : Course) (n : ℕ) → length (found c.world (start_group start g)) ≡ n
@@ -199,10 +199,6 @@ turn-adds start going g c n m = go (ltb (length (start_group start g)) c.world.s
     go : (b : Bool) → (pick b c (rewrite_group g (start_group start g) c.moved c.world)).moved ≡ c.moved + pick (not b && goes_on (rewrite_group g (start_group start g) c.moved c.world).stop) n 0
     go true = omega arith
     go false = group-adds g (start_group start g) c.moved c.world ∙ ap (λ (k : ℕ). c.moved + pick (goes_on (rewrite_group g (start_group start g) c.moved c.world).stop) k 0) m
-
--- a slot's number
-pub is_one : {j k : ℕ} → Is j ≡ Is k → j ≡ k
-is_one h = cc
 
 module _ (history : List Op) (start : World) (st : SoundWorld start (engine history)) where
   -- another group's files keep their ids, and get none
@@ -217,13 +213,13 @@ module _ (history : List Op) (start : World) (st : SoundWorld start (engine hist
       there (inl y) (l, e, (k, a, q)) = (l, y.table ∙ e, (k, a, y.file l e ∙ q))
       there (inr y) (l, e, (k, a, q)) =
           let i = (moved-exactly c.world history u.sound (start_group start h) (still-files history start st h c u)).only x y.1 in
-          let j : i.2.0 ≡ k = is_one (sym i.2.2 ∙ ap (file_for (records_of c.world)) (mapped-one (sym i.1 ∙ e)) ∙ q) in
+          let j : i.2.0 ≡ k = mapped-one (sym i.2.2 ∙ ap (file_for (records_of c.world)) (mapped-one (sym i.1 ∙ e)) ∙ q) in
           absurd (n (groups-apart start h g (2 ^ 62) (file_count (records_of start)) k (subst (Among (start_group start h)) j i.2.1) a))
 
       back : Left c.world v x ⊎ (Anew c.world v x × (heard_in (found c.world (start_group start h)) x ≡ true)) → Inside v (start_group start g) x → Inside c.world (start_group start g) x
       back (inl y) (l, e, (k, a, q)) = let z = sym y.table ∙ e in (l, z, (k, a, sym (y.file l z) ∙ q))
       back (inr y) (l, e, (k, a, q)) =
-          let j : y.0.slot ≡ k = is_one (sym y.0.file ∙ ap (file_for (records_of v)) (mapped-one (sym y.0.table ∙ e)) ∙ q) in
+          let j : y.0.slot ≡ k = mapped-one (sym y.0.file ∙ ap (file_for (records_of v)) (mapped-one (sym y.0.table ∙ e)) ∙ q) in
           let f = file-slot c.world (engine history) u.sound k (not-empty (record_at (records_of c.world) k) (among-get (λ (m : ℕ). 0 < (record_at (records_of c.world) m).label.lsn) (start_group start g) (still-files history start st g c u) k a)) in
           absurd (places.not-empty (sym y.0.free ∙ ap (view_at (views_of c.world)) j ∙ f.1))
 
@@ -304,10 +300,10 @@ module _ (history : List Op) (start : World) (st : SoundWorld start (engine hist
           let c : (course_of start).moved ≡ (turn start 3).moved + ids_moved start 3 = turn-adds start (turn start 3).stop 3 (turn start 3) _ t3.1.count in
           omega arith
 
-      by : (o : Stop) → ((ended o (course_of start)).answer ≡ maintain_given (Moved (sum (ids_moved start) (1 ∷ 2 ∷ 3 ∷ []))))
-          ⊎ ((r : Refusal) × (g : ℕ) × ((ended o (course_of start)).answer ≡ maintain_given (Stopped r g (sum (ids_moved start) (1 ∷ 2 ∷ 3 ∷ [])))))
-      by going = inl (ap (λ (n : ℕ). maintain_given (Moved n)) total)
-      by (stopped r g) = inr (r, g, ap (λ (n : ℕ). maintain_given (Stopped r g n)) total)
+      by : (o : Stop) → ((ended o (course_of start)).answer ≡ maintain_given (Ok (sum (ids_moved start) (1 ∷ 2 ∷ 3 ∷ []))))
+          ⊎ ((r : Refusal) × (g : ℕ) × ((ended o (course_of start)).answer ≡ maintain_given (Err (stopped_with r g (sum (ids_moved start) (1 ∷ 2 ∷ 3 ∷ []))))))
+      by going = inl (ap (λ (n : ℕ). maintain_given (Ok n)) total)
+      by (stopped r g) = inr (r, g, ap (λ (n : ℕ). maintain_given (Err (stopped_with r g n))) total)
 
 -- C: on any store of the invariant, whatever calls were made
 pub lived-maintenance-moves : (l : Life) → Starts l → (calls : List Call) → Moves (lived l calls).world

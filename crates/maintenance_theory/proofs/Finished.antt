@@ -1,10 +1,10 @@
 -- C: maintenance answers the count of ids moved, the live counts of the finished groups' files as the call starts; or stops with 4, 5 or 7.
 use Rattle.std.proofs.Math.Path.{◌≡◌, refl, ap, subst}
 use Rattle.std.proofs.Common.{sym, ◌∙◌, true≢false, append_assoc, append-nil, inl, inr, ⊎_elim}
-use Rattle.std.specs.Prelude.{◌⊎◌, ◌<◌, ◌≤◌, ◌∷◌, ◌++◌, ◌+◌, ◌^◌}
+use Rattle.std.specs.Prelude.{◌⊎◌, ◌<◌, ◌≤◌, ◌∷◌, ◌++◌, ◌+◌, ◌^◌, Err, Ok, Some}
 use native.Mathlib.Omega.{arith}
 use Rattle.rules.specs.Base.{Bool, true, false, List, [], ℕ, length, ltb, pick, keep, each, sum}
-use Rattle.theory.specs.Types.{Record, Settings, Refusal, Answer, Done, Refused, Moved, Stopped, Mapped}
+use Rattle.theory.specs.Types.{Record, Settings, Refusal, Answer, stopped_with}
 use Rattle.rules.specs.BaseLaws.{All}
 use Rattle.rules.proofs.BaseLaws.{all_map, same?}
 use Rattle.rules.specs.Refusal.{decide, after, NoneHolds}
@@ -60,7 +60,7 @@ module _ (history : List Op) (w : World) (s : SoundWorld w (engine history)) whe
       (subst (λ (r : Record). All (InRangeOf (mappings w) z.0.label) (objects_found (mappings w) r.label (slot_of w j) ++ deletes_found (mappings w) r.label (slot_of w j))) (sym e)
       (found_inside w history s j z.0 z.1))
     where
-      apart : (o : Op) (l : ℕ) → lookup (mappings w) o.id ≡ Mapped l → in_range (record_at (records_of w) j).label (masked_at l) ≡ true → in_range (record_at (records_of w) k).label (masked_at l) ≡ false
+      apart : (o : Op) (l : ℕ) → lookup (mappings w) o.id ≡ Some l → in_range (record_at (records_of w) j).label (masked_at l) ≡ true → in_range (record_at (records_of w) k).label (masked_at l) ≡ false
       apart o l q i =
           let t = one-range w history s o.id l (lookup-has (mappings w) o.id l q) in
           ⊎_elim (λ a. t.1 k (λ b. n (b ∙ sym a))) (λ a. absurd (true≢false (sym i ∙ t.1 j a))) (same? j t.0)
@@ -94,8 +94,8 @@ module _ (history : List Op) (w : World) (s : SoundWorld w (engine history)) whe
       go : (a : Answer) → decide (group_tests w ks (files_of w.settings.target_file_size (found w ks))) ≡ a
           → record_at (records_of (after {A = Course} a (λ (r : Refusal). record { stop = stopped r g; moved = moved; world = w })
           (record { stop = going; moved = moved + length (found w ks); world = installed_all 0 g w (files_of w.settings.target_file_size (found w ks)) })).world) k ≡ record_at (records_of w) k
-      go (Refused r) e = refl
-      go Done e =
+      go (Err r) e = refl
+      go (Ok _) e =
           files-unmoved g aged (files_of w.settings.target_file_size (found w ks)) (files-rewritable history w s ks w.settings.target_file_size) k some
           (part (files_of w.settings.target_file_size (found w ks)) (files-parts w.settings.target_file_size (found w ks)))
           (none_rest (source_tests w ks) _
@@ -113,8 +113,8 @@ module _ (history : List Op) (w : World) (s : SoundWorld w (engine history)) whe
           → (after {A = Course} a (λ (r : Refusal). record { stop = stopped r g; moved = moved; world = w })
           (record { stop = going; moved = moved + length (found w ks); world = installed_all 0 g w (files_of w.settings.target_file_size (found w ks)) })).moved
           ≡ moved + sum (λ (k : ℕ). (record_at (records_of w) k).live) ks
-      go Done q = ap (λ (n : ℕ). moved + n) (found-count w history s 0 ks up files)
-      go (Refused r) q = absurd (let z : ◌≡◌ {A = ℕ} 0 1 = cc in omega arith)
+      go (Ok _) q = ap (λ (n : ℕ). moved + n) (found-count w history s 0 ks up files)
+      go (Err r) q = absurd (let z : ◌≡◌ {A = ℕ} 0 1 = cc in omega arith)
 
 -- a group is rewritten, or refused with its generation and nothing moved
 rewrite-ends : (g : ℕ) (ks : List ℕ) (moved : ℕ) (w : World)
@@ -127,8 +127,8 @@ rewrite-ends g ks moved w = go (decide (group_tests w ks (files_of w.settings.ta
         (record { stop = going; moved = moved + length (found w ks); world = installed_all 0 g w (files_of w.settings.target_file_size (found w ks)) })
 
     go : (a : Answer) → ((course a).stop ≡ going) ⊎ ((r : Refusal) × ((course a).stop ≡ stopped r g) × ((course a).moved ≡ moved))
-    go Done = inl refl
-    go (Refused r) = inr (r, refl, refl)
+    go (Ok _) = inl refl
+    go (Err r) = inr (r, refl, refl)
 
 sum-snoc : (f : ℕ → ℕ) (ds : List ℕ) (g : ℕ) → sum f (ds ++ (g ∷ [])) ≡ sum f ds + f g
 unfolding sum
@@ -238,10 +238,10 @@ module _ (history : List Op) (start : World) (st : SoundWorld start (engine hist
           (record { settings = refl; same = all_same (1 ∷ 2 ∷ 3 ∷ []); moved = refl })
 
       by : (o : Stop) → StopsWell start o → MovedBy start (1 ∷ 2 ∷ 3 ∷ []) o (course_of start).moved
-          → ((ended o (course_of start)).answer ≡ maintain_given (Moved (sum (live_of start) (1 ∷ 2 ∷ 3 ∷ []))))
-          ⊎ ((r : Refusal) × (g : ℕ) × ((ended o (course_of start)).answer ≡ maintain_given (Stopped r g (sum (live_of start) (before g)))) × Refusable start (start_group start g) r)
-      by going s m = inl (ap (λ (n : ℕ). maintain_given (Moved n)) m)
-      by (stopped r g) s m = inr (r, g, ap (λ (n : ℕ). maintain_given (Stopped r g n)) m, s)
+          → ((ended o (course_of start)).answer ≡ maintain_given (Ok (sum (live_of start) (1 ∷ 2 ∷ 3 ∷ []))))
+          ⊎ ((r : Refusal) × (g : ℕ) × ((ended o (course_of start)).answer ≡ maintain_given (Err (stopped_with r g (sum (live_of start) (before g))))) × Refusable start (start_group start g) r)
+      by going s m = inl (ap (λ (n : ℕ). maintain_given (Ok n)) m)
+      by (stopped r g) s m = inr (r, g, ap (λ (n : ℕ). maintain_given (Err (stopped_with r g n))) m, s)
 
   -- LAW: with 4, 5 or 7 only, where no object is so large
   pub small-answer : SmallWorld start → Answers start

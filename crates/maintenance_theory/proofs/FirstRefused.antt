@@ -1,10 +1,10 @@
 -- C exactly: maintenance stops at the first generation that is due and refused, with 3 for an object that is too large, else with 4, 5 or 7 by its new
 -- files, the empty slots and the base; and it keeps only the generations before it.
-use Rattle.std.specs.Prelude.{◌≡◌, ◌⊎◌, ◌<◌, ◌∷◌, ◌++◌}
+use Rattle.std.specs.Prelude.{◌≡◌, ◌⊎◌, ◌<◌, ◌∷◌, ◌++◌, Err, Ok}
 use Rattle.std.proofs.Math.Path.{refl}
 use Rattle.std.proofs.Common.{sym, ap, ◌∙◌, subst, true≢false, inl, inr, ⊎_elim, arith, ltb-true, ltb-false, le-ltb}
 use Rattle.rules.specs.Base.{Bool, true, false, List, [], ℕ, suc, length, ltb, pick, keep, sum}
-use Rattle.theory.specs.Types.{Settings, Refusal, ObjectSize, Answer, Done, Refused, Moved, Stopped}
+use Rattle.theory.specs.Types.{Settings, Refusal, ObjectSize, Answer, stopped_with}
 use Rattle.rules.proofs.Answers.{maintain-one}
 use Rattle.rules.specs.BaseLaws.{All}
 use Rattle.rules.proofs.BaseLaws.{order}
@@ -119,7 +119,7 @@ module _ (history : List Op) (w : World) (s : SoundWorld w (engine history)) whe
         small : SourcesPass c.world (start_group w g) → Oversized w (start_group w g) → ⊥
         small pass o = passed-small c.world history u.sound (start_group w g) pass (oversized-later w c.world (start_group w g) u.remain u.settings o)
 
-        refuses : (r : Refusal) → decide tests ≡ Refused r → RefusedWith w g r
+        refuses : (r : Refusal) → decide tests ≡ Err r → RefusedWith w g r
             → At w (suc g) (rewrite_group g (start_group w g) c.moved c.world).stop (rewrite_group g (start_group w g) c.moved c.world).world
         refuses r q f =
             subst (λ (d : Course). At w (suc g) d.stop d.world) (sym (group-kept g (start_group w g) c.moved c.world r q))
@@ -127,16 +127,16 @@ module _ (history : List Op) (w : World) (s : SoundWorld w (engine history)) whe
 
         by : SourcesPass c.world (start_group w g) → (a : Answer) → decide tests ≡ a
             → At w (suc g) (rewrite_group g (start_group w g) c.moved c.world).stop (rewrite_group g (start_group w g) c.moved c.world).world
-        by pass Done q =
+        by pass (Ok _) q =
             subst (λ (d : Course). At w (suc g) d.stop d.world) (sym (group-added g (start_group w g) c.moved c.world q)) (
               ap (λ (fs : List (List Op)). installed_all 0 g c.world fs) same
                   ∙ ap (λ (v : World). installed_all 0 g v (new_files w g)) e
                   ∙ sym (step ∙ ap (λ (b : Bool). pick b (with_finished w (before g)) (installed_all 0 g (with_finished w (before g)) (new_files w g))) (le-ltb (length (start_group w g)) w.settings.min_compaction_files due)),
-              passes-next g p (λ d. record { sizes = small pass; enough = here pass Done q }),
+              passes-next g p (λ d. record { sizes = small pass; enough = here pass (Ok tt) q }),
             )
-        by pass (Refused r) q = refuses r q (inr (small pass, here pass (Refused r) q))
+        by pass (Err r) q = refuses r q (inr (small pass, here pass (Err r) q))
 
-        split : ((decide tests ≡ Refused ObjectSize) × Oversized c.world (start_group w g)) ⊎ SourcesPass c.world (start_group w g)
+        split : ((decide tests ≡ Err ObjectSize) × Oversized c.world (start_group w g)) ⊎ SourcesPass c.world (start_group w g)
             → At w (suc g) (rewrite_group g (start_group w g) c.moved c.world).stop (rewrite_group g (start_group w g) c.moved c.world).world
         split (inl (q, o)) = refuses ObjectSize q (inl (refl, oversized-earlier history w c.world s (start_group w g) (group-files w history s g) u.remain u.settings o))
         split (inr pass) = by pass (decide tests) refl
@@ -163,7 +163,7 @@ module _ (history : List Op) (w : World) (s : SoundWorld w (engine history)) whe
   pub never_both : (g : ℕ) (r : Refusal) → Due w g → RefusedWith w g r → Passes w g → ⊥
   never_both g r due (inl (e, o)) p = (p due).sizes o
   never_both g r due (inr (n, l)) p =
-      let e = decided-one (with_finished w (before g)) (new_files w g) (Refused r) Done l (p due).enough in
+      let e = decided-one (with_finished w (before g)) (new_files w g) (Err r) (Ok tt) l (p due).enough in
       let z : ◌≡◌ {A = ℕ} 0 1 = cc in
       omega arith
 
@@ -171,7 +171,7 @@ module _ (history : List Op) (w : World) (s : SoundWorld w (engine history)) whe
   one_number g r q (inl a) (inl b) = a.0 ∙ sym b.0
   one_number g r q (inl a) (inr b) = absurd (b.0 a.1)
   one_number g r q (inr a) (inl b) = absurd (a.0 b.1)
-  one_number g r q (inr a) (inr b) = let z = decided-one (with_finished w (before g)) (new_files w g) (Refused r) (Refused q) a.1 b.1 in cc
+  one_number g r q (inr a) (inr b) = let z = decided-one (with_finished w (before g)) (new_files w g) (Err r) (Err q) a.1 b.1 in cc
 
   one-refused : (g h : ℕ) (r q : Refusal) → FirstRefused w g r → FirstRefused w h q → (g ≡ h) × (r ≡ q)
   one-refused g h r q a b = go (order g h)
@@ -259,10 +259,10 @@ module _ (history : List Op) (w : World) (s : SoundWorld w (engine history)) whe
 
   -- one of the two ends
   abbrev Success : Type 0
-  Success = NoneRefused w × ((maintain_call w).answer ≡ maintain_given (Moved (sum (live_of w) generations))) × ((maintain_call w).world ≡ pruned (with_finished w generations))
+  Success = NoneRefused w × ((maintain_call w).answer ≡ maintain_given (Ok (sum (live_of w) generations))) × ((maintain_call w).world ≡ pruned (with_finished w generations))
 
   abbrev Stop-at : Refusal → ℕ → Type 0
-  Stop-at r g = FirstRefused w g r × ((maintain_call w).answer ≡ maintain_given (Stopped r g (sum (live_of w) (before g)))) × ((maintain_call w).world ≡ with_finished w (before g))
+  Stop-at r g = FirstRefused w g r × ((maintain_call w).answer ≡ maintain_given (Err (stopped_with r g (sum (live_of w) (before g))))) × ((maintain_call w).world ≡ with_finished w (before g))
 
   either_end : Success ⊎ ((r : Refusal) × (g : ℕ) × Stop-at r g)
   unfolding maintain_call decide keep
@@ -283,25 +283,25 @@ module _ (history : List Op) (w : World) (s : SoundWorld w (engine history)) whe
           low g (inr (inr (inl e))) = omega arith
           low g (inr (inr (inr x6))) = elim x6 [ ]
 
-          counted : AnswersBut (λ r g. Refusable w (start_group w g) r) w → (maintain_call w).answer ≡ maintain_given (Moved (sum (live_of w) generations))
+          counted : AnswersBut (λ r g. Refusable w (start_group w g) r) w → (maintain_call w).answer ≡ maintain_given (Ok (sum (live_of w) generations))
           counted (inl a) = a
           counted (inr (r, g, a, z)) =
-              let b = maintain-one (Moved (course_of w).moved) (Stopped r g (sum (live_of w) (before g))) (sym (ap (λ (a : After). a.answer) is) ∙ a) in
+              let b = maintain-one (Ok (course_of w).moved) (Err (stopped_with r g (sum (live_of w) (before g)))) (sym (ap (λ (a : After). a.answer) is) ∙ a) in
               absurd (let z : ◌≡◌ {A = ℕ} 0 1 = cc in omega arith)
       by (stopped r g) q (e, f, l) = inr (r, g, (f, counted (maintain-answer history w s), ap (λ (a : After). a.world) is ∙ e))
         where
           is : maintain_call w ≡ ended (stopped r g) (course_of w)
           is = called ∙ ap (λ (o : Stop). ended o (course_of w)) q
 
-          counted : AnswersBut (λ r g. Refusable w (start_group w g) r) w → (maintain_call w).answer ≡ maintain_given (Stopped r g (sum (live_of w) (before g)))
+          counted : AnswersBut (λ r g. Refusable w (start_group w g) r) w → (maintain_call w).answer ≡ maintain_given (Err (stopped_with r g (sum (live_of w) (before g))))
           counted (inl a) =
-              let b = maintain-one (Stopped r g (course_of w).moved) (Moved (sum (live_of w) generations)) (sym (ap (λ (a : After). a.answer) is) ∙ a) in
+              let b = maintain-one (Err (stopped_with r g (course_of w).moved)) (Ok (sum (live_of w) generations)) (sym (ap (λ (a : After). a.answer) is) ∙ a) in
               absurd (let z : ◌≡◌ {A = ℕ} 0 1 = cc in omega arith)
           counted (inr (q, h, a, z)) =
-              let b = maintain-one (Stopped r g (course_of w).moved) (Stopped q h (sum (live_of w) (before h))) (sym (ap (λ (a : After). a.answer) is) ∙ a) in
+              let b = maintain-one (Err (stopped_with r g (course_of w).moved)) (Err (stopped_with q h (sum (live_of w) (before h)))) (sym (ap (λ (a : After). a.answer) is) ∙ a) in
               let i : g ≡ h = cc in
               let j : r ≡ q = cc in
-              a ∙ ap (λ (c : Refusal). maintain_given (Stopped c h (sum (live_of w) (before h)))) (sym j) ∙ ap (λ (k : ℕ). maintain_given (Stopped r k (sum (live_of w) (before k)))) (sym i)
+              a ∙ ap (λ (c : Refusal). maintain_given (Err (stopped_with c h (sum (live_of w) (before h))))) (sym j) ∙ ap (λ (k : ℕ). maintain_given (Err (stopped_with r k (sum (live_of w) (before k))))) (sym i)
 
   -- C: how maintenance ends on a store of the invariant
   pub maintain-ends : Ends w
@@ -314,37 +314,37 @@ module _ (history : List Op) (w : World) (s : SoundWorld w (engine history)) whe
     prunes = λ n a. ⊎_elim (λ z. z.2) (λ (r, g, z). absurd (not-both n r g _ a z.1)) either_end;
   }
     where
-      not-both : (n : ℕ) (r : Refusal) (g m : ℕ) → (maintain_call w).answer ≡ maintain_given (Moved n) → (maintain_call w).answer ≡ maintain_given (Stopped r g m) → ⊥
+      not-both : (n : ℕ) (r : Refusal) (g m : ℕ) → (maintain_call w).answer ≡ maintain_given (Ok n) → (maintain_call w).answer ≡ maintain_given (Err (stopped_with r g m)) → ⊥
       not-both n r g m a b =
-          let c = maintain-one (Moved n) (Stopped r g m) (sym a ∙ b) in
+          let c = maintain-one (Ok n) (Err (stopped_with r g m)) (sym a ∙ b) in
           let z : ◌≡◌ {A = ℕ} 0 1 = cc in
           omega arith
 
-      stopped-so : (r : Refusal) (g n : ℕ) → (maintain_call w).answer ≡ maintain_given (Stopped r g n) → Success ⊎ ((r : Refusal) × (g : ℕ) × Stop-at r g)
+      stopped-so : (r : Refusal) (g n : ℕ) → (maintain_call w).answer ≡ maintain_given (Err (stopped_with r g n)) → Success ⊎ ((r : Refusal) × (g : ℕ) × Stop-at r g)
           → FirstRefused w g r × (n ≡ sum (live_of w) (before g))
       stopped-so r g n a (inl z) = absurd (not-both _ r g n z.1 a)
       stopped-so r g n a (inr (q, h, z)) =
-          let b = maintain-one (Stopped q h (sum (live_of w) (before h))) (Stopped r g n) (sym z.1 ∙ a) in
+          let b = maintain-one (Err (stopped_with q h (sum (live_of w) (before h)))) (Err (stopped_with r g n)) (sym z.1 ∙ a) in
           let i : h ≡ g = cc in
           let j : q ≡ r = cc in
           let k : sum (live_of w) (before h) ≡ n = cc in
           (subst (λ (m : ℕ). FirstRefused w m r) i (subst (FirstRefused w h) j z.0), sym k ∙ ap (λ (m : ℕ). sum (live_of w) (before m)) i)
 
       refused-so : (r : Refusal) (g : ℕ) → FirstRefused w g r → Success ⊎ ((r : Refusal) × (g : ℕ) × Stop-at r g)
-          → (maintain_call w).answer ≡ maintain_given (Stopped r g (sum (live_of w) (before g)))
+          → (maintain_call w).answer ≡ maintain_given (Err (stopped_with r g (sum (live_of w) (before g))))
       refused-so r g f (inl z) = absurd (never_both g r f.due f.refused (z.0 g f.generation))
       refused-so r g f (inr (q, h, z)) =
           let e = one-refused h g q r z.0 f in
-          z.1 ∙ ap (λ (c : Refusal). maintain_given (Stopped c h (sum (live_of w) (before h)))) e.1 ∙ ap (λ (m : ℕ). maintain_given (Stopped r m (sum (live_of w) (before m)))) e.0
+          z.1 ∙ ap (λ (c : Refusal). maintain_given (Err (stopped_with c h (sum (live_of w) (before h))))) e.1 ∙ ap (λ (m : ℕ). maintain_given (Err (stopped_with r m (sum (live_of w) (before m))))) e.0
 
-      moved-so : (n : ℕ) → (maintain_call w).answer ≡ maintain_given (Moved n) → Success ⊎ ((r : Refusal) × (g : ℕ) × Stop-at r g) → NoneRefused w × (n ≡ sum (live_of w) generations)
-      moved-so n a (inl z) = let b = maintain-one (Moved n) (Moved (sum (live_of w) generations)) (sym a ∙ z.1) in (z.0, cc)
+      moved-so : (n : ℕ) → (maintain_call w).answer ≡ maintain_given (Ok n) → Success ⊎ ((r : Refusal) × (g : ℕ) × Stop-at r g) → NoneRefused w × (n ≡ sum (live_of w) generations)
+      moved-so n a (inl z) = let b = maintain-one (Ok n) (Ok (sum (live_of w) generations)) (sym a ∙ z.1) in (z.0, cc)
       moved-so n a (inr (r, g, z)) = absurd (not-both n r g _ a z.1)
 
-      kept : (r : Refusal) (g n : ℕ) → (maintain_call w).answer ≡ maintain_given (Stopped r g n) → Success ⊎ ((r : Refusal) × (g : ℕ) × Stop-at r g) → (maintain_call w).world ≡ with_finished w (before g)
+      kept : (r : Refusal) (g n : ℕ) → (maintain_call w).answer ≡ maintain_given (Err (stopped_with r g n)) → Success ⊎ ((r : Refusal) × (g : ℕ) × Stop-at r g) → (maintain_call w).world ≡ with_finished w (before g)
       kept r g n a (inl z) = absurd (not-both _ r g n z.1 a)
       kept r g n a (inr (q, h, z)) =
-          let b = maintain-one (Stopped q h (sum (live_of w) (before h))) (Stopped r g n) (sym z.1 ∙ a) in
+          let b = maintain-one (Err (stopped_with q h (sum (live_of w) (before h)))) (Err (stopped_with r g n)) (sym z.1 ∙ a) in
           let i : h ≡ g = cc in
           z.2 ∙ ap (λ (m : ℕ). with_finished w (before m)) i
 

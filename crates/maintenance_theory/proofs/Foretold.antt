@@ -1,12 +1,12 @@
 -- P7: what the plan says is what then happens. On a store of the invariant, with nothing between, the nightly job takes the groups that the plan gives, is
 -- refused where and with what the plan foretells, and adds the files, bytes and positions that it foretells.
-use Rattle.std.specs.Prelude.{◌≡◌, ◌⊎◌, ◌≤◌, ◌∷◌, ◌++◌, ◌+◌, ◌-◌}
+use Rattle.std.specs.Prelude.{◌≡◌, ◌⊎◌, ◌≤◌, ◌∷◌, ◌++◌, ◌+◌, ◌-◌, Err, Ok}
 use Rattle.std.proofs.Math.Path.{refl, sym, ap, subst}
 use Rattle.std.proofs.Common.{◌∙◌, inl, inr, ⊎_elim}
 use native.Mathlib.Omega.{arith}
 use borrow.Author.Tests.{ltb-true, le-ltb}
 use Rattle.rules.specs.Base.{Bool, true, false, List, [], ℕ, length, ltb, pick, keep, sum}
-use Rattle.theory.specs.Types.{Settings, Refusal, ObjectSize, Answer, Done, Refused}
+use Rattle.theory.specs.Types.{Settings, Refusal, ObjectSize, Answer}
 use Rattle.rules.specs.BaseLaws.{All}
 use Rattle.rules.specs.Refusal.{Test, decide, after}
 use Rattle.rules.proofs.RefusalLaws.{decide-append}
@@ -59,8 +59,8 @@ goes-or-stops w g f e = few (too_few w slots)
     by : (a : Answer) (n b p : ℕ)
         → ((after {A = Forecast} a (λ (r : Refusal). record { stop = stopped r g; files = f.files; bytes = f.bytes; positions = f.positions }) (record { stop = going; files = n; bytes = b; positions = p })).stop ≡ going)
         ⊎ ((r : Refusal) × ((after {A = Forecast} a (λ (r : Refusal). record { stop = stopped r g; files = f.files; bytes = f.bytes; positions = f.positions }) (record { stop = going; files = n; bytes = b; positions = p })).stop ≡ stopped r g))
-    by Done n b p = inl refl
-    by (Refused r) n b p = inr (r, refl)
+    by (Ok _) n b p = inl refl
+    by (Err r) n b p = inr (r, refl)
 
     few : (b : Bool) → ((pick b f (foretold w g slots f)).stop ≡ going) ⊎ ((r : Refusal) × ((pick b f (foretold w g slots f)).stop ≡ stopped r g))
     few true = inl e
@@ -117,8 +117,8 @@ module _ (history : List Op) (w : World) (s : SoundWorld w (engine history)) whe
         there : List Test
         there = room_tests w.settings.slot_bytes (empty_of w - f.files) (new_files w g) ++ position_tests (w.state.next_position + f.positions) (new_files w g)
 
-        go : ((decide (source_tests c.world (start_group w g) ++ here) ≡ Refused ObjectSize) × Oversized c.world (start_group w g)) ⊎ SourcesPass c.world (start_group w g)
-            → ((decide (source_tests w (start_group w g) ++ there) ≡ Refused ObjectSize) × Oversized w (start_group w g)) ⊎ SourcesPass w (start_group w g)
+        go : ((decide (source_tests c.world (start_group w g) ++ here) ≡ Err ObjectSize) × Oversized c.world (start_group w g)) ⊎ SourcesPass c.world (start_group w g)
+            → ((decide (source_tests w (start_group w g) ++ there) ≡ Err ObjectSize) × Oversized w (start_group w g)) ⊎ SourcesPass w (start_group w g)
             → decide (source_tests c.world (start_group w g) ++ here) ≡ decide (source_tests w (start_group w g) ++ there)
         go (inl a) (inl b) = a.0 ∙ sym b.0
         go (inl a) (inr b) = absurd (passed-small w history s (start_group w g) b (oversized-earlier history w c.world s (start_group w g) (group-files w history s g) u.remain u.settings a.1))
@@ -149,8 +149,8 @@ module _ (history : List Op) (w : World) (s : SoundWorld w (engine history)) whe
             → CameTrue w (after {A = Forecast} a (λ (r : Refusal). record { stop = stopped r g; files = f.files; bytes = f.bytes; positions = f.positions })
             (record { stop = going; files = f.files + length (new_files w g); bytes = f.bytes + sum (λ (ops : List Op). length (file_bytes ops)) (new_files w g); positions = f.positions + positions_in (new_files w g) }))
             (rewrite_group g (start_group w g) c.moved c.world)
-        go Done e = subst (CameTrue w _) (sym (group-added g (start_group w g) c.moved c.world e)) (went (group-adds-files history g aged (start_group w g) c.world u.sound e))
-        go (Refused r) e =
+        go (Ok _) e = subst (CameTrue w _) (sym (group-added g (start_group w g) c.moved c.world e)) (went (group-adds-files history g aged (start_group w g) c.world u.sound e))
+        go (Err r) e =
             subst (CameTrue w _) (sym (group-kept g (start_group w g) c.moved c.world r e))
             (record { stop = refl; files = t.files; bytes = t.bytes; position = t.position; slots = t.slots })
 

@@ -1,11 +1,11 @@
 -- P7: what a group of files takes and adds, on a store of the invariant: an empty slot, a file and its bytes for each, and its positions.
-use Rattle.std.specs.Prelude.{◌≡◌, refl, ◌⊎◌, ◌<◌, ◌≤◌, ◌∷◌, ◌++◌, ◌+◌, ◌^◌}
+use Rattle.std.specs.Prelude.{◌≡◌, refl, ◌⊎◌, ◌<◌, ◌≤◌, ◌∷◌, ◌++◌, ◌+◌, ◌^◌, Ok}
 use Rattle.std.proofs.Common.{sym, ◌∙◌, subst, inl, inr, get_or-set_same, get_or-set_other}
 use Rattle.std.proofs.Math.Path.{ap}
 use native.Mathlib.Omega.{arith}
 use Rattle.std.proofs.Math.ListN.{length-set}
 use Rattle.rules.specs.Base.{Bool, true, false, List, [], ℕ, zero, suc, length, set, take, pick, sum}
-use Rattle.theory.specs.Types.{Record, Label, Settings, Done}
+use Rattle.theory.specs.Types.{Record, Label, Settings}
 use Rattle.rules.specs.BaseLaws.{All}
 use Rattle.rules.specs.Refusal.{decide, NoneHolds}
 use Rattle.rules.proofs.RefusalLaws.{clear-when, none_first, none_rest}
@@ -176,7 +176,7 @@ heap-all g (f ∷ fs) w = heap-all g fs (installed 0 g w f)
 
 -- LAW: a group that no test refuses
 pub group-adds-files : (history : List Op) (g : ℕ) → g ≤ 255 → (ks : List ℕ) (w : World) → SoundWorld w (engine history)
-    → decide (group_tests w ks (files_of w.settings.target_file_size (found w ks))) ≡ Done
+    → decide (group_tests w ks (files_of w.settings.target_file_size (found w ks))) ≡ Ok tt
     → Adds w (installed_all 0 g w (files_of w.settings.target_file_size (found w ks))) (files_of w.settings.target_file_size (found w ks))
 unfolding group_tests file_count counts_of new_record new_label
 group-adds-files history g aged ks w s e = record {

@@ -1,8 +1,8 @@
 -- "A refusal stops the call, keeps finished groups": of every world, the world left is the one in which the refused generation's turn came.
-use Rattle.std.specs.Prelude.{◌≡◌, refl, ◌⊎◌}
+use Rattle.std.specs.Prelude.{◌≡◌, refl, ◌⊎◌, Err, Ok}
 use Rattle.std.proofs.Common.{sym, ap, ◌∙◌, subst, inl, inr, arith}
 use Rattle.rules.specs.Base.{Bool, true, false, List, ℕ, length, ltb, pick, keep}
-use Rattle.theory.specs.Types.{Refusal, Limits, Done, Refused, Moved, Stopped}
+use Rattle.theory.specs.Types.{Refusal, Limits, stopped_with}
 use Rattle.rules.proofs.Answers.{maintain-one}
 use Rattle.rules.specs.Refusal.{decide}
 use Rattle.rules.proofs.RefusalLaws.{done-or-refused}
@@ -24,8 +24,8 @@ module _ (slots : List ℕ) (g : ℕ) (c : Course) (r : Refusal) (h : ℕ) where
   refused-group : (rewrite_group g slots c.moved c.world).stop ≡ stopped r h → (h ≡ g) × ((rewrite_group g slots c.moved c.world).world ≡ c.world)
   refused-group e = go (done-or-refused (decide (group_tests c.world slots (files_of c.world.settings.target_file_size (found c.world slots)))))
     where
-      go : (decide (group_tests c.world slots (files_of c.world.settings.target_file_size (found c.world slots))) ≡ Done)
-          ⊎ ((q : Refusal) × (decide (group_tests c.world slots (files_of c.world.settings.target_file_size (found c.world slots))) ≡ Refused q))
+      go : (decide (group_tests c.world slots (files_of c.world.settings.target_file_size (found c.world slots))) ≡ Ok tt)
+          ⊎ ((q : Refusal) × (decide (group_tests c.world slots (files_of c.world.settings.target_file_size (found c.world slots))) ≡ Err q))
           → (h ≡ g) × ((rewrite_group g slots c.moved c.world).world ≡ c.world)
       go (inl d) = absurd (going_on r h (sym (ap (λ (x : Course). x.stop) (group-added g slots c.moved c.world d)) ∙ e))
       go (inr (q, d)) =
@@ -75,19 +75,19 @@ course-halts w r h e = third (halts (start_group w 3) 3 c3 r h c3.stop refl e)
     third (inr (a, d)) = second c4.world d (halts (start_group w 2) 2 c2 r h c2.stop refl a)
 
 -- LAW: of every world: "(0 and 0 with 1)", and then the world is as it was
-pub limits-unchanged : (w : World) → refused1 w ≡ true → maintain_call w ≡ record { answer = maintain_given (Stopped Limits 0 0); world = w }
+pub limits-unchanged : (w : World) → refused1 w ≡ true → maintain_call w ≡ record { answer = maintain_given (Err (stopped_with Limits 0 0)); world = w }
 unfolding maintain_call decide
 limits-unchanged w e = rw e refl
 
 -- LAW: of every world: a refused maintenance keeps only the generations that it finished
-pub stopped-keeps : (w : World) (r : Refusal) (g n : ℕ) → (maintain_call w).answer ≡ maintain_given (Stopped r g n) → KeepsFinished w g (maintain_call w).world
+pub stopped-keeps : (w : World) (r : Refusal) (g n : ℕ) → (maintain_call w).answer ≡ maintain_given (Err (stopped_with r g n)) → KeepsFinished w g (maintain_call w).world
 unfolding maintain_call decide groups_from keep
 stopped-keeps w r g n a = by (refused1 w) refl
   where
     by : (b : Bool) → refused1 w ≡ b → KeepsFinished w g (maintain_call w).world
     by true e =
         let i = limits-unchanged w e in
-        let k = maintain-one (Stopped r g n) (Stopped Limits 0 0) (sym a ∙ ap (λ (x : After). x.answer) i) in
+        let k = maintain-one (Err (stopped_with r g n)) (Err (stopped_with Limits 0 0)) (sym a ∙ ap (λ (x : After). x.answer) i) in
         let z : g ≡ 0 = cc in
         subst (λ (m : ℕ). KeepsFinished w m (maintain_call w).world) (sym z) (record { world = ap (λ (x : After). x.world) i; going = refl })
     by false e = go (course_of w).stop refl
@@ -98,11 +98,11 @@ stopped-keeps w r g n a = by (refused1 w) refl
         go : (o : Stop) → (course_of w).stop ≡ o → KeepsFinished w g (maintain_call w).world
         go going q =
             let i = called ∙ ap (λ (o : Stop). ended o (course_of w)) q in
-            let k = maintain-one (Stopped r g n) (Moved (course_of w).moved) (sym a ∙ ap (λ (x : After). x.answer) i) in
+            let k = maintain-one (Err (stopped_with r g n)) (Ok (course_of w).moved) (sym a ∙ ap (λ (x : After). x.answer) i) in
             absurd (let z : ◌≡◌ {A = ℕ} 0 1 = cc in omega arith)
         go (stopped p h) q =
             let i = called ∙ ap (λ (o : Stop). ended o (course_of w)) q in
-            let k = maintain-one (Stopped r g n) (Stopped p h (course_of w).moved) (sym a ∙ ap (λ (x : After). x.answer) i) in
+            let k = maintain-one (Err (stopped_with r g n)) (Err (stopped_with p h (course_of w).moved)) (sym a ∙ ap (λ (x : After). x.answer) i) in
             let z : h ≡ g = cc in
             subst (λ (m : ℕ). KeepsFinished w m (maintain_call w).world) z
             (subst (KeepsFinished w h) (sym (ap (λ (x : After). x.world) i)) (course-halts w p h q))

@@ -1,10 +1,10 @@
 -- The ids that a group moves are those mapped into its files: as many as the files' live counts say.
-use Rattle.std.specs.Prelude.{◌≡◌, ◌<◌, ◌≤◌, ◌&&◌, ◌||◌, ◌∷◌, ◌++◌, ◌+◌, ◌*◌, ◌%◌}
+use Rattle.std.specs.Prelude.{◌≡◌, ◌<◌, ◌≤◌, ◌&&◌, ◌||◌, ◌∷◌, ◌++◌, ◌+◌, ◌*◌, ◌%◌, None, Some}
 use Rattle.std.proofs.Math.Path.{refl, sym, ap}
 use Rattle.std.proofs.Common.{◌∙◌, subst, true≢false, inl, inr, arith}
 use borrow.Author.Tests.{le-leb, lt-leb, leb-true, eq-eqb, eqb-false}
 use Rattle.rules.specs.Base.{Bool, true, false, List, [], map, ℕ, length, leb, pick, any, keep, each, sum}
-use Rattle.theory.specs.Types.{Entry, Record, Held, Mapped, Unmapped}
+use Rattle.theory.specs.Types.{Entry, Record, Held}
 use Rattle.disk_location.specs.Locations.{masked_of, position_of, delete_of, raw_of}
 use Rattle.disk_location.proofs.LocationLaws.{masked_plain}
 use Rattle.rules.specs.BaseLaws.{All}
@@ -132,7 +132,7 @@ module _ (w : World) (history : List Op) (s : SoundWorld w (engine history)) whe
       (deletes-all (λ (e : Entry). position_of e.location ≤ f.label.trailer_offset) f.entries m.inside)))
 
   -- an id mapped into a file is found in it
-  inside_found : (k : ℕ) (f : File) → view_at (views_of w) k ≡ holds f → (x l r : ℕ) → lookup (mappings w) x ≡ Mapped l → Has f.entries x r → l ≡ r + 2 * f.label.lsn
+  inside_found : (k : ℕ) (f : File) → view_at (views_of w) k ≡ holds f → (x l r : ℕ) → lookup (mappings w) x ≡ Some l → Has f.entries x r → l ≡ r + 2 * f.label.lsn
       → heard_in (objects_found (mappings w) f.label (slot_of w k) ++ deletes_found (mappings w) f.label (slot_of w k)) x ≡ true
   unfolding objects_found deletes_found deletes_of
   inside_found k f h x l r e a q =
@@ -160,7 +160,7 @@ module _ (w : World) (history : List Op) (s : SoundWorld w (engine history)) whe
           (delete-found (mappings w) f.label.lsn f.entries x r a d (mapped (r + 2 * f.label.lsn) q)))
 
   -- LAW: an id is found in a file exactly where its location lies in the file's masked range
-  heard-range : (k : ℕ) (f : File) → view_at (views_of w) k ≡ holds f → (x l : ℕ) → lookup (mappings w) x ≡ Mapped l → heard_in (found_in w k) x ≡ in_range (record_at (records_of w) k).label (masked_at l)
+  heard-range : (k : ℕ) (f : File) → view_at (views_of w) k ≡ holds f → (x l : ℕ) → lookup (mappings w) x ≡ Some l → heard_in (found_in w k) x ≡ in_range (record_at (records_of w) k).label (masked_at l)
   heard-range k f h x l e =
       subst (λ (r : Record). heard_in (objects_found (mappings w) r.label (slot_of w k) ++ deletes_found (mappings w) r.label (slot_of w k)) x ≡ in_range r.label (masked_at l))
       (sym (record-holds (views_of w) (records_of w) s.sound.filed k f h)) (both (last_on here x) refl (in_range f.label (masked_at l)) refl)
@@ -179,7 +179,7 @@ module _ (w : World) (history : List Op) (s : SoundWorld w (engine history)) whe
       both (last c) p b q = ap known p ∙ sym (last-all (InRangeOf (mappings w) f.label) here (found_inside k f h) x c p l e)
 
   -- LAW: so in the files of some slots
-  pub heard-each : (ks : List ℕ) → All (λ (k : ℕ). 0 < (record_at (records_of w) k).label.lsn) ks → (x l : ℕ) → lookup (mappings w) x ≡ Mapped l
+  pub heard-each : (ks : List ℕ) → All (λ (k : ℕ). 0 < (record_at (records_of w) k).label.lsn) ks → (x l : ℕ) → lookup (mappings w) x ≡ Some l
       → heard_in (each (found_in w) ks) x ≡ any (λ (k : ℕ). in_range (record_at (records_of w) k).label (masked_at l)) ks
   unfolding each any last_on
   heard-each [] a x l e = refl
@@ -218,9 +218,9 @@ module _ (w : World) (history : List Op) (s : SoundWorld w (engine history)) whe
   found-mapped ks x h = go (last_on (found w ks) x) refl h (lookup (mappings w) x) refl
     where
       go : (o : Last) → last_on (found w ks) x ≡ o → known (last_on (found w ks) x) ≡ true → (m : Held) → lookup (mappings w) x ≡ m → unmapped m ≡ false
-      go o p q (Mapped l) e = refl
-      go silent p q Unmapped e = absurd (true≢false (sym q ∙ ap known p))
-      go (last c) p q Unmapped e =
+      go o p q (Some l) e = refl
+      go silent p q None e = absurd (true≢false (sym q ∙ ap known p))
+      go (last c) p q None e =
           absurd (heard-of c (sym (ap (λ (m : Held). held_says (picture_of w) m x) e) ∙ s.sound.says x
           ∙ (last-all (Movable (engine history)) (found w ks) (found-movable w history s ks) x c p).0))
 

@@ -1,8 +1,8 @@
 -- While a group is rewritten every other generation's group stays, by a mark that is not above the next position.
-use Rattle.std.specs.Prelude.{◌≡◌, refl, ◌⊎◌, ◌<◌, ◌≤◌, ◌∷◌, ◌++◌, ◌+◌, ◌^◌}
+use Rattle.std.specs.Prelude.{◌≡◌, refl, ◌⊎◌, ◌<◌, ◌≤◌, ◌∷◌, ◌++◌, ◌+◌, ◌^◌, Err, Ok}
 use Rattle.std.proofs.Common.{sym, ap, ◌∙◌, subst, inl, inr, ⊎_elim, add-zero, arith, get_or-set_same, get_or-set_other}
 use Rattle.rules.specs.Base.{false, List, [], ℕ, length, sum}
-use Rattle.theory.specs.Types.{Label, Record, Settings, Claims, Refusal, Answer, Done, Refused}
+use Rattle.theory.specs.Types.{Label, Record, Settings, Claims, Refusal, Answer}
 use Rattle.disk_location.specs.Locations.{masked_of}
 use Rattle.disk_location.proofs.LocationLaws.{masked_plain}
 use Rattle.rules.proofs.BaseLaws.{same?}
@@ -102,8 +102,8 @@ grown-group g ks moved w = go (decide (group_tests w ks files)) refl
     go : (a : Answer) → decide (group_tests w ks files) ≡ a
         → Grown w (after {A = Course} a (λ (r : Refusal). record { stop = stopped r g; moved = moved; world = w })
         (record { stop = going; moved = moved + length (found w ks); world = installed_all 0 g w files })).world
-    go (Refused r) e = grown-none w
-    go Done e = fit files (none_rest (source_tests w ks) _ (clear-when (group_tests w ks files) e))
+    go (Err r) e = grown-none w
+    go (Ok _) e = fit files (none_rest (source_tests w ks) _ (clear-when (group_tests w ks files) e))
 
 -- ---- the groups
 -- a member by the settings, the claims and its record alone

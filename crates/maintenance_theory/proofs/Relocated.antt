@@ -1,12 +1,12 @@
 -- While a group is rewritten an id keeps its location, in the same file; or it is one that the group moves, and then it is mapped into a slot
 -- that was empty.
-use Rattle.std.specs.Prelude.{◌≡◌, ◌⊎◌, ◌<◌, ◌≤◌, ◌||◌, ◌∷◌, ◌++◌, ◌+◌, ◌^◌}
+use Rattle.std.specs.Prelude.{◌≡◌, ◌⊎◌, ◌<◌, ◌≤◌, ◌||◌, ◌∷◌, ◌++◌, ◌+◌, ◌^◌, Err, None, Ok, Some}
 use Rattle.std.proofs.Math.Path.{refl, ap}
 use Rattle.std.proofs.Common.{sym, ◌∙◌, subst, true≢false, ⊎_elim}
 use Rattle.std.proofs.Math.Logic.{inl, inr}
 use native.Mathlib.Omega.{arith}
 use Rattle.rules.specs.Base.{true, List, [], ℕ, length, any, sum}
-use Rattle.theory.specs.Types.{Settings, Refusal, Answer, Done, Refused, Held, Mapped, Unmapped, Is}
+use Rattle.theory.specs.Types.{Settings, Refusal, Answer, Held}
 use Rattle.rules.specs.BaseLaws.{All}
 use Rattle.rules.proofs.BaseLaws.{all_map, same?, or-true, or-holds}
 use Rattle.rules.specs.Refusal.{decide, after, NoneHolds}
@@ -72,7 +72,7 @@ part-heard ops x (f ∷ fs) a h = ⊎_elim (λ q. go (last_on f x) refl q) (part
 -- ---- one file
 module _ (history : List Op) (w : World) (s : SoundWorld w (engine history)) (g : ℕ) (os : List Op) (f : Fitting 0 g w os) where
   -- an entry's file
-  found_after : (x l k : ℕ) → places.Stands (added (new_lsn 0 w) g (picture_of w) (new_slot w) os).views x l k → file_for (records_of (installed 0 g w os)) l ≡ Is k
+  found_after : (x l k : ℕ) → places.Stands (added (new_lsn 0 w) g (picture_of w) (new_slot w) os).views x l k → file_for (records_of (installed 0 g w os)) l ≡ Some k
   found_after x l k t =
       ap (λ (p : Picture). file_for p.records l) (picture-installed w (engine history) s 0 g os f)
       ∙ own-file (added (new_lsn 0 w) g (picture_of w) (new_slot w) os).views (added (new_lsn 0 w) g (picture_of w) (new_slot w) os).records
@@ -98,7 +98,7 @@ module _ (history : List Op) (w : World) (s : SoundWorld w (engine history)) (g 
           ap (λ (p : Picture). lookup p.table x) (picture-installed w (engine history) s 0 g os f)
           ∙ lookup-insert-all 0 (mappings w) (rows_for (new_lsn 0 w) 0 os) (rising-absolute (new_lsn 0 w) 0 (entries_of 0 os) (entries-of-rising 0 0 os f.rising)) x
 
-      stays : (l : ℕ) → lookup (mappings w) x ≡ Mapped l → file_for (records_of (installed 0 g w os)) l ≡ file_for (records_of w) l
+      stays : (l : ℕ) → lookup (mappings w) x ≡ Some l → file_for (records_of (installed 0 g w os)) l ≡ file_for (records_of w) l
       stays l e =
           let z = table-stands (bounds_of w) (picture_of w) (engine history) s.sound x l e in
           let t = z.1 in
@@ -107,8 +107,8 @@ module _ (history : List Op) (w : World) (s : SoundWorld w (engine history)) (g 
           ∙ sym (own-file (views_of w) (records_of w) s.sound.filed x l z.0 t)
 
       go : (h : Held) → lookup (rows_for (new_lsn 0 w) 0 os) x ≡ h → Left w (installed 0 g w os) x ⊎ (Anew w (installed 0 g w os) x × (heard_in os x ≡ true))
-      go Unmapped q = inl (record { table = looked ∙ ap (λ (h : Held). or_else h (lookup (mappings w) x)) q; file = stays })
-      go (Mapped m) q =
+      go None q = inl (record { table = looked ∙ ap (λ (h : Held). or_else h (lookup (mappings w) x)) q; file = stays })
+      go (Some m) q =
           let h = lookup-has (rows_for (new_lsn 0 w) 0 os) x m q in
           let a = absolute-has (new_lsn 0 w) (entries_of 0 os) x m h in
           let d = entry-stands 0 os x a.0 a.1 in
@@ -194,8 +194,8 @@ group-relocates history w s g aged ks moved x = go (decide (group_tests w ks (fi
         ⊎ (Anew w (after {A = Course} a (λ (r : Refusal). record { stop = stopped r g; moved = moved; world = w })
         (record { stop = going; moved = moved + length (found w ks); world = installed_all 0 g w (files_of w.settings.target_file_size (found w ks)) })).world x
         × (heard_in (found w ks) x ≡ true))
-    go (Refused r) e = inl (record { table = refl; file = λ l e. refl })
-    go Done e =
+    go (Err r) e = inl (record { table = refl; file = λ l e. refl })
+    go (Ok _) e =
         fits-relocate history w s g aged ks x (files_of w.settings.target_file_size (found w ks)) (files-rewritable history w s ks w.settings.target_file_size) (files-parts w.settings.target_file_size (found w ks))
         (none_rest (source_tests w ks) _
         (clear-when (group_tests w ks (files_of w.settings.target_file_size (found w ks))) e))

@@ -1,8 +1,8 @@
 -- C: what a rewrite of one generation answers and moves, by any mark and any count.
-use Rattle.std.specs.Prelude.{◌≡◌, refl, ◌⊎◌, ◌<◌, ◌≤◌, ◌∷◌, ◌++◌}
+use Rattle.std.specs.Prelude.{◌≡◌, refl, ◌⊎◌, ◌<◌, ◌≤◌, ◌∷◌, ◌++◌, Err, Ok}
 use Rattle.std.proofs.Common.{sym, ap, ◌∙◌, subst, inl, inr, ⊎_elim, zero-add, arith, le-ltb}
 use Rattle.rules.specs.Base.{Bool, true, false, not, List, [], ℕ, length, pick}
-use Rattle.theory.specs.Types.{Record, Refusal, ObjectSize, Answer, Done, Refused}
+use Rattle.theory.specs.Types.{Record, Refusal, ObjectSize, Answer}
 use Rattle.rules.specs.BaseLaws.{All}
 use Rattle.rules.proofs.BaseLaws.{or-clear}
 use Rattle.rules.specs.Refusal.{decide}
@@ -55,22 +55,22 @@ rewrite-picks w room g mark count fine some most few e =
 -- ---- a group's tests
 module _ (history : List Op) (w : World) (s : SoundWorld w (engine history)) (ks : List ℕ) (files : All (λ (k : ℕ). 0 < (record_at (records_of w) k).label.lsn) ks) where
   -- its files are refused with 3, or the sizes of its new files, the slots and the base decide
-  split : ((decide (group_tests w ks (files_out w ks)) ≡ Refused ObjectSize) × Oversized w ks) ⊎ SourcesPass w ks
+  split : ((decide (group_tests w ks (files_out w ks)) ≡ Err ObjectSize) × Oversized w ks) ⊎ SourcesPass w ks
   unfolding group_tests
   split = sources-decided w history s ks files (room_tests w.settings.slot_bytes (empty_of w) (files_out w ks) ++ position_tests w.state.next_position (files_out w ks))
 
   -- the refusal that is given
-  refused-for : (r : Refusal) → RefusedFor w ks r → decide (group_tests w ks (files_out w ks)) ≡ Refused r
-  refused-for r (inl (e, o)) = ⊎_elim (λ z. z.0 ∙ ap Refused (sym e)) (λ pass. absurd (passed-small w history s ks pass o)) split
-  refused-for r (inr (n, l)) = ⊎_elim (λ z. absurd (n z.1)) (λ pass. decided-one w (files_out w ks) _ (Refused r) (group-decided w ks (files_out w ks) pass) l) split
+  refused-for : (r : Refusal) → RefusedFor w ks r → decide (group_tests w ks (files_out w ks)) ≡ Err r
+  refused-for r (inl (e, o)) = ⊎_elim (λ z. z.0 ∙ ap Err (sym e)) (λ pass. absurd (passed-small w history s ks pass o)) split
+  refused-for r (inr (n, l)) = ⊎_elim (λ z. absurd (n z.1)) (λ pass. decided-one w (files_out w ks) _ (Err r) (group-decided w ks (files_out w ks) pass) l) split
 
   -- one or the other
   clear-or-refused : Clear w ks ⊎ ((r : Refusal) × RefusedFor w ks r)
   clear-or-refused = ⊎_elim (λ z. inr (ObjectSize, inl (refl, z.1))) (λ pass. by pass (decide (group_tests w ks (files_out w ks))) (group-decided w ks (files_out w ks) pass)) split
     where
       by : SourcesPass w ks → (a : Answer) → DecidedBy w (files_out w ks) a → Clear w ks ⊎ ((r : Refusal) × RefusedFor w ks r)
-      by pass Done d = inl (record { sizes = passed-small w history s ks pass; enough = d })
-      by pass (Refused r) d = inr (r, inr (passed-small w history s ks pass, d))
+      by pass (Ok _) d = inl (record { sizes = passed-small w history s ks pass; enough = d })
+      by pass (Err r) d = inr (r, inr (passed-small w history s ks pass, d))
 
 module _ (history : List Op) (w : World) (s : SoundWorld w (engine history)) (room : ℕ) (enough : capacity_of w.table ≤ room) where
   -- 1 does not hold where the notes are long enough

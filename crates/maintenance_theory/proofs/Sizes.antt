@@ -1,10 +1,10 @@
 -- 3 refuses a group exactly where an object of its files is of max_object_size or more.
-use Rattle.std.specs.Prelude.{◌≡◌, refl, ◌⊎◌, ◌<◌, ◌∷◌, ◌++◌}
+use Rattle.std.specs.Prelude.{◌≡◌, refl, ◌⊎◌, ◌<◌, ◌∷◌, ◌++◌, Err}
 use Rattle.std.proofs.Math.Path.{sym, subst}
 use Rattle.std.proofs.Common.{ap, ◌∙◌, inl, inr, ⊎_elim}
 use Rattle.std.proofs.Math.Bool.{true≢false}
 use Rattle.rules.specs.Base.{true, false, List, [], ℕ, leb, any, each}
-use Rattle.theory.specs.Types.{Entry, Record, Settings, ObjectSize, Refused}
+use Rattle.theory.specs.Types.{Entry, Record, Settings, ObjectSize}
 use Rattle.rules.specs.BaseLaws.{All}
 use Rattle.rules.proofs.BaseLaws.{or-clear}
 use Rattle.rules.specs.Refusal.{Test, ◌gives◌, decide, NoneHolds}
@@ -31,10 +31,10 @@ use Rattle.maintenance_theory.proofs.Checked.{group-only}
 use Rattle.maintenance_theory.specs.Stopping.{Remain}
 
 -- where 3 alone can refuse, it does, or nothing holds
-only-splits : (X : Type 0) (ts us : List Test) → All (OnlySize X) ts → ((decide (ts ++ us) ≡ Refused ObjectSize) × X) ⊎ NoneHolds ts
+only-splits : (X : Type 0) (ts us : List Test) → All (OnlySize X) ts → ((decide (ts ++ us) ≡ Err ObjectSize) × X) ⊎ NoneHolds ts
 unfolding decide NoneHolds
 only-splits X [] us a = inr tt
-only-splits X (true gives r ∷ ts) us a = ⊎_elim (λ e. absurd (true≢false e)) (λ z. inl (ap Refused z.0, z.1)) a.0
+only-splits X (true gives r ∷ ts) us a = ⊎_elim (λ e. absurd (true≢false e)) (λ z. inl (ap Err z.0, z.1)) a.0
 only-splits X (false gives r ∷ ts) us a = ⊎_elim inl (λ n. inr (refl, n)) (only-splits X ts us a.1)
 
 -- no test of any, so none of one
@@ -53,7 +53,7 @@ none-large limit table (o ∷ os) n = or-clear (leb limit o.size) _ n.1.0 (none-
 module _ (w : World) (history : List Op) (s : SoundWorld w (engine history)) (ks : List ℕ) where
   -- LAW: the files of a group are refused with 3, for an object of that size, or pass
   pub sources-decided : All (λ (k : ℕ). 0 < (record_at (records_of w) k).label.lsn) ks → (us : List Test)
-      → ((decide (source_tests w ks ++ us) ≡ Refused ObjectSize) × Oversized w ks) ⊎ SourcesPass w ks
+      → ((decide (source_tests w ks ++ us) ≡ Err ObjectSize) × Oversized w ks) ⊎ SourcesPass w ks
   sources-decided files us = only-splits (Oversized w ks) _ us (group-only w history s ks files)
 
   -- LAW: and where they pass there is none

@@ -1,8 +1,8 @@
 -- On a store of the invariant a group is rewritten or refused with 4, 5 or 7, or with 3 where an object of it is too large; and files stay.
-use Rattle.std.specs.Prelude.{◌≡◌, refl, ◌⊎◌, ◌<◌, ◌≤◌, ◌∷◌, ◌++◌, ◌+◌, ◌^◌}
+use Rattle.std.specs.Prelude.{◌≡◌, refl, ◌⊎◌, ◌<◌, ◌≤◌, ◌∷◌, ◌++◌, ◌+◌, ◌^◌, Err, Ok}
 use Rattle.std.proofs.Common.{sym, ap, ◌∙◌, subst, inl, inr, arith, get_or-set_other}
 use Rattle.rules.specs.Base.{Bool, true, false, List, [], ℕ, length, ltb, leb, pick, any}
-use Rattle.theory.specs.Types.{Record, Settings, Refusal, ObjectSize, SlotRoom, NoEmptySlot, PositionsSpent, Answer, Done, Refused}
+use Rattle.theory.specs.Types.{Record, Settings, Refusal, ObjectSize, SlotRoom, NoEmptySlot, PositionsSpent, Answer}
 use Rattle.rules.specs.BaseLaws.{All}
 use Rattle.rules.proofs.BaseLaws.{all_map}
 use Rattle.rules.specs.Refusal.{◌gives◌, decide, after}
@@ -33,7 +33,7 @@ use Rattle.maintenance_theory.proofs.Checked.{only-decides, group-only}
 use Rattle.theory.proofs.Lists.{among-all, among-get}
 use Rattle.maintenance_theory.specs.Stopping.{Spent, Refusable, Remain, Stay, StopsWell, Underway}
 
-spent-tests : (a b c : Bool) (r : Refusal) → decide (a gives SlotRoom ∷ b gives NoEmptySlot ∷ c gives PositionsSpent ∷ []) ≡ Refused r → Spent r
+spent-tests : (a b c : Bool) (r : Refusal) → decide (a gives SlotRoom ∷ b gives NoEmptySlot ∷ c gives PositionsSpent ∷ []) ≡ Err r → Spent r
 unfolding decide
 spent-tests true b c r e = inl (cc)
 spent-tests false true c r e = inr (inl (cc))
@@ -65,8 +65,8 @@ settings-group g ks moved w = go (decide (group_tests w ks (files_of w.settings.
   where
     go : (a : Answer) → (after {A = Course} a (λ (r : Refusal). record { stop = stopped r g; moved = moved; world = w })
         (record { stop = going; moved = moved + length (found w ks); world = installed_all 0 g w (files_of w.settings.target_file_size (found w ks)) })).world.settings ≡ w.settings
-    go Done = settings-all g (files_of w.settings.target_file_size (found w ks)) w
-    go (Refused r) = refl
+    go (Ok _) = settings-all g (files_of w.settings.target_file_size (found w ks)) w
+    go (Err r) = refl
 
 next-installed : (bit g : ℕ) (w : World) (os : List Op) → 0 < w.state.next_position → 0 < (installed bit g w os).state.next_position
 unfolding installed next_with
@@ -106,7 +106,7 @@ group-stops : (history : List Op) (g : ℕ) (slots : List ℕ) (moved : ℕ) (w 
 unfolding rewrite_group group_tests room_tests position_tests
 group-stops history g slots moved w s files P went halted = go (decide (group_tests w slots (files_of w.settings.target_file_size (found w slots)))) refl
   where
-    why : (r : Refusal) → ((r ≡ ObjectSize) × Oversized w slots) ⊎ (decide (room_tests w.settings.slot_bytes (empty_of w) (files_of w.settings.target_file_size (found w slots)) ++ position_tests w.state.next_position (files_of w.settings.target_file_size (found w slots))) ≡ Refused r)
+    why : (r : Refusal) → ((r ≡ ObjectSize) × Oversized w slots) ⊎ (decide (room_tests w.settings.slot_bytes (empty_of w) (files_of w.settings.target_file_size (found w slots)) ++ position_tests w.state.next_position (files_of w.settings.target_file_size (found w slots))) ≡ Err r)
         → Refusable w slots r
     why r (inl z) = inr z
     why r (inr z) = inl (spent-tests _ _ _ r z)
@@ -114,8 +114,8 @@ group-stops history g slots moved w s files P went halted = go (decide (group_te
     go : (a : Answer) → decide (group_tests w slots (files_of w.settings.target_file_size (found w slots))) ≡ a
         → P (after {A = Course} a (λ (r : Refusal). record { stop = stopped r g; moved = moved; world = w })
         (record { stop = going; moved = moved + length (found w slots); world = installed_all 0 g w (files_of w.settings.target_file_size (found w slots)) })).stop
-    go Done e = went
-    go (Refused r) e = halted r (why r (only-decides (Oversized w slots) (source_tests w slots) _ r (group-only w history s slots files) e))
+    go (Ok _) e = went
+    go (Err r) e = halted r (why r (only-decides (Oversized w slots) (source_tests w slots) _ r (group-only w history s slots files) e))
 
 -- and no file is lost
 pub group-stays : (history : List Op) (g : ℕ) → g ≤ 255 → (slots : List ℕ) (moved : ℕ) (w : World) → SoundWorld w (engine history)
@@ -128,11 +128,11 @@ group-stays history g aged slots moved w s = go (decide (group_tests w slots (fi
         (record { stop = going; moved = moved + length (found w slots); world = installed_all 0 g w (files_of w.settings.target_file_size (found w slots)) })
 
     go : (a : Answer) → decide (group_tests w slots (files_of w.settings.target_file_size (found w slots))) ≡ a → Stay w (course a).world × Remain w (course a).world
-    go Done e = (
+    go (Ok _) e = (
       stay_all g (files_of w.settings.target_file_size (found w slots)) w s.sound.started,
       stood-all-remain 0 g (files_of w.settings.target_file_size (found w slots)) w (group-rewritten history g aged slots w s e).0,
     )
-    go (Refused r) e = (λ k h. h, λ k f h. h)
+    go (Err r) e = (λ k h. h, λ k f h. h)
 
 module _ (history : List Op) (start : World) (st : SoundWorld start (engine history)) where
   -- a group's files are files when its turn comes

@@ -1,8 +1,8 @@
 -- N: no store refuses maintenance for nothing: where there is room for all new files it succeeds.
-use Rattle.std.specs.Prelude.{◌≡◌, refl, ◌≤◌, ◌∷◌, ◌+◌}
+use Rattle.std.specs.Prelude.{◌≡◌, refl, ◌≤◌, ◌∷◌, ◌+◌, Ok}
 use Rattle.std.proofs.Common.{sym, subst, inl, inr, arith, le-ltb}
 use Rattle.rules.specs.Base.{Bool, true, false, List, [], ℕ, length, ltb, pick, keep, sum}
-use Rattle.theory.specs.Types.{Settings, Moved}
+use Rattle.theory.specs.Types.{Settings}
 use Rattle.rules.specs.BaseLaws.{All}
 use Rattle.rules.specs.Ops.{Op, file_bytes}
 use Rattle.rules.specs.FileMapLaws.{Among}
@@ -82,5 +82,5 @@ none-refused w h g a due =
     }
 
 -- LAW: then maintenance succeeds
-pub maintain-within : (history : List Op) (w : World) → SoundWorld w (engine history) → Suffices w → (maintain_call w).answer ≡ maintain_given (Moved (sum (live_of w) generations))
+pub maintain-within : (history : List Op) (w : World) → SoundWorld w (engine history) → Suffices w → (maintain_call w).answer ≡ maintain_given (Ok (sum (live_of w) generations))
 maintain-within history w s h = (maintain-ends history w s).moved (none-refused w h)

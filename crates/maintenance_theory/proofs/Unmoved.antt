@@ -1,12 +1,12 @@
 -- A file outside a group keeps its record while the group is rewritten.
-use Rattle.std.specs.Prelude.{◌≡◌, ◌<◌, ◌≤◌, ◌∷◌, ◌+◌, ◌-◌, ◌^◌}
+use Rattle.std.specs.Prelude.{◌≡◌, ◌<◌, ◌≤◌, ◌∷◌, ◌+◌, ◌-◌, ◌^◌, None, Some}
 use Rattle.std.proofs.Math.Path.{refl, sym, ap}
 use Rattle.std.proofs.Common.{◌∙◌, subst}
 use Rattle.std.proofs.Math.Nat.{sub-zero}
 use native.Mathlib.Omega.{arith}
 use Rattle.std.proofs.Math.Seq.{get_or-set_other}
 use Rattle.rules.specs.Base.{Bool, false, List, [], ℕ, length, sum}
-use Rattle.theory.specs.Types.{Entry, Record, Settings, Held, Mapped, Unmapped}
+use Rattle.theory.specs.Types.{Entry, Record, Settings, Held}
 use Rattle.disk_location.specs.Locations.{bit_of}
 use Rattle.rules.specs.BaseLaws.{All}
 use Rattle.rules.proofs.BaseLaws.{all_map}
@@ -56,8 +56,8 @@ losing-other t (o ∷ os) rs k a =
     ∙ ap (λ (b : Bool). with_live (record_at rs k) (live_at rs k - bit_of b)) a.0 ∙ ap (with_live (record_at rs k)) (sub-zero (live_at rs k))
   where
     holding : (h : Held) → file_holding (less_live (file_holding rs (load t o.id)) rs) (loaded_of h) ≡ file_holding rs (loaded_of h)
-    holding Unmapped = refl
-    holding (Mapped l) =
+    holding None = refl
+    holding (Some l) =
         holding-mapped (less_live (file_holding rs (load t o.id)) rs) l ∙ less-file (file_holding rs (load t o.id)) rs l ∙ sym (holding-mapped rs l)
 
 module _ (history : List Op) where
@@ -77,9 +77,9 @@ module _ (history : List Op) where
         get_or-set_other (losing (mappings w) os (records_of w)) (new_slot w) k (new_record (new_lsn 0 w) g os) empty_record not_new
         ∙ losing-other (mappings w) os (records_of w) k (all_map (Elsewhere w k) (λ (o : Op). is_at k (file_holding (records_of w) (load (mappings w) o.id)) ≡ false) os (λ o h. at o.id (lookup (mappings w) o.id) refl h) a)
       where
-        at : (x : ℕ) (h : Held) → lookup (mappings w) x ≡ h → ((l : ℕ) → lookup (mappings w) x ≡ Mapped l → in_range (record_at (records_of w) k).label (masked_at l) ≡ false) → is_at k (file_holding (records_of w) (loaded_of h)) ≡ false
-        at x Unmapped e p = refl
-        at x (Mapped l) e p =
+        at : (x : ℕ) (h : Held) → lookup (mappings w) x ≡ h → ((l : ℕ) → lookup (mappings w) x ≡ Some l → in_range (record_at (records_of w) k).label (masked_at l) ≡ false) → is_at k (file_holding (records_of w) (loaded_of h)) ≡ false
+        at x None e p = refl
+        at x (Some l) e p =
             let z = table-stands (bounds_of w) (picture_of w) (engine history) s.sound x l e in
             ap (is_at k) (holding-mapped (records_of w) l)
             ∙ found-in-range (views_of w) (records_of w) s.sound.filed x l z.0 k z.1 file.0 file.1
@@ -98,9 +98,9 @@ module _ (history : List Op) where
             ap (λ (p : Picture). lookup p.table o.id) (picture-installed w (engine history) s 0 g os f)
             ∙ lookup-insert-all 0 (mappings w) (rows_for (new_lsn 0 w) 0 os) (rising-absolute (new_lsn 0 w) 0 (entries_of 0 os) (entries-of-rising 0 0 os f.rising)) o.id
 
-        go : (m : Held) → lookup (rows_for (new_lsn 0 w) 0 os) o.id ≡ m → or_else m (lookup (mappings w) o.id) ≡ Mapped l → in_range (record_at (records_of (installed 0 g w os)) k).label (masked_at l) ≡ false
-        go Unmapped q c = ap (λ (r : Record). in_range r.label (masked_at l)) same ∙ h l c
-        go (Mapped m) q c =
+        go : (m : Held) → lookup (rows_for (new_lsn 0 w) 0 os) o.id ≡ m → or_else m (lookup (mappings w) o.id) ≡ Some l → in_range (record_at (records_of (installed 0 g w os)) k).label (masked_at l) ≡ false
+        go None q c = ap (λ (r : Record). in_range r.label (masked_at l)) same ∙ h l c
+        go (Some m) q c =
             let ad = addable w (engine history) s 0 g os f in
             let t = stands-new (bounds_of w) (picture_of w) (engine history) s.sound (new_slot w) (new_lsn 0 w) g os ad o.id m (lookup-has (rows_for (new_lsn 0 w) 0 os) o.id m q) in
             let v = view-old (bounds_of w) (picture_of w) (engine history) s.sound (new_slot w) (new_lsn 0 w) g os ad k not_new ∙ file.1 in

@@ -1,7 +1,6 @@
 -- C: where the ids of a rewritten group are after the group and after the call, and what is left of its files.
-use Rattle.std.specs.Prelude.{◌≡◌, ◌<◌, ◌≤◌}
+use Rattle.std.specs.Prelude.{◌≡◌, ◌<◌, ◌≤◌, Ok}
 use Rattle.rules.specs.Base.{true, false, List, ℕ, suc}
-use Rattle.theory.specs.Types.{Moved}
 use Rattle.rules.specs.Ops.{Op}
 use Rattle.rules.specs.SlotFile.{File, empty, holds}
 use Rattle.rules.specs.FileMap.{empty_record, record_at}
@@ -34,7 +33,7 @@ pub record RewroteAs (w : World) (g : ℕ) (a : After) : Type 0 where
   pub dead : (k : ℕ) → Among (start_group w g) k → (record_at (records_of (with_finished w (before (suc g)))) k).live ≡ 0
   pub left : (k : ℕ) → Among (start_group w g) k → (record_at (records_of a.world) k).live ≡ 0
   -- on success their slots are empty
-  pub emptied : (n : ℕ) → a.answer ≡ maintain_given (Moved n) → (k : ℕ) → Among (start_group w g) k
+  pub emptied : (n : ℕ) → a.answer ≡ maintain_given (Ok n) → (k : ℕ) → Among (start_group w g) k
       → (view_at (views_of a.world) k ≡ empty) × (record_at (records_of a.world) k ≡ empty_record)
 
 -- of the old call

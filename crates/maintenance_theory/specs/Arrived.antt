@@ -1,8 +1,7 @@
 -- C: every id that a rewritten group moves is in a new file of the group's generation, in a slot that was empty; the group's own files have no live entry
 -- left, and on success their slots are empty.
-use Rattle.std.specs.Prelude.{◌≡◌}
+use Rattle.std.specs.Prelude.{◌≡◌, Some}
 use Rattle.rules.specs.Base.{ℕ}
-use Rattle.theory.specs.Types.{Mapped, Is}
 use Rattle.rules.specs.SlotFile.{File, empty, holds}
 use Rattle.rules.specs.Table.{lookup}
 use Rattle.rules.specs.FileMap.{file_for}
@@ -16,7 +15,7 @@ pub record Arrived (g : ℕ) (w v : World) (x : ℕ) : Type 0 where
   pub slot : ℕ
   pub file : File
   pub free : view_at (views_of w) slot ≡ empty
-  pub table : lookup (mappings v) x ≡ Mapped location
-  pub found : file_for (records_of v) location ≡ Is slot
+  pub table : lookup (mappings v) x ≡ Some location
+  pub found : file_for (records_of v) location ≡ Some slot
   pub shows : view_at (views_of v) slot ≡ holds file
   pub generation : file.label.generation ≡ g

@@ -1,7 +1,7 @@
 -- C: what maintenance moves are exactly the ids whose current location is in a file of a rewritten group; the count is their number.
-use Rattle.std.specs.Prelude.{◌≡◌, ◌⊎◌, ◌&&◌, ◌∷◌}
+use Rattle.std.specs.Prelude.{◌≡◌, ◌⊎◌, ◌&&◌, ◌∷◌, Err, Ok, Some}
 use Rattle.rules.specs.Base.{Bool, true, false, not, List, [], ℕ, length, ltb, pick, any, keep, each, sum}
-use Rattle.theory.specs.Types.{Entry, Refusal, Moved, Stopped, Mapped, Is}
+use Rattle.theory.specs.Types.{Entry, Refusal, stopped_with}
 use Rattle.rules.specs.BaseLaws.{All}
 use Rattle.rules.specs.Ops.{Op}
 use Rattle.rules.specs.OpsLaws.{RisingOps}
@@ -16,11 +16,11 @@ use Rattle.maintenance_theory.specs.Finished.{before}
 
 -- the location's file is in one of these slots
 abbrev pub InSlots : World → List ℕ → ℕ → Type 0
-InSlots w ks l = (k : ℕ) × Among ks k × (file_for (records_of w) l ≡ Is k)
+InSlots w ks l = (k : ℕ) × Among ks k × (file_for (records_of w) l ≡ Some k)
 
 -- the id's current location is
 abbrev pub Inside : World → List ℕ → ℕ → Type 0
-Inside w ks x = (l : ℕ) × (lookup (mappings w) x ≡ Mapped l) × InSlots w ks l
+Inside w ks x = (l : ℕ) × (lookup (mappings w) x ≡ Some l) × InSlots w ks l
 
 -- the table's entries of such ids
 abbrev pub entries_inside : World → List ℕ → List Entry
@@ -66,8 +66,8 @@ pub record MovesAs (w : World) (a : After) : Type 0 where
   -- each group, when its turn comes: exactly the ids whose location, as the call starts, is in one of its files
   pub groups : All (λ (g : ℕ). Exactly w (start_group w g) (found (turn w g).world (start_group w g))) (1 ∷ 2 ∷ 3 ∷ [])
   -- the count that the call answers, refused or not, is the number of those ids in all groups that are rewritten
-  pub counts : (a.answer ≡ maintain_given (Moved (sum (ids_moved w) (1 ∷ 2 ∷ 3 ∷ []))))
-      ⊎ ((r : Refusal) × (g : ℕ) × (a.answer ≡ maintain_given (Stopped r g (sum (ids_moved w) (1 ∷ 2 ∷ 3 ∷ [])))))
+  pub counts : (a.answer ≡ maintain_given (Ok (sum (ids_moved w) (1 ∷ 2 ∷ 3 ∷ []))))
+      ⊎ ((r : Refusal) × (g : ℕ) × (a.answer ≡ maintain_given (Err (stopped_with r g (sum (ids_moved w) (1 ∷ 2 ∷ 3 ∷ []))))))
   -- every other id keeps its location
   pub others : (x : ℕ) → All (λ (g : ℕ). rewritten w g ≡ true → Inside w (start_group w g) x → ⊥) (1 ∷ 2 ∷ 3 ∷ [])
       → lookup (mappings a.world) x ≡ lookup (mappings w) x

@@ -1,8 +1,8 @@
 -- C: maintenance answers the count of ids moved, the live counts of the finished groups' files as the call starts; or stops with 4, 5 or 7.
 use Rattle.std.proofs.Math.Path.{◌≡◌}
-use Rattle.std.specs.Prelude.{◌⊎◌, ◌∷◌, ◌++◌, ◌+◌}
+use Rattle.std.specs.Prelude.{◌⊎◌, ◌∷◌, ◌++◌, ◌+◌, Err, Ok}
 use Rattle.rules.specs.Base.{List, [], ℕ, length, ltb, pick, keep, sum}
-use Rattle.theory.specs.Types.{Refusal, Moved, Stopped}
+use Rattle.theory.specs.Types.{Refusal, stopped_with}
 use Rattle.rules.specs.BaseLaws.{All}
 use Rattle.rules.specs.FileMap.{record_at}
 use Rattle.rules.specs.Maintenance.{Stop, going, stopped, Course, start_group, maintain_call}
@@ -21,8 +21,8 @@ before g = keep (λ (h : ℕ). ltb h g) (1 ∷ 2 ∷ 3 ∷ [])
 -- generations before
 abbrev pub AnswersAs : (Refusal → ℕ → Type 0) → World → Given → Type 0
 AnswersAs refuses w a =
-    (a ≡ maintain_given (Moved (sum (live_of w) (1 ∷ 2 ∷ 3 ∷ []))))
-    ⊎ ((r : Refusal) × (g : ℕ) × (a ≡ maintain_given (Stopped r g (sum (live_of w) (before g)))) × refuses r g)
+    (a ≡ maintain_given (Ok (sum (live_of w) (1 ∷ 2 ∷ 3 ∷ []))))
+    ⊎ ((r : Refusal) × (g : ℕ) × (a ≡ maintain_given (Err (stopped_with r g (sum (live_of w) (before g))))) × refuses r g)
 
 -- what the old call answers
 abbrev pub AnswersBut : (Refusal → ℕ → Type 0) → World → Type 0

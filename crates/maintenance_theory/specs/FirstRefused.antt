@@ -1,8 +1,8 @@
 -- C exactly: maintenance stops at the first generation that is due and refused, with 3 for an object that is too large, else with 4, 5 or 7 by its new
 -- files, the empty slots and the base; and it keeps only the generations before it.
-use Rattle.std.specs.Prelude.{◌≡◌, ◌⊎◌, ◌<◌, ◌≤◌, ◌∷◌}
+use Rattle.std.specs.Prelude.{◌≡◌, ◌⊎◌, ◌<◌, ◌≤◌, ◌∷◌, Err, Ok}
 use Rattle.rules.specs.Base.{List, [], ℕ, length, ltb, pick, sum}
-use Rattle.theory.specs.Types.{Refusal, ObjectSize, Moved, Stopped}
+use Rattle.theory.specs.Types.{Refusal, ObjectSize, stopped_with}
 use Rattle.rules.specs.Ops.{Op}
 use Rattle.rules.specs.FileMapLaws.{Among}
 use Rattle.rules.specs.Install.{installed_all}
@@ -68,15 +68,15 @@ NoneRefused w = (g : ℕ) → Among generations g → Passes w g
 -- how maintenance ends on the store w: its answer and what it leaves are a
 pub record EndsAs (w : World) (a : After) : Type 0 where
   -- it stops with r in generation g exactly if g is the first that is refused, and with r; the count is the live counts before it
-  pub stops : (r : Refusal) (g n : ℕ) → a.answer ≡ maintain_given (Stopped r g n) → FirstRefused w g r × (n ≡ sum (live_of w) (before g))
-  pub refused : (r : Refusal) (g : ℕ) → FirstRefused w g r → a.answer ≡ maintain_given (Stopped r g (sum (live_of w) (before g)))
+  pub stops : (r : Refusal) (g n : ℕ) → a.answer ≡ maintain_given (Err (stopped_with r g n)) → FirstRefused w g r × (n ≡ sum (live_of w) (before g))
+  pub refused : (r : Refusal) (g : ℕ) → FirstRefused w g r → a.answer ≡ maintain_given (Err (stopped_with r g (sum (live_of w) (before g))))
   -- it succeeds exactly if none is; the count is that of all generations
-  pub succeeds : (n : ℕ) → a.answer ≡ maintain_given (Moved n) → NoneRefused w × (n ≡ sum (live_of w) generations)
-  pub moved : NoneRefused w → a.answer ≡ maintain_given (Moved (sum (live_of w) generations))
+  pub succeeds : (n : ℕ) → a.answer ≡ maintain_given (Ok n) → NoneRefused w × (n ≡ sum (live_of w) generations)
+  pub moved : NoneRefused w → a.answer ≡ maintain_given (Ok (sum (live_of w) generations))
   -- "keeps finished groups .. nothing is pruned": the store left is that of the generations before
-  pub keeps : (r : Refusal) (g n : ℕ) → a.answer ≡ maintain_given (Stopped r g n) → a.world ≡ with_finished w (before g)
+  pub keeps : (r : Refusal) (g n : ℕ) → a.answer ≡ maintain_given (Err (stopped_with r g n)) → a.world ≡ with_finished w (before g)
   -- "Success prunes": that of all generations, pruned
-  pub prunes : (n : ℕ) → a.answer ≡ maintain_given (Moved n) → a.world ≡ pruned (with_finished w generations)
+  pub prunes : (n : ℕ) → a.answer ≡ maintain_given (Ok n) → a.world ≡ pruned (with_finished w generations)
 
 -- how the old call ends
 abbrev pub Ends : World → Type 0

@@ -1,8 +1,8 @@
 -- P7: what the plan says is what then happens. On a store of the invariant, with nothing between, the nightly job takes the groups that the plan gives, is
 -- refused where and with what the plan foretells, and adds the files, bytes and positions that it foretells.
-use Rattle.std.specs.Prelude.{◌≡◌, ◌⊎◌, ◌<◌, ◌≤◌, ◌∷◌, ◌+◌, ◌-◌}
+use Rattle.std.specs.Prelude.{◌≡◌, ◌⊎◌, ◌<◌, ◌≤◌, ◌∷◌, ◌+◌, ◌-◌, Err, Ok}
 use Rattle.rules.specs.Base.{true, List, [], ℕ, pick}
-use Rattle.theory.specs.Types.{Moved, Stopped}
+use Rattle.theory.specs.Types.{stopped_with}
 use Rattle.rules.specs.Refusal.{after}
 use Rattle.rules.specs.FileMapLaws.{Among}
 use Rattle.rules.specs.Counts.{counts_of}
@@ -34,8 +34,8 @@ AnswersSo (stopped r h) g answer = ((h ≡ g) × (answer ≡ refused r)) ⊎ ((g
 
 -- the job's answer, of which the plan foretells all but the ids moved
 abbrev pub EndsSo : Stop → Given → Type 0
-EndsSo going answer = (n : ℕ) × (answer ≡ maintain_given (Moved n))
-EndsSo (stopped r g) answer = (n : ℕ) × (answer ≡ maintain_given (Stopped r g n))
+EndsSo going answer = (n : ℕ) × (answer ≡ maintain_given (Ok n))
+EndsSo (stopped r g) answer = (n : ℕ) × (answer ≡ maintain_given (Err (stopped_with r g n)))
 
 -- the plan foretells the job
 pub record Foretells (w : World) (room : ℕ) : Type 0 where

@@ -8,12 +8,7 @@ use Rattle.rules.specs.declared.Settings.{Settings}
 use Rattle.rules.specs.declared.State.{State}
 use Rattle.rules.specs.declared.Claims.{Claims}
 use Rattle.rules.specs.declared.Record.{Record}
-use Rattle.rules.specs.declared.Answer.{Answer}
-use Rattle.rules.specs.declared.ReadAnswer.{ReadAnswer}
-use Rattle.rules.specs.declared.CountsAnswer.{CountsAnswer}
-use Rattle.rules.specs.declared.LoadAnswer.{LoadAnswer}
-use Rattle.rules.specs.declared.GreaterAnswer.{GreaterAnswer}
-use Rattle.rules.specs.declared.CompareAnswer.{CompareAnswer}
+use Rattle.rules.specs.Types.{Answer, ReadAnswer, CountsAnswer, LoadAnswer, GreaterAnswer, CompareAnswer}
 use Rattle.as_numbers.specs.declared.answers.One.{One}
 use Rattle.marks_in_place.proofs.unsynced.Reads as unsynced
 use Rattle.marks_in_place.proofs.sync.Reads as sync
@@ -27,7 +22,7 @@ use Rattle.writepath.proofs.write.Reads as write
 use Rattle.readpath.specs.Reads.{place_of}
 use Rattle.readpath.proofs.read_answer.Reads as answer
 use Rattle.readpath.proofs.read.Reads as reading
-use Rattle.through.specs.declared.ThroughAnswer.{ThroughAnswer}
+use Rattle.through.specs.Answers.{ThroughAnswer}
 use Rattle.through.specs.Through.{through_of}
 use Rattle.through.specs.Pieces.{through_place}
 use Rattle.through.proofs.through_answer.Reads as through-answer
@@ -45,11 +40,10 @@ use Rattle.gc_nightly.specs.declared.Maintained.{Maintained}
 use Rattle.gc_nightly.proofs.nightly.Reads as nightly
 use Rattle.prune.specs.declared.PruneAnswer.{PruneAnswer}
 use Rattle.prune.proofs.prune.Reads as prune
-use Rattle.checker.specs.declared.CheckAnswer.{CheckAnswer}
+use Rattle.checker.specs.Answers.{CheckAnswer}
 use Rattle.checker.proofs.check.Reads as check
-use Rattle.salvage.specs.declared.SalvageAnswer.{SalvageAnswer}
+use Rattle.salvage.specs.Answers.{SalvageAnswer, Salvages}
 use Rattle.losses.specs.Salvage.{salvage_call}
-use Rattle.salvage.specs.Answers.{Salvages}
 use Rattle.salvage.proofs.salvage.Reads as salvage
 use Rattle.location_table.specs.Tables.{leaving as table_leaving}
 use Rattle.table_calls.proofs.load.Reads as load

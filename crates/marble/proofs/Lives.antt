@@ -1,11 +1,10 @@
 -- The demands of lives of results: whatever the calls gave, as long as their contracts admit it.
 use Rattle.std.proofs.Math.Path.{◌≡◌, refl, ap}
 use Rattle.std.proofs.Common.{sym, ap₂, ◌∙◌, subst, append_assoc, append-nil, le-ltb}
-use Rattle.std.specs.Prelude.{◌<◌, ◌≤◌, ◌||◌, ◌∷◌, ◌++◌}
+use Rattle.std.specs.Prelude.{◌<◌, ◌≤◌, ◌||◌, ◌∷◌, ◌++◌, Ok}
 use native.Mathlib.Omega.{arith}
 use Rattle.rules.specs.Base.{Bool, true, false, not, List, [], map, ℕ, length, get_or, leb, eqb, any, pick, padded}
-use Rattle.rules.specs.declared.Answer.TheVariants.{Done}
-use Rattle.rules.specs.declared.ReadAnswer.{ReadAnswer}
+use Rattle.rules.specs.Types.{ReadAnswer}
 use Rattle.rules.specs.Refusal.{decide}
 use Rattle.rules.specs.Ops.{Op, put, delete}
 use Rattle.rules.specs.Batch.{batch_in, ops_of}
@@ -38,7 +37,7 @@ use Rattle.history_theory.specs.Clean.{heard_at, resumed}
 use Rattle.history_theory.proofs.Clean.{clean-starts}
 use Rattle.history_theory.specs.Writes.{never, got_by, got, left_by}
 use Rattle.history_theory.proofs.Writes.{got_last, write-means}
-use Rattle.through.specs.declared.ThroughAnswer.{ThroughAnswer}
+use Rattle.through.specs.Answers.{ThroughAnswer}
 use Rattle.through_theory.specs.Saved.{got_through_by, got_through}
 use Rattle.through_theory.proofs.Saved.{sound-through, same_bytes}
 use Rattle.power_cuts.specs.Runs.{run_of}
@@ -242,21 +241,21 @@ module _ (l : Lived) where
   life-survives c k v = cut-survived (reached l).world (reached l).history life-sound k v c
 
   -- DEMAND 2, write: where the result says `Done`, ids of the batch read as its last operation on them says, and every other as before
-  pub life-wrote : (batch : List ℕ) (r : Written) (heap table : List ℕ) → Admitted (reached l).world (wrote batch r heap table) → r.answer ≡ Done
+  pub life-wrote : (batch : List ℕ) (r : Written) (heap table : List ℕ) → Admitted (reached l).world (wrote batch r heap table) → r.answer ≡ Ok tt
       → (id : ℕ) → got (left (reached l).world (wrote batch r heap table)) id ≡ left_by (last_on (ops_of (batch_in batch)) id) (got (reached l).world id)
   life-wrote batch r heap table a d id =
       ap (λ (x : After). got x.world id) a
       ∙ (write-means (reached l).world (reached l).history life-sound batch (sym (ap (λ (x : After). x.answer) a) ∙ ap answer_given d)).reads id
 
   -- REQUEST P3: where the result of a write says `Done`, a read through its batch gave, before it, what a read gives after it, for every id
-  pub life-foresees : (batch : List ℕ) (r : Written) (heap table : List ℕ) → Admitted (reached l).world (wrote batch r heap table) → r.answer ≡ Done
+  pub life-foresees : (batch : List ℕ) (r : Written) (heap table : List ℕ) → Admitted (reached l).world (wrote batch r heap table) → r.answer ≡ Ok tt
       → (id : ℕ) → got_through (reached l).world batch id ≡ got (left (reached l).world (wrote batch r heap table)) id
   life-foresees batch r heap table a d id =
       sound-through (reached l).world (reached l).history life-sound batch (sym (ap (λ (x : After). x.answer) a) ∙ ap answer_given d) id
       ∙ sym (ap (λ (x : After). got x.world id) a)
 
   -- so of what both calls gave: the kind, and the bytes of an object
-  pub life-foresees-results : (batch : List ℕ) (r : Written) (heap table : List ℕ) → Admitted (reached l).world (wrote batch r heap table) → r.answer ≡ Done
+  pub life-foresees-results : (batch : List ℕ) (r : Written) (heap table : List ℕ) → Admitted (reached l).world (wrote batch r heap table) → r.answer ≡ Ok tt
       → (id : ℕ) (a : ThroughAnswer) (through : List ℕ) → Admitted (reached l).world (answered_through batch id a)
       → Admitted (reached l).world (read_through batch id through)
       → (b : ReadAnswer) (after : List ℕ) → Admitted (left (reached l).world (wrote batch r heap table)) (answered id b)
@@ -265,7 +264,7 @@ module _ (l : Lived) where
       ap₂ got_through_by p q ∙ life-foresees batch r heap table w d id ∙ sym (ap₂ got_by s t)
 
   -- and of the bytes alone
-  pub life-foresees-bytes : (batch : List ℕ) (r : Written) (heap table : List ℕ) → Admitted (reached l).world (wrote batch r heap table) → r.answer ≡ Done
+  pub life-foresees-bytes : (batch : List ℕ) (r : Written) (heap table : List ℕ) → Admitted (reached l).world (wrote batch r heap table) → r.answer ≡ Ok tt
       → (id : ℕ) (through after : List ℕ) → Admitted (reached l).world (read_through batch id through)
       → Admitted (left (reached l).world (wrote batch r heap table)) (read id after) → through ≡ after
   life-foresees-bytes batch r heap table a d id through after p q =
@@ -328,7 +327,7 @@ module _ (l : Lived) where
       ap (λ (x : After). unsynced_in (records_of x.world)) a ∙ reopen-marks (reached l).world (λ z. n (ap (λ (x : After). x.answer.number) a ∙ z))
 
   -- "clear on writing": where the result of a write of something says `Done`, the new file is unsynced, and every other as it was
-  pub life-marks-written : (batch : List ℕ) (r : Written) (heap table : List ℕ) → Admitted (reached l).world (wrote batch r heap table) → r.answer ≡ Done
+  pub life-marks-written : (batch : List ℕ) (r : Written) (heap table : List ℕ) → Admitted (reached l).world (wrote batch r heap table) → r.answer ≡ Ok tt
       → 0 < length (ops_in batch) → (k : ℕ) → is_unsynced (record_at (records_of (left (reached l).world (wrote batch r heap table))) k)
       ≡ (eqb k (new_slot (reached l).world) || is_unsynced (record_at (records_of (reached l).world) k))
   life-marks-written batch r heap table a d some k =
@@ -336,7 +335,7 @@ module _ (l : Lived) where
       ∙ write-marks (reached l).world (reached l).history life-sound batch (sym (ap (λ (x : After). x.answer) a) ∙ ap answer_given d) some k
 
 -- DEMAND 2, reopen: of any heap, whoever wrote it, where the result says `Done`
-pub reopened-opens : (w : World) (r : Reopened) (table : List ℕ) → Admitted w (reopened r table) → r.answer ≡ Done
+pub reopened-opens : (w : World) (r : Reopened) (table : List ℕ) → Admitted w (reopened r table) → r.answer ≡ Ok tt
     → Opened w (left w (reopened r table))
 reopened-opens w r table a d =
     subst (λ (v : World). Opened w v) (sym (ap (λ (x : After). x.world) a))

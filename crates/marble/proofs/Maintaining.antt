@@ -1,10 +1,10 @@
 -- What the demands say of results of `plan`, `rewrite` and `nightly` that their contracts admit, on every store of demand 3, where the lent notes are long enough.
-use Rattle.std.specs.Prelude.{◌≡◌, ◌⊎◌, ◌≤◌, ◌<◌}
+use Rattle.rules.specs.Types.{stopped_with}
+use Rattle.std.specs.Prelude.{◌≡◌, ◌⊎◌, ◌≤◌, ◌<◌, Err, Ok}
 use Rattle.std.proofs.Common.{sym, ap, ◌∙◌, subst, inl, inr, ⊎_elim}
 use Rattle.rules.specs.Base.{true, List, map, ℕ, sum}
 use Rattle.rules.specs.BaseLaws.{All}
 use Rattle.rules.specs.declared.Refusal.{Refusal}
-use Rattle.rules.specs.declared.MaintainAnswer.TheVariants.{Moved, Stopped}
 use Rattle.rules.proofs.Answers.{maintain-one}
 use Rattle.rules.specs.Layout.{capacity_of}
 use Rattle.rules.specs.Table.{lookup}
@@ -68,8 +68,8 @@ module _ (l : Lived) (notes : Notes) (enough : capacity_of (reached l).world.tab
 
     -- and its count is the number of the ids whose location, as the job starts, is in a file of a group that it rewrites
     pub maintain-counts :
-        (r.answer ≡ Moved (sum (ids_moved (reached l).world) generations))
-        ⊎ ((q : Refusal) × (g : ℕ) × (r.answer ≡ Stopped q g (sum (ids_moved (reached l).world) generations)))
+        (r.answer ≡ Ok (sum (ids_moved (reached l).world) generations))
+        ⊎ ((q : Refusal) × (g : ℕ) × (r.answer ≡ Err (stopped_with q g (sum (ids_moved (reached l).world) generations))))
     maintain-counts =
         ⊎_elim (λ e. inl (maintain-one r.answer _ (ap (λ (a : After). a.answer) m.0 ∙ e)))
         (λ z. inr (z.0, z.1, maintain-one r.answer _ (ap (λ (a : After). a.answer) m.0 ∙ z.2)))

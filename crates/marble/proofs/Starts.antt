@@ -1,5 +1,5 @@
 -- Which heaps a life of results may start from: those of which the checker lists nothing, and so those whose slots all begin with byte 0.
-use Rattle.std.specs.Prelude.{◌≡◌, refl}
+use Rattle.std.specs.Prelude.{◌≡◌, refl, Ok}
 use Rattle.std.proofs.Common.{sym, ap, ◌∙◌, arith}
 use Rattle.numbers.specs.LittleEndian.{Bytes}
 use Rattle.rules.specs.Base.{Bool, true, false, List, [], ℕ, length, map}
@@ -19,8 +19,7 @@ use Rattle.history_theory.specs.Clean.{Clean, heard_at}
 use Rattle.history_theory.proofs.Clean.{sound-clean}
 use Rattle.recovery.specs.declared.Reopened.{Reopened}
 use Rattle.faults.specs.Faults.{Checked, check_call}
-use Rattle.checker.specs.declared.CheckAnswer.{CheckAnswer}
-use Rattle.checker.specs.declared.CheckAnswer.TheVariants.{Faults}
+use Rattle.checker.specs.Answers.{CheckAnswer}
 use Rattle.check_theory.proofs.CleanLists.{clean-list, list-clean}
 use Rattle.check_theory.proofs.Calls.{check-limits, empty-checked, checked-empty}
 use Rattle.marble.proofs.Unique.{check-one}
@@ -29,7 +28,7 @@ use Rattle.marble.proofs.Lives.{life-sound}
 
 -- ---- clean is: "P5's checker lists nothing"
 -- where the result of `check` says so
-pub checked-clean : (w : World) (before after : List ℕ) → Admitted w (checked before (Faults 0) after) → Bytes w.heap → Clean w
+pub checked-clean : (w : World) (before after : List ℕ) → Admitted w (checked before (Ok 0) after) → Bytes w.heap → Clean w
 checked-clean w before after a bytes =
     list-clean w (range (out_of_range w.settings (length w.heap) w.table) refl) bytes (checked-empty w before (sym (ap (λ (c : Checked). c.answer) a)))
   where
@@ -39,9 +38,9 @@ checked-clean w before after a bytes =
         absurd (let z : ◌≡◌ {A = ℕ} 0 1 = ap (λ (c : Checked). c.answer.number) (a ∙ check-limits w.settings w.heap w.table before e) in omega arith)
 
 -- and it says so of every clean heap, with the listing as it was
-pub clean-checked : (w : World) → Clean w → (before : List ℕ) (r : CheckAnswer) (after : List ℕ) → Admitted w (checked before r after) → (r ≡ Faults 0) × (after ≡ before)
+pub clean-checked : (w : World) → Clean w → (before : List ℕ) (r : CheckAnswer) (after : List ℕ) → Admitted w (checked before r after) → (r ≡ Ok 0) × (after ≡ before)
 clean-checked w c before r after a =
-    check-one (check_call w.settings w.heap w.table before) r (Faults 0) after before a
+    check-one (check_call w.settings w.heap w.table before) r (Ok 0) after before a
     (sym (empty-checked w (limits-in w.settings (length w.heap) w.table (passed w c.reopens).limits) (clean-list w c) before))
 
 -- ---- what a life leaves: another may start from it

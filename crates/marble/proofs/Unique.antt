@@ -1,15 +1,11 @@
 -- "Show that any two results it admits are equal": one law for each public call, from its contract alone.
-use Rattle.std.specs.Prelude.{◌≡◌, refl}
+use Rattle.std.specs.Prelude.{◌≡◌, refl, Err, Ok}
 use Rattle.std.proofs.Common.{sym, ap, ap₂, ◌∙◌}
 use Rattle.rules.specs.Base.{List, ℕ}
 use Rattle.rules.specs.declared.Settings.{Settings}
 use Rattle.rules.specs.declared.State.{State}
 use Rattle.rules.specs.declared.Claims.{Claims}
-use Rattle.rules.specs.declared.Answer.{Answer}
-use Rattle.rules.specs.declared.CountsAnswer.{CountsAnswer}
-use Rattle.rules.specs.declared.LoadAnswer.{LoadAnswer}
-use Rattle.rules.specs.declared.GreaterAnswer.{GreaterAnswer}
-use Rattle.rules.specs.declared.CompareAnswer.{CompareAnswer}
+use Rattle.rules.specs.Types.{Answer, CountsAnswer, LoadAnswer, GreaterAnswer, CompareAnswer}
 use Rattle.rules.specs.Answers.{by_number, value_at}
 use Rattle.rules.proofs.Answers.{inverse-one, known, answer-one, counts-one, load_one, compare-one, greater-one}
 use Rattle.rules.specs.Counts.{counts_call}
@@ -18,9 +14,7 @@ use Rattle.rules.specs.TableCalls.{TableAfter}
 use Rattle.location_table.specs.Tables.{leaving as table_leaving}
 use Rattle.claims.specs.declared.ClaimAnswer.{ClaimAnswer}
 use Rattle.faults.specs.Faults.{Checked}
-use Rattle.checker.specs.declared.CheckAnswer.{CheckAnswer}
-use Rattle.checker.specs.declared.CheckAnswer.TheVariants.{Faults, CheckRefused}
-use Rattle.checker.specs.Answers.{check_given}
+use Rattle.checker.specs.Answers.{CheckAnswer, check_given}
 use Rattle.recovery.proofs.Unique.{reopen-one}
 use Rattle.writepath.specs.Unique.{write-one}
 use Rattle.readpath.specs.ReadLaws.{read_one, part-one}
@@ -48,11 +42,11 @@ counts-call-one w a b p q = counts-one a b (ap (λ (x : After). x.answer) (p ∙
 -- ---- check: the answer, and every word of the lent listing
 -- one number and number of faults, one answer
 check-answer-one : (a b : CheckAnswer) → check_given a ≡ check_given b → a ≡ b
-check-answer-one = inverse-one check_given (λ (g : Given). by_number g CheckRefused (Faults (value_at g 0))) go
+check-answer-one = inverse-one check_given (λ (g : Given). by_number g Err (Ok (value_at g 0))) go
   where
-    go : (a : CheckAnswer) → by_number (check_given a) CheckRefused (Faults (value_at (check_given a) 0)) ≡ a
-    go (Faults n) = refl
-    go (CheckRefused r) = rw ((known r).some, (known r).back)
+    go : (a : CheckAnswer) → by_number (check_given a) Err (Ok (value_at (check_given a) 0)) ≡ a
+    go (Ok n) = refl
+    go (Err r) = rw ((known r).some, (known r).back)
 
 pub check-one : (c : Checked) (a b : CheckAnswer) (xs ys : List ℕ) → Checks c a xs → Checks c b ys → (a ≡ b) × (xs ≡ ys)
 check-one c a b xs ys p q =

@@ -1,8 +1,7 @@
 -- A store's life by what its calls gave: each result one that the contract of its call admits (`CallContracts`), and power cuts among them.
 use Rattle.std.specs.Prelude.{◌≡◌, ◌∷◌}
 use Rattle.rules.specs.Base.{List, [], ℕ}
-use Rattle.rules.specs.declared.ReadAnswer.{ReadAnswer}
-use Rattle.rules.specs.declared.CountsAnswer.{CountsAnswer}
+use Rattle.rules.specs.Types.{ReadAnswer, CountsAnswer}
 use Rattle.rules.specs.declared.Record.{Record}
 use Rattle.rules.specs.Ops.{Op}
 use Rattle.rules.specs.Claims.{with_claims, claim_call, release_call}
@@ -29,13 +28,13 @@ use Rattle.gc.specs.Unique.{Lent, Asked, Rewrites}
 use Rattle.gc_nightly.specs.Unique.{Nightly}
 use Rattle.prune.specs.declared.PruneAnswer.{PruneAnswer}
 use Rattle.prune.specs.CallLaws.{Prunes}
-use Rattle.through.specs.declared.ThroughAnswer.{ThroughAnswer}
+use Rattle.through.specs.Answers.{ThroughAnswer}
 use Rattle.through.specs.Through.{through_of, through_part}
 use Rattle.as_numbers.specs.declared.answers.One.{One}
 use Rattle.as_numbers.specs.Shown.{given, shown}
 use Rattle.rules.specs.Sync.{unsynced_call, sync_call}
 use Rattle.faults.specs.Faults.{check_call}
-use Rattle.checker.specs.declared.CheckAnswer.{CheckAnswer}
+use Rattle.checker.specs.Answers.{CheckAnswer}
 use Rattle.marble.specs.Unique.{Claims-leaves, Checks}
 
 -- the notes that a host lends to a plan, a rewrite or the nightly job

@@ -6,8 +6,7 @@ use Rattle.rules.specs.declared.State.{State}
 use Rattle.rules.specs.World.{After, world, leaving, answer_given}
 use Rattle.claims.specs.declared.ClaimAnswer.{ClaimAnswer}
 use Rattle.faults.specs.Faults.{Checked}
-use Rattle.checker.specs.declared.CheckAnswer.{CheckAnswer}
-use Rattle.checker.specs.Answers.{checked}
+use Rattle.checker.specs.Answers.{CheckAnswer, checked}
 pub use Rattle.recovery.proofs.Unique.{reopen-one}
 pub use Rattle.writepath.specs.Unique.{write-one}
 pub use Rattle.readpath.specs.ReadLaws.{read_one, part-one}

@@ -15,7 +15,7 @@ pub use writepath::{Written, write};
 pub use readpath::{read, read_answer};
 
 // Request P3, "Let the editor see what it hasn't saved": a part of the batch or of the heap, and the answer beside it.
-pub use through::{ThroughAnswer, through, through_answer};
+pub use through::{through, through_answer};
 
 // "Claim, release", "Counts"
 pub use claims::{ClaimAnswer, claim, counts, release};
@@ -33,10 +33,10 @@ pub use gc_plan::{PlanValues, Planned, plan, plan_in};
 pub use prune::{PruneAnswer, prune};
 
 // Request P5, "Check what the PC tool made": everything wrong with a heap.
-pub use checker::{CheckAnswer, check};
+pub use checker::check;
 
 // Request P9, "Rescue a damaged heap": the slots that make a reopening refuse are emptied, and named.
-pub use salvage::{SalvageAnswer, salvage};
+pub use salvage::salvage;
 
 // "Table": load, store, compare-and-store, store-if-greater.
 pub use table_calls::{compare_and_store, load, store, store_if_greater};

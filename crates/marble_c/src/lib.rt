@@ -3,7 +3,7 @@
 
 #![tactic(auto)]
 
-ghost use Rattle.std.specs.Prelude.{◌≡◌, [], ◌∷◌, length, get_or, set};
+ghost use Rattle.std.specs.Prelude.{◌≡◌, [], ◌∷◌, get_or, set, Ok};
 ghost use Rattle.rules.specs.declared.Claims.{Claims};
 ghost use Rattle.rules.specs.Claims.{claim_call, release_call};
 ghost use Rattle.rules.specs.Counts.{counts_call};
@@ -33,11 +33,11 @@ use as_numbers::answers::{
     maintain_shown, number, put_counts, read_shown, refusal_number, rewrite_shown,
 };
 use as_numbers::claim_words::{claims_in, put_claims};
-use as_numbers::four_words::put_four;
 use as_numbers::state_words::{put_state, state_in};
-use marble::{CheckAnswer, Request, SalvageAnswer, ThroughAnswer};
+use marble::Request;
 use plan_words::put_plan;
-use rules::{ReadAnswer, Record, Settings};
+use rules::{Lookup, Record, Refusal, Settings};
+use through::ThroughLookup;
 
 // The version of this interface, which a host holds against its header's.
 #[unsafe(no_mangle)]
@@ -61,15 +61,10 @@ pub extern "C" fn marble_reopen(
         (world_in settings state.new claims.new heap.now table.new)
         ≡ reopen_call (world_in settings state.old claims.old heap.now table.old) }
 {
-    let was = state_in(state);
-    let held = claims_in(claims);
-    let done = marble::reopen(settings, was, held, heap, table);
-    let answer = done.answer;
-    let after = done.state;
-    let kept = done.claims;
-    put_state(state, after);
-    put_claims(claims, kept);
-    number(answer)
+    let done = marble::reopen(settings, state_in(state), claims_in(claims), heap, table);
+    put_state(state, done.state);
+    put_claims(claims, done.claims);
+    number(done.answer)
 }
 
 // "Write"
@@ -86,23 +81,25 @@ pub extern "C" fn marble_write(
         ≡ write_call (world settings (state_in state.old) c heap.old table.old)
         batch.now }
 {
-    let was = state_in(state);
-    let done = marble::write(settings, was, heap, table, batch);
-    let answer = done.answer;
-    let after = done.state;
-    put_state(state, after);
-    number(answer)
+    let done = marble::write(settings, state_in(state), heap, table, batch);
+    put_state(state, done.state);
+    number(done.answer)
 }
 
 // A read's answer, by the state's words. Both reads go through here, so that `read_answer` has one caller and is compiled into it: with
 // two, each call would hand it copies of the state.
-fn found(settings: Settings, state: &[u64; 1801], heap: &[u8], table: &[u64], id: u64) -> ReadAnswer
+fn found(
+    settings: Settings,
+    state: &[u64; 1801],
+    heap: &[u8],
+    table: &[u64],
+    id: u64,
+) -> Result<Lookup, Refusal>
     ensures { (c : Claims) → result ≡ read_of
         (world settings (state_in state.now) c heap.now table.now)
         id }
 {
-    let was = state_in(state);
-    marble::read_answer(settings, was, heap, table, id)
+    marble::read_answer(settings, state_in(state), heap, table, id)
 }
 
 // "Read": what is there of the id, and an object's part of the heap by its start and length.
@@ -129,56 +126,25 @@ pub extern "C" fn marble_read(
     read.number
 }
 
-// A read through a batch: a number, what is there of the id, whether the part is one of the batch, its start and its length.
-#[derive(Clone, Copy)]
-struct Piece {
-    number: u64,
-    kind: u64,
-    of_batch: u64,
-    start: u64,
-    size: u64,
+// What is there of the id, whether the part is one of the batch, its start and its length. Places that no value comes to are 0.
+fn places_of(found: ThroughLookup) -> [u64; 4]
+    ensures { given 0 result ≡ shown 4 (through_given (Ok found)) }
+{
+    match found {
+        ThroughLookup::InBatch(start, size) => [OBJECT, 1, start, size],
+        ThroughLookup::InHeap(start, size) => [OBJECT, 0, start, size],
+        ThroughLookup::ThroughDeleted => [DELETED, 0, 0, 0],
+        ThroughLookup::ThroughNever => [NEVER_WRITTEN, 0, 0, 0],
+    }
 }
 
-// Places that no value comes to are 0.
-fn through_shown(a: ThroughAnswer) -> Piece
-    ensures { given result.number (result.kind ∷ result.of_batch ∷ result.start ∷ result.size ∷ []) ≡ shown 4 (through_given a) }
+// A read through a batch: its number and four places.
+fn through_shown(a: Result<ThroughLookup, Refusal>) -> (u64, [u64; 4])
+    ensures { given result.0 result.1 ≡ shown 4 (through_given a) }
 {
     match a {
-        ThroughAnswer::InBatch(start, size) => Piece {
-            number: 0,
-            kind: OBJECT,
-            of_batch: 1,
-            start: start,
-            size: size,
-        },
-        ThroughAnswer::InHeap(start, size) => Piece {
-            number: 0,
-            kind: OBJECT,
-            of_batch: 0,
-            start: start,
-            size: size,
-        },
-        ThroughAnswer::ThroughDeleted => Piece {
-            number: 0,
-            kind: DELETED,
-            of_batch: 0,
-            start: 0,
-            size: 0,
-        },
-        ThroughAnswer::ThroughNever => Piece {
-            number: 0,
-            kind: NEVER_WRITTEN,
-            of_batch: 0,
-            start: 0,
-            size: 0,
-        },
-        ThroughAnswer::ThroughRefused(r) => Piece {
-            number: refusal_number(r),
-            kind: 0,
-            of_batch: 0,
-            start: 0,
-            size: 0,
-        },
+        Ok(found) => (0, places_of(found)),
+        Err(r) => (refusal_number(r), [0; 4]),
     }
 }
 
@@ -199,9 +165,9 @@ pub extern "C" fn marble_read_through(
         batch.now id).answer }
 {
     let stored = found(settings, state, heap, table, id);
-    let seen = through_shown(through::seen(stored, batch, id));
-    put_four(piece, seen.kind, seen.of_batch, seen.start, seen.size);
-    seen.number
+    let (number, places) = through_shown(through::seen(stored, batch, id));
+    *piece = places;
+    number
 }
 
 // "21 for a slot out of range, an empty slot, a claimed one (claim)"
@@ -218,13 +184,16 @@ pub extern "C" fn marble_claim(
         (world_in settings state.now claims.new heap.now table.now)
         ≡ claim_call (world_in settings state.now claims.old heap.now table.now) slot }
 {
-    let was = state_in(state);
-    let held = claims_in(claims);
-    let done = marble::claim(settings, was, held, heap, table, slot);
-    let answer = done.answer;
-    let kept = done.claims;
-    put_claims(claims, kept);
-    number(answer)
+    let done = marble::claim(
+        settings,
+        state_in(state),
+        claims_in(claims),
+        heap,
+        table,
+        slot,
+    );
+    put_claims(claims, done.claims);
+    number(done.answer)
 }
 
 // "or an unclaimed one (release)"
@@ -241,13 +210,16 @@ pub extern "C" fn marble_release(
         (world_in settings state.now claims.new heap.now table.now)
         ≡ release_call (world_in settings state.now claims.old heap.now table.now) slot }
 {
-    let was = state_in(state);
-    let held = claims_in(claims);
-    let done = marble::release(settings, was, held, heap, table, slot);
-    let answer = done.answer;
-    let kept = done.claims;
-    put_claims(claims, kept);
-    number(answer)
+    let done = marble::release(
+        settings,
+        state_in(state),
+        claims_in(claims),
+        heap,
+        table,
+        slot,
+    );
+    put_claims(claims, done.claims);
+    number(done.answer)
 }
 
 // "Prune"
@@ -263,13 +235,9 @@ pub extern "C" fn marble_prune(
         (world_in settings state.new claims.now heap.new table.now)
         ≡ prune_call (world_in settings state.old claims.now heap.old table.now) }
 {
-    let was = state_in(state);
-    let held = claims_in(claims);
-    let done = marble::prune(settings, was, held, heap, table);
-    let answer = done.answer;
-    let after = done.state;
-    put_state(state, after);
-    number(answer)
+    let done = marble::prune(settings, state_in(state), claims_in(claims), heap, table);
+    put_state(state, done.state);
+    number(done.answer)
 }
 
 // Request P7, "one call plans": the words of a plan.
@@ -290,29 +258,17 @@ pub extern "C" fn marble_plan(
     ensures places { places.new ≡ notes_left (numbered result) places.old }
     ensures pieces { pieces.new ≡ notes_left (numbered result) pieces.old }
 {
-    let held = claims_in(claims);
-    let done = marble::plan_in(settings, state, held, heap, table, places, pieces);
-    let answer = done.answer;
+    let done = marble::plan_in(
+        settings,
+        state,
+        claims_in(claims),
+        heap,
+        table,
+        places,
+        pieces,
+    );
     put_plan(done.plan, plan);
-    number(answer)
-}
-
-// The ids moved, behind generation, mark and count.
-fn put_moved(asked: &mut [u64], moved: u64)
-    requires { length asked.old ≡ 4 }
-    ensures puts { asked.new ≡ set asked.old 3 moved }
-    ensures tells { get_or asked.new 3 0 ≡ moved }
-{
-    asked[3] = moved;
-}
-
-// Two numbers in two lent words.
-fn put_two(words: &mut [u64], a: u64, b: u64)
-    requires { length words.old ≡ 2 }
-    ensures { words.new ≡ a ∷ b ∷ [] }
-{
-    words[0] = a;
-    words[1] = b;
+    number(done.answer)
 }
 
 // Request P7, "the other rewrites one named generation": asked are generation, mark and count, and the ids moved are told beside them.
@@ -336,16 +292,22 @@ pub extern "C" fn marble_rewrite(
     ensures places { places.new ≡ notes_left (numbered result) places.old }
     ensures pieces { pieces.new ≡ notes_left (numbered result) pieces.old }
 {
-    let held = claims_in(claims);
     let request = Request {
         generation: asked[0],
         mark: asked[1],
         count: asked[2],
     };
     let told = rewrite_shown(marble::rewrite_in(
-        settings, state, held, heap, table, places, pieces, request,
+        settings,
+        state,
+        claims_in(claims),
+        heap,
+        table,
+        places,
+        pieces,
+        request,
     ));
-    put_moved(asked, told.value);
+    asked[3] = told.value;
     told.number
 }
 
@@ -369,11 +331,16 @@ pub extern "C" fn marble_nightly(
     ensures places { places.new ≡ notes_left (numbered result) places.old }
     ensures pieces { pieces.new ≡ notes_left (numbered result) pieces.old }
 {
-    let held = claims_in(claims);
     let stopped = maintain_shown(marble::nightly_in(
-        settings, state, held, heap, table, places, pieces,
+        settings,
+        state,
+        claims_in(claims),
+        heap,
+        table,
+        places,
+        pieces,
     ));
-    put_two(told, stopped.first, stopped.second);
+    *told = [stopped.first, stopped.second];
     stopped.number
 }
 
@@ -389,10 +356,8 @@ pub extern "C" fn marble_counts(
     ensures { (c : Claims) → given result counts.new
         ≡ shown 4 (counts_call (world settings (state_in state.now) c heap.now table.now)).answer }
 {
-    let was = state_in(state);
-    let done = counts_shown(marble::counts(settings, was, heap, table));
-    let sums = done.counts;
-    put_counts(counts, sums);
+    let done = counts_shown(marble::counts(settings, state_in(state), heap, table));
+    put_counts(counts, done.counts);
     done.number
 }
 
@@ -417,16 +382,17 @@ pub extern "C" fn marble_sync(records: &mut [Record], changed: &mut u64) -> u64
     done.number
 }
 
-// The number of faults, or 0.
-fn check_shown(a: CheckAnswer) -> One
-    ensures { given result.number (result.value ∷ []) ≡ shown 1 (check_given a) }
+// How many faults there are, or slots that were given up; or 0.
+fn count_shown(a: Result<u64, Refusal>) -> One
+    ensures check { given result.number (result.value ∷ []) ≡ shown 1 (check_given a) }
+    ensures salvage { given result.number (result.value ∷ []) ≡ shown 1 (salvage_given a) }
 {
     match a {
-        CheckAnswer::Faults(n) => One {
+        Ok(n) => One {
             number: 0,
             value: n,
         },
-        CheckAnswer::CheckRefused(r) => One {
+        Err(r) => One {
             number: refusal_number(r),
             value: 0,
         },
@@ -447,25 +413,9 @@ pub extern "C" fn marble_check(
     ensures lists { listing.new
         ≡ (check_call settings heap.now table.now listing.old).listing }
 {
-    let done = check_shown(marble::check(settings, heap, table, listing));
+    let done = count_shown(marble::check(settings, heap, table, listing));
     *faults = done.value;
     done.number
-}
-
-// The number of slots given up, or 0.
-fn salvage_shown(a: SalvageAnswer) -> One
-    ensures { given result.number (result.value ∷ []) ≡ shown 1 (salvage_given a) }
-{
-    match a {
-        SalvageAnswer::GivenUp(n) => One {
-            number: 0,
-            value: n,
-        },
-        SalvageAnswer::SalvageRefused(r) => One {
-            number: refusal_number(r),
-            value: 0,
-        },
-    }
 }
 
 // "empties the slots that make reopening refuse, and says which": two words to a line of the report, and the number of lines.
@@ -481,7 +431,7 @@ pub extern "C" fn marble_salvage(
         ≡ shown_rescue
         (salvage_call settings heap.old table.now report.old) }
 {
-    let done = salvage_shown(marble::salvage(settings, heap, table, report));
+    let done = count_shown(marble::salvage(settings, heap, table, report));
     *lost = done.value;
     done.number
 }

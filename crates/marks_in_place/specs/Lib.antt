@@ -1,2 +1,1 @@
-pub mod Length
 pub mod Unique

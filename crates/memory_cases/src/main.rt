@@ -3,73 +3,61 @@
 #![tactic(auto)]
 
 use as_numbers::answers::refusal_number;
-use rules::{
-    Answer, CompareAnswer, FileMap, GreaterAnswer, Held, LoadAnswer, Loaded, Refusal, Slot,
-};
+use rules::{Compared, FileMap, Loaded, Refusal};
 use std::io;
 
-fn say(rt: &impl Print, word: &[u8], n: u64) -> io::Result<()> {
-    rt.write_all(word)?;
-    print!(rt; "{n}")?;
-    rt.write_all(b"\n")
-}
-
-fn say_word(rt: &impl Print, word: &[u8]) -> io::Result<()> {
-    rt.write_all(word)
-}
-
 fn say_refused(rt: &impl Print, r: Refusal) -> io::Result<()> {
-    say(rt, b"refused ", refusal_number(r))
+    println!(rt; "refused {}", refusal_number(r))
 }
 
-fn say_answer(rt: &impl Print, a: Answer) -> io::Result<()> {
+fn say_answer(rt: &impl Print, a: Result<(), Refusal>) -> io::Result<()> {
     match a {
-        Answer::Done => say_word(rt, b"ok\n"),
-        Answer::Refused(r) => say_refused(rt, r),
+        Ok(()) => println!(rt; "ok"),
+        Err(r) => say_refused(rt, r),
     }
 }
 
 fn say_loaded(rt: &impl Print, loaded: Loaded) -> io::Result<()> {
     match loaded {
-        Loaded::At(l) => say(rt, b"at ", l),
-        Loaded::DeletedAt(l) => say(rt, b"deleted at ", l),
-        Loaded::Never => say_word(rt, b"never\n"),
+        Loaded::At(l) => println!(rt; "at {l}"),
+        Loaded::DeletedAt(l) => println!(rt; "deleted at {l}"),
+        Loaded::Never => println!(rt; "never"),
     }
 }
 
-fn say_load(rt: &impl Print, a: LoadAnswer) -> io::Result<()> {
+fn say_load(rt: &impl Print, a: Result<Loaded, Refusal>) -> io::Result<()> {
     match a {
-        LoadAnswer::Loads(l) => say_loaded(rt, l),
-        LoadAnswer::LoadRefused(r) => say_refused(rt, r),
+        Ok(l) => say_loaded(rt, l),
+        Err(r) => say_refused(rt, r),
     }
 }
 
-fn say_held(rt: &impl Print, held: Held) -> io::Result<()> {
+fn say_held(rt: &impl Print, held: Option<u64>) -> io::Result<()> {
     match held {
-        Held::Mapped(l) => say(rt, b"before ", l),
-        Held::Unmapped => say_word(rt, b"nothing before\n"),
+        Some(l) => println!(rt; "before {l}"),
+        None => println!(rt; "nothing before"),
     }
 }
 
-fn say_greater(rt: &impl Print, a: GreaterAnswer) -> io::Result<()> {
+fn say_greater(rt: &impl Print, a: Result<Option<u64>, Refusal>) -> io::Result<()> {
     match a {
-        GreaterAnswer::Before(held) => say_held(rt, held),
-        GreaterAnswer::GreaterRefused(r) => say_refused(rt, r),
+        Ok(held) => say_held(rt, held),
+        Err(r) => say_refused(rt, r),
     }
 }
 
-fn say_compare(rt: &impl Print, a: CompareAnswer) -> io::Result<()> {
+fn say_compare(rt: &impl Print, a: Result<Compared, Refusal>) -> io::Result<()> {
     match a {
-        CompareAnswer::Swapped => say_word(rt, b"ok\n"),
-        CompareAnswer::Differs(l) => say(rt, b"differs ", l),
-        CompareAnswer::CompareRefused(r) => say_refused(rt, r),
+        Ok(Compared::Swapped) => println!(rt; "ok"),
+        Ok(Compared::Differs(l)) => println!(rt; "differs {l}"),
+        Err(r) => say_refused(rt, r),
     }
 }
 
-fn say_slot(rt: &impl Print, s: Slot) -> io::Result<()> {
+fn say_slot(rt: &impl Print, s: Option<u64>) -> io::Result<()> {
     match s {
-        Slot::Is(k) => say(rt, b"slot ", k),
-        Slot::NoSlot => say_word(rt, b"no file\n"),
+        Some(k) => println!(rt; "slot {k}"),
+        None => println!(rt; "no file"),
     }
 }
 
@@ -116,7 +104,7 @@ fn odd(rt: &impl Print) -> io::Result<()> {
     say_answer(rt, table_calls::store(&mut table, 3, 12))?;
     say_compare(rt, table_calls::compare_and_store(&mut table, 3, 11, 12))?;
     say_greater(rt, table_calls::store_if_greater(&mut table, 3, 12))?;
-    say(rt, b"last word ", table[2])
+    println!(rt; "last word {}", table[2])
 }
 
 // A batch file of base 101 in slot 0, the same one in slot 2, a rewritten one of base 205 in slot 1: raw locations

@@ -31,8 +31,5 @@ pub fn too_large(slot_bytes: u64, total: u64, count: u64) -> bool
 pub fn spent(base: u64, spans: u64) -> bool
     ensures { result ≡ ltb (2 ^ 62) (base + spans) }
 {
-    if BATCH_BIT < base {
-        return true;
-    }
-    BATCH_BIT - base < spans
+    BATCH_BIT < base.saturating_add(spans)
 }

@@ -1,4 +1,5 @@
 -- A turn of `decode`'s loop, and its ends.
+use Rattle.std.specs.Prelude.{None, Some}
 use mathlib.Core.Path.{◌≡◌, refl, sym, ap, ap₂, ◌∙◌}
 use mathlib.Core.List.{List, [], ◌∷◌}
 use mathlib.Core.Logic.{⊎_elim}
@@ -10,7 +11,6 @@ use borrow.Author.Tests.{lt-ltb, le-ltb}
 use lib.ListN.{length, drop, get_or, drop_of_length-le}
 use lib.Pow.{pow-add, pow_mono, shl_lt}
 use lib.Seq.{drop-cons}
-use Rattle.numbers.specs.declared.Number.TheVariants.{Said, Malformed}
 use Rattle.numbers.specs.Groups.{Groups, said, bad, before, read_groups, bounded, number_in}
 use Rattle.numbers.specs.GroupLaws.{either_way, read-last, read_more}
 
@@ -101,7 +101,7 @@ module _ {s : List ℕ} {at v shift i : ℕ} (r : Reading s at v shift i) where
       record { exact = mod-eq_of_lt (omega arith); fits = omega arith }
 
   -- the list ends before the last group
-  pub cut_short : length s ≤ i → Malformed ≡ number_in 10 s at
+  pub cut_short : length s ≤ i → None ≡ number_in 10 s at
   cut_short h =
       sym (r.whole ∙ ap (λ (l : List ℕ). bounded at (after r.count v (2 ^ shift) (read_groups (10 - r.count) l))) (drop_of_length-le s h)
       ∙ ap (λ (g : Groups). bounded at (after r.count v (2 ^ shift) g)) (read-end (10 - r.count)) ∙ ap (bounded at) (after-bad r.count v (2 ^ shift)))
@@ -123,7 +123,7 @@ module _ {s : List ℕ} {at v shift i : ℕ} (r : Reading s at v shift i) (h : i
       r.whole ∙ ap (λ (g : Groups). bounded at (after r.count v (2 ^ shift) g)) (opened ∙ read_more (9 - r.count) (get_or s i 0) (drop (i + 1) s) m)
 
   ended : get_or s i 0 < 128 → (0 < shift → 0 < get_or s i 0) → v + get_or s i 0 * 2 ^ shift < 2 ^ 64
-      → Said (v + get_or s i 0 * 2 ^ shift) (i + 1) ≡ number_in 10 s at
+      → Some (v + get_or s i 0 * 2 ^ shift, i + 1) ≡ number_in 10 s at
   ended l some fits =
       let next : i + 1 ≡ at + (r.count + 1) = omega arith in
       sym
@@ -132,20 +132,20 @@ module _ {s : List ℕ} {at v shift i : ℕ} (r : Reading s at v shift i) (h : i
       ∙ rw (lt-ltb (v + get_or s i 0 * 2 ^ shift) (2 ^ 64) fits, next) refl)
 
   -- the last group, before the tenth
-  pub last : get_or s i 0 < 128 → (shift ≡ 63 → ⊥) → (0 < shift → 0 < get_or s i 0) → Said (v + get_or s i 0 * 2 ^ shift % 2 ^ 64) (i + 1) ≡ number_in 10 s at
+  pub last : get_or s i 0 < 128 → (shift ≡ 63 → ⊥) → (0 < shift → 0 < get_or s i 0) → Some (v + get_or s i 0 * 2 ^ shift % 2 ^ 64, i + 1) ≡ number_in 10 s at
   last l room some =
       let low = seven r (get_or s i 0) l room in
       rw low.exact (ended l some low.fits)
 
   -- the tenth group, with the 64th bit
-  pub top : shift ≡ 63 → get_or s i 0 ≡ 1 → Said (v + 2 ^ 63) (i + 1) ≡ number_in 10 s at
+  pub top : shift ≡ 63 → get_or s i 0 ≡ 1 → Some (v + 2 ^ 63, i + 1) ≡ number_in 10 s at
   top e one =
       let bit : get_or s i 0 * 2 ^ shift ≡ 2 ^ 63 = rw (one, e) refl in
       let below : v < 2 ^ 63 = rw e at r.small in
-      ap (λ (n : ℕ). Said (v + n) (i + 1)) (sym bit) ∙ ended (omega arith) (λ q. omega arith) (omega arith)
+      ap (λ (n : ℕ). Some (v + n, i + 1)) (sym bit) ∙ ended (omega arith) (λ q. omega arith) (omega arith)
 
   -- a last group of 0 behind others
-  pub padded : get_or s i 0 ≡ 0 → 0 < shift → Malformed ≡ number_in 10 s at
+  pub padded : get_or s i 0 ≡ 0 → 0 < shift → None ≡ number_in 10 s at
   padded z some =
       sym
       (with-last (omega arith)
@@ -153,7 +153,7 @@ module _ {s : List ℕ} {at v shift i : ℕ} (r : Reading s at v shift i) (h : i
       ∙ ap (bounded at) (after-padded r.count v (2 ^ shift) 1 (omega arith)))
 
   -- the tenth group, where it is not 1: 0 behind others, past 64 bits, or not the last
-  pub tenth : shift ≡ 63 → (get_or s i 0 ≡ 1 → ⊥) → Malformed ≡ number_in 10 s at
+  pub tenth : shift ≡ 63 → (get_or s i 0 ≡ 1 → ⊥) → None ≡ number_in 10 s at
   tenth e other = ⊎_elim
       (λ (l : get_or s i 0 < 128).
       ⊎_elim

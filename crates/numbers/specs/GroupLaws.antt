@@ -1,8 +1,8 @@
 -- Seven-bit groups, for any width k: length, round trip, one form for each number, and what is refused.
-use Rattle.std.specs.Prelude.{◌≡◌, refl, List, [], ◌∷◌, ◌++◌, Bool, true, false, ◌⊎◌, ℕ, zero, suc, ◌+◌, ◌-◌, ◌*◌, ◌/◌, ◌%◌, ◌^◌, ◌<◌, ◌≤◌, ltb, length, take, drop, get_or}
+use Rattle.std.specs.Prelude.{◌≡◌, refl, List, [], ◌∷◌, ◌++◌, Bool, true, false, ◌⊎◌, ℕ, zero, suc, ◌+◌, ◌-◌, ◌*◌, ◌/◌, ◌%◌, ◌^◌, ◌<◌, ◌≤◌, ltb, length, take, drop, get_or, None, Some}
 use Rattle.std.proofs.Common.{sym, ap, ◌∙◌, inl, inr, ⊎_elim, arith, pow-suc, lt-ltb, le-ltb, ltb-true, ltb-false, length-take, length-drop, take-append-drop, drop_at, get_or-drop}
-use Rattle.numbers.specs.declared.Number.{Number}
-use Rattle.numbers.specs.declared.Number.TheVariants.{Said, Malformed}
+use Rattle.std.proofs.lemmas.Option.{same_Some}
+use Rattle.numbers.specs.Answers.{Number}
 use Rattle.numbers.specs.Choice.{pick}
 use Rattle.numbers.specs.LittleEndian.{Bytes, bytes-cons}
 use Rattle.numbers.specs.Groups.{groups_of, Groups, said, bad, before, read_groups, bounded, number_in}
@@ -151,15 +151,16 @@ pub record Stands (k : ℕ) (s : List ℕ) (at next v : ℕ) : Type 0 where
   pub ends : next ≤ length s
   pub form : take (next - at) (drop at s) ≡ groups_of k v
 
-stands : (k : ℕ) (s : List ℕ) (at v next : ℕ) → Bytes s → (g : Groups) → read_groups k (drop at s) ≡ g → bounded at g ≡ Said v next → Stands k s at next v
+stands : (k : ℕ) (s : List ℕ) (at v next : ℕ) → Bytes s → (g : Groups) → read_groups k (drop at s) ≡ g → bounded at g ≡ Some (v, next) → Stands k s at next v
 stands k s at v next h bad e f = absurd (let z : ◌≡◌ {A = ℕ} 0 1 = cc in omega arith)
 stands k s at v next h (said w n) e f = go (ltb w (2 ^ 64)) refl f
   where
-    go : (p : Bool) → ltb w (2 ^ 64) ≡ p → pick p (Said w (at + n)) Malformed ≡ Said v next → Stands k s at next v
+    go : (p : Bool) → ltb w (2 ^ 64) ≡ p → pick {A = Number} p (Some (w, at + n)) None ≡ Some (v, next) → Stands k s at next v
     go false q f = absurd (let z : ◌≡◌ {A = ℕ} 0 1 = cc in omega arith)
     go true q f =
-        let ev : w ≡ v = cc in
-        let en : at + n ≡ next = cc in
+        let same = same_Some _ _ f in
+        let ev : w ≡ v = ap (λ (p : ℕ × ℕ). p.0) same in
+        let en : at + n ≡ next = ap (λ (p : ℕ × ℕ). p.1) same in
         let small : w < 2 ^ 64 = ltb-true w (2 ^ 64) q in
         let r = read_is k (drop at s) w n e (λ i. rw (get_or-drop at s i 0) (h (at + i))) in
         let count : next - at ≡ n = omega arith in
@@ -171,12 +172,12 @@ stands k s at v next h (said w n) e f = go (ltb w (2 ^ 64)) refl f
         }
 
 -- what is read is a number that stands there ..
-pub number-stands : (k : ℕ) (s : List ℕ) (at v next : ℕ) → Bytes s → number_in k s at ≡ Said v next → Stands k s at next v
+pub number-stands : (k : ℕ) (s : List ℕ) (at v next : ℕ) → Bytes s → number_in k s at ≡ Some (v, next) → Stands k s at next v
 unfolding number_in
 number-stands k s at v next h e = stands k s at v next h (read_groups k (drop at s)) refl e
 
 -- .. and a number that stands there is read, where k groups hold it
-pub stands-number : (k : ℕ) (s : List ℕ) (at v next : ℕ) → v < 128 ^ suc k → Stands (suc k) s at next v → number_in (suc k) s at ≡ Said v next
+pub stands-number : (k : ℕ) (s : List ℕ) (at v next : ℕ) → v < 128 ^ suc k → Stands (suc k) s at next v → number_in (suc k) s at ≡ Some (v, next)
 unfolding number_in
 stands-number k s at v next small st =
     let n = next - at in
@@ -187,24 +188,24 @@ stands-number k s at v next small st =
 
 -- The theorem: `number_in 10` says v up to `next` exactly where the shortest form of v, of at most 64 bits, stands there.
 pub number-exactly : (s : List ℕ) (at v next : ℕ) → Bytes s
-    → (number_in 10 s at ≡ Said v next → Stands 10 s at next v) × (Stands 10 s at next v → number_in 10 s at ≡ Said v next)
+    → (number_in 10 s at ≡ Some (v, next) → Stands 10 s at next v) × (Stands 10 s at next v → number_in 10 s at ≡ Some (v, next))
 number-exactly s at v next h = (number-stands 10 s at v next h, λ st. stands-number 9 s at v next (omega (arith, st.fits)) st)
 
 -- what was written is read back, wherever it stands and whatever follows
 pub number-back : (s xs rest : List ℕ) (at n : ℕ) → s ≡ xs ++ (groups_of 10 n ++ rest) → length xs ≡ at → n < 2 ^ 64
-    → number_in 10 s at ≡ Said n (at + length (groups_of 10 n))
+    → number_in 10 s at ≡ Some (n, at + length (groups_of 10 n))
 unfolding number_in
 number-back s xs rest at n e l fits =
     let small : n < 128 ^ 10 = omega arith in
     rw (e, drop_at xs (groups_of 10 n ++ rest) at l, groups-round 9 n rest small, lt-ltb n (2 ^ 64) fits)
 
 -- where no number stands, the bytes are refused
-pub number-nothing : (k : ℕ) (s : List ℕ) (at : ℕ) → Bytes s → ((v next : ℕ) → Stands k s at next v → ⊥) → number_in k s at ≡ Malformed
+pub number-nothing : (k : ℕ) (s : List ℕ) (at : ℕ) → Bytes s → ((v next : ℕ) → Stands k s at next v → ⊥) → number_in k s at ≡ None
 number-nothing k s at h none = go (number_in k s at) refl
   where
-    go : (r : Number) → number_in k s at ≡ r → r ≡ Malformed
-    go (Said v next) e = absurd (none v next (number-stands k s at v next h e))
-    go Malformed e = refl
+    go : (r : Number) → number_in k s at ≡ r → r ≡ None
+    go (Some (v, next)) e = absurd (none v next (number-stands k s at v next h e))
+    go None e = refl
 
 read-unended : (k : ℕ) (bs : List ℕ) → ((i : ℕ) → i < k → i < length bs → 128 ≤ get_or bs i 0) → read_groups k bs ≡ bad
 unfolding read_groups
@@ -214,17 +215,17 @@ read-unended (suc k) (b ∷ bs) h =
     rw (le-ltb b 128 (h 0 (omega arith) (omega arith)), read-unended k bs (λ i l m. h (suc i) (omega arith) (omega arith)))
 
 -- refused: k groups from `at` on, or as many as there are, and none is the last
-pub number-unended : (k : ℕ) (s : List ℕ) (at : ℕ) → ((i : ℕ) → i < k → at + i < length s → 128 ≤ get_or s (at + i) 0) → number_in k s at ≡ Malformed
+pub number-unended : (k : ℕ) (s : List ℕ) (at : ℕ) → ((i : ℕ) → i < k → at + i < length s → 128 ≤ get_or s (at + i) 0) → number_in k s at ≡ None
 unfolding number_in
 number-unended k s at h =
     rw (read-unended k (drop at s) (λ i l m. rw (get_or-drop at s i 0) (h i l (omega (arith, length-drop at s)))))
 
 -- refused: cut short, so that the list ends before the last group
-pub number-cut-short : (k : ℕ) (s : List ℕ) (at : ℕ) → ((i : ℕ) → at ≤ i → i < length s → 128 ≤ get_or s i 0) → number_in k s at ≡ Malformed
+pub number-cut-short : (k : ℕ) (s : List ℕ) (at : ℕ) → ((i : ℕ) → at ≤ i → i < length s → 128 ≤ get_or s i 0) → number_in k s at ≡ None
 number-cut-short k s at h = number-unended k s at (λ i l m. h (at + i) (omega arith) m)
 
 -- refused: more than k groups
-pub number-long : (k : ℕ) (s : List ℕ) (at : ℕ) → ((i : ℕ) → i < k → 128 ≤ get_or s (at + i) 0) → number_in k s at ≡ Malformed
+pub number-long : (k : ℕ) (s : List ℕ) (at : ℕ) → ((i : ℕ) → i < k → 128 ≤ get_or s (at + i) 0) → number_in k s at ≡ None
 number-long k s at h = number-unended k s at (λ i l m. h i l)
 
 read-padded : (k b : ℕ) (xs rest : List ℕ) → 128 ≤ b → ((i : ℕ) → i < length xs → 128 ≤ get_or xs i 0) → read_groups k (b ∷ (xs ++ (0 ∷ rest))) ≡ bad
@@ -237,12 +238,12 @@ read-padded (suc k) b (x ∷ xs) rest lo h =
 
 -- refused: not the shortest form, since a last group of 0 stands behind others
 pub number-padded : (k b : ℕ) (s : List ℕ) (at : ℕ) (xs rest : List ℕ) → drop at s ≡ b ∷ (xs ++ (0 ∷ rest)) → 128 ≤ b
-    → ((i : ℕ) → i < length xs → 128 ≤ get_or xs i 0) → number_in k s at ≡ Malformed
+    → ((i : ℕ) → i < length xs → 128 ≤ get_or xs i 0) → number_in k s at ≡ None
 unfolding number_in
 number-padded k b s at xs rest e lo h = rw (e, read-padded k b xs rest lo h)
 
 -- refused: past 64 bits
 pub number-large : (k : ℕ) (s : List ℕ) (at v : ℕ) (rest : List ℕ) → drop at s ≡ groups_of (suc k) v ++ rest → 2 ^ 64 ≤ v → v < 128 ^ suc k
-    → number_in (suc k) s at ≡ Malformed
+    → number_in (suc k) s at ≡ None
 unfolding number_in
 number-large k s at v rest e large small = rw (e, groups-round k v rest small, le-ltb v (2 ^ 64) large)

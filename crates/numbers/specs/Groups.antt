@@ -1,8 +1,7 @@
 -- "numbers in groups of seven bits, low group first, top bit set on all but the last, shortest form only, at most 64 bits"
-use Rattle.std.specs.Prelude.{List, [], ◌∷◌, Bool, true, false, ℕ, zero, suc, ◌+◌, ◌-◌, ◌*◌, ◌/◌, ◌%◌, ◌^◌, ltb, drop}
+use Rattle.std.specs.Prelude.{List, [], ◌∷◌, Bool, true, false, ℕ, zero, suc, ◌+◌, ◌-◌, ◌*◌, ◌/◌, ◌%◌, ◌^◌, ltb, drop, None, Some}
 use Rattle.numbers.specs.Choice.{pick}
-use Rattle.numbers.specs.declared.Number.{Number}
-use Rattle.numbers.specs.declared.Number.TheVariants.{Said, Malformed}
+use Rattle.numbers.specs.Answers.{Number}
 
 -- the last group, or one with its top bit set and more
 abbrev pub or_last : Bool → ℕ → List ℕ → List ℕ
@@ -38,8 +37,8 @@ read_groups (suc k) (b ∷ bs) = or_before (ltb b 128) b (read_groups k bs)
 
 -- "at most 64 bits", and the position after it
 abbrev pub bounded : ℕ → Groups → Number
-bounded at (said v n) = pick (ltb v (2 ^ 64)) (Said v (at + n)) Malformed
-bounded at bad = Malformed
+bounded at (said v n) = pick (ltb v (2 ^ 64)) (Some (v, at + n)) None
+bounded at bad = None
 
 -- the number that stands in s at `at`, in at most k groups
 unfoldable pub number_in : ℕ → List ℕ → ℕ → Number
@@ -47,5 +46,5 @@ number_in k s at = bounded at (read_groups k (drop at s))
 
 -- a number in groups, then what follows it; `none` where there is none
 abbrev pub saying : {A : Type 0} → A → Number → (ℕ → ℕ → A) → A
-saying none (Said v next) f = f v next
-saying none Malformed f = none
+saying none (Some (v, next)) f = f v next
+saying none None f = none

@@ -4,34 +4,30 @@ ghost use Rattle.std.specs.Prelude.{◌≡◌, ◌≤◌, length};
 ghost use Rattle.numbers.specs.Parts.{front};
 ghost use Rattle.numbers.specs.Groups.{groups_of, number_in};
 
-use crate::Number;
-
 // The number that stands in s at `at`, with the position after it. The groups so far say v; the next one counts from bit `shift` on.
-pub fn decode(s: &[u8], at: usize) -> Number
+pub fn decode(s: &[u8], at: usize) -> Option<(u64, usize)>
     ensures { result ≡ number_in 10 s.now at }
 {
     let mut v: u64 = 0;
     let mut shift: u64 = 0;
-    let mut i = at;
-    while i < s.len() {
+    for i in at..s.len() {
         let b = s[i];
         if shift == 63 {
             if b == 1 {
-                return Number::Said(v + (1 << 63), i + 1);
+                return Some((v + (1 << 63), i + 1));
             }
-            return Number::Malformed;
+            return None;
         }
         if b < 128 {
             if b == 0 && 0 < shift {
-                return Number::Malformed;
+                return None;
             }
-            return Number::Said(v + ((b as u64) << shift), i + 1);
+            return Some((v + ((b as u64) << shift), i + 1));
         }
         v += ((b - 128) as u64) << shift;
         shift += 7;
-        i += 1;
     }
-    Number::Malformed
+    None
 }
 
 // Writes x at the front of s, and answers how many bytes it took.
@@ -44,7 +40,7 @@ pub fn encode(s: &mut [u8], x: u64) -> usize
     let mut i: usize = 0;
     while 128 <= rest {
         s[i] = (rest % 128 + 128) as u8;
-        rest = rest >> 7;
+        rest >>= 7;
         i += 1;
     }
     s[i] = rest as u8;

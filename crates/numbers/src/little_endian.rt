@@ -10,11 +10,9 @@ pub fn put(s: &mut [u8], n: usize, x: u64)
     ensures { s.new ≡ front (le_bytes n x) s.old }
 {
     let mut rest = x;
-    let mut i: usize = 0;
-    while i < n {
-        s[i] = (rest % 256) as u8;
-        rest = rest >> 8;
-        i += 1;
+    for b in &mut s[..n] {
+        *b = (rest % 256) as u8;
+        rest >>= 8;
     }
 }
 
@@ -25,10 +23,8 @@ pub fn get(s: &[u8], n: usize) -> u64
     ensures { result ≡ le_value (take n s.now) }
 {
     let mut v: u64 = 0;
-    let mut i = n;
-    while 0 < i {
-        i -= 1;
-        v = (v << 8) + s[i] as u64;
+    for b in s[..n].iter().rev() {
+        v = (v << 8) + *b as u64;
     }
     v
 }

@@ -1,10 +1,9 @@
 -- What a lookup among lsns tells: the laws of the file map, said of the list of lsns.
-use Rattle.std.specs.Prelude.{◌≡◌, refl, ◌<◌, ◌≤◌, ◌∷◌, ◌*◌}
+use Rattle.std.specs.Prelude.{◌≡◌, refl, ◌<◌, ◌≤◌, ◌∷◌, ◌*◌, None, Some}
 use Rattle.std.proofs.Common.{ap, ◌∙◌, arith}
 use Rattle.rules.specs.Base.{List, [], map, ℕ, zero, suc, length, get_or}
 use Rattle.std.proofs.lemmas.List.{length-map}
 use Rattle.rules.specs.declared.Record.{Record}
-use Rattle.rules.specs.declared.Slot.TheVariants.{Is, NoSlot}
 use Rattle.rules.specs.FileMap.{recorded, record_at, file_for}
 use Rattle.rules.proofs.FileMapLaws.{file-at, file-none}
 use Rattle.file_lists.specs.Lists.{lsns_of, lsn_at}
@@ -35,7 +34,7 @@ module _ (ns : List ℕ) (location : ℕ) where
   by-records = file-for-lsns (map bare ns) location ∙ ap (λ (ms : List ℕ). lsn_at ms location) (bare-lsns ns)
 
   -- LAW: what is found is that file
-  pub lsn-found : (k : ℕ) → lsn_at ns location ≡ Is k → IsAt ns location k
+  pub lsn-found : (k : ℕ) → lsn_at ns location ≡ Some k → IsAt ns location k
   lsn-found k h =
       let w = file-at (map bare ns) location k (by-records ∙ h) in
       record {
@@ -46,6 +45,6 @@ module _ (ns : List ℕ) (location : ℕ) where
       }
 
   -- LAW: none is found where every file is above
-  pub lsn-none : lsn_at ns location ≡ NoSlot → (j : ℕ) → j < length ns → 0 < get_or ns j 0 → location < 2 * get_or ns j 0
+  pub lsn-none : lsn_at ns location ≡ None → (j : ℕ) → j < length ns → 0 < get_or ns j 0 → location < 2 * get_or ns j 0
   lsn-none h j m u =
       omega (arith, file-none (map bare ns) location (by-records ∙ h) j (omega (arith, length-map ns bare)) (omega (arith, bare-at ns j)), bare-at ns j)

@@ -1,7 +1,7 @@
 -- Single points of document 01, worked out: where a range ends, which of two counts, what a call leaves. One table and one statement, like lines P1 to P10.
-use Rattle.std.specs.Prelude.{◌≡◌, refl, ◌∷◌, ◌++◌, ◌+◌, ◌-◌, ◌*◌, ◌^◌}
+use Rattle.std.specs.Prelude.{◌≡◌, refl, ◌∷◌, ◌++◌, ◌+◌, ◌-◌, ◌*◌, ◌^◌, None, Some}
 use Rattle.rules.specs.Base.{false, not, List, [], map, ℕ, length, get_or, replicate, any, zeros, keep, each, sum, greatest, padded}
-use Rattle.theory.specs.Types.{Settings, Label, Record, Slot, Is, NoSlot, Claims}
+use Rattle.theory.specs.Types.{Settings, Label, Record, Slot, Claims}
 use Rattle.numbers.specs.LittleEndian.{le_bytes, le_value}
 use Rattle.numbers.specs.Groups.{groups_of, read_groups, number_in}
 use Rattle.checksum.specs.Checksum.{shift_bit, shifts, crc_from, crc32, object_sum}
@@ -77,8 +77,8 @@ bearing r = holding (r ∷ []) 1 (replicate 256 0) (one 1 20)
 
 -- the slot found, or 256 for none
 abbrev pub slotted : Slot → ℕ
-slotted (Is k) = k
-slotted NoSlot = 256
+slotted (Some k) = k
+slotted None = 256
 
 -- a claim of slots 0 and 3
 abbrev pub claimed : Claims

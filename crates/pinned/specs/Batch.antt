@@ -1,6 +1,6 @@
 -- "Batch bytes: id in seven-bit groups; tag 0 (delete) or 1 (put); for a put its length in groups and the body.": parsed exactly if the bytes are
 -- those of what was parsed.
-use Rattle.std.specs.Prelude.{◌≡◌, refl, ◌⊎◌, ◌≤◌, ◌<◌, ◌∷◌, ◌++◌, ◌+◌, ◌-◌, ◌^◌}
+use Rattle.std.specs.Prelude.{◌≡◌, refl, ◌⊎◌, ◌≤◌, ◌<◌, ◌∷◌, ◌++◌, ◌+◌, ◌-◌, ◌^◌, None, Some}
 use Rattle.std.proofs.Common.{sym, ap, ap₂, ◌∙◌, append_assoc, inl, inr, arith, length-append, length-take, length-drop, take-append-drop, drop_of_length-le, drop-cons, drop-drop, take_at, drop_at, eqb-true, leb-true, leb-false, le-leb, eq-eqb}
 use Rattle.std.proofs.lemmas.List.{get_or_at}
 use Rattle.std.proofs.lemmas.Bool.{lt-leb}
@@ -9,8 +9,7 @@ use Rattle.rules.specs.BaseLaws.{All}
 use Rattle.numbers.specs.LittleEndian.{Bytes}
 use Rattle.numbers.specs.Groups.{groups_of, number_in, saying}
 use Rattle.numbers.specs.GroupLaws.{either_way, groups-some, Stands, number-stands, number-back}
-use Rattle.numbers.specs.declared.Number.{Number}
-use Rattle.numbers.specs.declared.Number.TheVariants.{Said, Malformed}
+use Rattle.numbers.specs.Answers.{Number}
 use Rattle.rules.specs.Ops.{Content, put, delete, Op}
 use Rattle.rules.specs.Batch.{Parsed, malformed, parsed, put_operation, operation_at, Batch, not_as_above, operations, before, batch_from, batch_in}
 use Rattle.rules.proofs.BatchLaws.{batch-end, batch-bad, batch-next}
@@ -82,8 +81,8 @@ op-parses s at o next h e = go (number_in 10 s at) refl e
     sized : (id tag : ℕ) → Stands 10 s at tag id → tag < length s → get_or s tag 0 ≡ 1 → (n : Number) → number_in 10 s (suc tag) ≡ n
         → saying malformed n (λ size start. pick (leb size (length s - start)) (parsed (record { id = id; content = put (take size (drop start s)) }) (start + size)) malformed) ≡ parsed o next
         → Parses s at o next
-    sized id tag st l e1 Malformed p q = absurd (parsed-not o next (sym q))
-    sized id tag st l e1 (Said size start) p q = fitting (leb size (length s - start)) refl q
+    sized id tag st l e1 None p q = absurd (parsed-not o next (sym q))
+    sized id tag st l e1 (Some (size, start)) p q = fitting (leb size (length s - start)) refl q
       where
         fitting : (t : Bool) → leb size (length s - start) ≡ t → pick t (parsed (record { id = id; content = put (take size (drop start s)) }) (start + size)) malformed ≡ parsed o next → Parses s at o next
         fitting false r q = absurd (parsed-not o next (sym q))
@@ -120,8 +119,8 @@ op-parses s at o next h e = go (number_in 10 s at) refl e
         (pick (eqb (get_or s tag 0) 0) (parsed (record { id = id; content = delete }) (suc tag))
         (pick (eqb (get_or s tag 0) 1) (put_operation s id (suc tag)) malformed))) ≡ parsed o next
         → Parses s at o next
-    go Malformed p q = absurd (parsed-not o next (sym q))
-    go (Said id tag) p q = there id tag (number-stands 10 s at id tag h p) (leb (length s) tag) refl q
+    go None p q = absurd (parsed-not o next (sym q))
+    go (Some (id, tag)) p q = there id tag (number-stands 10 s at id tag h p) (leb (length s) tag) refl q
 
 -- the bytes of an operation are parsed as it, wherever they stand
 content-back : (s xs rest : List ℕ) (at id : ℕ) (c : Content) → s ≡ xs ++ ((groups_of 10 id ++ tagged c) ++ rest) → length xs ≡ at → (id < 2 ^ 64) × BodyFits c

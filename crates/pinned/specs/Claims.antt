@@ -1,11 +1,11 @@
 -- "Claim, release. 21 for a slot out of range, an empty slot, a claimed one (claim) or an unclaimed one (release)."; "a claim is set and cleared in place, slot
 -- by slot; a reopening not refused with 1 starts one without claims".
-use Rattle.std.specs.Prelude.{◌≡◌, refl, ◌<◌, ◌||◌, ◌∷◌, ◌+◌, ◌^◌}
+use Rattle.std.specs.Prelude.{◌≡◌, refl, ◌<◌, ◌||◌, ◌∷◌, ◌+◌, ◌^◌, Err, Ok}
 use Rattle.std.proofs.Common.{ap, ◌∙◌, arith, leb-false}
 use Rattle.std.proofs.lemmas.Bool.{lt-leb, not-false}
 use Rattle.rules.specs.Base.{Bool, true, false, not, List, [], ℕ, length, leb, ltb, pick}
 use Rattle.rules.proofs.BaseLaws.{or-false, or-clear}
-use Rattle.theory.specs.Types.{Refusal, Answer, Done, Refused, Limits, Claim, Moved, Stopped}
+use Rattle.theory.specs.Types.{Refusal, Answer, Limits, Claim, stopped_with}
 use Rattle.rules.specs.Refusal.{Test, ◌gives◌, decide, after, NoneHolds}
 use Rattle.rules.proofs.RefusalLaws.{decide-none, decide-first, decide-next, clear-when}
 use Rattle.rules.specs.FileMap.{is_empty, record_at}
@@ -154,8 +154,8 @@ unfolding write_call written
 write-claims w bytes = go (decide (write_tests w bytes))
   where
     go : (a : Answer) → (after a (unchanged w) (record { answer = accepted []; world = installed_all (2 ^ 62) 0 w (new_files (settled (ops_of (batch_in bytes)))) })).world.claims ≡ w.claims
-    go (Refused r) = refl
-    go Done = installed-claims (2 ^ 62) 0 w (new_files (settled (ops_of (batch_in bytes))))
+    go (Err r) = refl
+    go (Ok _) = installed-claims (2 ^ 62) 0 w (new_files (settled (ops_of (batch_in bytes))))
 
 -- LAW: a prune leaves every claim
 pub prune-claims : (w : World) → (prune_call w).world.claims ≡ w.claims
@@ -163,8 +163,8 @@ unfolding prune_call pruned
 prune-claims w = go (decide (refused1 w gives Limits ∷ []))
   where
     go : (a : Answer) → (after a (unchanged w) (record { answer = accepted []; world = pruned w })).world.claims ≡ w.claims
-    go (Refused r) = refl
-    go Done = refl
+    go (Err r) = refl
+    go (Ok _) = refl
 
 group-claims : (g : ℕ) (slots : List ℕ) (moved : ℕ) (w : World) → (rewrite_group g slots moved w).world.claims ≡ w.claims
 unfolding rewrite_group
@@ -176,8 +176,8 @@ group-claims g slots moved w = go (decide (group_tests w slots files))
     go : (a : Answer)
         → (after {A = Course} a (λ (r : Refusal). record { stop = stopped r g; moved = moved; world = w }) (record { stop = going; moved = moved + length (found w slots); world = installed_all 0 g w files })).world.claims
         ≡ w.claims
-    go (Refused r) = refl
-    go Done = installed-claims 0 g w files
+    go (Err r) = refl
+    go (Ok _) = installed-claims 0 g w files
 
 onward-claims : (stop : Stop) (g : ℕ) (slots : List ℕ) (c : Course) → (onward stop g slots c).world.claims ≡ c.world.claims
 onward-claims (stopped r h) g slots c = refl
@@ -208,9 +208,9 @@ maintain-claims w = go (decide (refused1 w gives Limits ∷ []))
     end : Course
     end = groups_from (1 ∷ 2 ∷ 3 ∷ []) w start
 
-    go : (a : Answer) → (after {A = After} a (λ (r : Refusal). record { answer = maintain_given (Stopped r 0 0); world = w }) (ended end.stop end)).world.claims ≡ w.claims
-    go (Refused r) = refl
-    go Done = ended-claims end.stop end ∙ groups-claims (1 ∷ 2 ∷ 3 ∷ []) w start
+    go : (a : Answer) → (after {A = After} a (λ (r : Refusal). record { answer = maintain_given (Err (stopped_with r 0 0)); world = w }) (ended end.stop end)).world.claims ≡ w.claims
+    go (Err r) = refl
+    go (Ok _) = ended-claims end.stop end ∙ groups-claims (1 ∷ 2 ∷ 3 ∷ []) w start
 
 -- of one generation
 rewritten-claims : (w : World) (room g mark count : ℕ) → (rewrite_of w room g mark count).world.claims ≡ w.claims
@@ -221,8 +221,8 @@ rewritten-claims w room g mark count = go (decide (rewrite_tests w room g))
     start = record { stop = going; moved = 0; world = w }
 
     go : (a : Answer) → (after {A = Course} a (λ (r : Refusal). record { stop = stopped r g; moved = 0; world = w }) (onward going g (group w g mark count) start)).world.claims ≡ w.claims
-    go (Refused r) = refl
-    go Done = onward-claims going g (group w g mark count) start
+    go (Err r) = refl
+    go (Ok _) = onward-claims going g (group w g mark count) start
 
 -- LAW: a rewrite leaves every claim
 pub rewrite-claims : (w : World) (room g mark count : ℕ) → (rewrite_call w room g mark count).world.claims ≡ w.claims
@@ -255,17 +255,17 @@ nightly-claims w room = go (decide (refused_noting w room gives Limits ∷ []))
     end : Course
     end = job_from (1 ∷ 2 ∷ 3 ∷ []) room (mark_of w) (count_of w) start
 
-    last : (a : Answer) → (after {A = After} a (λ (r : Refusal). leaving (maintain_given (Stopped r 0 end.moved)) end.world) (leaving (maintain_given (Moved end.moved)) (pruned end.world))).world.claims ≡ end.world.claims
-    last (Refused r) = refl
-    last Done = refl
+    last : (a : Answer) → (after {A = After} a (λ (r : Refusal). leaving (maintain_given (Err (stopped_with r 0 end.moved))) end.world) (leaving (maintain_given (Ok end.moved)) (pruned end.world))).world.claims ≡ end.world.claims
+    last (Err r) = refl
+    last (Ok _) = refl
 
     by : (stop : Stop) → (job_ended stop end).world.claims ≡ end.world.claims
     by going = last (decide (refused1 end.world gives Limits ∷ []))
     by (stopped r g) = refl
 
-    go : (a : Answer) → (after {A = After} a (λ (r : Refusal). leaving (maintain_given (Stopped r 0 0)) w) (job_ended end.stop end)).world.claims ≡ w.claims
-    go (Refused r) = refl
-    go Done = by end.stop ∙ job-claims (1 ∷ 2 ∷ 3 ∷ []) room (mark_of w) (count_of w) start
+    go : (a : Answer) → (after {A = After} a (λ (r : Refusal). leaving (maintain_given (Err (stopped_with r 0 0))) w) (job_ended end.stop end)).world.claims ≡ w.claims
+    go (Err r) = refl
+    go (Ok _) = by end.stop ∙ job-claims (1 ∷ 2 ∷ 3 ∷ []) room (mark_of w) (count_of w) start
 
 -- LAW: a read and the counts leave all
 pub reads-claims : (w : World) (id : ℕ) → ((read_call w id).world ≡ w) × ((counts_call w).world ≡ w)
@@ -281,5 +281,5 @@ reopen-claims w f = rw (decide-next (out_of_range w.settings (length w.heap) w.t
     views = views_in (slots_of w) w.settings.slot_bytes w.heap
 
     go : (a : Answer) → (after a (given_up w) (opened w views)).world.claims ≡ no_claims
-    go (Refused r) = refl
-    go Done = refl
+    go (Err r) = refl
+    go (Ok _) = refl

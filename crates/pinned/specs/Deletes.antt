@@ -1,8 +1,8 @@
 -- Request P1, "In demand 3 "nothing" splits accordingly; an id deleted without ever being put is "deleted"": what a read tells of an id, whatever calls were made.
-use Rattle.std.specs.Prelude.{◌≡◌, refl, ◌∷◌}
+use Rattle.std.specs.Prelude.{◌≡◌, refl, ◌∷◌, None, Ok, Some}
 use Rattle.std.proofs.Common.{sym, ap, ap₂, ◌∙◌, arith, eq-eqb}
 use Rattle.rules.specs.Base.{Bool, List, [], ℕ, pick}
-use Rattle.theory.specs.Types.{Held, Mapped, Unmapped, ReadAnswer, Deleted, NeverWritten}
+use Rattle.theory.specs.Types.{Held, ReadAnswer, Deleted, NeverWritten}
 use Rattle.rules.specs.BaseLaws.{All}
 use Rattle.rules.specs.Ops.{put, delete, Op}
 use Rattle.rules.specs.Batch.{batch_in, ops_of}
@@ -55,23 +55,23 @@ none-silent (o ∷ os) x n = ap₂ or_earlier (none-silent os x n.1) (said-other
 -- ---- what a read tells
 pub record Told (l : Life) (id : ℕ) : Type 0 where
   -- never written exactly if the engine heard no operation on the id
-  pub never : (read_of l.world id ≡ NeverWritten → NoneOn id l.history) × (NoneOn id l.history → read_of l.world id ≡ NeverWritten)
+  pub never : (read_of l.world id ≡ Ok NeverWritten → NoneOn id l.history) × (NoneOn id l.history → read_of l.world id ≡ Ok NeverWritten)
   -- deleted exactly if the last one it heard is a delete
-  pub gone : (read_of l.world id ≡ Deleted → last_on l.history id ≡ last delete) × (last_on l.history id ≡ last delete → read_of l.world id ≡ Deleted)
+  pub gone : (read_of l.world id ≡ Ok Deleted → last_on l.history id ≡ last delete) × (last_on l.history id ≡ last delete → read_of l.world id ≡ Ok Deleted)
 
-by_last : (w : World) (a : ReadAnswer) (t : Last) → Reads w a t → (a ≡ NeverWritten → t ≡ silent) × (a ≡ Deleted → t ≡ last delete)
-by_last w a silent e = (λ p. refl, λ p. absurd (let q : NeverWritten ≡ Deleted = sym e ∙ p in let z : ◌≡◌ {A = ℕ} 0 1 = cc in omega arith))
-by_last w a (last delete) e = (λ p. absurd (let q : Deleted ≡ NeverWritten = sym e ∙ p in let z : ◌≡◌ {A = ℕ} 0 1 = cc in omega arith), λ p. refl)
+by_last : (w : World) (a : ReadAnswer) (t : Last) → Reads w a t → (a ≡ Ok NeverWritten → t ≡ silent) × (a ≡ Ok Deleted → t ≡ last delete)
+by_last w a silent e = (λ p. refl, λ p. absurd (let q : (Ok NeverWritten) ≡ (Ok Deleted) = sym e ∙ p in let z : ◌≡◌ {A = ℕ} 0 1 = cc in omega arith))
+by_last w a (last delete) e = (λ p. absurd (let q : (Ok Deleted) ≡ (Ok NeverWritten) = sym e ∙ p in let z : ◌≡◌ {A = ℕ} 0 1 = cc in omega arith), λ p. refl)
 by_last w a (last (put b)) e = (
   λ p. absurd (let q = sym e.1 ∙ p in let z : ◌≡◌ {A = ℕ} 0 1 = cc in omega arith),
   λ p. absurd (let q = sym e.1 ∙ p in let z : ◌≡◌ {A = ℕ} 0 1 = cc in omega arith),
 )
 
-by-silent : (w : World) (a : ReadAnswer) (t : Last) → t ≡ silent → Reads w a t → a ≡ NeverWritten
+by-silent : (w : World) (a : ReadAnswer) (t : Last) → t ≡ silent → Reads w a t → a ≡ Ok NeverWritten
 by-silent w a silent e r = r
 by-silent w a (last c) e r = absurd (let z : ◌≡◌ {A = ℕ} 0 1 = cc in omega arith)
 
-by-delete : (w : World) (a : ReadAnswer) (t : Last) → t ≡ last delete → Reads w a t → a ≡ Deleted
+by-delete : (w : World) (a : ReadAnswer) (t : Last) → t ≡ last delete → Reads w a t → a ≡ Ok Deleted
 by-delete w a silent e r = absurd (let z : ◌≡◌ {A = ℕ} 0 1 = cc in omega arith)
 by-delete w a (last delete) e r = r
 by-delete w a (last (put b)) e r = absurd (let z : ◌≡◌ {A = ℕ} 0 1 = cc in omega arith)
@@ -101,15 +101,15 @@ first_found w c x = (λ n. there (told.never.1 n), λ n. told.never.0 (exactly.1
     told : Told (lived (resumed w) []) x
     told = lived-told (resumed w) (clean-starts w c) [] x
 
-    exactly : (read_of v x ≡ NeverWritten → lookup (mappings v) x ≡ Unmapped) × (lookup (mappings v) x ≡ Unmapped → read_of v x ≡ NeverWritten)
+    exactly : (read_of v x ≡ Ok NeverWritten → lookup (mappings v) x ≡ None) × (lookup (mappings v) x ≡ None → read_of v x ≡ Ok NeverWritten)
     exactly = never-exactly v x (sound-fine v (engine (resumed w).history) (clean-starts w c))
 
-    there : read_of v x ≡ NeverWritten → (l : ℕ) → Mentioned w x l → ⊥
+    there : read_of v x ≡ Ok NeverWritten → (l : ℕ) → Mentioned w x l → ⊥
     there e l = (reopened-means w c.reopens).unmentioned x l (exactly.0 e)
 
-    none : ((l : ℕ) → Mentioned w x l → ⊥) → (h : Held) → lookup (mappings v) x ≡ h → lookup (mappings v) x ≡ Unmapped
-    none n Unmapped e = e
-    none n (Mapped l) e = absurd (n l ((reopened-means w c.reopens).mentioned x l e))
+    none : ((l : ℕ) → Mentioned w x l → ⊥) → (h : Held) → lookup (mappings v) x ≡ h → lookup (mappings v) x ≡ None
+    none n None e = e
+    none n (Some l) e = absurd (n l ((reopened-means w c.reopens).mentioned x l e))
 
 -- ---- deletes
 -- LAW: an id whose last operation in an accepted batch is a delete reads deleted, put before or not

@@ -1,6 +1,6 @@
 -- "A slot is a 64-byte label, then the file. The label holds lsn, trailer_offset, file_size, present_objects, generation as numbers in groups of seven
 -- bits ..; Zeros fill the 64 bytes. First byte 0 means the slot is empty, whatever follows.": read exactly if the bytes are its own.
-use Rattle.std.specs.Prelude.{◌≡◌, refl, ◌⊎◌, ◌<◌, ◌++◌, ◌+◌, ◌-◌}
+use Rattle.std.specs.Prelude.{◌≡◌, refl, ◌⊎◌, ◌<◌, ◌++◌, ◌+◌, ◌-◌, None, Some}
 use Rattle.std.proofs.Common.{ap, ◌∙◌, append_assoc, inl, inr, arith, length-append, eq-eqb}
 use Rattle.std.proofs.lemmas.Bool.{eqb-false}
 use Rattle.rules.specs.Base.{Bool, true, false, List, ℕ, length, drop, get_or, replicate, eqb, pick, zeros, padded}
@@ -9,8 +9,7 @@ use Rattle.theory.specs.Types.{Label, LabelAnswer, Vacant, Five, Wrong}
 use Rattle.numbers.specs.LittleEndian.{Bytes}
 use Rattle.numbers.specs.Groups.{groups_of, number_in, saying}
 use Rattle.numbers.specs.GroupLaws.{groups-last, Stands, number-stands}
-use Rattle.numbers.specs.declared.Number.{Number}
-use Rattle.numbers.specs.declared.Number.TheVariants.{Said, Malformed}
+use Rattle.numbers.specs.Answers.{Number}
 use Rattle.rules.specs.Label.{label_bytes, five_in, label_in}
 use Rattle.rules.specs.LabelLaws.{LabelFits}
 use Rattle.rules.proofs.LabelLaws.{label-back}
@@ -76,8 +75,8 @@ five-bears s l h n q = first (number_in 10 s 0) refl q
         → (m : Number) → number_in 10 s d ≡ m
         → saying Wrong m (λ generation e. pick (zeros (drop e s)) (Five (record { lsn = lsn; trailer_offset = offset; file_size = size; present_objects = present; generation = generation })) Wrong) ≡ Five l
         → (s ≡ label_bytes l) × LabelFits l
-    fifth lsn a offset b size c present d s1 s2 s3 s4 Malformed e q = not_five q
-    fifth lsn a offset b size c present d s1 s2 s3 s4 (Said generation e) p q =
+    fifth lsn a offset b size c present d s1 s2 s3 s4 None e q = not_five q
+    fifth lsn a offset b size c present d s1 s2 s3 s4 (Some (generation, e)) p q =
         filled lsn a offset b size c present d generation e s1 s2 s3 s4 (number-stands 10 s d generation e h p) (zeros (drop e s)) refl q
 
     fourth : (lsn a offset b size c : ℕ) → Stands 10 s 0 a lsn → Stands 10 s a b offset → Stands 10 s b c size → (m : Number) → number_in 10 s c ≡ m
@@ -85,8 +84,8 @@ five-bears s l h n q = first (number_in 10 s 0) refl q
         saying Wrong (number_in 10 s d) λ generation e.
         pick (zeros (drop e s)) (Five (record { lsn = lsn; trailer_offset = offset; file_size = size; present_objects = present; generation = generation })) Wrong) ≡ Five l
         → (s ≡ label_bytes l) × LabelFits l
-    fourth lsn a offset b size c s1 s2 s3 Malformed e q = not_five q
-    fourth lsn a offset b size c s1 s2 s3 (Said present d) p q = fifth lsn a offset b size c present d s1 s2 s3 (number-stands 10 s c present d h p) (number_in 10 s d) refl q
+    fourth lsn a offset b size c s1 s2 s3 None e q = not_five q
+    fourth lsn a offset b size c s1 s2 s3 (Some (present, d)) p q = fifth lsn a offset b size c present d s1 s2 s3 (number-stands 10 s c present d h p) (number_in 10 s d) refl q
 
     third : (lsn a offset b : ℕ) → Stands 10 s 0 a lsn → Stands 10 s a b offset → (m : Number) → number_in 10 s b ≡ m
         → saying Wrong m (λ size c.
@@ -94,8 +93,8 @@ five-bears s l h n q = first (number_in 10 s 0) refl q
         saying Wrong (number_in 10 s d) λ generation e.
         pick (zeros (drop e s)) (Five (record { lsn = lsn; trailer_offset = offset; file_size = size; present_objects = present; generation = generation })) Wrong) ≡ Five l
         → (s ≡ label_bytes l) × LabelFits l
-    third lsn a offset b s1 s2 Malformed e q = not_five q
-    third lsn a offset b s1 s2 (Said size c) p q = fourth lsn a offset b size c s1 s2 (number-stands 10 s b size c h p) (number_in 10 s c) refl q
+    third lsn a offset b s1 s2 None e q = not_five q
+    third lsn a offset b s1 s2 (Some (size, c)) p q = fourth lsn a offset b size c s1 s2 (number-stands 10 s b size c h p) (number_in 10 s c) refl q
 
     second : (lsn a : ℕ) → Stands 10 s 0 a lsn → (m : Number) → number_in 10 s a ≡ m
         → saying Wrong m (λ offset b.
@@ -104,8 +103,8 @@ five-bears s l h n q = first (number_in 10 s 0) refl q
         saying Wrong (number_in 10 s d) λ generation e.
         pick (zeros (drop e s)) (Five (record { lsn = lsn; trailer_offset = offset; file_size = size; present_objects = present; generation = generation })) Wrong) ≡ Five l
         → (s ≡ label_bytes l) × LabelFits l
-    second lsn a s1 Malformed e q = not_five q
-    second lsn a s1 (Said offset b) p q = third lsn a offset b s1 (number-stands 10 s a offset b h p) (number_in 10 s b) refl q
+    second lsn a s1 None e q = not_five q
+    second lsn a s1 (Some (offset, b)) p q = third lsn a offset b s1 (number-stands 10 s a offset b h p) (number_in 10 s b) refl q
 
     first : (m : Number) → number_in 10 s 0 ≡ m
         → saying Wrong m (λ lsn a.
@@ -115,8 +114,8 @@ five-bears s l h n q = first (number_in 10 s 0) refl q
         saying Wrong (number_in 10 s d) λ generation e.
         pick (zeros (drop e s)) (Five (record { lsn = lsn; trailer_offset = offset; file_size = size; present_objects = present; generation = generation })) Wrong) ≡ Five l
         → (s ≡ label_bytes l) × LabelFits l
-    first Malformed e q = not_five q
-    first (Said lsn a) p q = second lsn a (number-stands 10 s 0 lsn a h p) (number_in 10 s a) refl q
+    first None e q = not_five q
+    first (Some (lsn, a)) p q = second lsn a (number-stands 10 s 0 lsn a h p) (number_in 10 s a) refl q
 
 -- a label of lsn 0 would begin with 0
 lsn-some : (l : Label) → (get_or (label_bytes l) 0 0 ≡ 0 → ⊥) → 0 < l.lsn

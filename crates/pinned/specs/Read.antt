@@ -1,5 +1,5 @@
 -- "Reading now gives "never written" or "deleted"" (request P1). "Else the found bytes are a part of the lent heap itself. Checks in order: 18, 16 (header or body past file_size), 10, 17."
-use Rattle.std.specs.Prelude.{◌≡◌, refl, ◌≤◌, ◌<◌, ◌∷◌, ◌++◌, ◌+◌, ◌-◌, ◌*◌, ◌^◌}
+use Rattle.std.specs.Prelude.{◌≡◌, refl, ◌≤◌, ◌<◌, ◌∷◌, ◌++◌, ◌+◌, ◌-◌, ◌*◌, ◌^◌, Err, None, Ok, Some}
 use Rattle.std.proofs.Common.{sym, ap₂, ◌∙◌, take-append-drop, take-take, drop-drop, length-take-le, take_at, ltb-false, le-ltb, eqb-true, eq-eqb}
 use Rattle.std.proofs.Math.Path.{ap}
 use native.Mathlib.Omega.{arith}
@@ -8,7 +8,7 @@ use Rattle.std.proofs.lemmas.Bool.{not-false}
 use Rattle.numbers.specs.LittleEndian.{Bytes}
 use Rattle.disk_location.specs.Locations.{position_of, delete_of}
 use Rattle.rules.specs.Base.{Bool, true, false, not, List, [], ℕ, length, take, drop, ltb, eqb}
-use Rattle.theory.specs.Types.{Refusal, Answer, Done, Refused, ReadAnswer, Found, Deleted, NeverWritten, ReadRefused, Held, Mapped, Unmapped, Slot, Is, NoSlot, Limits, NotThere, CutShort, Checksum, OtherId}
+use Rattle.theory.specs.Types.{Refusal, Answer, ReadAnswer, Found, Deleted, NeverWritten, Held, Slot, Limits, NotThere, CutShort, Checksum, OtherId}
 use Rattle.rules.specs.Refusal.{◌gives◌, decide, after, NoneHolds}
 use Rattle.rules.proofs.RefusalLaws.{decide-none, decide-first, decide-next, decide-clear, clear-when}
 use Rattle.rules.proofs.PartLaws.{drop-take}
@@ -48,7 +48,7 @@ file_start w k = k * w.settings.slot_bytes + 64
 pub record Whole (w : World) (id start size : ℕ) : Type 0 where
   pub location : ℕ
   pub slot : ℕ
-  pub mapped : held_in w id ≡ Mapped location
+  pub mapped : held_in w id ≡ Some location
   pub object : delete_of location ≡ false
   pub file : IsFile (records_of w) location slot
   pub within : position_in w location slot + (20 + size) ≤ (record_at (records_of w) slot).label.file_size
@@ -57,25 +57,25 @@ pub record Whole (w : World) (id start size : ℕ) : Type 0 where
 
 -- ---- by cases
 -- what is no answer of this kind
-never-found : {A : Type 0} {a b : ℕ} → NeverWritten ≡ Found a b → A
+never-found : {A : Type 0} {a b : ℕ} → ◌≡◌ {A = ReadAnswer} (Ok NeverWritten) (Ok (Found a b)) → A
 never-found e = absurd (let z : ◌≡◌ {A = ℕ} 0 1 = cc in omega arith)
 
-deleted-found : {A : Type 0} {a b : ℕ} → Deleted ≡ Found a b → A
+deleted-found : {A : Type 0} {a b : ℕ} → ◌≡◌ {A = ReadAnswer} (Ok Deleted) (Ok (Found a b)) → A
 deleted-found e = absurd (let z : ◌≡◌ {A = ℕ} 0 1 = cc in omega arith)
 
-never-deleted : {A : Type 0} → NeverWritten ≡ Deleted → A
+never-deleted : {A : Type 0} → ◌≡◌ {A = ReadAnswer} (Ok NeverWritten) (Ok Deleted) → A
 never-deleted e = absurd (let z : ◌≡◌ {A = ℕ} 0 1 = cc in omega arith)
 
-refused-found : {A : Type 0} {a b : ℕ} {r : Refusal} → ReadRefused r ≡ Found a b → A
+refused-found : {A : Type 0} {a b : ℕ} {r : Refusal} → ◌≡◌ {A = ReadAnswer} (Err r) (Ok (Found a b)) → A
 refused-found e = absurd (let z : ◌≡◌ {A = ℕ} 0 1 = cc in omega arith)
 
-never-refused : {A : Type 0} {r : Refusal} → NeverWritten ≡ ReadRefused r → A
+never-refused : {A : Type 0} {r : Refusal} → ◌≡◌ {A = ReadAnswer} (Ok NeverWritten) (Err r) → A
 never-refused e = absurd (let z : ◌≡◌ {A = ℕ} 0 1 = cc in omega arith)
 
-deleted-refused : {A : Type 0} {r : Refusal} → Deleted ≡ ReadRefused r → A
+deleted-refused : {A : Type 0} {r : Refusal} → ◌≡◌ {A = ReadAnswer} (Ok Deleted) (Err r) → A
 deleted-refused e = absurd (let z : ◌≡◌ {A = ℕ} 0 1 = cc in omega arith)
 
-found-refused : {A : Type 0} {a b : ℕ} {r : Refusal} → Found a b ≡ ReadRefused r → A
+found-refused : {A : Type 0} {a b : ℕ} {r : Refusal} → ◌≡◌ {A = ReadAnswer} (Ok (Found a b)) (Err r) → A
 found-refused e = absurd (let z : ◌≡◌ {A = ℕ} 0 1 = cc in omega arith)
 
 -- not 1: by what is held
@@ -89,21 +89,21 @@ unfolding read_call read_of
 read-limits w id f = rw (decide-first (refused1 w) Limits [] f)
 
 -- mapped and not deleted
-read_mapped : (w : World) (id l : ℕ) → refused1 w ≡ false → held_in w id ≡ Mapped l → delete_of l ≡ false → read_of w id ≡ read_file w id l (file_for (records_of w) l)
-read_mapped w id l f h d = read_held w id (Mapped l) f h ∙ rw d
+read_mapped : (w : World) (id l : ℕ) → refused1 w ≡ false → held_in w id ≡ Some l → delete_of l ≡ false → read_of w id ≡ read_file w id l (file_for (records_of w) l)
+read_mapped w id l f h d = read_held w id (Some l) f h ∙ rw d
 
 -- never written, deleted, or where it is sought
 pub data Sought (w : World) (id : ℕ) : Type 0 where
-  unmapped : held_in w id ≡ Unmapped → Sought w id
-  deleted : (l : ℕ) → held_in w id ≡ Mapped l → delete_of l ≡ true → Sought w id
-  stands : (l : ℕ) → held_in w id ≡ Mapped l → delete_of l ≡ false → Sought w id
+  unmapped : held_in w id ≡ None → Sought w id
+  deleted : (l : ℕ) → held_in w id ≡ Some l → delete_of l ≡ true → Sought w id
+  stands : (l : ℕ) → held_in w id ≡ Some l → delete_of l ≡ false → Sought w id
 
 sought : (w : World) (id : ℕ) → Sought w id
 sought w id = go (held_in w id) refl
   where
     go : (h : Held) → held_in w id ≡ h → Sought w id
-    go Unmapped e = unmapped e
-    go (Mapped l) e = by (delete_of l) refl
+    go None e = unmapped e
+    go (Some l) e = by (delete_of l) refl
       where
         by : (d : Bool) → delete_of l ≡ d → Sought w id
         by true q = deleted l e q
@@ -111,60 +111,60 @@ sought w id = go (held_in w id) refl
 
 -- ---- never written, deleted
 -- what has a file's answer is neither
-object-loud : (w : World) (id k : ℕ) (o : Stored) → (read_object w id k o ≡ NeverWritten → ⊥) × (read_object w id k o ≡ Deleted → ⊥)
+object-loud : (w : World) (id k : ℕ) (o : Stored) → (read_object w id k o ≡ Ok NeverWritten → ⊥) × (read_object w id k o ≡ Ok Deleted → ⊥)
 object-loud w id k o = go (decide (object_tests id o))
   where
-    go : (a : Answer) → (after {A = ReadAnswer} a ReadRefused (Found (k * w.settings.slot_bytes + 64 + o.position + 20) o.size) ≡ NeverWritten → ⊥)
-        × (after {A = ReadAnswer} a ReadRefused (Found (k * w.settings.slot_bytes + 64 + o.position + 20) o.size) ≡ Deleted → ⊥)
-    go Done = (λ e. never-found (sym e), λ e. deleted-found (sym e))
-    go (Refused r) = (λ e. never-refused (sym e), λ e. deleted-refused (sym e))
+    go : (a : Answer) → (after {A = ReadAnswer} a Err (Ok (Found (k * w.settings.slot_bytes + 64 + o.position + 20) o.size)) ≡ Ok NeverWritten → ⊥)
+        × (after {A = ReadAnswer} a Err (Ok (Found (k * w.settings.slot_bytes + 64 + o.position + 20) o.size)) ≡ Ok Deleted → ⊥)
+    go (Ok _) = (λ e. never-found (sym e), λ e. deleted-found (sym e))
+    go (Err r) = (λ e. never-refused (sym e), λ e. deleted-refused (sym e))
 
-file-loud : (w : World) (id l : ℕ) (s : Slot) → (read_file w id l s ≡ NeverWritten → ⊥) × (read_file w id l s ≡ Deleted → ⊥)
-file-loud w id l NoSlot = (λ e. never-refused (sym e), λ e. deleted-refused (sym e))
-file-loud w id l (Is k) = object-loud w id k (object_in w k (position_in w l k))
+file-loud : (w : World) (id l : ℕ) (s : Slot) → (read_file w id l s ≡ Ok NeverWritten → ⊥) × (read_file w id l s ≡ Ok Deleted → ⊥)
+file-loud w id l None = (λ e. never-refused (sym e), λ e. deleted-refused (sym e))
+file-loud w id l (Some k) = object-loud w id k (object_in w k (position_in w l k))
 
 -- unmapped: never written, whatever the files are
-read-never : (w : World) (id : ℕ) → refused1 w ≡ false → held_in w id ≡ Unmapped → read_of w id ≡ NeverWritten
-read-never w id f e = read_held w id Unmapped f e
+read-never : (w : World) (id : ℕ) → refused1 w ≡ false → held_in w id ≡ None → read_of w id ≡ Ok NeverWritten
+read-never w id f e = read_held w id None f e
 
 -- mapped, with the delete mark: deleted, whatever the files are
-read-deleted : (w : World) (id l : ℕ) → refused1 w ≡ false → held_in w id ≡ Mapped l → delete_of l ≡ true → read_of w id ≡ Deleted
-read-deleted w id l f e d = read_held w id (Mapped l) f e ∙ rw d
+read-deleted : (w : World) (id l : ℕ) → refused1 w ≡ false → held_in w id ≡ Some l → delete_of l ≡ true → read_of w id ≡ Ok Deleted
+read-deleted w id l f e d = read_held w id (Some l) f e ∙ rw d
 
 -- LAW: never written exactly if unmapped
-pub never-exactly : (w : World) (id : ℕ) → refused1 w ≡ false → (read_of w id ≡ NeverWritten → held_in w id ≡ Unmapped) × (held_in w id ≡ Unmapped → read_of w id ≡ NeverWritten)
+pub never-exactly : (w : World) (id : ℕ) → refused1 w ≡ false → (read_of w id ≡ Ok NeverWritten → held_in w id ≡ None) × (held_in w id ≡ None → read_of w id ≡ Ok NeverWritten)
 never-exactly w id f = (λ e. there (sought w id) e, read-never w id f)
   where
-    there : Sought w id → read_of w id ≡ NeverWritten → held_in w id ≡ Unmapped
+    there : Sought w id → read_of w id ≡ Ok NeverWritten → held_in w id ≡ None
     there (unmapped h) e = h
     there (deleted l h d) e = never-deleted (sym e ∙ read-deleted w id l f h d)
     there (stands l h d) e = absurd ((file-loud w id l (file_for (records_of w) l)).0 (sym (read_mapped w id l f h d) ∙ e))
 
 -- LAW: deleted exactly if mapped to a location with the delete mark
 pub deleted-exactly : (w : World) (id : ℕ) → refused1 w ≡ false
-    → (read_of w id ≡ Deleted → (l : ℕ) × (held_in w id ≡ Mapped l) × (delete_of l ≡ true)) × ((l : ℕ) × (held_in w id ≡ Mapped l) × (delete_of l ≡ true) → read_of w id ≡ Deleted)
+    → (read_of w id ≡ Ok Deleted → (l : ℕ) × (held_in w id ≡ Some l) × (delete_of l ≡ true)) × ((l : ℕ) × (held_in w id ≡ Some l) × (delete_of l ≡ true) → read_of w id ≡ Ok Deleted)
 deleted-exactly w id f = (λ e. there (sought w id) e, λ (l, h, d). read-deleted w id l f h d)
   where
-    there : Sought w id → read_of w id ≡ Deleted → (l : ℕ) × (held_in w id ≡ Mapped l) × (delete_of l ≡ true)
+    there : Sought w id → read_of w id ≡ Ok Deleted → (l : ℕ) × (held_in w id ≡ Some l) × (delete_of l ≡ true)
     there (unmapped h) e = never-deleted (sym (read-never w id f h) ∙ e)
     there (deleted l h d) e = (l, h, d)
     there (stands l h d) e = absurd ((file-loud w id l (file_for (records_of w) l)).1 (sym (read_mapped w id l f h d) ∙ e))
 
 -- ---- 18
-no-file : (w : World) (l : ℕ) → NoFileBelow w l → file_for (records_of w) l ≡ NoSlot
+no-file : (w : World) (l : ℕ) → NoFileBelow w l → file_for (records_of w) l ≡ None
 no-file w l n = go (file_for (records_of w) l) refl
   where
-    go : (s : Slot) → file_for (records_of w) l ≡ s → file_for (records_of w) l ≡ NoSlot
-    go NoSlot e = e
-    go (Is k) e = let at = file-at (records_of w) l k e in absurd (let q = n k at.place at.used in omega (arith, at.low))
+    go : (s : Slot) → file_for (records_of w) l ≡ s → file_for (records_of w) l ≡ None
+    go None e = e
+    go (Some k) e = let at = file-at (records_of w) l k e in absurd (let q = n k at.place at.used in omega (arith, at.low))
 
 -- 16, 10 and 17 are not 18
-object-not-18 : (w : World) (id k : ℕ) (o : Stored) → read_object w id k o ≡ ReadRefused NotThere → ⊥
+object-not-18 : (w : World) (id k : ℕ) (o : Stored) → read_object w id k o ≡ Err NotThere → ⊥
 unfolding object_tests decide
 object-not-18 w id k o e = go (ltb o.room 20) (ltb o.room (20 + o.size)) (bad_checksum o) (not (eqb o.id id)) e
   where
     go : (a b c d : Bool)
-        → after {A = ReadAnswer} (decide (a gives CutShort ∷ b gives CutShort ∷ c gives Checksum ∷ d gives OtherId ∷ [])) ReadRefused (Found (k * w.settings.slot_bytes + 64 + o.position + 20) o.size) ≡ ReadRefused NotThere
+        → after {A = ReadAnswer} (decide (a gives CutShort ∷ b gives CutShort ∷ c gives Checksum ∷ d gives OtherId ∷ [])) Err (Ok (Found (k * w.settings.slot_bytes + 64 + o.position + 20) o.size)) ≡ Err NotThere
         → ⊥
     go true b c d q = let z : ◌≡◌ {A = ℕ} 0 1 = cc in omega arith
     go false true c d q = let z : ◌≡◌ {A = ℕ} 0 1 = cc in omega arith
@@ -174,18 +174,18 @@ object-not-18 w id k o e = go (ltb o.room 20) (ltb o.room (20 + o.size)) (bad_ch
 
 -- LAW: 18 exactly if mapped, not deleted, and no file is at or below
 pub not-there-exactly : (w : World) (id : ℕ) → refused1 w ≡ false
-    → (read_of w id ≡ ReadRefused NotThere → (l : ℕ) × (held_in w id ≡ Mapped l) × (delete_of l ≡ false) × NoFileBelow w l)
-    × ((l : ℕ) × (held_in w id ≡ Mapped l) × (delete_of l ≡ false) × NoFileBelow w l → read_of w id ≡ ReadRefused NotThere)
+    → (read_of w id ≡ Err NotThere → (l : ℕ) × (held_in w id ≡ Some l) × (delete_of l ≡ false) × NoFileBelow w l)
+    × ((l : ℕ) × (held_in w id ≡ Some l) × (delete_of l ≡ false) × NoFileBelow w l → read_of w id ≡ Err NotThere)
 not-there-exactly w id f = (λ e. there (sought w id) e, λ (l, h, d, n). read_mapped w id l f h d ∙ ap (read_file w id l) (no-file w l n))
   where
-    there : Sought w id → read_of w id ≡ ReadRefused NotThere → (l : ℕ) × (held_in w id ≡ Mapped l) × (delete_of l ≡ false) × NoFileBelow w l
+    there : Sought w id → read_of w id ≡ Err NotThere → (l : ℕ) × (held_in w id ≡ Some l) × (delete_of l ≡ false) × NoFileBelow w l
     there (unmapped h) e = never-refused (sym (read-never w id f h) ∙ e)
     there (deleted l h d) e = deleted-refused (sym (read-deleted w id l f h d) ∙ e)
     there (stands l h d) e = (l, h, d, by (file_for (records_of w) l) refl (sym (read_mapped w id l f h d) ∙ e))
       where
-        by : (s : Slot) → file_for (records_of w) l ≡ s → read_file w id l (file_for (records_of w) l) ≡ ReadRefused NotThere → NoFileBelow w l
-        by NoSlot q r = file-none (records_of w) l q
-        by (Is k) q r = absurd (object-not-18 w id k (object_in w k (position_in w l k)) (sym (ap (read_file w id l) q) ∙ r))
+        by : (s : Slot) → file_for (records_of w) l ≡ s → read_file w id l (file_for (records_of w) l) ≡ Err NotThere → NoFileBelow w l
+        by None q r = file-none (records_of w) l q
+        by (Some k) q r = absurd (object-not-18 w id k (object_in w k (position_in w l k)) (sym (ap (read_file w id l) q) ∙ r))
 
 -- ---- found
 -- a part that lies in a front
@@ -264,17 +264,17 @@ unfolding stored_at
 body-stands p bs l = (refl, length-take-le (stored_at p bs).size (drop 20 bs) (omega (arith, length-drop 20 bs)))
 
 -- what was found is where the answer says
-answer-found : (w : World) (id k : ℕ) (o : Stored) (start size : ℕ) → read_object w id k o ≡ Found start size
+answer-found : (w : World) (id k : ℕ) (o : Stored) (start size : ℕ) → read_object w id k o ≡ Ok (Found start size)
     → NoneHolds (object_tests id o) × (start ≡ k * w.settings.slot_bytes + 64 + o.position + 20) × (size ≡ o.size)
 answer-found w id k o start size e = go (decide (object_tests id o)) refl e
   where
-    go : (a : Answer) → decide (object_tests id o) ≡ a → after {A = ReadAnswer} a ReadRefused (Found (k * w.settings.slot_bytes + 64 + o.position + 20) o.size) ≡ Found start size
+    go : (a : Answer) → decide (object_tests id o) ≡ a → after {A = ReadAnswer} a Err (Ok (Found (k * w.settings.slot_bytes + 64 + o.position + 20) o.size)) ≡ Ok (Found start size)
         → NoneHolds (object_tests id o) × (start ≡ k * w.settings.slot_bytes + 64 + o.position + 20) × (size ≡ o.size)
-    go (Refused r) q p = refused-found p
-    go Done q p = (clear-when (object_tests id o) q, cc, cc)
+    go (Err r) q p = refused-found p
+    go (Ok _) q p = (clear-when (object_tests id o) q, cc, cc)
 
-whole_of : (w : World) (id start size l k : ℕ) → refused1 w ≡ false → Bytes w.heap → held_in w id ≡ Mapped l → delete_of l ≡ false → IsFile (records_of w) l k
-    → read_object w id k (object_in w k (position_in w l k)) ≡ Found start size → Whole w id start size
+whole_of : (w : World) (id start size l k : ℕ) → refused1 w ≡ false → Bytes w.heap → held_in w id ≡ Some l → delete_of l ≡ false → IsFile (records_of w) l k
+    → read_object w id k (object_in w k (position_in w l k)) ≡ Ok (Found start size) → Whole w id start size
 whole_of w id start size l k f h m d at e =
     let p = position_in w l k in
     let bs : List ℕ = drop p (bytes_in w k) in
@@ -308,7 +308,7 @@ whole_of w id start size l k f h m d at e =
     }
 
 found_of : (w : World) (id start size : ℕ) → refused1 w ≡ false → Bytes w.heap → id < 2 ^ 64 → (v : Whole w id start size)
-    → read_object w id v.slot (object_in w v.slot (position_in w v.location v.slot)) ≡ Found start size
+    → read_object w id v.slot (object_in w v.slot (position_in w v.location v.slot)) ≡ Ok (Found start size)
 found_of w id start size f h fits v =
     let k = v.slot in
     let p = position_in w v.location k in
@@ -335,14 +335,14 @@ found_of w id start size f h fits v =
 -- LAW: found exactly if header and body lie within file_size, checksum and id fit: then the heap has the bytes of an object of this id there, and what is
 -- found is its body
 pub found-exactly : (w : World) (id start size : ℕ) → refused1 w ≡ false → Bytes w.heap → id < 2 ^ 64
-    → (read_of w id ≡ Found start size → Whole w id start size) × (Whole w id start size → read_of w id ≡ Found start size)
+    → (read_of w id ≡ Ok (Found start size) → Whole w id start size) × (Whole w id start size → read_of w id ≡ Ok (Found start size))
 found-exactly w id start size f h fits = (λ e. there (sought w id) e, λ v. read_mapped w id v.location f v.mapped v.object ∙ ap (read_file w id v.location) (file-is (records_of w) v.location v.slot v.file) ∙ found_of w id start size f h fits v)
   where
-    there : Sought w id → read_of w id ≡ Found start size → Whole w id start size
+    there : Sought w id → read_of w id ≡ Ok (Found start size) → Whole w id start size
     there (unmapped m) e = never-found (sym (read-never w id f m) ∙ e)
     there (deleted l m d) e = deleted-found (sym (read-deleted w id l f m d) ∙ e)
     there (stands l m d) e = by (file_for (records_of w) l) refl (sym (read_mapped w id l f m d) ∙ e)
       where
-        by : (s : Slot) → file_for (records_of w) l ≡ s → read_file w id l (file_for (records_of w) l) ≡ Found start size → Whole w id start size
-        by NoSlot q r = refused-found (sym (ap (read_file w id l) q) ∙ r)
-        by (Is k) q r = whole_of w id start size l k f h m d (file-at (records_of w) l k q) (sym (ap (read_file w id l) q) ∙ r)
+        by : (s : Slot) → file_for (records_of w) l ≡ s → read_file w id l (file_for (records_of w) l) ≡ Ok (Found start size) → Whole w id start size
+        by None q r = refused-found (sym (ap (read_file w id l) q) ∙ r)
+        by (Some k) q r = whole_of w id start size l k f h m d (file-at (records_of w) l k q) (sym (ap (read_file w id l) q) ∙ r)

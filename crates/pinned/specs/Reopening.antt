@@ -1,11 +1,11 @@
 -- "Reopen": the next position, what is left where it is refused, and that 1 changes nothing.
-use Rattle.std.specs.Prelude.{◌≡◌, refl, ◌⊎◌, ◌≤◌, ◌∷◌, ◌++◌, ◌+◌}
+use Rattle.std.specs.Prelude.{◌≡◌, refl, ◌⊎◌, ◌≤◌, ◌∷◌, ◌++◌, ◌+◌, Err, Ok}
 use Rattle.std.proofs.Common.{ap, inl, inr, arith, leb-true, leb-false}
 use Rattle.disk_location.specs.Locations.{masked_of}
 use Rattle.rules.specs.Base.{Bool, true, false, List, [], ℕ, length, replicate, leb, pick, greatest}
 use Rattle.rules.specs.BaseLaws.{All}
 use Rattle.rules.proofs.BaseLaws.{all_map}
-use Rattle.theory.specs.Types.{Refusal, Answer, Done, Refused, Limits}
+use Rattle.theory.specs.Types.{Refusal, Answer, Limits}
 use Rattle.rules.specs.Refusal.{decide, after}
 use Rattle.rules.proofs.RefusalLaws.{decide-none, decide-first, decide-next}
 use Rattle.rules.specs.SlotFile.{File, View, views_in}
@@ -108,11 +108,11 @@ reopen-in-range : (w : World) → out_of_range w.settings (length w.heap) w.tabl
 unfolding reopen_call
 reopen-in-range w f = rw (decide-next (out_of_range w.settings (length w.heap) w.table) Limits [] f, decide-none)
 
-opens : (w : World) → out_of_range w.settings (length w.heap) w.table ≡ false → decide (reopen_tests w (viewed w)) ≡ Done → ((reopen_call w).answer ≡ accepted []) × Opens w
+opens : (w : World) → out_of_range w.settings (length w.heap) w.table ≡ false → decide (reopen_tests w (viewed w)) ≡ Ok tt → ((reopen_call w).answer ≡ accepted []) × Opens w
 unfolding opened
 opens w f e = rw (reopen-in-range w f, e) (refl, record { next = rw (reopen-in-range w f, e); heap = rw (reopen-in-range w f, e); settings = rw (reopen-in-range w f, e) })
 
-gives_up : (w : World) (r : Refusal) → out_of_range w.settings (length w.heap) w.table ≡ false → decide (reopen_tests w (viewed w)) ≡ Refused r → GivenUp w r
+gives_up : (w : World) (r : Refusal) → out_of_range w.settings (length w.heap) w.table ≡ false → decide (reopen_tests w (viewed w)) ≡ Err r → GivenUp w r
 unfolding given_up no_files
 gives_up w r f e = record {
   answer = rw (reopen-in-range w f, e);
@@ -126,10 +126,10 @@ gives_up w r f e = record {
 
 -- LAW: with settings and lengths in the ranges it opens, or is given up with what its tests decide
 pub reopen-either : (w : World) → out_of_range w.settings (length w.heap) w.table ≡ false
-    → (((reopen_call w).answer ≡ accepted []) × Opens w) ⊎ ((r : Refusal) × (decide (reopen_tests w (viewed w)) ≡ Refused r) × GivenUp w r)
+    → (((reopen_call w).answer ≡ accepted []) × Opens w) ⊎ ((r : Refusal) × (decide (reopen_tests w (viewed w)) ≡ Err r) × GivenUp w r)
 reopen-either w f = go (decide (reopen_tests w (viewed w))) refl
   where
     go : (a : Answer) → decide (reopen_tests w (viewed w)) ≡ a
-        → (((reopen_call w).answer ≡ accepted []) × Opens w) ⊎ ((r : Refusal) × (decide (reopen_tests w (viewed w)) ≡ Refused r) × GivenUp w r)
-    go Done e = inl (opens w f e)
-    go (Refused r) e = inr (r, e, gives_up w r f e)
+        → (((reopen_call w).answer ≡ accepted []) × Opens w) ⊎ ((r : Refusal) × (decide (reopen_tests w (viewed w)) ≡ Err r) × GivenUp w r)
+    go (Ok _) e = inl (opens w f e)
+    go (Err r) e = inr (r, e, gives_up w r f e)

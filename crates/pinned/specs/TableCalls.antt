@@ -1,10 +1,10 @@
 -- "Table. Load .., store, compare-and-store, store-if-greater.", load in three ways (request P1): of each call the answer, the refusal, and every load afterwards.
-use Rattle.std.specs.Prelude.{◌≡◌, refl, ◌⊎◌, ◌≤◌, ◌<◌, ◌&&◌, ◌||◌, ◌∷◌}
+use Rattle.std.specs.Prelude.{◌≡◌, refl, ◌⊎◌, ◌≤◌, ◌<◌, ◌&&◌, ◌||◌, ◌∷◌, None, Some}
 use Rattle.std.proofs.Common.{sym, ap, ◌∙◌, inl, inr, arith, leb-true, leb-false, eq-eqb, ne_eqb, lt-ltb, le-ltb}
 use Rattle.std.proofs.lemmas.Bool.{not-false}
 use Rattle.rules.specs.Base.{Bool, true, false, List, [], ℕ, length, leb, eqb, pick}
 use Rattle.rules.proofs.BaseLaws.{and-true, and-holds, or-clear, same?}
-use Rattle.theory.specs.Types.{Entry, Held, Mapped, Unmapped, At, DeletedAt, Limits, TableRoom, NotThere, EqualLocation, Location}
+use Rattle.theory.specs.Types.{Entry, Held, At, DeletedAt, Limits, TableRoom, NotThere, EqualLocation, Location}
 use Rattle.rules.proofs.RefusalLaws.{decide-none, decide-first, decide-next}
 use Rattle.disk_location.specs.Locations.{delete_of}
 use Rattle.rules.specs.Table.{lookup, loaded_of, load, insert, unmapped, full}
@@ -22,7 +22,7 @@ held_in b id = lookup (used_entries b) id
 
 -- "a new id in a full table"
 abbrev pub NewInFull : Table → ℕ → Type 0
-NewInFull b id = (held_in b id ≡ Unmapped) × (capacity_of b ≤ length (used_entries b))
+NewInFull b id = (held_in b id ≡ None) × (capacity_of b ≤ length (used_entries b))
 
 -- what a load gives of a location: its kind, 1 with the delete mark and 2 without, and the location
 abbrev pub kind_at : Bool → ℕ
@@ -40,8 +40,8 @@ pub record Took (b : Table) (id raw : ℕ) (t : Table) : Type 0 where
 -- LAW: 1; else kind 1 or 2 and the location of a mapped id, by its delete mark; kind 0 for an unmapped one; the table stays
 pub record Load (b : Table) (id : ℕ) : Type 0 where
   pub limits : not_form b ≡ true → load_call b id ≡ same b (refused Limits)
-  pub mapped : not_form b ≡ false → (l : ℕ) → held_in b id ≡ Mapped l → load_call b id ≡ same b (accepted (kind_at (delete_of l) ∷ l ∷ []))
-  pub never : not_form b ≡ false → held_in b id ≡ Unmapped → load_call b id ≡ same b (accepted (0 ∷ []))
+  pub mapped : not_form b ≡ false → (l : ℕ) → held_in b id ≡ Some l → load_call b id ≡ same b (accepted (kind_at (delete_of l) ∷ l ∷ []))
+  pub never : not_form b ≡ false → held_in b id ≡ None → load_call b id ≡ same b (accepted (0 ∷ []))
 
 load-loaded : (b : Table) (id : ℕ) → not_form b ≡ false → load_call b id ≡ same b (loaded_given (load (used_entries b) id))
 unfolding load_call
@@ -52,7 +52,7 @@ unfolding load_call
 load-limits b id f = rw (decide-first (not_form b) Limits [] f)
 
 -- what is given of a mapped id
-given-mapped : (l : ℕ) → loaded_given (loaded_of (Mapped l)) ≡ accepted (kind_at (delete_of l) ∷ l ∷ [])
+given-mapped : (l : ℕ) → loaded_given (loaded_of (Some l)) ≡ accepted (kind_at (delete_of l) ∷ l ∷ [])
 given-mapped l = go (delete_of l)
   where
     go : (d : Bool) → loaded_given (pick d (DeletedAt l) (At l)) ≡ accepted (kind_at d ∷ l ∷ [])
@@ -76,7 +76,7 @@ form_in b l f = rw (and-holds (lengths_in_range b) (in_form b) l f)
 used-insert : (es : List Entry) (n : Entry) → Rising 0 es → Used es → 0 < n.location → Used (insert es n)
 used-insert es n r u some x l h = go (same? n.id x)
   where
-    at : lookup (insert es n) x ≡ Mapped l
+    at : lookup (insert es n) x ≡ Some l
     at = has-lookup 0 (insert es n) (rising-insert 0 es n (omega arith) r) x l h
 
     go : (n.id ≡ x) ⊎ (n.id ≡ x → ⊥) → 0 < l
@@ -114,8 +114,8 @@ took b id raw f some room = record {
     used = used-insert (used_entries b) n rising (used-located b) (omega (arith, some))
 
     length-by : (h : Held) → held_in b id ≡ h → length es ≤ capacity_of b
-    length-by (Mapped l) e = omega (arith, insert-old 0 (used_entries b) rising n l e, used-length b)
-    length-by Unmapped e = by-room (leb (capacity_of b) (length (used_entries b))) refl
+    length-by (Some l) e = omega (arith, insert-old 0 (used_entries b) rising n l e, used-length b)
+    length-by None e = by-room (leb (capacity_of b) (length (used_entries b))) refl
       where
         by-room : (c : Bool) → leb (capacity_of b) (length (used_entries b)) ≡ c → length (insert (used_entries b) (record { id = id; location = raw })) ≤ capacity_of b
         by-room true q = absurd (room (e, leb-true (capacity_of b) (length (used_entries b)) q))
@@ -142,8 +142,8 @@ not_full : (b : Table) (id : ℕ) → (NewInFull b id → ⊥) → full (used_en
 not_full b id room = go (held_in b id) refl
   where
     go : (h : Held) → held_in b id ≡ h → full (used_entries b) (capacity_of b) id ≡ false
-    go (Mapped l) e = full-mapped (used_entries b) (capacity_of b) id l e
-    go Unmapped e = by-room (leb (capacity_of b) (length (used_entries b))) refl
+    go (Some l) e = full-mapped (used_entries b) (capacity_of b) id l e
+    go None e = by-room (leb (capacity_of b) (length (used_entries b))) refl
       where
         by-room : (c : Bool) → leb (capacity_of b) (length (used_entries b)) ≡ c → full (used_entries b) (capacity_of b) id ≡ false
         by-room true q = absurd (room (e, leb-true (capacity_of b) (length (used_entries b)) q))
@@ -171,10 +171,10 @@ store-facts b id raw = record {
 pub record Compare (b : Table) (id old raw : ℕ) : Type 0 where
   pub limits : not_form b ≡ true → compare_call b id old raw ≡ same b (refused Limits)
   pub location : not_form b ≡ false → (old ≡ 0) ⊎ (raw ≡ 0) → compare_call b id old raw ≡ same b (refused Location)
-  pub unmapped : not_form b ≡ false → (old ≡ 0 → ⊥) → (raw ≡ 0 → ⊥) → held_in b id ≡ Unmapped → compare_call b id old raw ≡ same b (refused NotThere)
-  pub differs : not_form b ≡ false → (old ≡ 0 → ⊥) → (raw ≡ 0 → ⊥) → (l : ℕ) → held_in b id ≡ Mapped l → (l ≡ old → ⊥) → compare_call b id old raw ≡ same b (accepted (l ∷ []))
-  pub answer : not_form b ≡ false → (old ≡ 0 → ⊥) → (raw ≡ 0 → ⊥) → held_in b id ≡ Mapped old → (compare_call b id old raw).answer ≡ accepted []
-  pub took : not_form b ≡ false → (old ≡ 0 → ⊥) → (raw ≡ 0 → ⊥) → held_in b id ≡ Mapped old → Took b id raw (compare_call b id old raw).table
+  pub unmapped : not_form b ≡ false → (old ≡ 0 → ⊥) → (raw ≡ 0 → ⊥) → held_in b id ≡ None → compare_call b id old raw ≡ same b (refused NotThere)
+  pub differs : not_form b ≡ false → (old ≡ 0 → ⊥) → (raw ≡ 0 → ⊥) → (l : ℕ) → held_in b id ≡ Some l → (l ≡ old → ⊥) → compare_call b id old raw ≡ same b (accepted (l ∷ []))
+  pub answer : not_form b ≡ false → (old ≡ 0 → ⊥) → (raw ≡ 0 → ⊥) → held_in b id ≡ Some old → (compare_call b id old raw).answer ≡ accepted []
+  pub took : not_form b ≡ false → (old ≡ 0 → ⊥) → (raw ≡ 0 → ⊥) → held_in b id ≡ Some old → Took b id raw (compare_call b id old raw).table
 
 either-zero : (old raw : ℕ) → (old ≡ 0) ⊎ (raw ≡ 0) → (eqb old 0 || eqb raw 0) ≡ true
 either-zero old raw (inl e) = rw (eq-eqb old 0 e)
@@ -184,7 +184,7 @@ either-zero old raw (inr e) = rw (eq-eqb raw 0 e) (go (eqb old 0))
     go true = refl
     go false = refl
 
-not_new : (b : Table) (id l : ℕ) → held_in b id ≡ Mapped l → NewInFull b id → ⊥
+not_new : (b : Table) (id l : ℕ) → held_in b id ≡ Some l → NewInFull b id → ⊥
 not_new b id l h w = mapped-not (sym h ∙ w.0)
 
 pub compare-facts : (b : Table) (id old raw : ℕ) → Compare b id old raw
@@ -208,13 +208,13 @@ compare-facts b id old raw = record {
 pub record Greater (b : Table) (id raw : ℕ) : Type 0 where
   pub limits : not_form b ≡ true → greater_call b id raw ≡ same b (refused Limits)
   pub location : not_form b ≡ false → raw ≡ 0 → greater_call b id raw ≡ same b (refused Location)
-  pub equal : not_form b ≡ false → (raw ≡ 0 → ⊥) → held_in b id ≡ Mapped raw → greater_call b id raw ≡ same b (refused EqualLocation)
+  pub equal : not_form b ≡ false → (raw ≡ 0 → ⊥) → held_in b id ≡ Some raw → greater_call b id raw ≡ same b (refused EqualLocation)
   pub room : not_form b ≡ false → (raw ≡ 0 → ⊥) → NewInFull b id → greater_call b id raw ≡ same b (refused TableRoom)
-  pub lower : not_form b ≡ false → (raw ≡ 0 → ⊥) → (l : ℕ) → held_in b id ≡ Mapped l → raw < l → greater_call b id raw ≡ same b (accepted (l ∷ []))
-  pub answer : not_form b ≡ false → (raw ≡ 0 → ⊥) → (l : ℕ) → held_in b id ≡ Mapped l → l < raw → (greater_call b id raw).answer ≡ accepted (l ∷ [])
-  pub took : not_form b ≡ false → (raw ≡ 0 → ⊥) → (l : ℕ) → held_in b id ≡ Mapped l → l < raw → Took b id raw (greater_call b id raw).table
-  pub new-answer : not_form b ≡ false → (raw ≡ 0 → ⊥) → held_in b id ≡ Unmapped → (NewInFull b id → ⊥) → (greater_call b id raw).answer ≡ accepted []
-  pub new-took : not_form b ≡ false → (raw ≡ 0 → ⊥) → held_in b id ≡ Unmapped → (NewInFull b id → ⊥) → Took b id raw (greater_call b id raw).table
+  pub lower : not_form b ≡ false → (raw ≡ 0 → ⊥) → (l : ℕ) → held_in b id ≡ Some l → raw < l → greater_call b id raw ≡ same b (accepted (l ∷ []))
+  pub answer : not_form b ≡ false → (raw ≡ 0 → ⊥) → (l : ℕ) → held_in b id ≡ Some l → l < raw → (greater_call b id raw).answer ≡ accepted (l ∷ [])
+  pub took : not_form b ≡ false → (raw ≡ 0 → ⊥) → (l : ℕ) → held_in b id ≡ Some l → l < raw → Took b id raw (greater_call b id raw).table
+  pub new-answer : not_form b ≡ false → (raw ≡ 0 → ⊥) → held_in b id ≡ None → (NewInFull b id → ⊥) → (greater_call b id raw).answer ≡ accepted []
+  pub new-took : not_form b ≡ false → (raw ≡ 0 → ⊥) → held_in b id ≡ None → (NewInFull b id → ⊥) → Took b id raw (greater_call b id raw).table
 
 pub greater-facts : (b : Table) (id raw : ℕ) → Greater b id raw
 unfolding greater_call

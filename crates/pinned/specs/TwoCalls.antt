@@ -1,5 +1,5 @@
 -- Request P7, "Maintenance in two calls", from outside: of every world.
-use Rattle.std.specs.Prelude.{◌≡◌, ◌⊎◌, ◌≤◌, ◌<◌, ◌&&◌, ◌∷◌, ◌++◌, ◌^◌}
+use Rattle.std.specs.Prelude.{◌≡◌, ◌⊎◌, ◌≤◌, ◌<◌, ◌&&◌, ◌∷◌, ◌++◌, ◌^◌, Err}
 use Rattle.std.proofs.Math.Path.{refl, ap}
 use Rattle.std.proofs.Common.{sym, ◌∙◌, subst, inl, inr, ⊎_elim, arith, lt-ltb, le-ltb}
 use Rattle.std.proofs.lemmas.Bool.{lt-leb, eqb-false}
@@ -7,7 +7,7 @@ use Rattle.numbers.specs.GroupLaws.{either_way}
 use Rattle.rules.specs.Base.{Bool, true, false, not, List, [], ℕ, length, take, leb, within, each}
 use Rattle.rules.specs.BaseLaws.{All}
 use Rattle.rules.proofs.BaseLaws.{all_append, or-false, or-holds}
-use Rattle.theory.specs.Types.{Entry, Label, Refusal, Limits, Refused, Stopped, Generation}
+use Rattle.theory.specs.Types.{Entry, Label, Refusal, Limits, Generation, stopped_with}
 use Rattle.disk_location.specs.Locations.{masked_of}
 use Rattle.rules.proofs.Answers.{known, answer-one}
 use Rattle.rules.specs.Refusal.{Test, ◌gives◌, decide, number_of}
@@ -102,7 +102,7 @@ planned-none w g few = rw (lt-ltb (length (group w g (mark_of w) (count_of w))) 
 -- ---- rewrite
 module _ (w : World) (room g mark count : ℕ) where
   -- a first test that holds
-  stops : (r : Refusal) → decide (rewrite_tests w room g) ≡ Refused r → rewrite_call w room g mark count ≡ unchanged w r
+  stops : (r : Refusal) → decide (rewrite_tests w room g) ≡ Err r → rewrite_call w room g mark count ≡ unchanged w r
   unfolding rewrite_of
   stops r e = ap answered_at (after-refused {A = Course} (decide (rewrite_tests w room g)) r _ _ e)
 
@@ -143,7 +143,7 @@ accepted-not : (n : ℕ) (r : Refusal) → accepted (n ∷ []) ≡ refused r →
 accepted-not n r e = eqb-false (number_of r) 0 (known r).some (sym (ap (λ (a : Given). a.number) e))
 
 one-refusal : (q r : Refusal) → refused q ≡ refused r → q ≡ r
-one-refusal q r e = let z = answer-one (Refused q) (Refused r) e in cc
+one-refusal q r e = let z = answer-one (Err q) (Err r) e in cc
 
 -- a refusal's own
 refused-ends : (w : World) (q : Refusal) → Ended w (unchanged w q)
@@ -179,7 +179,7 @@ module _ (w : World) (room g mark count : ℕ) where
 abbrev Other : Test → Type 0
 Other (b gives r) = number_of r ≡ 22 → ⊥
 
-never-given : (ts : List Test) → All Other ts → decide ts ≡ Refused Generation → ⊥
+never-given : (ts : List Test) → All Other ts → decide ts ≡ Err Generation → ⊥
 unfolding decide
 never-given [] a e = let z : ◌≡◌ {A = ℕ} 0 1 = cc in omega arith
 never-given (true gives r ∷ ts) a e = let z : r ≡ Generation = cc in a.0 (ap number_of z)
@@ -230,7 +230,7 @@ module _ (w : World) (room g mark count : ℕ) where
               (λ d. accepted-not _ Generation (sym (ap (λ (c : Course). (answered_at c).answer) (group-added g (group w g mark count) 0 w d)) ∙ sym r ∙ e))
               (λ z.
               let i = one-refusal z.0 Generation (sym (ap (λ (c : Course). (answered_at c).answer) (group-kept g (group w g mark count) 0 w z.0 z.1)) ∙ sym r ∙ e) in
-              never-given ts (group-others w (group w g mark count) _) (z.1 ∙ ap Refused i))
+              never-given ts (group-others w (group w g mark count) _) (z.1 ∙ ap Err i))
               (done-or-refused (decide ts))
 
       go : (b : Bool) → refused_noting w room ≡ b → (g < 1) ⊎ (1 ≤ g) → (3 < g) ⊎ (g ≤ 3) → (refused_noting w room ≡ false) × ((g < 1) ⊎ (3 < g))
@@ -245,7 +245,7 @@ module _ (w : World) (room g mark count : ℕ) where
 -- ---- the notes
 -- LAW: "as long as the table has entries; shorter: 1", of all three, and nothing changes
 pub short-notes : (w : World) (room g mark count : ℕ) → room < capacity_of w.table
-    → (plan_call w room ≡ refused Limits) × (rewrite_call w room g mark count ≡ unchanged w Limits) × (nightly_call w room ≡ leaving (maintain_given (Stopped Limits 0 0)) w)
+    → (plan_call w room ≡ refused Limits) × (rewrite_call w room g mark count ≡ unchanged w Limits) × (nightly_call w room ≡ leaving (maintain_given (Err (stopped_with Limits 0 0))) w)
 unfolding nightly_call
 short-notes w room g mark count few = (plan-limits w room e, rewrite-limits w room g mark count e, rw (decide-first (refused_noting w room) Limits [] e))
   where

@@ -1,11 +1,11 @@
 -- "Write decides 1 to 7 in order on the whole batch."; "An empty batch succeeds and changes nothing."
-use Rattle.std.specs.Prelude.{◌≡◌, refl, ◌≤◌, ◌<◌, ◌∷◌, ◌+◌, ◌^◌}
+use Rattle.std.specs.Prelude.{◌≡◌, refl, ◌≤◌, ◌<◌, ◌∷◌, ◌+◌, ◌^◌, None, Some}
 use Rattle.std.proofs.Common.{ap, ◌∙◌, zero-le, arith, leb-false, le-ltb}
 use Rattle.std.proofs.lemmas.Bool.{lt-leb}
 use Rattle.rules.specs.Base.{true, false, List, [], ℕ, suc, length, pick, any, keep, sum}
 use Rattle.rules.specs.BaseLaws.{All}
 use Rattle.rules.proofs.BaseLaws.{all_map, any_false, any-clear, or-clear}
-use Rattle.theory.specs.Types.{Entry, Held, Mapped, Unmapped, Limits, BatchBytes}
+use Rattle.theory.specs.Types.{Entry, Held, Limits, BatchBytes}
 use Rattle.rules.specs.Refusal.{decide, NoneHolds}
 use Rattle.rules.proofs.RefusalLaws.{none-append, decide-clear, decide-first, decide-next}
 use Rattle.rules.specs.Ops.{Content, put, delete, Op, is_delete, size_of, objects_of, entries_of, file_bytes, settled}
@@ -48,8 +48,8 @@ grows f table t position (o ∷ os) r same (ops-rise p up) =
     one : (h : Held) → lookup table o.id ≡ h
         → length (insert_all (insert t n) (entries_of (position + size_of o.content) os)) ≡ length (insert t n) + length (new_in table os)
         → length (insert_all (insert t n) (entries_of (position + size_of o.content) os)) ≡ length t + length (pick (unmapped h) (o ∷ new_in table os) (new_in table os))
-    one Unmapped e ih = omega (arith, insert-new t n (same o.id p ∙ e))
-    one (Mapped l) e ih = omega (arith, insert-old 0 t r n l (same o.id p ∙ e))
+    one None e ih = omega (arith, insert-new t n (same o.id p ∙ e))
+    one (Some l) e ih = omega (arith, insert-old 0 t r n l (same o.id p ∙ e))
 
 -- LAW: a table in form and a batch: the table's ids, and those of the batch that it has not
 pub distinct-ids : (table : List Entry) (ops : List Op) → Rising 0 table → length (insert_all table (entries_of 0 (settled ops))) ≡ length table + length (new_in table (settled ops))

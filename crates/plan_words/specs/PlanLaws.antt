@@ -1,8 +1,7 @@
 -- The words of what the call `plan` gives are the definition's.
-use Rattle.std.specs.Prelude.{◌≡◌, refl, ◌∷◌, ◌++◌}
+use Rattle.std.specs.Prelude.{◌≡◌, refl, ◌∷◌, ◌++◌, Ok}
 use Rattle.std.proofs.Common.{ap, arith}
 use Rattle.rules.specs.Base.{Bool, true, false, List, [], ℕ, replicate, pick, padded}
-use Rattle.rules.specs.declared.Answer.TheVariants.{Done}
 use Rattle.rules.specs.declared.Refusal.{Refusal}
 use Rattle.rules.specs.declared.Refusal.TheVariants.{Limits}
 use Rattle.rules.specs.Refusal.{◌gives◌, decide, after}
@@ -36,7 +35,7 @@ pub plan-laid : (w : World) (room : ℕ) → plan_words (plan_result w room).pla
 unfolding plan_result plan_laid decide
 plan-laid w room = go (refused_noting w room)
   where
-    go : (b : Bool) → plan_words (pick b no_plan (record { answer = Done; plan = plan_in w })).plan
+    go : (b : Bool) → plan_words (pick b no_plan (record { answer = Ok tt; plan = plan_in w })).plan
         ≡ after (decide (b gives Limits ∷ [])) (λ (r : Refusal). replicate 777 0) (laid_words w)
     go true = no_words
     go false = plan-words w
@@ -46,7 +45,7 @@ pub plan-answered : (w : World) (room : ℕ) → answer_given (plan_result w roo
 unfolding plan_result plan_call decide
 plan-answered w room = go (refused_noting w room)
   where
-    go : (b : Bool) → answer_given (pick b no_plan (record { answer = Done; plan = plan_in w })).answer
+    go : (b : Bool) → answer_given (pick b no_plan (record { answer = Ok tt; plan = plan_in w })).answer
         ≡ record { number = (after (decide (b gives Limits ∷ [])) refused (accepted (plan_values w))).number; values = [] }
     go true = refl
     go false = refl

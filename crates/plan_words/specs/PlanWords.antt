@@ -1,5 +1,5 @@
 -- A plan as 777 words.
-use Rattle.std.specs.Prelude.{◌∷◌, ◌++◌}
+use Rattle.std.specs.Prelude.{◌∷◌, ◌++◌, Option, Some, None}
 use Rattle.rules.specs.Base.{List, [], ℕ, replicate, padded}
 use Rattle.rules.specs.declared.Refusal.{Refusal}
 use Rattle.rules.specs.declared.Refusal.TheVariants.{Limits}
@@ -8,21 +8,20 @@ use Rattle.rules.specs.TwoCalls.{refused_noting, mark_of, count_of, planned_slot
 use Rattle.rules.specs.World.{World}
 use Rattle.gc_candidates.specs.Plan.{planned}
 use Rattle.gc_course.specs.declared.Halt.{Halt}
-use Rattle.gc_course.specs.declared.Halt.TheVariants.{Going, Halted}
 use Rattle.gc_plan.specs.declared.PlanValues.{PlanValues}
 
 -- the number foretold, 0 where nothing is
-abbrev pub foretold_number : Halt → ℕ
-foretold_number Going = 0
-foretold_number (Halted r g) = number_of r
+abbrev pub foretold_number : Option Halt → ℕ
+foretold_number None = 0
+foretold_number (Some h) = number_of h.refusal
 
 -- the generation foretold, 0 where nothing is
-abbrev pub foretold_generation : Halt → ℕ
-foretold_generation Going = 0
-foretold_generation (Halted r g) = g
+abbrev pub foretold_generation : Option Halt → ℕ
+foretold_generation None = 0
+foretold_generation (Some h) = h.generation
 
 -- the six numbers before the groups
-abbrev pub head_words : ℕ → ℕ → ℕ → ℕ → Halt → List ℕ
+abbrev pub head_words : ℕ → ℕ → ℕ → ℕ → Option Halt → List ℕ
 head_words mark count files bytes foretold = mark ∷ count ∷ files ∷ bytes ∷ foretold_number foretold ∷ foretold_generation foretold ∷ []
 
 -- a group: how many slots, the slots, zeros behind them, 257 words

@@ -13,7 +13,6 @@ ghost use Rattle.plan_words.specs.PlanWords.{foretold_number, foretold_generatio
 use as_numbers::answers::refusal_number;
 use gc_course::Halt;
 use gc_plan::PlanValues;
-use location_table::clear;
 
 // The slots of a generation, ascending, their number before them, zeros behind them.
 fn put_group(slots: &[u64], generation: u64, words: &mut [u64])
@@ -21,15 +20,13 @@ fn put_group(slots: &[u64], generation: u64, words: &mut [u64])
     ensures { words.new
         ≡ padded (length words.old) (counted (planned slots.now generation)) }
 {
-    clear(words);
+    words.fill(0);
     let mut n: usize = 0;
-    let mut i: usize = 0;
-    while i < slots.len() {
-        if slots[i] == generation {
+    for (i, taken) in slots.iter().enumerate() {
+        if *taken == generation {
             n += 1;
             words[n] = i as u64;
         }
-        i += 1;
     }
     words[0] = n as u64;
 }
@@ -46,38 +43,40 @@ fn put_group_at(slots: &[u64], generation: u64, words: &mut [u64], at: usize)
 }
 
 // 0 where nothing is foretold.
-fn foretold_number(halt: Halt) -> u64
-    ensures { result ≡ foretold_number halt }
+fn foretold_number(foretold: Option<Halt>) -> u64
+    ensures { result ≡ foretold_number foretold }
 {
-    match halt {
-        Halt::Going => 0,
-        Halt::Halted(refusal, _) => refusal_number(refusal),
+    match foretold {
+        None => 0,
+        Some(halt) => refusal_number(halt.refusal),
     }
 }
 
 // 0 where nothing is foretold.
-fn foretold_generation(halt: Halt) -> u64
-    ensures { result ≡ foretold_generation halt }
+fn foretold_generation(foretold: Option<Halt>) -> u64
+    ensures { result ≡ foretold_generation foretold }
 {
-    match halt {
-        Halt::Going => 0,
-        Halt::Halted(_, generation) => generation,
+    match foretold {
+        None => 0,
+        Some(halt) => halt.generation,
     }
 }
 
 // The six numbers before the groups.
-fn put_head(mark: u64, count: u64, files: u64, bytes: u64, foretold: Halt, words: &mut [u64])
+fn put_head(
+    mark: u64,
+    count: u64,
+    files: u64,
+    bytes: u64,
+    foretold: Option<Halt>,
+    words: &mut [u64],
+)
     requires { length words.old ≡ 777 }
     ensures { words.new ≡ put_at words.old 0 (head_words mark count files bytes foretold) }
 {
     let refusal = foretold_number(foretold);
     let generation = foretold_generation(foretold);
-    words[0] = mark;
-    words[1] = count;
-    words[2] = files;
-    words[3] = bytes;
-    words[4] = refusal;
-    words[5] = generation;
+    words[..6].copy_from_slice(&[mark, count, files, bytes, refusal, generation]);
 }
 
 // All of it.

@@ -1,10 +1,10 @@
 -- Request P8, call by call: a run cut before its end leaves what the engine said before the call, a run made whole what it says after it.
-use Rattle.std.specs.Prelude.{◌≡◌, ◌<◌, ◌≤◌, ◌∷◌, ◌++◌, ◌^◌}
+use Rattle.std.specs.Prelude.{◌≡◌, ◌<◌, ◌≤◌, ◌∷◌, ◌++◌, ◌^◌, Err, Ok}
 use Rattle.std.proofs.Math.Path.{refl, subst}
 use Rattle.std.proofs.Common.{sym, ap, ◌∙◌, not-suc-le-zero, take_all}
 use mathlib.Core.List.{append-nil}
 use Rattle.rules.specs.Base.{List, [], ℕ, length, take}
-use Rattle.theory.specs.Types.{Answer, Done, Refused}
+use Rattle.theory.specs.Types.{Answer}
 use Rattle.rules.specs.Refusal.{decide, after}
 use Rattle.rules.specs.Ops.{Op, settled}
 use Rattle.rules.specs.Batch.{batch_in, ops_of}
@@ -36,21 +36,21 @@ module _ (w : World) (history : List Op) (s : SoundWorld w (engine history)) whe
     unfolding write_call written installed_all
     write-alike = go (decide (write_tests w bytes)) refl
       where
-        files : decide (write_tests w bytes) ≡ Done → (os : List Op) → ops_in bytes ≡ os → Alike w (installed_all (2 ^ 62) 0 w (new_files os))
+        files : decide (write_tests w bytes) ≡ Ok tt → (os : List Op) → ops_in bytes ≡ os → Alike w (installed_all (2 ^ 62) 0 w (new_files os))
         files e [] q = alike_self w
         files e (o ∷ os) q = alike-installed w (engine history) s (2 ^ 62) 0 (o ∷ os) (fits-write w history s bytes o os q (write-accepted w bytes e))
 
         go : (a : Answer) → decide (write_tests w bytes) ≡ a
             → Alike w (after a (unchanged w) (record { answer = accepted []; world = installed_all (2 ^ 62) 0 w (new_files (settled (ops_of (batch_in bytes)))) })).world
-        go (Refused r) e = alike_self w
-        go Done e = files e (ops_in bytes) refl
+        go (Err r) e = alike_self w
+        go (Ok _) e = files e (ops_in bytes) refl
 
     -- the file is not seen yet
     write-early : (k : ℕ) → k < length (write_run w bytes) → StandsOn w (made (take k (write_run w bytes)) w.heap) (engine history)
     unfolding write_run files_run
     write-early k = go (decide (write_tests w bytes)) refl
       where
-        files : decide (write_tests w bytes) ≡ Done → (os : List Op) → ops_in bytes ≡ os → k < length (files_run (2 ^ 62) 0 w (new_files os))
+        files : decide (write_tests w bytes) ≡ Ok tt → (os : List Op) → ops_in bytes ≡ os → k < length (files_run (2 ^ 62) 0 w (new_files os))
             → StandsOn w (made (take k (files_run (2 ^ 62) 0 w (new_files os))) w.heap) (engine history)
         files e [] q h = absurd (not-suc-le-zero h)
         files e (o ∷ os) q h =
@@ -61,8 +61,8 @@ module _ (w : World) (history : List Op) (s : SoundWorld w (engine history)) whe
 
         go : (a : Answer) → decide (write_tests w bytes) ≡ a → k < length (unless_refused a (files_run (2 ^ 62) 0 w (new_files (settled (ops_of (batch_in bytes))))))
             → StandsOn w (made (take k (unless_refused a (files_run (2 ^ 62) 0 w (new_files (settled (ops_of (batch_in bytes))))))) w.heap) (engine history)
-        go (Refused r) e h = absurd (not-suc-le-zero h)
-        go Done e h = files e (ops_in bytes) refl h
+        go (Err r) e h = absurd (not-suc-le-zero h)
+        go (Ok _) e h = files e (ops_in bytes) refl h
 
     -- it is
     write-whole : (k : ℕ) → length (write_run w bytes) ≤ k → StandsOn w (made (take k (write_run w bytes)) w.heap) (engine (hears w history (write bytes)))

@@ -1,12 +1,11 @@
 -- A slot shows no file exactly if it begins with byte 0.
-use Rattle.std.specs.Prelude.{◌≡◌}
+use Rattle.std.specs.Prelude.{◌≡◌, Err, None, Ok, Some}
 use Rattle.std.proofs.Math.Path.{refl, sym}
 use Rattle.std.proofs.Common.{◌∙◌, arith, get_or-take}
 use borrow.Author.Tests.{eqb-true}
 use Rattle.rules.specs.Base.{Bool, true, false, List, ℕ, get_or, take, drop, eqb, pick, zeros}
-use Rattle.theory.specs.Types.{Label, Refusal, Answer, Done, Refused, LabelAnswer, Vacant, Five, Wrong}
-use Rattle.numbers.specs.declared.Number.{Number}
-use Rattle.numbers.specs.declared.Number.TheVariants.{Said, Malformed}
+use Rattle.theory.specs.Types.{Label, Refusal, Answer, LabelAnswer, Vacant, Five, Wrong}
+use Rattle.numbers.specs.Answers.{Number}
 use Rattle.numbers.specs.Groups.{number_in, saying}
 use Rattle.rules.specs.Refusal.{decide, after}
 use Rattle.rules.specs.Label.{five_in, label_in}
@@ -17,12 +16,12 @@ module _ (slot : List ℕ) where
   damaged-not e = let z : ◌≡◌ {A = ℕ} 0 1 = cc in omega arith
 
   after-not : (a : Answer) (v : View) → (v ≡ empty → ⊥) → after a damaged v ≡ empty → ⊥
-  after-not Done v n e = n e
-  after-not (Refused r) v n e = damaged-not e
+  after-not (Ok _) v n e = n e
+  after-not (Err r) v n e = damaged-not e
 
   saying-not : (n : Number) (f : ℕ → ℕ → LabelAnswer) → ((v p : ℕ) → view_by (f v p) slot ≡ empty → ⊥) → view_by (saying Wrong n f) slot ≡ empty → ⊥
-  saying-not (Said v p) f h e = h v p e
-  saying-not Malformed f h e = damaged-not e
+  saying-not (Some (v, p)) f h e = h v p e
+  saying-not None f h e = damaged-not e
 
   five-not : (b : Bool) (r : Label) → view_by (pick b (Five r) Wrong) slot ≡ empty → ⊥
   five-not true r e = after-not (decide (slot_tests r slot)) _ (λ q. let z : ◌≡◌ {A = ℕ} 0 1 = cc in omega arith) e

@@ -1,8 +1,8 @@
 -- Request P8: the run of a call is the runs of its writers, one behind the other, with what the call gives each of them.
-use Rattle.std.specs.Prelude.{◌≡◌, refl, ◌∷◌, ◌++◌, ◌^◌}
+use Rattle.std.specs.Prelude.{◌≡◌, refl, ◌∷◌, ◌++◌, ◌^◌, Err, Ok}
 use Rattle.std.proofs.Common.{ap, append-nil}
 use Rattle.rules.specs.Base.{Bool, true, false, List, [], each, ℕ, pick}
-use Rattle.theory.specs.Types.{Limits, Answer, Done, Refused}
+use Rattle.theory.specs.Types.{Limits, Answer}
 use Rattle.rules.specs.Refusal.{◌gives◌, decide}
 use Rattle.rules.specs.Ops.{Op, settled}
 use Rattle.rules.specs.Batch.{batch_in, ops_of}
@@ -24,8 +24,8 @@ use Rattle.power_cuts.specs.Jobs.{Job, jobs_run, file_jobs, group_jobs, generati
 -- none for a call that is refused
 refused-run : (a : Answer) (js : List Job) (run : List Store) → jobs_run js ≡ run → jobs_run (unless_refused a js) ≡ unless_refused a run
 unfolding each
-refused-run (Refused r) js run e = refl
-refused-run Done js run e = e
+refused-run (Err r) js run e = refl
+refused-run (Ok _) js run e = e
 
 file-runs : (bit g : ℕ) (w : World) (files : List (List Op)) → jobs_run (file_jobs bit g w files) ≡ files_run bit g w files
 unfolding each file_jobs files_run stores_for

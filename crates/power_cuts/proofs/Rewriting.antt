@@ -1,10 +1,10 @@
 -- Request P8: a rewrite's run, cut anywhere: files of current contents one behind the other.
-use Rattle.std.specs.Prelude.{◌≡◌, ◌⊎◌, ◌<◌, ◌≤◌, ◌∷◌, ◌++◌, ◌+◌, ◌^◌}
+use Rattle.std.specs.Prelude.{◌≡◌, ◌⊎◌, ◌<◌, ◌≤◌, ◌∷◌, ◌++◌, ◌+◌, ◌^◌, Err, Ok}
 use Rattle.std.proofs.Math.Path.{refl, ap, subst}
 use Rattle.std.proofs.Common.{sym, inl, inr, take_all}
 use native.Mathlib.Omega.{arith}
 use Rattle.rules.specs.Base.{Bool, true, false, List, [], ℕ, length, take, pick, sum}
-use Rattle.theory.specs.Types.{Settings, Refusal, Answer, Done, Refused}
+use Rattle.theory.specs.Types.{Settings, Refusal, Answer}
 use Rattle.numbers.specs.GroupLaws.{either_way}
 use Rattle.rules.specs.BaseLaws.{All}
 use Rattle.rules.specs.Refusal.{decide, after, NoneHolds}
@@ -114,8 +114,8 @@ module _ (history : List Op) where
           → Endured w (after {A = Course} a (λ (r : Refusal). record { stop = stopped r g; moved = moved; world = w })
           (record { stop = going; moved = moved + length (found w slots); world = installed_all 0 g w (files_of w.settings.target_file_size (found w slots)) })).world
           (unless_refused a (files_run 0 g w (files_of w.settings.target_file_size (found w slots)))) (engine history)
-      go (Refused r) e = endured-none w (engine history) s
-      go Done e =
+      go (Err r) e = endured-none w (engine history) s
+      go (Ok _) e =
           room-endured w s g aged (files_of w.settings.target_file_size (found w slots)) (files-rewritable history w s slots w.settings.target_file_size)
           (none_rest (source_tests w slots) _
           (clear-when (group_tests w slots (files_of w.settings.target_file_size (found w slots))) e))
@@ -141,5 +141,5 @@ module _ (history : List Op) where
       go : (a : Answer) → decide (rewrite_tests w room g) ≡ a
           → Endured w (after {A = Course} a (λ (r : Refusal). record { stop = stopped r g; moved = 0; world = w }) (generation_rewritten w g mark count)).world
           (unless_refused a (generation_run w g mark count)) (engine history)
-      go (Refused r) e = endured-none w (engine history) s
-      go Done e = let n = (generation-named w room g e).1 in generation-endured w s g (omega arith) mark count
+      go (Err r) e = endured-none w (engine history) s
+      go (Ok _) e = let n = (generation-named w room g e).1 in generation-endured w s g (omega arith) mark count

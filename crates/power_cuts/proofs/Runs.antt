@@ -1,8 +1,8 @@
 -- Request P8: "a numbered run of single-byte stores" for each call of demand 3, accepted or refused; a call changes the heap by its run alone.
-use Rattle.std.specs.Prelude.{◌≡◌, refl, ◌∷◌, ◌+◌, ◌^◌}
+use Rattle.std.specs.Prelude.{◌≡◌, refl, ◌∷◌, ◌+◌, ◌^◌, Err, Ok}
 use Rattle.std.proofs.Common.{sym, ap, ◌∙◌}
 use Rattle.rules.specs.Base.{Bool, true, false, List, [], ℕ, length, pick}
-use Rattle.theory.specs.Types.{Refusal, Limits, Answer, Done, Refused}
+use Rattle.theory.specs.Types.{Refusal, Limits, Answer}
 use Rattle.rules.specs.Refusal.{◌gives◌, decide, after}
 use Rattle.rules.specs.Ops.{Op, settled}
 use Rattle.rules.specs.Batch.{batch_in, ops_of}
@@ -37,16 +37,16 @@ write-made w bytes = go (decide (write_tests w bytes))
   where
     go : (a : Answer) → (after a (unchanged w) (record { answer = accepted []; world = installed_all (2 ^ 62) 0 w (new_files (settled (ops_of (batch_in bytes)))) })).world.heap
         ≡ made (unless_refused a (files_run (2 ^ 62) 0 w (new_files (settled (ops_of (batch_in bytes)))))) w.heap
-    go (Refused r) = refl
-    go Done = files-made (2 ^ 62) 0 w (new_files (settled (ops_of (batch_in bytes))))
+    go (Err r) = refl
+    go (Ok _) = files-made (2 ^ 62) 0 w (new_files (settled (ops_of (batch_in bytes))))
 
 prune-made : (w : World) → (prune_call w).world.heap ≡ made (prune_run w) w.heap
 unfolding prune_call prune_run pruned made
 prune-made w = go (decide (refused1 w gives Limits ∷ []))
   where
     go : (a : Answer) → (after a (unchanged w) (record { answer = accepted []; world = pruned w })).world.heap ≡ made (unless_refused a (prune_stores w)) w.heap
-    go (Refused r) = refl
-    go Done = refl
+    go (Err r) = refl
+    go (Ok _) = refl
 
 group-made : (g : ℕ) (slots : List ℕ) (moved : ℕ) (w : World) → (rewrite_group g slots moved w).world.heap ≡ made (group_run g slots w) w.heap
 unfolding rewrite_group group_run made
@@ -56,8 +56,8 @@ group-made g slots moved w = go (decide (group_tests w slots (files_of w.setting
         → (after {A = Course} a (λ (r : Refusal). record { stop = stopped r g; moved = moved; world = w })
         (record { stop = going; moved = moved + length (found w slots); world = installed_all 0 g w (files_of w.settings.target_file_size (found w slots)) })).world.heap
         ≡ made (unless_refused a (files_run 0 g w (files_of w.settings.target_file_size (found w slots)))) w.heap
-    go (Refused r) = refl
-    go Done = files-made 0 g w (files_of w.settings.target_file_size (found w slots))
+    go (Err r) = refl
+    go (Ok _) = files-made 0 g w (files_of w.settings.target_file_size (found w slots))
 
 generation-made : (w : World) (g mark count : ℕ) → (generation_rewritten w g mark count).world.heap ≡ made (generation_run w g mark count) w.heap
 unfolding generation_rewritten generation_run made
@@ -74,8 +74,8 @@ rewrite-made w room g mark count = ap (λ (v : World). v.heap) (rewrite-world w 
   where
     go : (a : Answer) → (after {A = Course} a (λ (r : Refusal). record { stop = stopped r g; moved = 0; world = w }) (generation_rewritten w g mark count)).world.heap
         ≡ made (unless_refused a (generation_run w g mark count)) w.heap
-    go (Refused r) = refl
-    go Done = generation-made w g mark count
+    go (Err r) = refl
+    go (Ok _) = generation-made w g mark count
 
 -- "The heap is only read."
 reopen-reads : (w : World) → (reopen_call w).world.heap ≡ w.heap
@@ -86,9 +86,9 @@ reopen-reads w = go (decide (out_of_range w.settings (length w.heap) w.table giv
     views = views_in (slots_of w) w.settings.slot_bytes w.heap
 
     go : (a b : Answer) → (after a (unchanged w) (after b (given_up w) (opened w (views_in (slots_of w) w.settings.slot_bytes w.heap)))).world.heap ≡ w.heap
-    go (Refused r) b = refl
-    go Done (Refused r) = refl
-    go Done Done = refl
+    go (Err r) b = refl
+    go (Ok _) (Err r) = refl
+    go (Ok _) (Ok _) = refl
 
 -- LAW: "Write, rewrite and prune change the heap only through" their runs; of any world, any call, refused or not
 pub run-made : (w : World) (c : Call) → (called w c).world.heap ≡ made (run_of w c) w.heap

@@ -7,6 +7,7 @@ use native.Mathlib.Omega.{arith}
 use native.Mathlib.Numerals.{add-one}
 use lib.ListN.{length, set, take, drop}
 use lib.Seq.{drop-cons, take-suc-set, drop-set-lt, append_snoc, take_all, get_or-set_other}
+use Rattle.std.proofs.lemmas.List.{set-get_or}
 use Rattle.numbers.specs.Choice.{pick}
 use Rattle.numbers.specs.LittleEndian.{le_bytes}
 use Rattle.rules.specs.declared.Record.{Record}
@@ -23,7 +24,7 @@ module _ (claims : Claims) where
   abbrev pub emptied_on : ℕ → List Record → List Record
   emptied_on i rs = take i rs ++ emptied_from claims i (drop i rs)
 
-  pub emptied-next : (i : ℕ) (rs : List Record) → i < length rs
+  emptied-next : (i : ℕ) (rs : List Record) → i < length rs
       → emptied_on (i + 1) (set rs i (pick (is_dead claims i (record_at rs i)) empty_record (record_at rs i))) ≡ emptied_on i rs
   unfolding emptied_from
   emptied-next i rs h =
@@ -32,6 +33,14 @@ module _ (claims : Claims) where
       (ap₂ (λ (done : List Record) (rest : List Record). done ++ emptied_from claims (suc i) rest) (take-suc-set rs i r h) (drop-set-lt (suc i) rs i r (omega arith))
       ∙ append_snoc (take i rs) r (emptied_from claims (suc i) (drop (suc i) rs))
       ∙ ap (λ (rest : List Record). take i rs ++ emptied_from claims i rest) (sym (drop-cons rs i empty_record h)))
+
+  -- a dead file's record is emptied, another stays
+  pub emptied-here : (i : ℕ) (rs : List Record) → i < length rs → is_dead claims i (record_at rs i) ≡ true → emptied_on (i + 1) (set rs i empty_record) ≡ emptied_on i rs
+  emptied-here i rs h e = ap (λ (t : Bool). emptied_on (i + 1) (set rs i (pick t empty_record (record_at rs i)))) (sym e) ∙ emptied-next i rs h
+
+  pub emptied-other : (i : ℕ) (rs : List Record) → i < length rs → is_dead claims i (record_at rs i) ≡ false → emptied_on (i + 1) rs ≡ emptied_on i rs
+  emptied-other i rs h e =
+      ap (emptied_on (i + 1)) (sym (set-get_or rs i empty_record) ∙ ap (λ (t : Bool). set rs i (pick t empty_record (record_at rs i))) (sym e)) ∙ emptied-next i rs h
 
   pub emptied-end : (i : ℕ) (rs : List Record) → length rs ≤ i → emptied_on i rs ≡ rs
   unfolding emptied_from

@@ -1,12 +1,11 @@
 -- The steps of a prune, and that any two results which its contract admits are equal.
-use Rattle.std.specs.Prelude.{◌≡◌}
+use Rattle.std.specs.Prelude.{◌≡◌, Err, Ok}
 use Rattle.std.proofs.Common.{sym, ap, ◌∙◌}
 use Rattle.rules.specs.Base.{Bool, true, false, not, List, [], ℕ, pick}
 use Rattle.rules.specs.declared.Settings.{Settings}
 use Rattle.rules.specs.declared.Record.{Record}
 use Rattle.rules.specs.declared.State.{State}
 use Rattle.rules.specs.declared.Claims.{Claims}
-use Rattle.rules.specs.declared.Answer.TheVariants.{Refused, Done}
 use Rattle.rules.specs.declared.Refusal.TheVariants.{Limits}
 use Rattle.rules.specs.Refusal.{decide}
 use Rattle.rules.proofs.Answers.{answer-one}
@@ -32,7 +31,7 @@ module _ (s : Settings) (t : State) (c : Claims) (heap table : List ℕ) where
   Prunes r h = leaving (answer_given r.answer) (world s r.state c h table) ≡ prune_call (world s t c heap table)
 
 -- refused with 1 it changes nothing
-pub prune-decided : (w : World) (refused : Bool) → refused ≡ refused1 w → leaving (answer_given (pick refused (Refused Limits) Done)) (pick (not refused) (pruned w) w) ≡ prune_call w
+pub prune-decided : (w : World) (refused : Bool) → refused ≡ refused1 w → leaving (answer_given (pick refused (Err Limits) (Ok tt))) (pick (not refused) (pruned w) w) ≡ prune_call w
 unfolding prune_call decide
 prune-decided w true e = rw (sym e)
 prune-decided w false e = rw (sym e)

@@ -2,10 +2,9 @@
 
 #![tactic(auto)]
 
-ghost use Rattle.std.specs.Prelude.{◌≡◌, true, List, [], ◌∷◌, ℕ, ◌+◌, ◌*◌, ◌<◌, ◌≤◌, length, take};
+ghost use Rattle.std.specs.Prelude.{◌≡◌, true, List, [], ◌∷◌, ℕ, ◌+◌, ◌*◌, ◌<◌, ◌≤◌, length, take, Err, Ok};
 ghost use Rattle.numbers.specs.Choice.{pick};
 ghost use Rattle.rules.specs.FileMap.{empty_record, slots_where};
-ghost use Rattle.rules.specs.declared.Answer.TheVariants.{Refused, Done};
 ghost use Rattle.rules.specs.declared.Refusal.TheVariants.{Limits};
 ghost use Rattle.rules.specs.Stores.{made};
 ghost use Rattle.rules.specs.Prune.{is_dead, emptied_from, pruned, prune_call};
@@ -14,14 +13,14 @@ ghost use Rattle.rules.specs.World.{world, leaving, answer_given};
 ghost use Rattle.stores.specs.Runs.{Made};
 ghost use Rattle.prune.specs.Labels.{LabelsIn};
 
-use file_map::is_empty;
+use file_map::{empty, is_empty};
 use limits::{bad_files, refused_apart, rest_of};
-use rules::{Answer, Claims, FileMap, RECORDS, Record, Refusal, Settings, State};
+use rules::{Claims, FileMap, RECORDS, Record, Refusal, Settings, State};
 
 // What a prune answers, and the state after it.
 #[derive(Clone, Copy)]
 pub struct PruneAnswer {
-    pub answer: Answer,
+    pub answer: Result<(), Refusal>,
     pub state: State,
 }
 
@@ -30,41 +29,21 @@ fn is_dead(claims: Claims, slot: u64, r: Record) -> bool
     requires { slot < 256 }
     ensures { result ≡ is_dead claims slot r }
 {
-    if is_empty(r) {
-        return false;
-    }
-    if r.live != 0 {
-        return false;
-    }
-    !claims::is_claimed(claims, slot)
-}
-
-// ---- records
-// A slot's record after the prune.
-fn emptied_record(dead: bool, r: Record) -> Record
-    ensures { result ≡ pick dead empty_record r }
-{
-    if dead {
-        return file_map::empty();
-    }
-    r
+    !is_empty(r) & (r.live == 0) & !claims::is_claimed(claims, slot)
 }
 
 // ---- the heap: at most `left` stores are made; how many are left of them
-// "first label byte set to 0", where the slot's file is dead.
-fn zero_label(heap: &mut [u8], slot_bytes: u64, slot: u64, dead: bool, left: u64) -> u64
-    requires { dead ≡ true → slot * slot_bytes + 64 ≤ length heap.old }
-    ensures { Made left (emptying slot_bytes (pick dead (slot ∷ []) [])) heap.old heap.new result }
+// "first label byte set to 0"
+fn zero_label(heap: &mut [u8], slot_bytes: u64, slot: u64, left: u64) -> u64
+    requires { slot * slot_bytes + 64 ≤ length heap.old }
+    ensures { Made left (emptying slot_bytes (slot ∷ [])) heap.old heap.new result }
 {
-    if dead {
-        return stores::put_number(heap, (slot * slot_bytes) as usize, 1, 0, left);
-    }
-    left
+    stores::put_number(heap, (slot * slot_bytes) as usize, 1, 0, left)
 }
 
 // ---- both, slot by slot: the records are gone through once
-// Where that begins: behind them all where a prune is not due. So there is one way through the call, and what it leaves stands where it is
-// made; two ways would meet in a copy.
+// Where that begins: behind them all where a prune is not due.
+// Kept: a place to begin at and no early return, since two ways through the call would meet in a copy of all records.
 fn first(due: bool) -> usize
     ensures { result ≡ pick due 0 256 }
 {
@@ -90,13 +69,11 @@ pub fn prune_stores(
 {
     let mut n = files;
     let mut rest = left;
-    let mut i = first(due);
-    while i < RECORDS {
-        let r = n.records[i];
-        let dead = is_dead(claims, i as u64, r);
-        rest = zero_label(heap, slot_bytes, i as u64, dead, rest);
-        n.records[i] = emptied_record(dead, r);
-        i += 1;
+    for i in first(due)..RECORDS {
+        if is_dead(claims, i as u64, n.records[i]) {
+            rest = zero_label(heap, slot_bytes, i as u64, rest);
+            n.records[i] = empty();
+        }
     }
     n
 }
@@ -123,13 +100,13 @@ pub fn pruned(settings: Settings, state: State, claims: Claims, heap: &mut [u8],
     after
 }
 
-fn answer(refused: bool) -> Answer
-    ensures { result ≡ pick refused (Refused Limits) Done }
+fn answer(refused: bool) -> Result<(), Refusal>
+    ensures { result ≡ pick refused (Err Limits) (Ok tt) }
 {
     if refused {
-        return Answer::Refused(Refusal::Limits);
+        return Err(Refusal::Limits);
     }
-    Answer::Done
+    Ok(())
 }
 
 // "Every unclaimed file with live 0: first label byte set to 0, record emptied. No other heap byte changes."

@@ -1,5 +1,5 @@
 -- Parts that a read names lie in the heap; what its contract admits is one.
-use Rattle.std.specs.Prelude.{◌≡◌, refl, ◌≤◌, ◌+◌, ◌-◌, ◌*◌}
+use Rattle.std.specs.Prelude.{◌≡◌, refl, ◌≤◌, ◌+◌, ◌-◌, ◌*◌, Err, None, Ok, Some}
 use Rattle.std.proofs.Common.{sym, ap, ◌∙◌, arith, add_assoc, ltb-false, length-drop, length-take, take-take, drop-drop, length-take-le}
 use Rattle.rules.specs.Base.{Bool, true, false, List, ℕ, length, take, drop}
 use Rattle.rules.specs.declared.Settings.{Settings}
@@ -7,14 +7,10 @@ use Rattle.rules.specs.declared.Label.{Label}
 use Rattle.rules.specs.declared.State.{State}
 use Rattle.rules.specs.declared.Claims.{Claims}
 use Rattle.rules.specs.declared.Refusal.TheVariants.{Limits}
-use Rattle.rules.specs.declared.Answer.{Answer}
-use Rattle.rules.specs.declared.Answer.TheVariants.{Done, Refused}
+use Rattle.rules.specs.Types.{Answer, Slot, ReadAnswer}
 use Rattle.rules.specs.declared.Loaded.{Loaded}
 use Rattle.rules.specs.declared.Loaded.TheVariants.{At, DeletedAt, Never}
-use Rattle.rules.specs.declared.Slot.{Slot}
-use Rattle.rules.specs.declared.Slot.TheVariants.{Is, NoSlot}
-use Rattle.rules.specs.declared.ReadAnswer.{ReadAnswer}
-use Rattle.rules.specs.declared.ReadAnswer.TheVariants.{Found, ReadRefused}
+use Rattle.rules.specs.declared.Lookup.TheVariants.{Found}
 use Rattle.disk_location.specs.Locations.{position_of}
 use Rattle.rules.specs.Refusal.{decide, after, NoneHolds}
 use Rattle.rules.proofs.RefusalLaws.{clear-when}
@@ -30,8 +26,7 @@ use Rattle.rules.specs.Condition1.{refused1}
 use Rattle.rules.specs.Condition1Laws.{Passed}
 use Rattle.rules.specs.World.{World, world, records_of, mappings}
 use Rattle.rules.specs.Read.{object_tests, object_in, read_object, read_file, read_loaded, read_of, part_of}
-use Rattle.stored_object.specs.declared.BodyAnswer.{BodyAnswer}
-use Rattle.stored_object.specs.declared.BodyAnswer.TheVariants.{Body, Unread}
+use Rattle.stored_object.specs.Answers.{BodyAnswer}
 use Rattle.stored_object.specs.Objects.{body_of}
 use Rattle.readpath.specs.Reads.{Lies, FilesLie, in_heap, Within, place_of}
 
@@ -72,29 +67,30 @@ read-object w id k o = go (decide (object_tests id o))
     start : ℕ
     start = k * w.settings.slot_bytes + 64
 
-    go : (a : Answer) → after a ReadRefused (Found (start + o.position + 20) o.size) ≡ in_heap start (after a Unread (Body (o.position + 20) o.size))
-    go Done = ap (λ (n : ℕ). Found n o.size) (add_assoc start o.position 20)
-    go (Refused r) = refl
+    go : (a : Answer) → after a Err (Ok (Found (start + o.position + 20) o.size)) ≡ in_heap start (after a Err (Ok (o.position + 20, o.size)))
+    go (Ok _) = ap (λ (n : ℕ). Ok (Found n o.size)) (add_assoc start o.position 20)
+    go (Err r) = refl
 
 -- a body lies in its file, behind a header
 pub record BodyIn (file : List ℕ) (at size : ℕ) : Type 0 where
   pub header : 20 ≤ at
   pub body : at + size ≤ length file
 
-pub body-in : (id position : ℕ) (file : List ℕ) (at size : ℕ) → body_of id (stored_at position (drop position file)) ≡ Body at size → BodyIn file at size
+pub body-in : (id position : ℕ) (file : List ℕ) (at size : ℕ) → body_of id (stored_at position (drop position file)) ≡ Ok (at, size) → BodyIn file at size
 unfolding object_tests NoneHolds stored_at
 body-in id position file at size = go (decide (object_tests id (stored_at position (drop position file)))) refl
   where
     o : Stored
     o = stored_at position (drop position file)
 
-    go : (a : Answer) → decide (object_tests id o) ≡ a → after a Unread (Body (o.position + 20) o.size) ≡ Body at size → BodyIn file at size
-    go (Refused r) e q = absurd (let z : ◌≡◌ {A = ℕ} 0 1 = cc in omega arith)
-    go Done e q =
+    go : (a : Answer) → decide (object_tests id o) ≡ a → after {A = BodyAnswer} a Err (Ok (o.position + 20, o.size)) ≡ Ok (at, size) → BodyIn file at size
+    go (Err r) e q = absurd (let z : ◌≡◌ {A = ℕ} 0 1 = cc in omega arith)
+    go (Ok _) e q =
         let n = clear-when (object_tests id o) e in
         let b = ltb-false (length (drop position file)) (20 + o.size) n.1.0 in
-        let p : position + 20 ≡ at = cc in
-        let l : o.size ≡ size = cc in
+        let same : ◌≡◌ {A = ℕ × ℕ} (o.position + 20, o.size) (at, size) = cc in
+        let p : position + 20 ≡ at = ap (λ (b : ℕ × ℕ). b.0) same in
+        let l : o.size ≡ size = ap (λ (b : ℕ × ℕ). b.1) same in
         record { header = omega arith; body = omega (arith, length-drop position file) }
 
 -- a slot's file ends within the heap
@@ -108,7 +104,7 @@ file-within size r k heap =
 -- ---- the steps of a read
 module _ (w : World) (id : ℕ) where
   -- 1
-  pub read-refused : refused1 w ≡ true → read_of w id ≡ ReadRefused Limits
+  pub read-refused : refused1 w ≡ true → read_of w id ≡ Err Limits
   unfolding read_of decide
   read-refused e = rw e
 
@@ -119,8 +115,8 @@ module _ (w : World) (id : ℕ) where
 
   -- ---- a part that a read names lies in the heap
   object-named : (k position : ℕ) (b : BodyAnswer) → body_of id (object_in w k position) ≡ b → Within (in_heap (k * w.settings.slot_bytes + 64) b) (length w.heap)
-  object-named k position (Unread r) e = tt
-  object-named k position (Body at size) e =
+  object-named k position (Err r) e = tt
+  object-named k position (Ok (at, size)) e =
       let r = (record_at (records_of w) k).label in
       let v = body-in id position (file_in r (bytes_of_slot w.settings.slot_bytes w.heap k)) at size e in
       let head = v.header in
@@ -128,8 +124,8 @@ module _ (w : World) (id : ℕ) where
       omega (arith, file-within w.settings.slot_bytes r k w.heap)
 
   file-named : (l : ℕ) (k : Slot) → Within (read_file w id l k) (length w.heap)
-  file-named l NoSlot = tt
-  file-named l (Is k) =
+  file-named l None = tt
+  file-named l (Some k) =
       let position = position_of l - (record_at (records_of w) k).label.lsn in
       rw (read-object w id k (object_in w k position)) (object-named k position (body_of id (object_in w k position)) refl)
 

@@ -1,13 +1,12 @@
 -- What the steps of a read ask for and answer.
-use Rattle.std.specs.Prelude.{◌≡◌, ◌≤◌, ◌<◌, ◌+◌, ◌*◌}
+use Rattle.std.specs.Prelude.{◌≡◌, ◌≤◌, ◌<◌, ◌+◌, ◌*◌, Err, Ok}
 use Rattle.rules.specs.Base.{false, List, ℕ}
 use Rattle.rules.specs.declared.Label.{Label}
 use Rattle.rules.specs.declared.Record.{Record}
-use Rattle.rules.specs.declared.ReadAnswer.{ReadAnswer}
-use Rattle.rules.specs.declared.ReadAnswer.TheVariants.{Found, Deleted, NeverWritten, ReadRefused}
+use Rattle.rules.specs.Types.{ReadAnswer}
+use Rattle.rules.specs.declared.Lookup.TheVariants.{Found, Deleted, NeverWritten}
 use Rattle.rules.specs.FileMap.{is_empty, record_at}
-use Rattle.stored_object.specs.declared.BodyAnswer.{BodyAnswer}
-use Rattle.stored_object.specs.declared.BodyAnswer.TheVariants.{Body, Unread}
+use Rattle.stored_object.specs.Answers.{BodyAnswer}
 
 -- a label's file lies behind the label of slot k, and the slot, one of 256, in the heap
 pub record Lies (size : ℕ) (l : Label) (k heap_len : ℕ) : Type 0 where
@@ -21,19 +20,19 @@ FilesLie size rs heap_len = (k : ℕ) → is_empty (record_at rs k) ≡ false �
 
 -- a body of the file that starts there in the heap
 abbrev pub in_heap : ℕ → BodyAnswer → ReadAnswer
-in_heap start (Body at size) = Found (start + at) size
-in_heap start (Unread r) = ReadRefused r
+in_heap start (Ok (at, size)) = Ok (Found (start + at) size)
+in_heap start (Err r) = Err r
 
 -- a part that is named lies in the heap
 abbrev pub Within : ReadAnswer → ℕ → Type 0
-Within (Found start size) heap_len = start + size ≤ heap_len
-Within Deleted heap_len = Unit {0}
-Within NeverWritten heap_len = Unit {0}
-Within (ReadRefused r) heap_len = Unit {0}
+Within (Ok (Found start size)) heap_len = start + size ≤ heap_len
+Within (Ok Deleted) heap_len = Unit {0}
+Within (Ok NeverWritten) heap_len = Unit {0}
+Within (Err r) heap_len = Unit {0}
 
 -- "a part of the lent heap itself": where it begins, in the buffer whose first byte that place is; an empty part begins there
 abbrev pub place_of : ReadAnswer → ℕ × ℕ → ℕ × ℕ
-place_of (Found start size) heap = (heap.0, start + heap.1)
-place_of Deleted heap = heap
-place_of NeverWritten heap = heap
-place_of (ReadRefused r) heap = heap
+place_of (Ok (Found start size)) heap = (heap.0, start + heap.1)
+place_of (Ok Deleted) heap = heap
+place_of (Ok NeverWritten) heap = heap
+place_of (Err r) heap = heap

@@ -2,7 +2,7 @@
 
 #![tactic(auto)]
 
-ghost use Rattle.std.specs.Prelude.{◌≡◌, ◌+◌, ◌*◌, length, drop};
+ghost use Rattle.std.specs.Prelude.{◌≡◌, ◌+◌, ◌*◌, length, drop, Ok};
 ghost use Rattle.rules.specs.declared.Claims.{Claims};
 ghost use Rattle.rules.specs.SlotFile.{bytes_of_slot, file_in};
 ghost use Rattle.rules.specs.Object.{stored_at};
@@ -13,8 +13,7 @@ ghost use Rattle.readpath.specs.Reads.{Lies, in_heap, Within, place_of};
 
 use disk_location::DiskLocation;
 use limits::{bad_files, refused_apart, rest_of};
-use rules::{LABEL_BYTES, Label, Loaded, ReadAnswer, Refusal, Settings, Slot, State};
-use stored_object::BodyAnswer;
+use rules::{LABEL_BYTES, Label, Loaded, Lookup, Refusal, Settings, State};
 
 // The label's bytes, where the heap is counted in u64.
 const LABEL: u64 = LABEL_BYTES as u64;
@@ -37,17 +36,14 @@ fn object_at(
     l: Label,
     position: u64,
     id: u64,
-) -> ReadAnswer
+) -> Result<Lookup, Refusal>
     requires { Lies slot_bytes l slot (length heap.now) }
     ensures { result ≡ in_heap (slot * slot_bytes + 64)
         (body_of id (stored_at position (drop position (file_in l (bytes_of_slot slot_bytes heap.now slot))))) }
 {
-    match stored_object::object::read(file_part(heap, slot_bytes, slot, l), position, id) {
-        BodyAnswer::Body(start, size) => {
-            ReadAnswer::Found(slot * slot_bytes + LABEL + start, size)
-        }
-        BodyAnswer::Unread(refusal) => ReadAnswer::ReadRefused(refusal),
-    }
+    let file = file_part(heap, slot_bytes, slot, l);
+    let (start, size) = stored_object::object::read(file, position, id)?;
+    Ok(Lookup::Found(slot * slot_bytes + LABEL + start, size))
 }
 
 // "Checks in order: 18, 16 (header or body past file_size), 10, 17", after 1: where the body is, in numbers.
@@ -57,7 +53,7 @@ pub fn read_answer(
     heap: &[u8],
     table: &[u64],
     id: u64,
-) -> ReadAnswer
+) -> Result<Lookup, Refusal>
     ensures { (c : Claims)
         → result ≡ read_of (world settings state c heap.now table.now) id }
 {
@@ -65,15 +61,13 @@ pub fn read_answer(
     let lsns = file_map::lsns(files);
     let bad = bad_files(settings, heap.len() as u64, table, files);
     if refused_apart(settings, heap.len() as u64, table, rest_of(state), bad) {
-        return ReadAnswer::ReadRefused(Refusal::Limits);
+        return Err(Refusal::Limits);
     }
     match location_table::load(table, id) {
-        Loaded::Never => ReadAnswer::NeverWritten,
-        Loaded::DeletedAt(_) => ReadAnswer::Deleted,
+        Loaded::Never => Ok(Lookup::NeverWritten),
+        Loaded::DeletedAt(_) => Ok(Lookup::Deleted),
         Loaded::At(location) => {
-            let Slot::Is(slot) = file_lists::lsn_at(&lsns, location) else {
-                return ReadAnswer::ReadRefused(Refusal::NotThere);
-            };
+            let slot = file_lists::lsn_at(&lsns, location).ok_or(Refusal::NotThere)?;
             let i = slot as usize;
             let r = files.records[i];
             let l = r.label;
@@ -84,20 +78,18 @@ pub fn read_answer(
 }
 
 // The part of the heap that an answer names; an empty part where it names none.
-fn part(heap: &[u8], answer: ReadAnswer) -> &[u8]
+fn part(heap: &[u8], answer: Result<Lookup, Refusal>) -> &[u8]
     requires { Within answer (length heap.now) }
     ensures bytes { result.now ≡ part_of answer heap.now }
     ensures place { result.ref_ptr ≡ place_of answer heap.entry.ref_ptr }
 {
     match answer {
-        ReadAnswer::Found(at, size) => {
+        Ok(Lookup::Found(at, size)) => {
             let start = at as usize;
             let end = start + size as usize;
             &heap[start..end]
         }
-        ReadAnswer::Deleted => &heap[0..0],
-        ReadAnswer::NeverWritten => &heap[0..0],
-        ReadAnswer::ReadRefused(_) => &heap[0..0],
+        _ => &heap[0..0],
     }
 }
 

@@ -1,8 +1,8 @@
 -- One turn of each loop that counts, and its end.
-use mathlib.Core.Path.{◌≡◌, refl, sym, ap, ◌∙◌}
+use mathlib.Core.Path.{◌≡◌, refl, ap, ◌∙◌}
 use mathlib.Core.Logic.{◌⊎◌, inl, inr}
 use mathlib.Core.List.{List, [], ◌∷◌, ◌++◌, map, append-nil}
-use Prim.Native.Nat.{ℕ, zero, suc, ◌+◌, ◌<◌, ◌≤◌, zero-le}
+use Prim.Native.Nat.{ℕ, zero, suc, ◌+◌, ◌<◌, ◌≤◌, max}
 use native.Mathlib.Omega.{arith}
 use native.Mathlib.Nat.{not-suc-le-zero, le_of_suc-le-suc}
 use native.Mathlib.Numerals.{add-one}
@@ -12,7 +12,7 @@ use lib.Seq.{take-suc, take_all}
 use Rattle.numbers.specs.GroupLaws.{either_way}
 use Rattle.rules.specs.Base.{larger, greatest}
 use Rattle.rules.specs.FileMap.{empty_label}
-use Rattle.rules.proofs.TurnLaws.{left-next}
+use Rattle.rules.proofs.TurnLaws.{greatest-next as greatest-next-of, greatest-end as greatest-end-of}
 use Rattle.reopen_tests.specs.Labels.{label_at}
 use Rattle.rebuild.specs.Types.{Label}
 
@@ -47,33 +47,21 @@ module _ {A : Type 0} (f : Label → A) where
   map-end ls rs k h m = rw (take_all k ls h, drop_of_length-le rs {i = k} m) (append-nil (map f ls))
 
 -- ---- the greatest
-larger-upper : (a b : ℕ) → a ≤ b → larger a b ≡ b
-larger-upper a b h = rw (le-leb a b h) refl
-
-larger-lower : (a b : ℕ) → b ≤ a → larger a b ≡ a
-larger-lower a b h = go (either_way b a)
+larger-max : (a b : ℕ) → larger a b ≡ max a b
+larger-max a b = go (either_way b a)
   where
-    go : (b < a) ⊎ (a ≤ b) → larger a b ≡ a
-    go (inl l) = rw (lt-leb a b l) refl
-    go (inr l) = rw (le-leb a b l) (let e : b ≡ a = omega arith in e)
-
-larger-assoc : (a b c : ℕ) → larger (larger a b) c ≡ larger a (larger b c)
-larger-assoc a b c = go (either_way a b) (either_way b c)
-  where
-    go : (a < b) ⊎ (b ≤ a) → (b < c) ⊎ (c ≤ b) → larger (larger a b) c ≡ larger a (larger b c)
-    go (inl p) (inl q) = ap (λ (x : ℕ). larger x c) (larger-upper a b (omega arith)) ∙ larger-upper b c (omega arith) ∙ sym (ap (larger a) (larger-upper b c (omega arith)) ∙ larger-upper a c (omega arith))
-    go (inl p) (inr q) = ap (λ (x : ℕ). larger x c) (larger-upper a b (omega arith)) ∙ larger-lower b c q ∙ sym (ap (larger a) (larger-lower b c q) ∙ larger-upper a b (omega arith))
-    go (inr p) (inl q) = ap (λ (x : ℕ). larger x c) (larger-lower a b p) ∙ sym (ap (larger a) (larger-upper b c (omega arith)))
-    go (inr p) (inr q) = ap (λ (x : ℕ). larger x c) (larger-lower a b p) ∙ larger-lower a c (omega arith) ∙ sym (ap (larger a) (larger-lower b c q) ∙ larger-lower a b p)
+    go : (b < a) ⊎ (a ≤ b) → larger a b ≡ max a b
+    go (inl l) = rw (lt-leb a b l) (omega arith)
+    go (inr l) = rw (le-leb a b l) (omega arith)
 
 module _ (f : Label → ℕ) (ls : List Label) where
   pub greatest-start : larger 0 (greatest f ls) ≡ greatest f ls
-  greatest-start = larger-upper 0 (greatest f ls) zero-le
+  greatest-start = larger-max 0 (greatest f ls) ∙ omega arith
 
-  pub greatest-next : (k most : ℕ) → k < length ls → larger (larger most (f (label_at ls k))) (greatest f (drop (k + 1) ls)) ≡ larger most (greatest f (drop k ls))
-  unfolding greatest
-  greatest-next k most h = larger-assoc most (f (label_at ls k)) (greatest f (drop (k + 1) ls)) ∙ sym (ap (λ (ys : List Label). larger most (greatest f ys)) (left-next ls k empty_label h))
+  pub greatest-next : (k most here : ℕ) → k < length ls → here ≡ max most (f (label_at ls k)) → larger here (greatest f (drop (k + 1) ls)) ≡ larger most (greatest f (drop k ls))
+  greatest-next k most here h e =
+      let rest : greatest f (drop k ls) ≡ larger (f (label_at ls k)) (greatest f (drop (k + 1) ls)) = greatest-next-of ls k empty_label h f in
+      rw (e, rest) (simp larger-max (omega arith))
 
   pub greatest-end : (k most : ℕ) → length ls ≤ k → larger most (greatest f (drop k ls)) ≡ most
-  unfolding greatest
-  greatest-end k most h = ap (λ (ys : List Label). larger most (greatest f ys)) (drop_of_length-le ls {i = k} h) ∙ larger-lower most 0 zero-le
+  greatest-end k most h = ap (larger most) (greatest-end-of ls k h f) ∙ larger-max most 0 ∙ omega arith

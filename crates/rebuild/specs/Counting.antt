@@ -1,5 +1,5 @@
 -- Live counts in one pass over the table: an entry counts for the file that a lookup finds, if it lies in its range.
-use Rattle.std.specs.Prelude.{◌≡◌, refl, ◌⊎◌, ◌<◌, ◌≤◌, ◌∷◌, ◌++◌, ◌+◌, ◌-◌, ◌*◌}
+use Rattle.std.specs.Prelude.{◌≡◌, refl, ◌⊎◌, ◌<◌, ◌≤◌, ◌∷◌, ◌++◌, ◌+◌, ◌-◌, ◌*◌, None, Some}
 use Rattle.std.proofs.Common.{sym, ap₂, ◌∙◌, true≢false, inl, inr, zero-le, arith, not-suc-le-zero, le_of_suc-le-suc, add-one, le-leb, ne_eqb, take_all}
 use Rattle.std.proofs.Math.Path.{ap}
 use Rattle.std.proofs.Math.Nat.{add-zero}
@@ -9,8 +9,7 @@ use Rattle.std.proofs.Math.Seq.{take-suc}
 use Rattle.numbers.specs.GroupLaws.{either_way}
 use Rattle.rules.specs.Base.{Bool, true, false, List, [], map, ℕ, zero, suc, length, get_or, set, take, replicate, pick, any, keep}
 use Rattle.rules.proofs.BaseLaws.{or-false, order, replicate-at, within-true}
-use Rattle.rules.specs.declared.Slot.{Slot}
-use Rattle.rules.specs.declared.Slot.TheVariants.{Is, NoSlot}
+use Rattle.rules.specs.Types.{Slot}
 use Rattle.disk_location.proofs.LocationLaws.{masked-pos}
 use Rattle.rules.specs.FileMap.{empty_label, recorded, empty_record}
 use Rattle.rules.specs.Table.{no_entry}
@@ -35,8 +34,8 @@ pub record Apart (ls : List Label) : Type 0 where
 
 -- the slot, one past the last for none
 abbrev pub index_of : Slot → ℕ
-index_of (Is k) = k
-index_of NoSlot = 256
+index_of (Some k) = k
+index_of None = 256
 
 -- ---- ranges apart
 -- the end of a file's range
@@ -104,13 +103,13 @@ module _ (ls : List Label) (apart : Apart ls) (position : ℕ) where
       go (m ∷ ms) (suc i) = go ms i
 
   -- the file that is found
-  pub found-file : (k : ℕ) → lsn_at (map masked_lsn ls) (2 * position) ≡ Is k → (k < length ls) × (no_file (label_at ls k) ≡ false)
+  pub found-file : (k : ℕ) → lsn_at (map masked_lsn ls) (2 * position) ≡ Some k → (k < length ls) × (no_file (label_at ls k) ≡ false)
   found-file k e =
       let w = lsn-found (map masked_lsn ls) (2 * position) k e in
       let some = masked-pos (label_at ls k).lsn (omega (arith, w.used, lsn-at k)) in
       (omega (arith, w.place, length-map ls masked_lsn), ne_eqb (label_at ls k).lsn 0 (λ z. omega arith))
 
-  pub in-found : (k : ℕ) → lsn_at (map masked_lsn ls) (2 * position) ≡ Is k → (j : ℕ) → no_file (label_at ls j) ≡ false → in_range (label_at ls j) position ≡ true → j ≡ k
+  pub in-found : (k : ℕ) → lsn_at (map masked_lsn ls) (2 * position) ≡ Some k → (j : ℕ) → no_file (label_at ls j) ≡ false → in_range (label_at ls j) position ≡ true → j ≡ k
   in-found k e j f r = go (order j k)
     where
       range : (masked_lsn (label_at ls j) ≤ position) × (position ≤ end_of (label_at ls j))
@@ -129,7 +128,7 @@ module _ (ls : List Label) (apart : Apart ls) (position : ℕ) where
       go (inl q) = absurd (never-meet ls apart.apart j k q f (found-file k e).1 (omega (arith, most)) (omega (arith, least, range.1)))
       go (inr (inr q)) = absurd (never-meet ls apart.apart k j q (found-file k e).1 f (omega (arith, least, range.1)) (omega (arith, most)))
 
-  pub in-none : lsn_at (map masked_lsn ls) (2 * position) ≡ NoSlot → (j : ℕ) → no_file (label_at ls j) ≡ false → in_range (label_at ls j) position ≡ true → ⊥
+  pub in-none : lsn_at (map masked_lsn ls) (2 * position) ≡ None → (j : ℕ) → no_file (label_at ls j) ≡ false → in_range (label_at ls j) position ≡ true → ⊥
   in-none e j f r =
       let range = within-true (masked_lsn (label_at ls j)) (end_of (label_at ls j)) position r in
       let above = lsn-none (map masked_lsn ls) (2 * position) e j (omega (arith, file-within ls j f, length-map ls masked_lsn)) (omega (arith, apart.placed j f, lsn-at j)) in
@@ -207,9 +206,9 @@ module _ (ls : List Label) (apart : Apart ls) (es : List Entry) (i : ℕ) (h : i
     count-found low r = go s (sym e) is
       where
         go : (o : Slot) → lsn_at (map masked_lsn ls) (2 * position) ≡ o → k ≡ index_of o → set (lives_to es i ls) k (get_or (lives_to es i ls) k 0 + 1) ≡ lives_to es (i + 1) ls
-        go NoSlot q z = absurd (omega arith)
-        go (Is j) q z =
-            let found = q ∙ ap Is (sym z) in
+        go None q z = absurd (omega arith)
+        go (Some j) q z =
+            let found = q ∙ ap Some (sym z) in
             let w = found-file ls apart position k found in
             one_more (live_of (take i es)) (live_of (take (i + 1) es)) ls k w.0 (rw w.1 (count-in es (label_at ls k) i h (ap (in_range (label_at ls k)) (sym at) ∙ r)))
             (λ m d. outside (label_at ls m) (λ f u. d (in-found ls apart position k found m f u)))
@@ -220,9 +219,9 @@ module _ (ls : List Label) (apart : Apart ls) (es : List Entry) (i : ℕ) (h : i
       where
         out : (o : Slot) → lsn_at (map masked_lsn ls) (2 * position) ≡ o → k ≡ index_of o → (256 ≤ k) ⊎ (in_range (label_at ls k) position ≡ false)
             → (j : ℕ) → no_file (label_at ls j) ≡ false → in_range (label_at ls j) position ≡ true → ⊥
-        out NoSlot q z m j f u = in-none ls apart position q j f u
-        out (Is n) q z (inl m) j f u = let w = (found-file ls apart position n q).0 in omega arith
-        out (Is n) q z (inr m) j f u = true≢false (sym u ∙ ap (λ (x : ℕ). in_range (label_at ls x) position) (in-found ls apart position n q j f u ∙ sym z) ∙ m)
+        out None q z m j f u = in-none ls apart position q j f u
+        out (Some n) q z (inl m) j f u = let w = (found-file ls apart position n q).0 in omega arith
+        out (Some n) q z (inr m) j f u = true≢false (sym u ∙ ap (λ (x : ℕ). in_range (label_at ls x) position) (in-found ls apart position n q j f u ∙ sym z) ∙ m)
 
 -- before the first entry
 pub live-start : (es : List Entry) (ls : List Label) → replicate (length ls) 0 ≡ lives_to es 0 ls

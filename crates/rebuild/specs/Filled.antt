@@ -1,7 +1,7 @@
 -- Entries met one after the other by the table in its buffer.
 use Rattle.std.proofs.Math.Path.{◌≡◌, refl, sym}
 use Rattle.std.proofs.Common.{ap, ap₂, ◌∙◌, arith}
-use Rattle.std.specs.Prelude.{◌≤◌, ◌<◌, ◌∷◌, ◌++◌, ◌+◌, ◌^◌}
+use Rattle.std.specs.Prelude.{◌≤◌, ◌<◌, ◌∷◌, ◌++◌, ◌+◌, ◌^◌, None, Some}
 use borrow.Author.Tests.{le-leb, lt-leb, leb-true, leb-false}
 use Rattle.rules.specs.Base.{Bool, true, false, List, [], map, ℕ, length, replicate, leb, pick}
 use Rattle.rules.specs.BaseLaws.{All}
@@ -23,7 +23,7 @@ use Rattle.location_table.specs.EntryLaws.{insert-fits}
 use Rattle.location_table.specs.LayoutLaws.{used-rising, laid_out_lem, laid-out-formed}
 pub use Rattle.rebuild.specs.Latest.{replaces}
 use Rattle.rebuild.specs.Latest.{InUse, latest-insert, latest-keep, from-append, from-used, from-grows}
-use Rattle.rebuild.specs.Types.{Entry, Held, Mapped, Unmapped}
+use Rattle.rebuild.specs.Types.{Entry, Held}
 
 -- a file's entries at their absolute locations
 abbrev pub rows_of : File → List Entry
@@ -90,9 +90,9 @@ module _ (b : Table) (formed : Formed b) where
             left = at;
           }
         where
-          free : (h : Held) → unmapped h ≡ true → h ≡ Unmapped
-          free Unmapped q = refl
-          free (Mapped l) q = absurd (let z : ◌≡◌ {A = ℕ} 0 1 = cc in omega arith)
+          free : (h : Held) → unmapped h ≡ true → h ≡ None
+          free None q = refl
+          free (Some l) q = absurd (let z : ◌≡◌ {A = ℕ} 0 1 = cc in omega arith)
 
   -- ---- many at once, by their count
   module _ (es : List Entry) (n : ℕ) (count : length (latest_from (used_entries b) es) ≡ n) where

@@ -1,5 +1,5 @@
 -- "Each id maps to its entry of greatest masked position": entry by entry, as stores into the table.
-use Rattle.std.specs.Prelude.{◌≡◌, refl, ◌⊎◌, ◌≤◌, ◌<◌, ◌∷◌, ◌++◌}
+use Rattle.std.specs.Prelude.{◌≡◌, refl, ◌⊎◌, ◌≤◌, ◌<◌, ◌∷◌, ◌++◌, None, Some}
 use Rattle.std.proofs.Common.{sym, ap, ◌∙◌, true≢false, inl, inr, zero-le, suc-le-suc, arith}
 use Rattle.rules.specs.Base.{Bool, true, false, List, [], ℕ, suc, length, ltb, pick}
 use Rattle.rules.specs.BaseLaws.{All}
@@ -12,12 +12,12 @@ use Rattle.rules.proofs.TableLaws.{lookup-here, lookup-next, lookup-below, inser
 use Rattle.rules.specs.LayoutLaws.{Used}
 use Rattle.rules.proofs.ReopenLaws.{latest-next, latest-here, latest-before, latest-rising}
 use Rattle.location_table.specs.EntryLaws.{used-insert}
-use Rattle.rebuild.specs.Types.{Entry, Held, Mapped, Unmapped}
+use Rattle.rebuild.specs.Types.{Entry, Held}
 
 -- whether a location replaces what the table has
 abbrev pub replaces : Held → ℕ → Bool
-replaces Unmapped l = true
-replaces (Mapped m) l = ltb (masked_of (position_of m)) (masked_of (position_of l))
+replaces None l = true
+replaces (Some m) l = ltb (masked_of (position_of m)) (masked_of (position_of l))
 
 -- an entry that is in use
 abbrev pub InUse : Entry → Type 0

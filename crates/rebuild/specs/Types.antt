@@ -2,5 +2,4 @@
 pub use Rattle.rules.specs.declared.Label.{Label}
 pub use Rattle.rules.specs.declared.Record.{Record}
 pub use Rattle.rules.specs.declared.Entry.{Entry}
-pub use Rattle.rules.specs.declared.Held.{Held}
-pub use Rattle.rules.specs.declared.Held.TheVariants.{Mapped, Unmapped}
+pub use Rattle.rules.specs.Types.{Held}

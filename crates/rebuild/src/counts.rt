@@ -1,10 +1,9 @@
 ghost use Rattle.std.specs.Prelude.{◌≡◌, map, ◌^◌, ◌<◌};
-ghost use Rattle.rules.specs.Base.{larger};
 ghost use Rattle.rules.specs.Layout.{laid_out, used_entries};
 ghost use Rattle.location_table.specs.Tables.{Formed};
 ghost use Rattle.ordered_files.specs.Order.{in_order};
 ghost use Rattle.rebuild.specs.Records.{slot_record, counted, masked_lsn, next_from};
-ghost use Rattle.rebuild.specs.Counting.{Apart, index_of, live_of};
+ghost use Rattle.rebuild.specs.Counting.{Apart, live_of};
 
 use disk_location::masked;
 use file_map::{empty, no_files, recorded};
@@ -13,7 +12,7 @@ use ordered_files::{ORDER, file_at, put_all};
 use reopen_tests::Labels;
 use reopen_tests::overlap::in_range;
 use reopen_tests::slots::no_file;
-use rules::{FileMap, Label, RECORDS, Record, Slot};
+use rules::{FileMap, Label, RECORDS, Record};
 use table_merge::masked_position;
 
 // The files' masked lsns; 0 for a slot without a file.
@@ -21,22 +20,10 @@ fn masked_lsns(slots: Labels) -> [u64; RECORDS]
     ensures { result ≡ map masked_lsn slots.labels }
 {
     let mut lsns = [0u64; RECORDS];
-    let mut k: usize = 0;
-    while k < RECORDS {
+    for k in 0..RECORDS {
         lsns[k] = masked(slots.labels[k].lsn);
-        k += 1;
     }
     lsns
-}
-
-// A slot that was found, or one past the last.
-fn index(slot: Slot) -> u64
-    ensures { result ≡ index_of slot }
-{
-    match slot {
-        Slot::Is(k) => k,
-        Slot::NoSlot => RECORDS as u64,
-    }
 }
 
 // "a file's live count is the ids mapped into it, deletes included": in one pass over the table, each entry counted for the one file that
@@ -45,19 +32,16 @@ fn counted_in(table: &[u64], order: &[u64], slots: Labels) -> [u64; RECORDS]
     requires { Formed table.now × Apart slots.labels × (order.now ≡ laid_out 256 (in_order (map masked_lsn slots.labels))) }
     ensures { result ≡ map (live_of (used_entries table.now)) slots.labels }
 {
-    let all = used(table);
     let mut lives = [0u64; RECORDS];
-    let mut i: usize = 0;
-    while i < all {
+    for i in 0..used(table) {
         let location = location_at(table, i);
         let position = masked_position(location);
-        let k = index(file_at(order, 2 * position)) as usize;
-        if k < RECORDS {
+        if let Some(slot) = file_at(order, 2 * position) {
+            let k = slot as usize;
             if in_range(slots.labels[k], position) {
                 lives[k] += 1;
             }
         }
-        i += 1;
     }
     lives
 }
@@ -89,21 +73,10 @@ pub fn with_live_counts(table: &[u64], slots: Labels) -> FileMap
 {
     let lives = live_counts(table, slots);
     let mut m = no_files();
-    let mut k: usize = 0;
-    while k < RECORDS {
+    for k in 0..RECORDS {
         m.records[k] = slot_record(slots.labels[k], lives[k]);
-        k += 1;
     }
     m
-}
-
-fn larger(a: u64, b: u64) -> u64
-    ensures { result ≡ larger a b }
-{
-    if a <= b {
-        return b;
-    }
-    a
 }
 
 // "Next position is greatest masked lsn + greatest file_size + 1, or 1 for no files."
@@ -113,12 +86,9 @@ pub fn next_position(slots: Labels) -> u64
 {
     let mut lsn: u64 = 0;
     let mut size: u64 = 0;
-    let mut k: usize = 0;
-    while k < RECORDS {
-        let l = slots.labels[k];
-        lsn = larger(lsn, masked(l.lsn));
-        size = larger(size, l.file_size);
-        k += 1;
+    for label in &slots.labels {
+        lsn = lsn.max(masked(label.lsn));
+        size = size.max(label.file_size);
     }
     lsn + (size + 1)
 }

@@ -10,18 +10,15 @@ ghost use Rattle.rebuild.specs.Filled.{replaces, Filled, Placed, rows_of};
 use location_table::{capacity, clear, load_in, store_in, used};
 use reopen_tests::Labels;
 use reopen_tests::slots::no_file;
-use rules::{Held, Label};
+use rules::Label;
 use slot_file::slot::{slot_at, trailer_part};
 use table_merge::{absolute, masked_position, merge, to_merge};
 
 // Whether an entry replaces what the table has for its id: "its entry of greatest masked position".
-fn replaces(held: Held, location: u64) -> bool
+fn replaces(held: Option<u64>, location: u64) -> bool
     ensures { result ≡ replaces held location }
 {
-    match held {
-        Held::Unmapped => true,
-        Held::Mapped(old) => masked_position(old) < masked_position(location),
-    }
+    held.is_none_or(|old| masked_position(old) < masked_position(location))
 }
 
 // One entry beside those met before; where a new id finds no room the buffer is cleared.
@@ -51,14 +48,11 @@ fn one_by_one(trailer: &[u8], lsn: u64, table: &mut [u64]) -> bool
         (map (absolute lsn) (entries_in trailer.now)) result
         table.new }
 {
-    let n = trailer::count(trailer);
-    let mut k: u64 = 0;
-    while k < n {
+    for k in 0..trailer::count(trailer) {
         let e = absolute(trailer::entry(trailer, k), lsn);
         if !meet(table, e.id, e.location) {
             return false;
         }
-        k += 1;
     }
     true
 }
@@ -107,12 +101,10 @@ pub fn fill(heap: &[u8], size: usize, n: usize, slots: Labels, table: &mut [u64]
         (each rows_of (files_in (views_in n size heap.now))) result
         table.new }
 {
-    let mut k: usize = 0;
-    while k < n {
+    for k in 0..n {
         if !fill_slot(slot_at(heap, size, k), slots.labels[k], table) {
             return false;
         }
-        k += 1;
     }
     true
 }

@@ -1,36 +1,23 @@
--- One turn of each of the two loops over records, and its end.
+-- The count over records, and one turn and the end of the loop that marks them.
 use mathlib.Core.Path.{◌≡◌, refl, sym, ap, ◌∙◌}
 use mathlib.Core.Bool.{Bool, true, false, ◌||◌}
 use mathlib.Core.List.{List, [], ◌∷◌}
 use Prim.Native.Nat.{ℕ, zero, suc, ◌+◌, ◌<◌, ◌≤◌}
 use native.Mathlib.Nat.{le_of_suc-le-suc, not-suc-le-zero}
 use native.Mathlib.Numerals.{add-one}
-use native.Mathlib.Omega.{arith}
 use lib.ListN.{length, get_or, set, drop}
-use Rattle.rules.specs.Base.{any, pick}
+use Rattle.std.specs.List.{count_by}
+use Rattle.std.proofs.lemmas.List.Recursion.{is_sum_by}
+use Rattle.rules.specs.Base.{any, sum, pick}
 use Rattle.rules.specs.declared.Record.{Record}
 use Rattle.rules.specs.FileMap.{empty_record}
 use Rattle.rules.specs.Sync.{is_unsynced, unsynced_in, marked, marked_all}
-use Rattle.rules.proofs.TurnLaws.{left-next, sum-next, sum-end, any-end}
+use Rattle.rules.proofs.TurnLaws.{left-next, any-end}
 
--- ---- counting: so many of the first i records, so many of the rest
-abbrev pub one : Record → ℕ
-one r = pick (is_unsynced r) 1 0
-
-pub one-le : (r : Record) → one r ≤ 1
-one-le r = go (is_unsynced r)
-  where
-    go : (b : Bool) → pick b 1 0 ≤ 1
-    go true = omega arith
-    go false = omega arith
-
-pub count_next : (rs : List Record) (i : ℕ) → i < length rs → unsynced_in (drop i rs) ≡ one (get_or rs i empty_record) + unsynced_in (drop (i + 1) rs)
-unfolding unsynced_in
-count_next rs i h = sum-next rs i empty_record h one
-
-pub count-end : (rs : List Record) (i : ℕ) → length rs ≤ i → unsynced_in (drop i rs) ≡ 0
-unfolding unsynced_in
-count-end rs i h = sum-end rs i h one
+-- ---- counting
+pub counted : (rs : List Record) → count_by (λ (r : Record). is_unsynced r) rs ≡ unsynced_in rs
+unfolding unsynced_in sum
+counted rs = sym (is_sum_by unsynced_in (λ (r : Record). pick (is_unsynced r) 1 0) refl (λ r rs. refl) rs)
 
 -- ---- marking: the first i records marked, the others as they were
 abbrev pub upto : ℕ → List Record → List Record
@@ -58,15 +45,18 @@ upto-end (suc i) [] h = refl
 upto-end (suc i) (r ∷ l) h = ap (λ (k : List Record). marked r ∷ k) (upto-end i l (le_of_suc-le-suc h))
 
 -- whether a mark changed, among the first i records or the rest
-pub changed-next : (rs : List Record) (i c : ℕ) → i < length rs
-    → pick (any is_unsynced (drop i rs)) 1 c ≡ pick (any is_unsynced (drop (i + 1) rs)) 1 (pick (is_unsynced (get_or rs i empty_record)) 1 c)
+pub changed-next : (rs : List Record) (i : ℕ) (c : Bool) → i < length rs
+    → (c || any is_unsynced (drop i rs)) ≡ ((c || is_unsynced (get_or rs i empty_record)) || any is_unsynced (drop (i + 1) rs))
 unfolding any
-changed-next rs i c h = ap (λ (l : List Record). pick (any is_unsynced l) 1 c) (left-next rs i empty_record h) ∙ go (is_unsynced (get_or rs i empty_record)) (any is_unsynced (drop (i + 1) rs))
+changed-next rs i c h = ap (λ (l : List Record). c || any is_unsynced l) (left-next rs i empty_record h) ∙ go c (is_unsynced (get_or rs i empty_record)) (any is_unsynced (drop (i + 1) rs))
   where
-    go : (a b : Bool) → pick (a || b) 1 c ≡ pick b 1 (pick a 1 c)
-    go true true = refl
-    go true false = refl
-    go false b = refl
+    go : (a b c : Bool) → (a || (b || c)) ≡ ((a || b) || c)
+    go true b c = refl
+    go false b c = refl
 
-pub changed-end : (rs : List Record) (i c : ℕ) → length rs ≤ i → pick (any is_unsynced (drop i rs)) 1 c ≡ c
-changed-end rs i c h = ap (λ (b : Bool). pick b 1 c) (any-end rs i h is_unsynced)
+pub changed-end : (rs : List Record) (i : ℕ) (c : Bool) → length rs ≤ i → (c || any is_unsynced (drop i rs)) ≡ c
+changed-end rs i c h = ap (λ (b : Bool). c || b) (any-end rs i h is_unsynced) ∙ go c
+  where
+    go : (b : Bool) → (b || false) ≡ b
+    go true = refl
+    go false = refl

@@ -1,42 +1,20 @@
-// Request P6 on one record, and on a state's own records by value.
+// Request P6 on one record, on a list of them, and on a state's own records by value.
 
 #![tactic(auto)]
 
-ghost use Rattle.std.specs.Prelude.{◌≡◌, ◌+◌, ◌<◌, ◌^◌};
+ghost use Rattle.std.specs.Prelude.{◌≡◌};
 ghost use Rattle.rules.specs.Base.{any, pick};
 ghost use Rattle.rules.specs.Sync.{is_unsynced, marked, marked_all, unsynced_in};
 
 use file_map::{is_empty, recorded};
-use rules::{FileMap, RECORDS, Record};
+use rules::{FileMap, Record};
 
 // ---- one record
 // "an empty record has it clear and is never counted or marked"
 pub fn is_unsynced(r: Record) -> bool
     ensures { result ≡ is_unsynced r }
 {
-    let mark = r.synced;
-    !is_empty(r) & (mark == 0)
-}
-
-// n, and one more where the record is unsynced.
-pub fn counted(n: u64, r: Record) -> u64
-    requires { n + 1 < 2 ^ 64 }
-    ensures { result ≡ n + pick (is_unsynced r) 1 0 }
-{
-    if is_unsynced(r) {
-        return n + 1;
-    }
-    n
-}
-
-// 1 where the record is unsynced, so that its mark changes; else what there was.
-pub fn changed(was: u64, r: Record) -> u64
-    ensures { result ≡ pick (is_unsynced r) 1 was }
-{
-    if is_unsynced(r) {
-        return 1;
-    }
-    was
+    !is_empty(r) & (r.synced == 0)
 }
 
 // The record "set by a sync call".
@@ -49,21 +27,36 @@ pub fn marked(r: Record) -> Record
     r
 }
 
-// ---- a state's records
+// ---- a list of records
 // "how many aren't synced"
+pub fn count(records: &[Record]) -> u64
+    ensures { result ≡ unsynced_in records.now }
+{
+    records.iter().filter(|r| is_unsynced(**r)).count() as u64
+}
+
+// All of them marked, and "whether any mark changed".
+pub fn mark(records: &mut [Record]) -> bool
+    ensures marks { records.new ≡ marked_all records.old }
+    ensures answers { result ≡ any is_unsynced records.old }
+{
+    let mut changed = false;
+    for r in records.iter_mut() {
+        changed |= is_unsynced(*r);
+        *r = marked(*r);
+    }
+    changed
+}
+
+// ---- a state's records
 pub fn unsynced(files: FileMap) -> u64
     ensures { result ≡ unsynced_in files.records }
 {
-    let mut n: u64 = 0;
-    let mut i: usize = 0;
-    while i < RECORDS {
-        n = counted(n, files.records[i]);
-        i += 1;
-    }
-    n
+    count(&files.records)
 }
 
 // The records after a sync call, and "whether any mark changed": 1 for yes, 0 for no.
+// Kept: a number and no bool, since the clause `answers` gives the call's value.
 #[derive(Clone, Copy)]
 pub struct Synced {
     pub files: FileMap,
@@ -75,16 +68,9 @@ pub fn sync(files: FileMap) -> Synced
     ensures answers { result.changed ≡ pick (any is_unsynced files.records) 1 0 }
 {
     let mut after = files;
-    let mut any: u64 = 0;
-    let mut i: usize = 0;
-    while i < RECORDS {
-        let r = after.records[i];
-        any = changed(any, r);
-        after.records[i] = marked(r);
-        i += 1;
-    }
+    let changed = mark(&mut after.records);
     Synced {
         files: after,
-        changed: any,
+        changed: u64::from(changed),
     }
 }

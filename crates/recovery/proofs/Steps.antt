@@ -1,5 +1,5 @@
 -- The steps of a reopening on the definitions.
-use Rattle.std.specs.Prelude.{◌≡◌, ◌∷◌, ◌++◌, ◌*◌, ◌/◌, ◌%◌}
+use Rattle.std.specs.Prelude.{◌≡◌, ◌∷◌, ◌++◌, ◌*◌, ◌/◌, ◌%◌, Err, Ok}
 use Rattle.std.proofs.Math.Path.{refl, sym, ap, ap₂}
 use Rattle.std.proofs.Common.{◌∙◌, append_assoc, zero-le, arith, le-ltb, lt-ltb, leb-true, leb-false}
 use Rattle.std.proofs.Math.Nat.{sub-zero}
@@ -25,14 +25,14 @@ use Rattle.reopen_tests.specs.Shown.{Surveyed, sound-views}
 use Rattle.reopen_tests.specs.Tests.{file_tests}
 use Rattle.rebuild.specs.Filled.{rows_of}
 use Rattle.recovery.specs.declared.Reopened.{Reopened}
-use Rattle.recovery.specs.Types.{Settings, Label, Record, Entry, State, Claims, Refusal, Limits, TableRoom, Overlap, NotRising, Answer, Done, Refused}
+use Rattle.recovery.specs.Types.{Settings, Label, Record, Entry, State, Claims, Refusal, Limits, TableRoom, Overlap, NotRising, Answer}
 use Rattle.recovery.specs.Reopening.{handed_back, leaves, bare, Blank, past_slots, past_limits, past_tests}
 
 -- ---- 1
 module _ (settings : Settings) (state : State) (claims : Claims) (heap : List ℕ) (table : Table) where
   -- "1 hands everything back": nothing changes
   pub at-limits : out_of_range settings (length heap) table ≡ true
-      → leaves settings (record { answer = Refused Limits; state = state; claims = claims }) heap table ≡ reopen_call (world settings state claims heap table)
+      → leaves settings (record { answer = Err Limits; state = state; claims = claims }) heap table ≡ reopen_call (world settings state claims heap table)
   unfolding reopen_call
   at-limits e =
       sym (after-refused (decide (out_of_range settings (length heap) table gives Limits ∷ [])) Limits _ _
@@ -55,14 +55,14 @@ module _ (w : World) (views : List View) where
   unfolding reopen_tests file_tests
   tests-are = sym (append_assoc (each view_tests views) (overlapping (files_in views) gives Overlap ∷ any file_falls (files_in views) gives NotRising ∷ []) room)
 
-  pub tests-refuse : (r : Refusal) → decide (file_tests views) ≡ Refused r → past_slots w views ≡ given_up w r
+  pub tests-refuse : (r : Refusal) → decide (file_tests views) ≡ Err r → past_slots w views ≡ given_up w r
   tests-refuse r e = after-refused (decide (reopen_tests w views)) r _ _ (ap decide tests-are ∙ decide-early (file_tests views) room r e)
 
-  pub tests-clear : decide (file_tests views) ≡ Done → past_slots w views ≡ past_tests w views
+  pub tests-clear : decide (file_tests views) ≡ Ok tt → past_slots w views ≡ past_tests w views
   tests-clear e = ap (λ (a : Answer). after a (given_up w) (opened w views)) (ap decide tests-are ∙ decide-late (file_tests views) room e)
 
 -- 14 is clear
-pub tests-apart : (n size : ℕ) (heap : List ℕ) (ls : List Label) → Surveyed n size heap ls → decide (file_tests (views_in n size heap)) ≡ Done → overlaps ls ≡ false
+pub tests-apart : (n size : ℕ) (heap : List ℕ) (ls : List Label) → Surveyed n size heap ls → decide (file_tests (views_in n size heap)) ≡ Ok tt → overlaps ls ≡ false
 unfolding file_tests NoneHolds
 tests-apart n size heap ls w e =
     let views = views_in n size heap in
@@ -145,10 +145,10 @@ module _ (settings : Settings) (heap : List ℕ) (table left : Table) where
     pub past_room : leb (length (table_of (files_in views))) (capacity_of table) ≡ true → (m : ℕ) (state : State) (claims : Claims) (records : List Record) (next : ℕ)
         → state ≡ state_by settings (length heap) m records next → m ≡ capacity_of table → claims ≡ no_claims
         → records ≡ records_from (table_of (files_in views)) views → next ≡ next_after (files_in views) → left ≡ laid_out (capacity_of table) (table_of (files_in views))
-        → leaves settings (record { answer = Done; state = state; claims = claims }) heap left ≡ past_tests (bare settings heap table) views
+        → leaves settings (record { answer = Ok tt; state = state; claims = claims }) heap left ≡ past_tests (bare settings heap table) views
     unfolding opened
     past_room e m state claims records next s k d p q t =
-        let leave : State → Claims → Table → After = λ (y : State) (z : Claims) (u : Table). leaves settings (record { answer = Done; state = y; claims = z }) heap u in
+        let leave : State → Claims → Table → After = λ (y : State) (z : Claims) (u : Table). leaves settings (record { answer = Ok tt; state = y; claims = z }) heap u in
         let whole = s ∙ ap (λ (l : ℕ). state_by settings (length heap) l records next) k ∙ ap₂ (state_by settings (length heap) (capacity_of table)) p q in
         ap₂ (λ (y : State) (z : Claims). leave y z left) whole d
         ∙ ap (leave (state_by settings (length heap) (capacity_of table) (records_from (table_of (files_in views)) views) (next_after (files_in views))) no_claims) t

@@ -1,5 +1,5 @@
 -- The call in its parts: what is left once 1, and then once 8 to 15, are clear.
-use Rattle.std.specs.Prelude.{◌≡◌, ◌∷◌, ◌%◌}
+use Rattle.std.specs.Prelude.{◌≡◌, ◌∷◌, ◌%◌, Err}
 use Rattle.rules.specs.Base.{List, [], ℕ, length, ltb}
 use Rattle.rules.specs.Refusal.{◌gives◌, decide, after}
 use Rattle.rules.specs.FileMap.{no_files}
@@ -10,11 +10,11 @@ use Rattle.rules.specs.Reopen.{files_in, table_of, reopen_tests, given_up, opene
 use Rattle.rules.specs.World.{World, world, slots_of, no_state, answer_given, After, leaving}
 use Rattle.file_map.specs.Records.{state_by}
 use Rattle.recovery.specs.declared.Reopened.{Reopened}
-use Rattle.recovery.specs.Types.{Settings, Refusal, TableRoom, Refused}
+use Rattle.recovery.specs.Types.{Settings, Refusal, TableRoom}
 
 -- "hands back an empty file map, no claims and next position 1"
 abbrev pub handed_back : Settings → ℕ → ℕ → Refusal → Reopened
-handed_back settings heap_len table_len r = record { answer = Refused r; state = state_by settings heap_len table_len no_files 1; claims = no_claims }
+handed_back settings heap_len table_len r = record { answer = Err r; state = state_by settings heap_len table_len no_files 1; claims = no_claims }
 
 -- what a reopening left, as its result and the lent table give it
 abbrev pub leaves : Settings → Reopened → List ℕ → Table → After

@@ -7,5 +7,4 @@ pub use Rattle.rules.specs.declared.State.{State}
 pub use Rattle.rules.specs.declared.Claims.{Claims}
 pub use Rattle.rules.specs.declared.Refusal.{Refusal}
 pub use Rattle.rules.specs.declared.Refusal.TheVariants.{Limits, TableRoom, Overlap, NotRising}
-pub use Rattle.rules.specs.declared.Answer.{Answer}
-pub use Rattle.rules.specs.declared.Answer.TheVariants.{Done, Refused}
+pub use Rattle.rules.specs.Types.{Answer}

@@ -20,12 +20,12 @@ use rebuild::table::fill;
 use reopen_tests::Labels;
 use reopen_tests::over_all::check;
 use reopen_tests::slots::survey;
-use rules::{Answer, Claims, Refusal, Settings, State};
+use rules::{Claims, Refusal, Settings, State};
 
 // What a reopening hands back.
 #[derive(Clone, Copy)]
 pub struct Reopened {
-    pub answer: Answer,
+    pub answer: Result<(), Refusal>,
     pub state: State,
     pub claims: Claims,
 }
@@ -35,7 +35,7 @@ fn given_up(settings: Settings, heap_len: u64, table_len: u64, refusal: Refusal)
     ensures { result ≡ handed_back settings heap_len table_len refusal }
 {
     Reopened {
-        answer: Answer::Refused(refusal),
+        answer: Err(refusal),
         state: state_of(settings, heap_len, table_len, no_files(), 1),
         claims: no_claims(),
     }
@@ -64,7 +64,7 @@ fn rebuilt(
     }
     let files = with_live_counts(table, slots);
     Reopened {
-        answer: Answer::Done,
+        answer: Ok(()),
         state: state_of(settings, heap_len, table_len, files, next_position(slots)),
         claims: no_claims(),
     }
@@ -84,8 +84,8 @@ fn tested(
         ≡ past_slots (bare settings heap.now table.old) (views_in n size heap.now) }
 {
     match check(heap, size, n, slots) {
-        Answer::Refused(r) => given_up(settings, heap.len() as u64, capacity(table) as u64, r),
-        Answer::Done => rebuilt(settings, heap, size, n, slots, table),
+        Err(r) => given_up(settings, heap.len() as u64, capacity(table) as u64, r),
+        Ok(()) => rebuilt(settings, heap, size, n, slots, table),
     }
 }
 
@@ -98,14 +98,9 @@ fn recovered(settings: Settings, heap: &[u8], table: &mut [u64]) -> Reopened
     let size = settings.slot_bytes as usize;
     let n = heap.len() / size;
     clear(table);
-    let found = survey(heap, size, n);
-    let answer = found.answer;
-    match answer {
-        Answer::Refused(r) => given_up(settings, heap.len() as u64, capacity(table) as u64, r),
-        Answer::Done => {
-            let slots = found.slots;
-            tested(settings, heap, size, n, slots, table)
-        }
+    match survey(heap, size, n) {
+        Err(r) => given_up(settings, heap.len() as u64, capacity(table) as u64, r),
+        Ok(slots) => tested(settings, heap, size, n, slots, table),
     }
 }
 
@@ -123,7 +118,7 @@ pub fn reopen(
 {
     if out_of_range(settings, heap.len() as u64, table) {
         return Reopened {
-            answer: Answer::Refused(Refusal::Limits),
+            answer: Err(Refusal::Limits),
             state: state,
             claims: claims,
         };

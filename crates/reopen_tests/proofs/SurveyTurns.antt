@@ -12,12 +12,14 @@ use Rattle.rules.proofs.RefusalLaws.{decide-none, decide-early, decide-late}
 use Rattle.rules.specs.FileMap.{empty_label}
 use Rattle.rules.specs.SlotFile.{View, empty, damaged, holds, bytes_of_slot, view_in, views_in}
 use Rattle.rules.proofs.SlotLaws.{views-at}
+use Rattle.std.specs.Prelude.{Option, None, Some, Ok, Err}
+use Rattle.std.specs.Option.{unwrap_or}
 use Rattle.reopen_tests.specs.declared.Labels.{Labels}
-use Rattle.slot_file.specs.declared.SlotAnswer.{SlotAnswer}
+use Rattle.slot_file.specs.Answers.{SlotAnswer}
 use Rattle.rules.specs.Reopen.{view_tests}
 use Rattle.slot_file.specs.Slots.{shown_by}
-use Rattle.reopen_tests.specs.Types.{Label, Refusal, Done, Refused}
-use Rattle.reopen_tests.specs.Labels.{no_labels, refusal_shown, label_shown, label_of, labels_of, survey_by, surveyed}
+use Rattle.reopen_tests.specs.Types.{Label, Refusal}
+use Rattle.reopen_tests.specs.Labels.{no_labels, refusal_shown, label_shown, label_of, labels_of, surveyed}
 use Rattle.rules.proofs.TurnLaws.{left-next}
 
 -- what a slot answers is what its view says
@@ -31,6 +33,15 @@ pub label-shown : (v : View) → label_shown (shown_by v) ≡ label_of v
 label-shown empty = refl
 label-shown (damaged r) = refl
 label-shown (holds f) = refl
+
+-- a slot that is not damaged
+pub shown-clear : (l : Option Label) → refusal_shown (Ok l) ≡ Ok tt
+shown-clear None = refl
+shown-clear (Some l) = refl
+
+pub shown-label : (l : Option Label) → unwrap_or l empty_label ≡ label_shown (Ok l)
+shown-label None = refl
+shown-label (Some l) = refl
 
 -- ---- the labels of the first k slots
 abbrev pub labels_to : ℕ → List View → List Label
@@ -63,13 +74,13 @@ module _ (views : List View) (k : ℕ) (h : k < length views) where
   unfolding each
   rest = ap (each view_tests) (left-next views k empty h)
 
-  pub survey-here : (r : Refusal) → decide (view_tests (get_or views k empty)) ≡ Refused r → decide (each view_tests (drop k views)) ≡ Refused r
+  pub survey-here : (r : Refusal) → decide (view_tests (get_or views k empty)) ≡ Err r → decide (each view_tests (drop k views)) ≡ Err r
   survey-here r e = ap decide rest ∙ decide-early (view_tests (get_or views k empty)) _ r e
 
-  pub survey-later : decide (view_tests (get_or views k empty)) ≡ Done → decide (each view_tests (drop (k + 1) views)) ≡ decide (each view_tests (drop k views))
+  pub survey-later : decide (view_tests (get_or views k empty)) ≡ Ok tt → decide (each view_tests (drop (k + 1) views)) ≡ decide (each view_tests (drop k views))
   survey-later e = sym (ap decide rest ∙ decide-late (view_tests (get_or views k empty)) _ e)
 
-pub survey-end : (views : List View) (k : ℕ) → length views ≤ k → decide (each view_tests (drop k views)) ≡ Done
+pub survey-end : (views : List View) (k : ℕ) → length views ≤ k → decide (each view_tests (drop k views)) ≡ Ok tt
 unfolding each
 survey-end views k h = ap (λ (vs : List View). decide (each view_tests vs)) (drop_of_length-le views {i = k} h) ∙ decide-none
 
@@ -86,10 +97,10 @@ module _ (n size : ℕ) (heap : List ℕ) (k : ℕ) (h : k < n) (slot : List ℕ
 
 -- what is handed back
 module _ (views : List View) where
-  pub surveyed-refused : (r : Refusal) → decide (each view_tests views) ≡ Refused r → survey_by (Refused r) [] ≡ surveyed views
+  pub surveyed-refused : (r : Refusal) → decide (each view_tests views) ≡ Err r → Err r ≡ surveyed views
   unfolding surveyed
   surveyed-refused r e = rw e refl
 
-  pub surveyed-clear : (slots : Labels) → decide (each view_tests views) ≡ Done → slots.labels ≡ labels_of views → record { answer = Done; slots = slots } ≡ surveyed views
+  pub surveyed-clear : (slots : Labels) → decide (each view_tests views) ≡ Ok tt → slots.labels ≡ labels_of views → Ok slots ≡ surveyed views
   unfolding surveyed
-  surveyed-clear slots e f = rw e (ap (λ (ls : List Label). record { answer = Done; slots = record { labels = ls } }) f)
+  surveyed-clear slots e f = rw e (ap (λ (ls : List Label). Ok (record { labels = ls })) f)

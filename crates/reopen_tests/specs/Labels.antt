@@ -1,14 +1,13 @@
 -- The labels of the slots, and 14 on them.
-use Rattle.std.specs.Prelude.{◌&&◌, ◌||◌, ◌∷◌, ◌++◌, ◌-◌}
+use Rattle.std.specs.Prelude.{◌&&◌, ◌||◌, ◌∷◌, ◌++◌, ◌-◌, Result, Ok, Err, None, Some}
 use Rattle.rules.specs.Base.{Bool, false, not, List, [], map, ℕ, length, get_or, replicate, eqb, any, each}
-use Rattle.reopen_tests.specs.Types.{Label, Answer, Done, Refused}
+use Rattle.reopen_tests.specs.Types.{Label, Refusal, Answer}
 use Rattle.rules.specs.Refusal.{decide}
 use Rattle.rules.specs.FileMap.{empty_label}
 use Rattle.rules.specs.SlotFile.{View, empty, damaged, holds}
 use Rattle.rules.specs.Reopen.{view_tests, meets}
-use Rattle.slot_file.specs.declared.SlotAnswer.{SlotAnswer}
-use Rattle.slot_file.specs.declared.SlotAnswer.TheVariants.{Empty, Damaged, Holds}
-use Rattle.reopen_tests.specs.declared.Survey.{Survey}
+use Rattle.slot_file.specs.Answers.{SlotAnswer}
+use Rattle.reopen_tests.specs.declared.Labels.{Labels}
 
 -- a slot without a file: no file has lsn 0
 abbrev pub no_file : Label → Bool
@@ -24,15 +23,15 @@ no_labels = replicate 256 empty_label
 
 -- a slot's refusal, if it is damaged
 abbrev pub refusal_shown : SlotAnswer → Answer
-refusal_shown Empty = Done
-refusal_shown (Damaged r) = Refused r
-refusal_shown (Holds l) = Done
+refusal_shown (Ok None) = Ok tt
+refusal_shown (Err r) = Err r
+refusal_shown (Ok (Some l)) = Ok tt
 
 -- a slot's label, if it holds a file
 abbrev pub label_shown : SlotAnswer → Label
-label_shown Empty = empty_label
-label_shown (Damaged r) = empty_label
-label_shown (Holds l) = l
+label_shown (Ok None) = empty_label
+label_shown (Err r) = empty_label
+label_shown (Ok (Some l)) = l
 
 -- a view's label, if it holds a file
 abbrev pub label_of : View → Label
@@ -45,12 +44,12 @@ unfoldable pub labels_of : List View → List Label
 labels_of views = map label_of views ++ replicate (256 - length views) empty_label
 
 -- an answer, with the labels where it is no refusal
-abbrev pub survey_by : Answer → List View → Survey
-survey_by Done views = record { answer = Done; slots = record { labels = labels_of views } }
-survey_by (Refused r) views = record { answer = Refused r; slots = record { labels = no_labels } }
+abbrev pub survey_by : Answer → List View → Result Labels Refusal
+survey_by (Ok tt) views = Ok (record { labels = labels_of views })
+survey_by (Err r) views = Err r
 
 -- "Per non-empty slot, ascending: 8, 9, 10, 11, 12, 13."
-unfoldable pub surveyed : List View → Survey
+unfoldable pub surveyed : List View → Result Labels Refusal
 surveyed views = survey_by (decide (each view_tests views)) views
 
 -- two files whose ranges share a position

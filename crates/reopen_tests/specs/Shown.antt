@@ -1,9 +1,9 @@
 -- What a slot that passed 8 to 13 shows beside its label.
-use Rattle.std.specs.Prelude.{◌≡◌, refl, ◌⊎◌, ◌<◌, ◌≤◌, ◌∷◌, ◌++◌, ◌+◌, ◌*◌}
+use Rattle.std.specs.Prelude.{◌≡◌, refl, ◌⊎◌, ◌<◌, ◌≤◌, ◌∷◌, ◌++◌, ◌+◌, ◌*◌, Err, Ok}
 use Rattle.std.proofs.Common.{sym, ap, ◌∙◌, subst, true≢false, inl, inr, arith, suc-mul, not-suc-le-zero, le_of_suc-le-suc, ne_eqb, length-drop, length-take-le}
 use Rattle.rules.specs.Base.{true, false, List, [], map, ℕ, zero, suc, length, get_or, take, drop, any, each}
 use Rattle.rules.specs.BaseLaws.{All}
-use Rattle.reopen_tests.specs.Types.{Label, Refusal, Answer, Done, Refused, LabelAnswer, Vacant, Five, Wrong}
+use Rattle.reopen_tests.specs.Types.{Label, Refusal, Answer, LabelAnswer, Vacant, Five, Wrong}
 use Rattle.rules.specs.Refusal.{decide, NoneHolds}
 use Rattle.rules.proofs.RefusalLaws.{clear-when, decide-clear, none_first, none_rest}
 use Rattle.rules.specs.Trailer.{count_in, trailer_tests, misplaced}
@@ -40,12 +40,12 @@ Shown slot l = ((view_in slot ≡ empty) × (l ≡ empty_label)) ⊎ FileAt slot
 pub record Surveyed (n size : ℕ) (heap : List ℕ) (ls : List Label) : Type 0 where
   pub within : n * size ≤ length heap
   pub most : n ≤ 256
-  pub clear : decide (each view_tests (views_in n size heap)) ≡ Done
+  pub clear : decide (each view_tests (views_in n size heap)) ≡ Ok tt
   pub labels : ls ≡ labels_of (views_in n size heap)
 
 -- ---- of one slot
 module _ (slot : List ℕ) (l : Label) where
-  file-at : view_in slot ≡ view_by (Five l) slot → decide (slot_tests l slot) ≡ Done → FileAt slot l
+  file-at : view_in slot ≡ view_by (Five l) slot → decide (slot_tests l slot) ≡ Ok tt → FileAt slot l
   unfolding slot_tests NoneHolds
   file-at e clear =
       let none = clear-when (slot_tests l slot) clear in
@@ -58,19 +58,19 @@ module _ (slot : List ℕ) (l : Label) where
         positions = rest.0;
       }
 
-pub refused-not-done : {A : Type 0} {r : Refusal} → Refused r ≡ Done → A
+pub refused-not-done : {A : Type 0} {r : Refusal} → ◌≡◌ {A = Answer} (Err r) (Ok tt) → A
 refused-not-done e = absurd (let z : ◌≡◌ {A = ℕ} 0 1 = cc in omega arith)
 
 -- a slot that is not damaged, and its label
-pub shown : (slot : List ℕ) → decide (view_tests (view_in slot)) ≡ Done → Shown slot (label_of (view_in slot))
+pub shown : (slot : List ℕ) → decide (view_tests (view_in slot)) ≡ Ok tt → Shown slot (label_of (view_in slot))
 unfolding view_in decide
 shown slot clear = go (label_in (take 64 slot)) refl
   where
     five : (l : Label) (a : Answer) → label_in (take 64 slot) ≡ Five l → decide (slot_tests l slot) ≡ a → Shown slot (label_of (view_in slot))
-    five l Done e q =
+    five l (Ok _) e q =
         let w = file-at slot l (ap (λ (a : LabelAnswer). view_by a slot) e) q in
         inr (rw w.seen w)
-    five l (Refused n) e q = refused-not-done (rw (e, q) at clear)
+    five l (Err n) e q = refused-not-done (rw (e, q) at clear)
 
     go : (a : LabelAnswer) → label_in (take 64 slot) ≡ a → Shown slot (label_of (view_in slot))
     go Vacant e = inl (rw e refl, rw e refl)
@@ -92,7 +92,7 @@ module _ (slot : List ℕ) (l : Label) where
   file-of w = ap file_of w.seen
 
 -- ---- of all slots
-clear-view : (views : List View) (k : ℕ) → k < length views → NoneHolds (each view_tests views) → decide (view_tests (get_or views k empty)) ≡ Done
+clear-view : (views : List View) (k : ℕ) → k < length views → NoneHolds (each view_tests views) → decide (view_tests (get_or views k empty)) ≡ Ok tt
 unfolding each
 clear-view [] k h none = absurd (not-suc-le-zero h)
 clear-view (v ∷ vs) zero h none = decide-clear (view_tests v) (none_first (view_tests v) (each view_tests vs) none)

@@ -23,14 +23,12 @@ pub fn ascending(trailer: &[u8]) -> bool
         return true;
     }
     let mut last = trailer::entry(trailer, 0).id;
-    let mut k: u64 = 1;
-    while k < n {
+    for k in 1..n {
         let id = trailer::entry(trailer, k).id;
         if id <= last {
             return false;
         }
         last = id;
-        k += 1;
     }
     true
 }
@@ -52,12 +50,10 @@ fn repeated(trailer: &[u8], k: u64) -> bool
 {
     let n = trailer::count(trailer);
     let e = trailer::entry(trailer, k);
-    let mut j = k + 1;
-    while j < n {
+    for j in k + 1..n {
         if repeats(e, trailer::entry(trailer, j)) {
             return true;
         }
-        j += 1;
     }
     false
 }
@@ -67,13 +63,10 @@ fn some_repeated(trailer: &[u8]) -> bool
     requires { 12 + 16 * count_in trailer.now ≤ length trailer.now }
     ensures { result ≡ not_rising (entries_in trailer.now) }
 {
-    let n = trailer::count(trailer);
-    let mut k: u64 = 0;
-    while k < n {
+    for k in 0..trailer::count(trailer) {
         if repeated(trailer, k) {
             return true;
         }
-        k += 1;
     }
     false
 }
@@ -105,12 +98,10 @@ pub fn not_rising(heap: &[u8], size: usize, n: usize, slots: Labels) -> bool
     requires { Surveyed n size heap.now slots.labels }
     ensures { result ≡ any file_falls (files_in (views_in n size heap.now)) }
 {
-    let mut k: usize = 0;
-    while k < n {
+    for k in 0..n {
         if slot_falls(slot_at(heap, size, k), slots.labels[k]) {
             return true;
         }
-        k += 1;
     }
     false
 }

@@ -1,7 +1,7 @@
 -- Two answers with one number and the same values are one answer: so a contract that settles number and values settles the answer.
-use Rattle.std.specs.Prelude.{◌≡◌, refl, ◌-◌}
+use Rattle.std.specs.Prelude.{◌≡◌, refl, ◌-◌, Err, None, Ok, Some}
 use Rattle.std.proofs.Common.{sym, ap, ◌∙◌}
-use Rattle.rules.specs.Types.{Refusal, Limits, BatchBytes, ObjectSize, SlotRoom, NoEmptySlot, TableRoom, PositionsSpent, LabelBytes, TrailerShort, Checksum, EntryCount, EntryPosition, PresentCount, Overlap, NotRising, CutShort, OtherId, NotThere, EqualLocation, Location, Claim, Generation, Answer, Done, Refused, ReadAnswer, Found, Deleted, NeverWritten, ReadRefused, MaintainAnswer, Moved, Stopped, RewriteAnswer, Rewrote, RewriteRefused, CountsAnswer, Counted, CountsRefused, Mapped, Unmapped, At, DeletedAt, Never, LoadAnswer, Loads, LoadRefused, GreaterAnswer, Before, GreaterRefused, CompareAnswer, Swapped, Differs, CompareRefused}
+use Rattle.rules.specs.Types.{Refusal, Limits, BatchBytes, ObjectSize, SlotRoom, NoEmptySlot, TableRoom, PositionsSpent, LabelBytes, TrailerShort, Checksum, EntryCount, EntryPosition, PresentCount, Overlap, NotRising, CutShort, OtherId, NotThere, EqualLocation, Location, Claim, Generation, Answer, ReadAnswer, Found, Deleted, NeverWritten, MaintainAnswer, RewriteAnswer, CountsAnswer, At, DeletedAt, Never, LoadAnswer, GreaterAnswer, CompareAnswer, Swapped, Differs, stopped_with}
 use Rattle.rules.specs.World.{Given, answer_given, read_given, maintain_given, rewrite_given, counts_given, load_given, greater_given, compare_given}
 use Rattle.rules.specs.Answers.{Known, by_number, answer_of, value_at, read_values, counts_at, load_values, held_values, compare_values}
 
@@ -39,67 +39,67 @@ pub answer-one : (a b : Answer) → answer_given a ≡ answer_given b → a ≡ 
 answer-one = inverse-one answer_given answer_of go
   where
     go : (a : Answer) → answer_of (answer_given a) ≡ a
-    go Done = refl
-    go (Refused r) = rw ((known r).some, (known r).back)
+    go (Ok _) = refl
+    go (Err r) = rw ((known r).some, (known r).back)
 
 -- one number, kind and part, one answer
 pub read_one : (a b : ReadAnswer) → read_given a ≡ read_given b → a ≡ b
-read_one = inverse-one read_given (λ (g : Given). by_number g ReadRefused (read_values g)) go
+read_one = inverse-one read_given (λ (g : Given). by_number g Err (read_values g)) go
   where
-    go : (a : ReadAnswer) → by_number (read_given a) ReadRefused (read_values (read_given a)) ≡ a
-    go (Found a b) = refl
-    go Deleted = refl
-    go NeverWritten = refl
-    go (ReadRefused r) = rw ((known r).some, (known r).back)
+    go : (a : ReadAnswer) → by_number (read_given a) Err (read_values (read_given a)) ≡ a
+    go (Ok (Found a b)) = refl
+    go (Ok Deleted) = refl
+    go (Ok NeverWritten) = refl
+    go (Err r) = rw ((known r).some, (known r).back)
 
 -- maintain: one number, generation and count, one answer
 pub maintain-one : (a b : MaintainAnswer) → maintain_given a ≡ maintain_given b → a ≡ b
-maintain-one = inverse-one maintain_given (λ (g : Given). by_number g (λ (r : Refusal). Stopped r (value_at g 0) (value_at g 1)) (Moved (value_at g 0))) go
+maintain-one = inverse-one maintain_given (λ (g : Given). by_number g (λ (r : Refusal). Err (stopped_with r (value_at g 0) (value_at g 1))) (Ok (value_at g 0))) go
   where
-    go : (a : MaintainAnswer) → by_number (maintain_given a) (λ (r : Refusal). Stopped r (value_at (maintain_given a) 0) (value_at (maintain_given a) 1)) (Moved (value_at (maintain_given a) 0)) ≡ a
-    go (Moved n) = refl
-    go (Stopped r g n) = rw ((known r).some, (known r).back)
+    go : (a : MaintainAnswer) → by_number (maintain_given a) (λ (r : Refusal). Err (stopped_with r (value_at (maintain_given a) 0) (value_at (maintain_given a) 1))) (Ok (value_at (maintain_given a) 0)) ≡ a
+    go (Ok n) = refl
+    go (Err s) = rw ((known s.refusal).some, (known s.refusal).back)
 
 -- rewrite: one number and count, one answer
 pub rewrite-one : (a b : RewriteAnswer) → rewrite_given a ≡ rewrite_given b → a ≡ b
-rewrite-one = inverse-one rewrite_given (λ (g : Given). by_number g RewriteRefused (Rewrote (value_at g 0))) go
+rewrite-one = inverse-one rewrite_given (λ (g : Given). by_number g Err (Ok (value_at g 0))) go
   where
-    go : (a : RewriteAnswer) → by_number (rewrite_given a) RewriteRefused (Rewrote (value_at (rewrite_given a) 0)) ≡ a
-    go (Rewrote n) = refl
-    go (RewriteRefused r) = rw ((known r).some, (known r).back)
+    go : (a : RewriteAnswer) → by_number (rewrite_given a) Err (Ok (value_at (rewrite_given a) 0)) ≡ a
+    go (Ok n) = refl
+    go (Err r) = rw ((known r).some, (known r).back)
 
 -- one number and four counts, one answer
 pub counts-one : (a b : CountsAnswer) → counts_given a ≡ counts_given b → a ≡ b
-counts-one = inverse-one counts_given (λ (g : Given). by_number g CountsRefused (Counted (counts_at g))) go
+counts-one = inverse-one counts_given (λ (g : Given). by_number g Err (Ok (counts_at g))) go
   where
-    go : (a : CountsAnswer) → by_number (counts_given a) CountsRefused (Counted (counts_at (counts_given a))) ≡ a
-    go (Counted c) = refl
-    go (CountsRefused r) = rw ((known r).some, (known r).back)
+    go : (a : CountsAnswer) → by_number (counts_given a) Err (Ok (counts_at (counts_given a))) ≡ a
+    go (Ok c) = refl
+    go (Err r) = rw ((known r).some, (known r).back)
 
 -- one number, kind and location, one answer
 pub load_one : (a b : LoadAnswer) → load_given a ≡ load_given b → a ≡ b
-load_one = inverse-one load_given (λ (g : Given). by_number g LoadRefused (Loads (load_values g))) go
+load_one = inverse-one load_given (λ (g : Given). by_number g Err (Ok (load_values g))) go
   where
-    go : (a : LoadAnswer) → by_number (load_given a) LoadRefused (Loads (load_values (load_given a))) ≡ a
-    go (Loads (At l)) = refl
-    go (Loads (DeletedAt l)) = refl
-    go (Loads Never) = refl
-    go (LoadRefused r) = rw ((known r).some, (known r).back)
+    go : (a : LoadAnswer) → by_number (load_given a) Err (Ok (load_values (load_given a))) ≡ a
+    go (Ok (At l)) = refl
+    go (Ok (DeletedAt l)) = refl
+    go (Ok Never) = refl
+    go (Err r) = rw ((known r).some, (known r).back)
 
 -- one number and location, one answer
 pub greater-one : (a b : GreaterAnswer) → greater_given a ≡ greater_given b → a ≡ b
-greater-one = inverse-one greater_given (λ (g : Given). by_number g GreaterRefused (Before (held_values g.values))) go
+greater-one = inverse-one greater_given (λ (g : Given). by_number g Err (Ok (held_values g.values))) go
   where
-    go : (a : GreaterAnswer) → by_number (greater_given a) GreaterRefused (Before (held_values (greater_given a).values)) ≡ a
-    go (Before (Mapped l)) = refl
-    go (Before Unmapped) = refl
-    go (GreaterRefused r) = rw ((known r).some, (known r).back)
+    go : (a : GreaterAnswer) → by_number (greater_given a) Err (Ok (held_values (greater_given a).values)) ≡ a
+    go (Ok (Some l)) = refl
+    go (Ok None) = refl
+    go (Err r) = rw ((known r).some, (known r).back)
 
 -- one number and location, one answer
 pub compare-one : (a b : CompareAnswer) → compare_given a ≡ compare_given b → a ≡ b
-compare-one = inverse-one compare_given (λ (g : Given). by_number g CompareRefused (compare_values g.values)) go
+compare-one = inverse-one compare_given (λ (g : Given). by_number g Err (compare_values g.values)) go
   where
-    go : (a : CompareAnswer) → by_number (compare_given a) CompareRefused (compare_values (compare_given a).values) ≡ a
-    go Swapped = refl
-    go (Differs l) = refl
-    go (CompareRefused r) = rw ((known r).some, (known r).back)
+    go : (a : CompareAnswer) → by_number (compare_given a) Err (compare_values (compare_given a).values) ≡ a
+    go (Ok Swapped) = refl
+    go (Ok (Differs l)) = refl
+    go (Err r) = rw ((known r).some, (known r).back)

@@ -1,31 +1,32 @@
 -- The batch: its ids have 64 bits, and the count that bounds the definition never cuts a batch short.
-use Rattle.std.specs.Prelude.{◌≡◌, refl, ◌⊎◌, ◌≤◌, ◌<◌, ◌+◌, ◌-◌, ◌^◌}
+use Rattle.std.specs.Prelude.{◌≡◌, refl, ◌⊎◌, ◌≤◌, ◌<◌, ◌+◌, ◌-◌, ◌^◌, None, Some}
 use Rattle.std.proofs.Common.{sym, ap, ◌∙◌, inl, inr, arith, ltb-true, le-leb}
 use Rattle.std.proofs.lemmas.Bool.{lt-leb}
 use Rattle.rules.specs.Base.{Bool, true, false, List, [], ℕ, zero, suc, length, take, drop, get_or, leb, ltb, eqb, pick}
 use Rattle.numbers.specs.GroupLaws.{either_way}
+use Rattle.std.proofs.lemmas.Option.{same_Some}
 use Rattle.numbers.specs.Groups.{Groups, said, bad, read_groups, bounded, number_in, saying}
-use Rattle.numbers.specs.declared.Number.{Number}
-use Rattle.numbers.specs.declared.Number.TheVariants.{Said, Malformed}
+use Rattle.numbers.specs.Answers.{Number}
 use Rattle.rules.specs.Ops.{put, delete, Op}
 use Rattle.rules.specs.OpsLaws.{IdsFit}
 use Rattle.rules.specs.Batch.{Parsed, malformed, parsed, put_operation, operation_at, Batch, not_as_above, operations, before, batch_from, batch_in, ops_of}
 use Rattle.rules.specs.BatchLaws.{Stepped}
 
 -- a number that is said has 64 bits, and what follows it stands no earlier
-pub number-said : (k : ℕ) (s : List ℕ) (at v next : ℕ) → number_in k s at ≡ Said v next → (v < 2 ^ 64) × (at ≤ next)
+pub number-said : (k : ℕ) (s : List ℕ) (at v next : ℕ) → number_in k s at ≡ Some (v, next) → (v < 2 ^ 64) × (at ≤ next)
 unfolding number_in
 number-said k s at v next e = go (read_groups k (drop at s)) e
   where
-    within : (u n : ℕ) (t : Bool) → ltb u (2 ^ 64) ≡ t → pick t (Said u (at + n)) Malformed ≡ Said v next → (v < 2 ^ 64) × (at ≤ next)
+    within : (u n : ℕ) (t : Bool) → ltb u (2 ^ 64) ≡ t → pick {A = Number} t (Some (u, at + n)) None ≡ Some (v, next) → (v < 2 ^ 64) × (at ≤ next)
     within u n false p q = absurd (let z : ◌≡◌ {A = ℕ} 0 1 = cc in omega arith)
     within u n true p q =
-        let a : u ≡ v = cc in
-        let b : at + n ≡ next = cc in
+        let same = same_Some _ _ q in
+        let a : u ≡ v = ap (λ (p : ℕ × ℕ). p.0) same in
+        let b : at + n ≡ next = ap (λ (p : ℕ × ℕ). p.1) same in
         let low = ltb-true u (2 ^ 64) p in
         (omega arith, omega arith)
 
-    go : (g : Groups) → bounded at g ≡ Said v next → (v < 2 ^ 64) × (at ≤ next)
+    go : (g : Groups) → bounded at g ≡ Some (v, next) → (v < 2 ^ 64) × (at ≤ next)
     go bad q = absurd (let z : ◌≡◌ {A = ℕ} 0 1 = cc in omega arith)
     go (said u n) q = within u n (ltb u (2 ^ 64)) refl q
 
@@ -47,8 +48,8 @@ put-stepped s id at o next fits e = go (number_in 10 s at) refl e
     go : (n : Number) → number_in 10 s at ≡ n
         → saying malformed n (λ size start. pick (leb size (length s - start)) (parsed (record { id = id; content = put (take size (drop start s)) }) (start + size)) malformed) ≡ parsed o next
         → (o.id < 2 ^ 64) × (at ≤ next)
-    go Malformed p q = not-parsed q
-    go (Said size start) p q = here (leb size (length s - start)) q
+    go None p q = not-parsed q
+    go (Some (size, start)) p q = here (leb size (length s - start)) q
       where
         here : (t : Bool) → pick t (parsed (record { id = id; content = put (take size (drop start s)) }) (start + size)) malformed ≡ parsed o next → (o.id < 2 ^ 64) × (at ≤ next)
         here false q = not-parsed q
@@ -68,8 +69,8 @@ operation-stepped s at o next e = go (number_in 10 s at) refl e
         (pick (eqb (get_or s tag 0) 0) (parsed (record { id = id; content = delete }) (suc tag))
         (pick (eqb (get_or s tag 0) 1) (put_operation s id (suc tag)) malformed))) ≡ parsed o next
         → Stepped at o next
-    go Malformed p q = not-parsed q
-    go (Said id tag) p q = here (leb (length s) tag) (eqb (get_or s tag 0) 0) (eqb (get_or s tag 0) 1) q
+    go None p q = not-parsed q
+    go (Some (id, tag)) p q = here (leb (length s) tag) (eqb (get_or s tag 0) 0) (eqb (get_or s tag 0) 1) q
       where
         here : (t u v : Bool) → pick t malformed (pick u (parsed (record { id = id; content = delete }) (suc tag)) (pick v (put_operation s id (suc tag)) malformed)) ≡ parsed o next → Stepped at o next
         here true u v q = not-parsed q

@@ -1,11 +1,11 @@
 -- The file map: empty records, lookups and live counts, in a reader's words.
-use Rattle.std.specs.Prelude.{◌≡◌, refl, ◌⊎◌, ◌≤◌, ◌<◌, min, ◌&&◌, ◌∷◌, ◌+◌, ◌-◌, ◌*◌, ◌^◌}
+use Rattle.std.specs.Prelude.{◌≡◌, refl, ◌⊎◌, ◌≤◌, ◌<◌, min, ◌&&◌, ◌∷◌, ◌+◌, ◌-◌, ◌*◌, ◌^◌, None, Some}
 use Rattle.std.proofs.Common.{sym, ap, ◌∙◌, inl, inr, zero-add, le_of_suc-le-suc, not-suc-le-zero, eq-or-lt_of_le, add-one, arith, drop_of_length-le, length-set, length-take, drop-cons, get_or-take, ne_eqb, lt-ltb, le-ltb, le-leb, leb-true, leb-false, eqb-true}
 use Rattle.std.proofs.Math.Nat.{min-le_left, min-le_right, le-min}
 use Rattle.std.proofs.lemmas.Bool.{lt-leb, eqb-false}
 use Rattle.numbers.specs.GroupLaws.{either_way}
 use Rattle.rules.specs.Base.{Bool, true, false, List, [], ℕ, zero, suc, length, get_or, take, drop, leb, ltb, eqb, pick, any, zeros}
-use Rattle.rules.specs.Types.{Record, Slot, Is, NoSlot}
+use Rattle.rules.specs.Types.{Record, Slot}
 use Rattle.rules.proofs.BaseLaws.{zeros-true, zeros-cons, order}
 use Rattle.rules.specs.FileMap.{recorded, empty_record, is_empty, record_at, slots_where, empty_slots, lowest_empty, Lead, leads, lead_from, file_for, less_live}
 use Rattle.rules.specs.FileMapLaws.{Leads, IsFile, Among, Passing, Lowest}
@@ -43,7 +43,7 @@ empty-or-not r = go (is_empty r) refl
 
 -- ---- "File lookup"
 -- on "raw, unmasked locations": a batch file of masked lsn 1 is above location 2
-pub lookup-is-raw : file_for (recorded (record { lsn = 2 ^ 62 + 1; trailer_offset = 0; file_size = 0; present_objects = 0; generation = 0 }) 0 0 ∷ []) 2 ≡ NoSlot
+pub lookup-is-raw : file_for (recorded (record { lsn = 2 ^ 62 + 1; trailer_offset = 0; file_size = 0; present_objects = 0; generation = 0 }) 0 0 ∷ []) 2 ≡ None
 unfolding file_for lead_from leads
 lookup-is-raw = refl
 
@@ -124,13 +124,13 @@ start rs location = record {
 }
 
 -- what is found is that file
-pub file-at : (rs : List Record) (location k : ℕ) → file_for rs location ≡ Is k → IsFile rs location k
+pub file-at : (rs : List Record) (location k : ℕ) → file_for rs location ≡ Some k → IsFile rs location k
 unfolding file_for
 file-at rs location k h =
     go (lead_from rs 0 location (record { lsn = 0; slot = 0 })) (all rs location (length rs) 0 (record { lsn = 0; slot = 0 }) (omega arith) (start rs location))
     (eqb (lead_from rs 0 location (record { lsn = 0; slot = 0 })).lsn 0) refl h
   where
-    go : (b : Lead) → Leads rs location (length rs) b → (t : Bool) → eqb b.lsn 0 ≡ t → pick t NoSlot (Is b.slot) ≡ Is k → IsFile rs location k
+    go : (b : Lead) → Leads rs location (length rs) b → (t : Bool) → eqb b.lsn 0 ≡ t → pick t None (Some b.slot) ≡ Some k → IsFile rs location k
     go b l true p e = absurd (let z : ◌≡◌ {A = ℕ} 0 1 = cc in omega arith)
     go b l false p e =
         let n = eqb-false b.lsn 0 p in
@@ -147,13 +147,13 @@ file-at rs location k h =
         }
 
 -- none is found where every file is above
-pub file-none : (rs : List Record) (location : ℕ) → file_for rs location ≡ NoSlot → (j : ℕ) → j < length rs → 0 < (record_at rs j).label.lsn → location < 2 * (record_at rs j).label.lsn
+pub file-none : (rs : List Record) (location : ℕ) → file_for rs location ≡ None → (j : ℕ) → j < length rs → 0 < (record_at rs j).label.lsn → location < 2 * (record_at rs j).label.lsn
 unfolding file_for
 file-none rs location h j m u =
     go (lead_from rs 0 location (record { lsn = 0; slot = 0 })) (all rs location (length rs) 0 (record { lsn = 0; slot = 0 }) (omega arith) (start rs location))
     (eqb (lead_from rs 0 location (record { lsn = 0; slot = 0 })).lsn 0) refl h (leb (2 * (record_at rs j).label.lsn) location) refl
   where
-    go : (b : Lead) → Leads rs location (length rs) b → (t : Bool) → eqb b.lsn 0 ≡ t → pick t NoSlot (Is b.slot) ≡ NoSlot
+    go : (b : Lead) → Leads rs location (length rs) b → (t : Bool) → eqb b.lsn 0 ≡ t → pick t None (Some b.slot) ≡ None
         → (s : Bool) → leb (2 * (record_at rs j).label.lsn) location ≡ s → location < 2 * (record_at rs j).label.lsn
     go b l false p e s q = absurd (let z : ◌≡◌ {A = ℕ} 0 1 = cc in omega arith)
     go b l true p e false q = leb-false _ _ q
@@ -163,15 +163,15 @@ file-none rs location h j m u =
         omega arith
 
 -- and the other way round: that file is found
-pub file-is : (rs : List Record) (location k : ℕ) → IsFile rs location k → file_for rs location ≡ Is k
+pub file-is : (rs : List Record) (location k : ℕ) → IsFile rs location k → file_for rs location ≡ Some k
 file-is rs location k w = go (file_for rs location) refl
   where
-    go : (o : Slot) → file_for rs location ≡ o → file_for rs location ≡ Is k
-    go NoSlot h = let v = file-none rs location h k w.place w.used in let u = w.low in absurd (omega arith)
-    go (Is j) h = pin (order j k)
+    go : (o : Slot) → file_for rs location ≡ o → file_for rs location ≡ Some k
+    go None h = let v = file-none rs location h k w.place w.used in let u = w.low in absurd (omega arith)
+    go (Some j) h = pin (order j k)
       where
-        pin : (j < k) ⊎ ((j ≡ k) ⊎ (k < j)) → file_for rs location ≡ Is k
-        pin (inr (inl q)) = h ∙ ap Is q
+        pin : (j < k) ⊎ ((j ≡ k) ⊎ (k < j)) → file_for rs location ≡ Some k
+        pin (inr (inl q)) = h ∙ ap Some q
         pin (inl q) =
             let v = file-at rs location j h in
             let a = w.first j q v.low in
@@ -198,12 +198,12 @@ pub file-same : (rs qs : List Record) → length rs ≡ length qs → ((j : ℕ)
     → (location : ℕ) → file_for rs location ≡ file_for qs location
 unfolding file_for
 file-same rs qs n e location =
-    ap (λ (b : Lead). pick (eqb b.lsn 0) NoSlot (Is b.slot)) (lead-same rs qs n e 0 location (record { lsn = 0; slot = 0 }))
+    ap (λ (b : Lead). pick (eqb b.lsn 0) None (Some b.slot)) (lead-same rs qs n e 0 location (record { lsn = 0; slot = 0 }))
 
 -- "loses one live": no record more or less
 pub less-live-length : (k : Slot) (rs : List Record) → length (less_live k rs) ≡ length rs
-less-live-length (Is k) rs = length-set rs k _
-less-live-length NoSlot rs = refl
+less-live-length (Some k) rs = length-set rs k _
+less-live-length None rs = refl
 
 -- the clauses, by facts in the place of tests
 module _ (f : ℕ → Record → Bool) (i : ℕ) (r : Record) (rs : List Record) where

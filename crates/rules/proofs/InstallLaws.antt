@@ -1,11 +1,11 @@
 -- Adding files: what 4, 5 and 7 leave known, and what stays as it was.
-use Rattle.std.specs.Prelude.{◌≡◌, refl, ◌⊎◌, ◌≤◌, ◌<◌, ◌∷◌, ◌+◌, ◌-◌, ◌*◌, ◌^◌}
+use Rattle.std.specs.Prelude.{◌≡◌, refl, ◌⊎◌, ◌≤◌, ◌<◌, ◌∷◌, ◌+◌, ◌-◌, ◌*◌, ◌^◌, None, Some}
 use Rattle.std.proofs.Common.{ap, ◌∙◌, sym, inl, inr, arith, ltb-false, lt-ltb, eq-eqb, ne_eqb, get_or-set_same, get_or-set_other}
 use Rattle.std.proofs.Math.Nat.{sub-zero}
 use Rattle.std.proofs.Math.ListN.{get_or-eq_default}
 use Rattle.std.proofs.Math.Seq.{set_out}
 use Rattle.rules.specs.Base.{List, [], ℕ, length, set, ltb, sum, Bool, true, false, eqb, pick}
-use Rattle.rules.specs.Types.{Entry, Label, Record, Slot, Is, NoSlot, Mapped, At, DeletedAt}
+use Rattle.rules.specs.Types.{Entry, Label, Record, Slot, At, DeletedAt}
 use Rattle.rules.proofs.BaseLaws.{all_map, any_false, same?}
 use Rattle.numbers.specs.GroupLaws.{either_way}
 use Rattle.disk_location.specs.Locations.{masked_of, bit_of, delete_of}
@@ -67,7 +67,7 @@ plain-lsn base h = let same : base + 0 ≡ base = omega arith in (ap masked_of s
 
 -- ---- the file of a location that is held
 -- an object's and a delete's alike
-pub holding-mapped : (rs : List Record) (l : ℕ) → file_holding rs (loaded_of (Mapped l)) ≡ file_for rs l
+pub holding-mapped : (rs : List Record) (l : ℕ) → file_holding rs (loaded_of (Some l)) ≡ file_for rs l
 holding-mapped rs l = go (delete_of l)
   where
     go : (d : Bool) → file_holding rs (pick d (DeletedAt l) (At l)) ≡ file_for rs l
@@ -83,8 +83,8 @@ losing-length table (o ∷ os) rs =
 
 -- only the file that was found loses, and one
 pub less-at : (o : Slot) (rs : List Record) (j : ℕ) → record_at (less_live o rs) j ≡ with_live (record_at rs j) ((record_at rs j).live - bit_of (is_at j o))
-less-at NoSlot rs j = ap (with_live (record_at rs j)) (sym (sub-zero (record_at rs j).live))
-less-at (Is k) rs j = go (same? k j)
+less-at None rs j = ap (with_live (record_at rs j)) (sym (sub-zero (record_at rs j).live))
+less-at (Some k) rs j = go (same? k j)
   where
     less : Record
     less = with_live (record_at rs k) ((record_at rs k).live - 1)

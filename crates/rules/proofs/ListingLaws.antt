@@ -1,8 +1,8 @@
 -- What "ids" counts: every used entry, and on a table in form each id whose load is not never.
-use Rattle.std.specs.Prelude.{◌≡◌, refl, ◌⊎◌, ◌<◌, ◌∷◌, ◌+◌}
+use Rattle.std.specs.Prelude.{◌≡◌, refl, ◌⊎◌, ◌<◌, ◌∷◌, ◌+◌, None, Some}
 use Rattle.std.proofs.Common.{sym, ap, ap₂, ◌∙◌, inl, inr, arith}
 use Rattle.rules.specs.Base.{Bool, true, false, not, List, [], ℕ, zero, suc, length, keep}
-use Rattle.rules.specs.Types.{Entry, Held, Mapped, Unmapped}
+use Rattle.rules.specs.Types.{Entry, Held}
 use Rattle.disk_location.specs.Locations.{bit_of}
 use Rattle.rules.proofs.BaseLaws.{same?}
 use Rattle.rules.specs.Table.{lookup, load, loaded_of, never_written, unmapped}
@@ -19,7 +19,7 @@ written_held es x h e = ap (λ (o : Held). not (never_written (loaded_of o))) e 
 
 -- an entry's id is written
 written-here : (e : Entry) (es : List Entry) (x : ℕ) → e.id ≡ x → is_written (e ∷ es) x ≡ true
-written-here e es x h = written_held (e ∷ es) x (Mapped e.location) (lookup-here e es x h)
+written-here e es x h = written_held (e ∷ es) x (Some e.location) (lookup-here e es x h)
 
 -- another's is so or not by the rest
 written_next : (e : Entry) (es : List Entry) (x : ℕ) → (e.id ≡ x → ⊥) → is_written (e ∷ es) x ≡ is_written es x
@@ -79,7 +79,7 @@ count-written f [] r n h = count_none (is_written []) n (λ x. none x)
 count-written f (e ∷ es) (rise a r) n h =
     count-more (is_written (e ∷ es)) (is_written es) e.id n (h e.id e.location (inl (refl, refl)))
     (written-here e es e.id refl)
-    (written_held es e.id Unmapped (lookup-below (suc e.id) es r e.id (omega arith)))
+    (written_held es e.id None (lookup-below (suc e.id) es r e.id (omega arith)))
     (λ x d. written_next e es x d)
     ∙ ap suc (count-written (suc e.id) es r n (λ x l m. h x l (inr m)))
 

@@ -1,10 +1,10 @@
 -- "Candidates .. are unclaimed files with live not 0, and ..", as facts; which of 4, 5, 7 refuses a group, and what rewriting it leaves.
-use Rattle.std.specs.Prelude.{◌≡◌, refl, ◌⊎◌, ◌≤◌, ◌<◌, ◌&&◌, ◌∷◌, ◌+◌, ◌*◌, ◌/◌, ◌^◌}
+use Rattle.std.specs.Prelude.{◌≡◌, refl, ◌⊎◌, ◌≤◌, ◌<◌, ◌&&◌, ◌∷◌, ◌+◌, ◌*◌, ◌/◌, ◌^◌, Err, Ok}
 use Rattle.std.proofs.Common.{sym, ap, ◌∙◌, true≢false, inl, inr, arith, ne_eqb, ltb-true, ltb-false, lt-ltb, le-ltb, leb-true, le-leb}
 use Rattle.std.proofs.lemmas.Bool.{eqb-false, not-true}
 use Rattle.disk_location.specs.Locations.{masked_of}
 use Rattle.rules.specs.Base.{Bool, true, false, List, [], ℕ, length, leb, ltb, larger, any}
-use Rattle.rules.specs.Types.{Record, Settings, Claims, Refusal, SlotRoom, NoEmptySlot, PositionsSpent, Answer, Done, Refused}
+use Rattle.rules.specs.Types.{Record, Settings, Claims, Refusal, SlotRoom, NoEmptySlot, PositionsSpent, Answer}
 use Rattle.rules.specs.BaseLaws.{All}
 use Rattle.rules.proofs.BaseLaws.{and-true, and-holds, and-false, or-true, or-holds, any-true, any-holds, any_false, any-clear, all_map}
 use Rattle.rules.specs.Refusal.{◌gives◌, decide}
@@ -103,12 +103,12 @@ decided-limits w files a d = by a d
         go false e = refl
 
     by : (a : Answer) → DecidedBy w files a → decide (limit_tests w files) ≡ a
-    by Done e = three false false false (short e.room.fits) (le-ltb (empty_of w) (length files) e.room.slots) (spare e.positions)
-    by (Refused r) (inl (e, h)) = three true _ _ (any-holds long (TooLong w) (λ f n. lt-ltb w.settings.slot_bytes (64 + length (file_bytes f)) n) files h) refl refl ∙ ap Refused (sym e)
-    by (Refused r) (inr (inl (e, h, m))) = three false true _ (short h) (lt-ltb (empty_of w) (length files) m) refl ∙ ap Refused (sym e)
-    by (Refused r) (inr (inr (e, h, some, m))) =
+    by (Ok _) e = three false false false (short e.room.fits) (le-ltb (empty_of w) (length files) e.room.slots) (spare e.positions)
+    by (Err r) (inl (e, h)) = three true _ _ (any-holds long (TooLong w) (λ f n. lt-ltb w.settings.slot_bytes (64 + length (file_bytes f)) n) files h) refl refl ∙ ap Err (sym e)
+    by (Err r) (inr (inl (e, h, m))) = three false true _ (short h) (lt-ltb (empty_of w) (length files) m) refl ∙ ap Err (sym e)
+    by (Err r) (inr (inr (e, h, some, m))) =
         three false false true (short h.fits) (le-ltb (empty_of w) (length files) h.slots)
-        (and-holds _ _ (lt-ltb 0 (length files) some) (lt-ltb (2 ^ 62) (positions_after w files) m)) ∙ ap Refused (sym e)
+        (and-holds _ _ (lt-ltb 0 (length files) some) (lt-ltb (2 ^ 62) (positions_after w files) m)) ∙ ap Err (sym e)
 
 -- at most one of these is said of files
 pub decided-one : (w : World) (files : List (List Op)) (a b : Answer) → DecidedBy w files a → DecidedBy w files b → a ≡ b
@@ -121,7 +121,7 @@ group-decided w slots files pass = rw (decide-append (source_tests w slots) (lim
 
 -- LAW: "a group rewritten": its files are added and its operations counted
 pub group-added : (generation : ℕ) (slots : List ℕ) (moved : ℕ) (w : World)
-    → decide (group_tests w slots (files_of w.settings.target_file_size (found w slots))) ≡ Done
+    → decide (group_tests w slots (files_of w.settings.target_file_size (found w slots))) ≡ Ok tt
     → rewrite_group generation slots moved w
     ≡ record { stop = going; moved = moved + length (found w slots); world = installed_all 0 generation w (files_of w.settings.target_file_size (found w slots)) }
 unfolding rewrite_group
@@ -129,7 +129,7 @@ group-added generation slots moved w e = after-done {A = Course} (decide (group_
 
 -- LAW: "or refused and nothing changed"
 pub group-kept : (generation : ℕ) (slots : List ℕ) (moved : ℕ) (w : World) (r : Refusal)
-    → decide (group_tests w slots (files_of w.settings.target_file_size (found w slots))) ≡ Refused r
+    → decide (group_tests w slots (files_of w.settings.target_file_size (found w slots))) ≡ Err r
     → rewrite_group generation slots moved w ≡ record { stop = stopped r generation; moved = moved; world = w }
 unfolding rewrite_group
 group-kept generation slots moved w r e = after-refused {A = Course} (decide (group_tests w slots (files_of w.settings.target_file_size (found w slots)))) r _ _ e

@@ -1,15 +1,12 @@
 -- "Positions"
-use Rattle.std.specs.Prelude.{◌≡◌, refl, ◌⊎◌, ◌≤◌, ◌<◌, ◌∷◌, ◌+◌, ◌^◌}
+use Rattle.std.specs.Prelude.{◌≡◌, refl, ◌⊎◌, ◌≤◌, ◌<◌, ◌∷◌, ◌+◌, ◌^◌, None, Some}
 use Rattle.std.proofs.Common.{inl, inr, lt-ltb, le-ltb, le-leb}
 use Rattle.std.proofs.lemmas.Bool.{lt-leb}
 use Rattle.rules.specs.Base.{Bool, true, false, [], ℕ, leb, eqb}
 use Rattle.rules.specs.Types.{Location}
 use Rattle.numbers.specs.GroupLaws.{either_way}
 use Rattle.disk_location.specs.Locations.{position_of, delete_of, raw_of, located_at, relative_at}
-use Rattle.disk_location.specs.declared.Located.{Located}
-use Rattle.disk_location.specs.declared.Located.TheVariants.{At, Refused}
-use Rattle.disk_location.specs.declared.RelativeLocated.{RelativeLocated}
-use Rattle.disk_location.specs.declared.RelativeLocated.TheVariants as relative
+use Rattle.disk_location.specs.Answers.{Located, RelativeLocated}
 use Rattle.rules.specs.Refusal.{Test, ◌gives◌, decide, after}
 use Rattle.rules.proofs.RefusalLaws.{decide-first, decide-next, decide-none}
 use Rattle.rules.proofs.Answers.{inverse-one}
@@ -43,8 +40,8 @@ pub located-one : (a b : Located) → located_given a ≡ located_given b → a 
 located-one = inverse-one located_given (λ (g : Given). located_of g.values) go
   where
     go : (a : Located) → located_of (located_given a).values ≡ a
-    go (At l) = refl
-    go Refused = refl
+    go (Some l) = refl
+    go None = refl
 
 -- its contract says what the paper says
 pub relative-located-given : (position : ℕ) (delete : Bool) → relative_located_given (relative_at position delete) ≡ relative_given position delete
@@ -61,5 +58,5 @@ pub relative-one : (a b : RelativeLocated) → relative_located_given a ≡ rela
 relative-one = inverse-one relative_located_given (λ (g : Given). relative_of g.values) go
   where
     go : (a : RelativeLocated) → relative_of (relative_located_given a).values ≡ a
-    go (relative.At l) = refl
-    go relative.Refused = refl
+    go (Some l) = refl
+    go None = refl

@@ -1,9 +1,9 @@
 -- What a slot that holds a file tells: the file is its label's and trailer's, within 8's to 13's bounds.
-use Rattle.std.specs.Prelude.{◌≡◌, refl, ◌∷◌}
+use Rattle.std.specs.Prelude.{◌≡◌, refl, ◌∷◌, Err, Ok}
 use Rattle.std.proofs.Common.{subst, inl, inr, arith, eqb-true}
 use Rattle.std.proofs.lemmas.Bool.{not-false}
 use Rattle.rules.specs.Base.{false, not, List, [], ℕ, length, take, eqb, any}
-use Rattle.rules.specs.Types.{Entry, Label, LabelAnswer, Vacant, Five, Wrong, Answer, Done, Refused, EntryPosition, PresentCount}
+use Rattle.rules.specs.Types.{Entry, Label, LabelAnswer, Vacant, Five, Wrong, Answer, EntryPosition, PresentCount}
 use Rattle.rules.specs.Refusal.{◌gives◌, decide, after, NoneHolds}
 use Rattle.rules.proofs.RefusalLaws.{clear-when, none_first, none_rest}
 use Rattle.rules.specs.BaseLaws.{All}
@@ -26,7 +26,7 @@ inside-all offset es e = go es (any_false (misplaced offset) es e)
     go (d ∷ ds) a x l (inl (p, q)) = subst (WellPlaced offset) q (placed offset d a.0)
     go (d ∷ ds) a x l (inr h) = go ds a.1 x l h
 
-seen_by : (slot : List ℕ) (r : Label) → label_in (take 64 slot) ≡ Five r → decide (slot_tests r slot) ≡ Done
+seen_by : (slot : List ℕ) (r : Label) → label_in (take 64 slot) ≡ Five r → decide (slot_tests r slot) ≡ Ok tt
     → Seen slot (record { label = r; entries = trailer_entries r slot; objects = object_part r slot })
 unfolding slot_tests NoneHolds
 seen_by slot r is clear =
@@ -56,8 +56,8 @@ seen slot f e = go (label_in (take 64 slot)) refl e
 
     by : (r : Label) → label_in (take 64 slot) ≡ Five r → (a : Answer) → decide (slot_tests r slot) ≡ a
         → after a damaged (holds (record { label = r; entries = trailer_entries r slot; objects = object_part r slot })) ≡ holds f → Seen slot f
-    by r is (Refused q) d p = absurd (let z : ◌≡◌ {A = ℕ} 0 1 = cc in omega arith)
-    by r is Done d p =
+    by r is (Err q) d p = absurd (let z : ◌≡◌ {A = ℕ} 0 1 = cc in omega arith)
+    by r is (Ok _) d p =
         let same : record { label = r; entries = trailer_entries r slot; objects = object_part r slot } ≡ f = cc in
         rw same at (seen_by slot r is d)
 

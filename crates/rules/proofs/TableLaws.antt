@@ -1,32 +1,32 @@
 -- The table as a list of entries: lookups after stores, the order, lengths.
-use Rattle.std.specs.Prelude.{◌≡◌, refl, ◌⊎◌, ◌≤◌, ◌<◌, ◌&&◌, ◌∷◌, ◌+◌}
+use Rattle.std.specs.Prelude.{◌≡◌, refl, ◌⊎◌, ◌≤◌, ◌<◌, ◌&&◌, ◌∷◌, ◌+◌, None, Some}
 use Rattle.std.proofs.Common.{sym, ap, ◌∙◌, inl, inr, zero-le, arith}
 use borrow.Author.Tests.{lt-ltb, le-ltb, le-leb, lt-leb, eq-eqb, ne_eqb, eqb-true}
 use Rattle.rules.specs.Base.{Bool, true, false, List, [], ℕ, suc, length, eqb, pick}
-use Rattle.rules.specs.Types.{Entry, Held, Mapped, Unmapped, At, DeletedAt}
+use Rattle.rules.specs.Types.{Entry, Held, At, DeletedAt}
 use Rattle.disk_location.specs.Locations.{delete_of}
 use Rattle.rules.proofs.BaseLaws.{order, same?}
 use Rattle.rules.specs.Table.{lookup, loaded_of, never_written, current_at, insert, insert_all, unmapped, full, mapped_to}
 use Rattle.rules.specs.TableLaws.{Rising, rise-end, rise, Has, or_else}
 
 -- mapped is not unmapped
-pub mapped-not : {l : ℕ} → Mapped l ≡ Unmapped → ⊥
+pub mapped-not : {l : ℕ} → Some l ≡ None → ⊥
 mapped-not h = let z : ◌≡◌ {A = ℕ} 0 1 = cc in omega arith
 
 -- mapped at one location
-pub mapped-one : {l m : ℕ} → Mapped l ≡ Mapped m → l ≡ m
+pub mapped-one : {l m : ℕ} → Some l ≡ Some m → l ≡ m
 mapped-one h = cc
 
 -- the test as a fact
-pub mapped-to : (o : Held) (l : ℕ) → mapped_to o l ≡ true → o ≡ Mapped l
-mapped-to Unmapped l h = absurd (let z : ◌≡◌ {A = ℕ} 0 1 = cc in omega arith)
-mapped-to (Mapped m) l h = ap Mapped (eqb-true m l h)
+pub mapped-to : (o : Held) (l : ℕ) → mapped_to o l ≡ true → o ≡ Some l
+mapped-to None l h = absurd (let z : ◌≡◌ {A = ℕ} 0 1 = cc in omega arith)
+mapped-to (Some m) l h = ap Some (eqb-true m l h)
 
 -- ---- what load tells
 -- LAW: never written is unmapped
 pub never-unmapped : (h : Held) → never_written (loaded_of h) ≡ unmapped h
-never-unmapped Unmapped = refl
-never-unmapped (Mapped l) = go (delete_of l)
+never-unmapped None = refl
+never-unmapped (Some l) = go (delete_of l)
   where
     go : (d : Bool) → never_written (pick d (DeletedAt l) (At l)) ≡ false
     go true = refl
@@ -34,15 +34,15 @@ never-unmapped (Mapped l) = go (delete_of l)
 
 -- LAW: at a location, an object or a delete, is mapped to it
 pub current-mapped : (h : Held) (m : ℕ) → current_at (loaded_of h) m ≡ mapped_to h m
-current-mapped Unmapped m = refl
-current-mapped (Mapped l) m = go (delete_of l)
+current-mapped None m = refl
+current-mapped (Some l) m = go (delete_of l)
   where
     go : (d : Bool) → current_at (pick d (DeletedAt l) (At l)) m ≡ eqb l m
     go true = refl
     go false = refl
 
 -- the test as a fact
-pub current-is : (h : Held) (m : ℕ) → current_at (loaded_of h) m ≡ true → h ≡ Mapped m
+pub current-is : (h : Held) (m : ℕ) → current_at (loaded_of h) m ≡ true → h ≡ Some m
 current-is h m e = mapped-to h m (sym (current-mapped h m) ∙ e)
 
 -- an id and a location make one entry
@@ -52,7 +52,7 @@ entry-ext e d p q = λ i. record { id = p i; location = q i }
 -- ---- the clauses, by facts in the place of tests
 module _ (e : Entry) (es : List Entry) (x : ℕ) where
   -- the entry of that id
-  pub lookup-here : e.id ≡ x → lookup (e ∷ es) x ≡ Mapped e.location
+  pub lookup-here : e.id ≡ x → lookup (e ∷ es) x ≡ Some e.location
   unfolding lookup
   lookup-here h = simp (eq-eqb _ _ h)
 
@@ -79,13 +79,13 @@ module _ (e : Entry) (es : List Entry) (n : Entry) where
 
 -- ---- load after store
 -- the same id: what was stored
-pub lookup-insert-same : (es : List Entry) (n : Entry) → lookup (insert es n) n.id ≡ Mapped n.location
+pub lookup-insert-same : (es : List Entry) (n : Entry) → lookup (insert es n) n.id ≡ Some n.location
 unfolding insert
 lookup-insert-same [] n = lookup-here n [] n.id refl
 lookup-insert-same (e ∷ es) n = go (lookup-insert-same es n) (order e.id n.id)
   where
-    go : lookup (insert es n) n.id ≡ Mapped n.location → (e.id < n.id) ⊎ ((e.id ≡ n.id) ⊎ (n.id < e.id))
-        → lookup (insert (e ∷ es) n) n.id ≡ Mapped n.location
+    go : lookup (insert es n) n.id ≡ Some n.location → (e.id < n.id) ⊎ ((e.id ≡ n.id) ⊎ (n.id < e.id))
+        → lookup (insert (e ∷ es) n) n.id ≡ Some n.location
     go ih (inl h) = rw (insert-next e es n h) (lookup-next e _ n.id (λ q. omega arith) ∙ ih)
     go ih (inr (inl h)) = rw (insert-here e es n h) (lookup-here n es n.id refl)
     go ih (inr (inr h)) = rw (insert-before e es n h) (lookup-here n (e ∷ es) n.id refl)
@@ -118,7 +118,7 @@ rising-insert f (e ∷ es) n fn (rise a r) = go (λ h. rising-insert (suc e.id) 
     go ih (inr (inr h)) = rw (insert-before e es n h) (rise fn (rise h r))
 
 -- an id below the least one is not there
-pub lookup-below : (f : ℕ) (es : List Entry) → Rising f es → (x : ℕ) → x < f → lookup es x ≡ Unmapped
+pub lookup-below : (f : ℕ) (es : List Entry) → Rising f es → (x : ℕ) → x < f → lookup es x ≡ None
 unfolding lookup
 lookup-below f [] r x h = refl
 lookup-below f (e ∷ es) (rise a r) x h = lookup-next e es x (λ q. omega arith) ∙ lookup-below (suc e.id) es r x (omega arith)
@@ -130,19 +130,19 @@ rising-has f (e ∷ es) (rise a r) x l (inl (p, q)) = omega arith
 rising-has f (e ∷ es) (rise a r) x l (inr h) = let w = rising-has (suc e.id) es r x l h in omega arith
 
 -- ---- what lookup finds is there, and in order the other way round
-pub lookup-has : (es : List Entry) (x l : ℕ) → lookup es x ≡ Mapped l → Has es x l
+pub lookup-has : (es : List Entry) (x l : ℕ) → lookup es x ≡ Some l → Has es x l
 unfolding lookup
 lookup-has [] x l h = mapped-not (sym h)
 lookup-has (e ∷ es) x l h = go (lookup-has es x l) (same? e.id x)
   where
-    go : (lookup es x ≡ Mapped l → Has es x l) → (e.id ≡ x) ⊎ (e.id ≡ x → ⊥) → Has (e ∷ es) x l
+    go : (lookup es x ≡ Some l → Has es x l) → (e.id ≡ x) ⊎ (e.id ≡ x → ⊥) → Has (e ∷ es) x l
     go ih (inl q) = inl (q, mapped-one (sym (lookup-here e es x q) ∙ h))
     go ih (inr q) = inr (ih (sym (lookup-next e es x q) ∙ h))
 
 -- what is there in order is found
-pub has-lookup : (f : ℕ) (es : List Entry) → Rising f es → (x l : ℕ) → Has es x l → lookup es x ≡ Mapped l
+pub has-lookup : (f : ℕ) (es : List Entry) → Rising f es → (x l : ℕ) → Has es x l → lookup es x ≡ Some l
 has-lookup f [] r x l h = absurd h
-has-lookup f (e ∷ es) (rise a r) x l (inl (p, q)) = lookup-here e es x p ∙ ap Mapped q
+has-lookup f (e ∷ es) (rise a r) x l (inl (p, q)) = lookup-here e es x p ∙ ap Some q
 has-lookup f (e ∷ es) (rise a r) x l (inr h) =
     let w = rising-has (suc e.id) es r x l h in
     lookup-next e es x (λ q. omega arith) ∙ has-lookup (suc e.id) es r x l h
@@ -183,8 +183,8 @@ lookup-insert-all f t (e ∷ es) (rise a r) x = go (lookup-insert-all (suc e.id)
     go : lookup (insert_all (insert t e) es) x ≡ or_else (lookup es x) (lookup (insert t e) x)
         → (e.id ≡ x) ⊎ (e.id ≡ x → ⊥) → lookup (insert_all (insert t e) es) x ≡ or_else (lookup (e ∷ es) x) (lookup t x)
     go ih (inl q) =
-        let n : lookup es x ≡ Unmapped = lookup-below (suc e.id) es r x (omega arith) in
-        let u : lookup (insert t e) x ≡ Mapped e.location = ap (lookup (insert t e)) (sym q) ∙ lookup-insert-same t e in
+        let n : lookup es x ≡ None = lookup-below (suc e.id) es r x (omega arith) in
+        let u : lookup (insert t e) x ≡ Some e.location = ap (lookup (insert t e)) (sym q) ∙ lookup-insert-same t e in
         ih ∙ ap (λ (o : Held). or_else o (lookup (insert t e) x)) n ∙ u
         ∙ sym (ap (λ (o : Held). or_else o (lookup t x)) (lookup-here e es x q))
     go ih (inr q) =
@@ -214,36 +214,36 @@ insert-all-length t (e ∷ es) =
     (omega (arith, w.0, v.0), omega (arith, w.1, v.1))
 
 -- a new id grows it by one
-pub insert-new : (es : List Entry) (n : Entry) → lookup es n.id ≡ Unmapped → length (insert es n) ≡ length es + 1
+pub insert-new : (es : List Entry) (n : Entry) → lookup es n.id ≡ None → length (insert es n) ≡ length es + 1
 unfolding insert
 insert-new [] n h = omega arith
 insert-new (e ∷ es) n h = go (insert-new es n) (order e.id n.id)
   where
-    go : (lookup es n.id ≡ Unmapped → length (insert es n) ≡ length es + 1) → (e.id < n.id) ⊎ ((e.id ≡ n.id) ⊎ (n.id < e.id))
+    go : (lookup es n.id ≡ None → length (insert es n) ≡ length es + 1) → (e.id < n.id) ⊎ ((e.id ≡ n.id) ⊎ (n.id < e.id))
         → length (insert (e ∷ es) n) ≡ length (e ∷ es) + 1
     go ih (inl p) = rw (insert-next e es n p) (let w = ih (sym (lookup-next e es n.id (λ q. omega arith)) ∙ h) in omega arith)
     go ih (inr (inl p)) = absurd (mapped-not (sym (lookup-here e es n.id p) ∙ h))
     go ih (inr (inr p)) = rw (insert-before e es n p) (omega arith)
 
 -- one that is there does not
-pub insert-old : (f : ℕ) (es : List Entry) → Rising f es → (n : Entry) (l : ℕ) → lookup es n.id ≡ Mapped l → length (insert es n) ≡ length es
+pub insert-old : (f : ℕ) (es : List Entry) → Rising f es → (n : Entry) (l : ℕ) → lookup es n.id ≡ Some l → length (insert es n) ≡ length es
 unfolding insert lookup
 insert-old f [] r n l h = absurd (mapped-not (sym h))
 insert-old f (e ∷ es) (rise a r) n l h = go (insert-old (suc e.id) es r n l) (order e.id n.id)
   where
-    go : (lookup es n.id ≡ Mapped l → length (insert es n) ≡ length es) → (e.id < n.id) ⊎ ((e.id ≡ n.id) ⊎ (n.id < e.id))
+    go : (lookup es n.id ≡ Some l → length (insert es n) ≡ length es) → (e.id < n.id) ⊎ ((e.id ≡ n.id) ⊎ (n.id < e.id))
         → length (insert (e ∷ es) n) ≡ length (e ∷ es)
     go ih (inl p) = rw (insert-next e es n p) (let w = ih (sym (lookup-next e es n.id (λ q. omega arith)) ∙ h) in omega arith)
     go ih (inr (inl p)) = rw (insert-here e es n p) refl
     go ih (inr (inr p)) = absurd (mapped-not (sym h ∙ lookup-below (n.id + 1) (e ∷ es) (rise (omega arith) r) n.id (omega arith)))
 
 -- "a new id in a full table", as facts
-pub full-when : (es : List Entry) (capacity x : ℕ) → lookup es x ≡ Unmapped → capacity ≤ length es → full es capacity x ≡ true
+pub full-when : (es : List Entry) (capacity x : ℕ) → lookup es x ≡ None → capacity ≤ length es → full es capacity x ≡ true
 unfolding full
 full-when es capacity x h q = rw (h, le-leb capacity (length es) q)
 
 -- no, where the id is there
-pub full-mapped : (es : List Entry) (capacity x l : ℕ) → lookup es x ≡ Mapped l → full es capacity x ≡ false
+pub full-mapped : (es : List Entry) (capacity x l : ℕ) → lookup es x ≡ Some l → full es capacity x ≡ false
 unfolding full
 full-mapped es capacity x l h = rw h
 

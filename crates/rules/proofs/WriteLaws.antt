@@ -1,8 +1,8 @@
 -- What an accepted write knows.
-use Rattle.std.specs.Prelude.{◌≡◌, ◌≤◌, ◌<◌, ◌∷◌, ◌+◌, ◌^◌}
+use Rattle.std.specs.Prelude.{◌≡◌, ◌≤◌, ◌<◌, ◌∷◌, ◌+◌, ◌^◌, Ok}
 use Rattle.std.proofs.Common.{arith, not-suc-le-zero, ltb-false}
 use Rattle.rules.specs.Base.{List, [], ℕ, length, sum}
-use Rattle.rules.specs.Types.{Done, TableRoom}
+use Rattle.rules.specs.Types.{TableRoom}
 use Rattle.rules.specs.Refusal.{◌gives◌, decide, NoneHolds}
 use Rattle.rules.proofs.RefusalLaws.{clear-when, none_first, none_rest}
 use Rattle.rules.specs.Ops.{Op, objects_of, file_bytes}
@@ -30,7 +30,7 @@ last_one base [] n h = absurd (not-suc-le-zero h)
 last_one base (o ∷ os) n h = let w = positions-clear base ((o ∷ os) ∷ []) n (omega arith) in omega arith
 
 -- a write that is not refused knows this
-pub write-accepted : (w : World) (bytes : List ℕ) → decide (write_tests w bytes) ≡ Done → Accepted w bytes
+pub write-accepted : (w : World) (bytes : List ℕ) → decide (write_tests w bytes) ≡ Ok tt → Accepted w bytes
 unfolding write_tests NoneHolds too_many_ids
 write-accepted w bytes e =
     let n = clear-when (write_tests w bytes) e in

@@ -1,7 +1,7 @@
 -- Adding files: what write and maintenance share.
-use Rattle.std.specs.Prelude.{◌&&◌, ◌∷◌, ◌+◌, ◌*◌, ◌^◌}
+use Rattle.std.specs.Prelude.{◌&&◌, ◌∷◌, ◌+◌, ◌*◌, ◌^◌, None}
 use Rattle.rules.specs.Base.{List, [], map, ℕ, length, set, ltb, any, sum}
-use Rattle.rules.specs.Types.{Entry, Label, Record, Slot, NoSlot, Loaded, At, DeletedAt, Never, SlotRoom, NoEmptySlot, PositionsSpent}
+use Rattle.rules.specs.Types.{Entry, Label, Record, Slot, Loaded, At, DeletedAt, Never, SlotRoom, NoEmptySlot, PositionsSpent}
 use Rattle.rules.specs.Refusal.{Test, ◌gives◌}
 use Rattle.rules.specs.Trailer.{absolute}
 use Rattle.rules.specs.Ops.{Op, objects_of, entries_of, file_bytes}
@@ -30,7 +30,7 @@ new_record lsn generation ops = recorded (new_label lsn generation ops) (length 
 abbrev pub file_holding : List Record → Loaded → Slot
 file_holding rs (At l) = file_for rs l
 file_holding rs (DeletedAt l) = file_for rs l
-file_holding rs Never = NoSlot
+file_holding rs Never = None
 
 -- "each replaced location's file, found before the new one is added, loses one live"
 unfoldable pub losing : List Entry → List Op → List Record → List Record

@@ -1,10 +1,9 @@
 -- "Lines to hold, both sides": lines P1 to P10, and the default of request P10; one table and one proved statement.
-use Rattle.std.specs.Prelude.{◌&&◌, ◌∷◌, ◌++◌, ◌+◌, ◌-◌, ◌^◌}
+use Rattle.std.specs.Prelude.{◌&&◌, ◌∷◌, ◌++◌, ◌+◌, ◌-◌, ◌^◌, None, Some}
 use Rattle.rules.specs.Base.{Bool, true, false, List, [], map, ℕ, length, replicate, eqb, zeros, each}
 use Rattle.rules.specs.Types.{Entry, Record, Settings}
 use Rattle.numbers.specs.Groups.{groups_of, number_in}
-use Rattle.numbers.specs.declared.Number.{Number}
-use Rattle.numbers.specs.declared.Number.TheVariants.{Said, Malformed}
+use Rattle.numbers.specs.Answers.{Number}
 use Rattle.disk_location.specs.Locations.{raw_of}
 use Rattle.rules.specs.Settings.{defaults}
 use Rattle.rules.specs.Ops.{put, Op, shard_for}
@@ -29,8 +28,8 @@ told g = g.number ∷ g.values
 
 -- the number, or nothing where it is refused
 abbrev pub said : Number → List ℕ
-said (Said v at) = v ∷ []
-said Malformed = []
+said (Some (v, at)) = v ∷ []
+said None = []
 
 -- 1 for yes
 abbrev pub bit : Bool → ℕ

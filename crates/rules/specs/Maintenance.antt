@@ -1,7 +1,7 @@
 -- "Maintenance"
-use Rattle.std.specs.Prelude.{◌&&◌, ◌||◌, ◌∷◌, ◌++◌, ◌+◌, ◌*◌, ◌/◌, ◌^◌}
+use Rattle.std.specs.Prelude.{◌&&◌, ◌||◌, ◌∷◌, ◌++◌, ◌+◌, ◌*◌, ◌/◌, ◌^◌, Err, Ok}
 use Rattle.rules.specs.Base.{Bool, true, false, not, List, [], map, ℕ, suc, length, get_or, set, replicate, leb, ltb, eqb, pick, keep, each, larger}
-use Rattle.rules.specs.Types.{Entry, Label, Record, Settings, Claims, Refusal, Limits, ObjectSize, Checksum, CutShort, NotThere, Location, Moved, Stopped}
+use Rattle.rules.specs.Types.{Entry, Label, Record, Settings, Claims, Refusal, Limits, ObjectSize, Checksum, CutShort, NotThere, Location, stopped_with}
 use Rattle.disk_location.specs.Locations.{masked_of, position_of, delete_of, raw_of}
 use Rattle.rules.specs.Refusal.{Test, ◌gives◌, decide, after}
 use Rattle.rules.specs.Object.{Stored, objects_in, bad_checksum}
@@ -201,8 +201,8 @@ course_of w = groups_from (1 ∷ 2 ∷ 3 ∷ []) w (record { stop = going; moved
 
 -- "gives number, generation and ids moved so far ..; nothing is pruned. Success prunes and gives the count of ids moved."
 abbrev pub ended : Stop → Course → After
-ended (stopped r g) c = record { answer = maintain_given (Stopped r g c.moved); world = c.world }
-ended going c = record { answer = maintain_given (Moved c.moved); world = pruned c.world }
+ended (stopped r g) c = record { answer = maintain_given (Err (stopped_with r g c.moved)); world = c.world }
+ended going c = record { answer = maintain_given (Ok c.moved); world = pruned c.world }
 
 -- refused or not
 abbrev pub finished : Course → After
@@ -212,5 +212,5 @@ finished c = ended c.stop c
 unfoldable pub maintain_call : World → After
 maintain_call w =
     after (decide (refused1 w gives Limits ∷ []))
-    (λ (r : Refusal). record { answer = maintain_given (Stopped r 0 0); world = w })
+    (λ (r : Refusal). record { answer = maintain_given (Err (stopped_with r 0 0)); world = w })
     (finished (course_of w))

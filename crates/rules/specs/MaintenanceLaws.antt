@@ -1,8 +1,8 @@
 -- "Candidates .. are unclaimed files with live not 0, and ..", as facts; which of 4, 5, 7 refuses a group, and what rewriting it leaves.
-use Rattle.std.specs.Prelude.{◌≡◌, ◌⊎◌, ◌≤◌, ◌<◌, ◌++◌, ◌+◌, ◌*◌, ◌/◌, ◌^◌}
+use Rattle.std.specs.Prelude.{◌≡◌, ◌⊎◌, ◌≤◌, ◌<◌, ◌++◌, ◌+◌, ◌*◌, ◌/◌, ◌^◌, Err, Ok}
 use Rattle.disk_location.specs.Locations.{masked_of}
 use Rattle.rules.specs.Base.{false, List, ℕ, length, larger, sum}
-use Rattle.rules.specs.Types.{Record, Settings, Claims, Refusal, SlotRoom, NoEmptySlot, PositionsSpent, Answer, Done, Refused}
+use Rattle.rules.specs.Types.{Record, Settings, Claims, Refusal, SlotRoom, NoEmptySlot, PositionsSpent, Answer}
 use Rattle.rules.specs.BaseLaws.{All, Some}
 use Rattle.rules.specs.Refusal.{Test, NoneHolds}
 use Rattle.rules.specs.Ops.{Op, objects_of, file_bytes}
@@ -53,8 +53,8 @@ Lacks w files r =
 
 -- what an answer says of them
 abbrev pub DecidedBy : World → List (List Op) → Answer → Type 0
-DecidedBy w files Done = Enough w files
-DecidedBy w files (Refused r) = Lacks w files r
+DecidedBy w files (Ok _) = Enough w files
+DecidedBy w files (Err r) = Lacks w files r
 
 -- no file of the group is refused
 abbrev pub SourcesPass : World → List ℕ → Type 0

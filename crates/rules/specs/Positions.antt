@@ -1,12 +1,9 @@
 -- "Positions"
-use Rattle.std.specs.Prelude.{◌∷◌, ◌+◌, ◌^◌}
+use Rattle.std.specs.Prelude.{◌∷◌, ◌+◌, ◌^◌, None, Some}
 use Rattle.rules.specs.Base.{Bool, List, [], ℕ, leb, eqb, pick}
 use Rattle.rules.specs.Types.{Location}
 use Rattle.disk_location.specs.Locations.{position_of, delete_of, raw_of, Told, told, relative_told}
-use Rattle.disk_location.specs.declared.Located.{Located}
-use Rattle.disk_location.specs.declared.Located.TheVariants.{At, Refused}
-use Rattle.disk_location.specs.declared.RelativeLocated.{RelativeLocated}
-use Rattle.disk_location.specs.declared.RelativeLocated.TheVariants as relative
+use Rattle.disk_location.specs.Answers.{Located, RelativeLocated}
 use Rattle.rules.specs.Refusal.{◌gives◌, decide, after}
 use Rattle.rules.specs.World.{Given, accepted, refused}
 
@@ -34,8 +31,8 @@ located_given l = told_given (told l)
 
 -- its values alone say which answer it is
 abbrev pub located_of : List ℕ → Located
-located_of [] = Refused
-located_of (v ∷ vs) = At (record { 0 = v })
+located_of [] = None
+located_of (v ∷ vs) = Some (record { 0 = v })
 
 -- ---- the same of a relative location
 abbrev pub relative_located_given : RelativeLocated → Given
@@ -43,5 +40,5 @@ relative_located_given l = told_given (relative_told l)
 
 -- its values alone say which answer it is
 abbrev pub relative_of : List ℕ → RelativeLocated
-relative_of [] = relative.Refused
-relative_of (v ∷ vs) = relative.At (record { 0 = v })
+relative_of [] = None
+relative_of (v ∷ vs) = Some (record { 0 = v })

@@ -1,7 +1,7 @@
 -- "Read." "Checks in order: 18, 16 (header or body past file_size), 10, 17."
-use Rattle.std.specs.Prelude.{◌∷◌, ◌+◌, ◌-◌, ◌*◌}
+use Rattle.std.specs.Prelude.{◌∷◌, ◌+◌, ◌-◌, ◌*◌, Err, None, Ok, Some}
 use Rattle.rules.specs.Base.{not, List, [], ℕ, take, drop, ltb, eqb}
-use Rattle.rules.specs.Types.{Loaded, At, DeletedAt, Never, Slot, Is, NoSlot, ReadAnswer, Found, Deleted, NeverWritten, ReadRefused, Limits, NotThere, CutShort, Checksum, OtherId}
+use Rattle.rules.specs.Types.{Loaded, At, DeletedAt, Never, Slot, ReadAnswer, Found, Deleted, NeverWritten, Limits, NotThere, CutShort, Checksum, OtherId}
 use Rattle.disk_location.specs.Locations.{position_of}
 use Rattle.rules.specs.Refusal.{Test, ◌gives◌, decide, after}
 use Rattle.rules.specs.Object.{Stored, stored_at, bad_checksum}
@@ -26,29 +26,29 @@ object_in w k position = stored_at position (drop position (file_in (record_at (
 
 -- "the found bytes are a part of the lent heap itself": their start in the heap and their length
 abbrev pub read_object : World → ℕ → ℕ → Stored → ReadAnswer
-read_object w id k o = after (decide (object_tests id o)) ReadRefused (Found (k * w.settings.slot_bytes + 64 + o.position + 20) o.size)
+read_object w id k o = after (decide (object_tests id o)) Err (Ok (Found (k * w.settings.slot_bytes + 64 + o.position + 20) o.size))
 
 -- 18 where no file is at or below the location
 abbrev pub read_file : World → ℕ → ℕ → Slot → ReadAnswer
-read_file w id l NoSlot = ReadRefused NotThere
-read_file w id l (Is k) = read_object w id k (object_in w k (position_of l - (record_at (records_of w) k).label.lsn))
+read_file w id l None = Err NotThere
+read_file w id l (Some k) = read_object w id k (object_in w k (position_of l - (record_at (records_of w) k).label.lsn))
 
 -- request P1: "Reading now gives "never written" or "deleted"", else what stands at the location
 abbrev pub read_loaded : World → ℕ → Loaded → ReadAnswer
-read_loaded w id Never = NeverWritten
-read_loaded w id (DeletedAt l) = Deleted
+read_loaded w id Never = Ok NeverWritten
+read_loaded w id (DeletedAt l) = Ok Deleted
 read_loaded w id (At l) = read_file w id l (file_for (records_of w) l)
 
 -- 1 first
 unfoldable pub read_of : World → ℕ → ReadAnswer
-read_of w id = after (decide (refused1 w gives Limits ∷ [])) ReadRefused (read_loaded w id (load (mappings w) id))
+read_of w id = after (decide (refused1 w gives Limits ∷ [])) Err (read_loaded w id (load (mappings w) id))
 
 -- "A refused read, or one that finds nothing, gives an empty part."
 abbrev pub part_of : ReadAnswer → List ℕ → List ℕ
-part_of (Found start size) heap = take size (drop start heap)
-part_of Deleted heap = []
-part_of NeverWritten heap = []
-part_of (ReadRefused r) heap = []
+part_of (Ok (Found start size)) heap = take size (drop start heap)
+part_of (Ok Deleted) heap = []
+part_of (Ok NeverWritten) heap = []
+part_of (Err r) heap = []
 
 -- the call: nothing changes
 unfoldable pub read_call : World → ℕ → After

@@ -1,7 +1,7 @@
 -- "Refusal numbers": "Each is given exactly when its condition holds and no earlier one in the call's order does."
 use Rattle.rules.specs.Base.{Bool, true, false, List, [], ℕ, pick}
-use Rattle.rules.specs.Types.{Refusal, Limits, BatchBytes, ObjectSize, SlotRoom, NoEmptySlot, TableRoom, PositionsSpent, LabelBytes, TrailerShort, Checksum, EntryCount, EntryPosition, PresentCount, Overlap, NotRising, CutShort, OtherId, NotThere, EqualLocation, Location, Claim, Generation, Answer, Done, Refused}
-use Rattle.std.specs.Prelude.{◌≡◌, ◌∷◌, ◌++◌}
+use Rattle.rules.specs.Types.{Refusal, Limits, BatchBytes, ObjectSize, SlotRoom, NoEmptySlot, TableRoom, PositionsSpent, LabelBytes, TrailerShort, Checksum, EntryCount, EntryPosition, PresentCount, Overlap, NotRising, CutShort, OtherId, NotThere, EqualLocation, Location, Claim, Generation, Answer}
+use Rattle.std.specs.Prelude.{◌≡◌, ◌∷◌, ◌++◌, Err, Ok}
 
 -- the table "No. | Condition"
 abbrev pub number_of : Refusal → ℕ
@@ -35,13 +35,13 @@ pub data Test : Type 0 where
 
 -- the first condition that holds, in the order of the list
 unfoldable pub decide : List Test → Answer
-decide [] = Done
-decide (b gives r ∷ ts) = pick b (Refused r) (decide ts)
+decide [] = Ok tt
+decide (b gives r ∷ ts) = pick b (Err r) (decide ts)
 
 -- what follows an answer
 abbrev pub after : {A : Type 0} → Answer → (Refusal → A) → A → A
-after Done refused accepted = accepted
-after (Refused r) refused accepted = refused r
+after (Ok _) refused accepted = accepted
+after (Err r) refused accepted = refused r
 
 -- ---- the law: exactly when its condition holds and no earlier one does
 unfoldable pub NoneHolds : List Test → Type 0

@@ -1,7 +1,7 @@
 -- "Table.": the used entries as a list, whatever the buffer looks like.
-use Rattle.std.specs.Prelude.{◌&&◌, ◌∷◌}
+use Rattle.std.specs.Prelude.{◌&&◌, ◌∷◌, None, Some}
 use Rattle.rules.specs.Base.{Bool, true, false, List, [], ℕ, length, leb, ltb, eqb, pick}
-use Rattle.rules.specs.Types.{Entry, Held, Mapped, Unmapped, Loaded, At, DeletedAt, Never}
+use Rattle.rules.specs.Types.{Entry, Held, Loaded, At, DeletedAt, Never}
 use Rattle.disk_location.specs.Locations.{delete_of}
 
 -- what stands past the last entry
@@ -10,13 +10,13 @@ no_entry = record { id = 0; location = 0 }
 
 -- what the table has for an id
 unfoldable pub lookup : List Entry → ℕ → Held
-lookup [] x = Unmapped
-lookup (e ∷ es) x = pick (eqb e.id x) (Mapped e.location) (lookup es x)
+lookup [] x = None
+lookup (e ∷ es) x = pick (eqb e.id x) (Some e.location) (lookup es x)
 
 -- a delete told from an object, by the mark of what is held
 abbrev pub loaded_of : Held → Loaded
-loaded_of (Mapped l) = pick (delete_of l) (DeletedAt l) (At l)
-loaded_of Unmapped = Never
+loaded_of (Some l) = pick (delete_of l) (DeletedAt l) (At l)
+loaded_of None = Never
 
 -- request P1: "the table's load says which"
 abbrev pub load : List Entry → ℕ → Loaded
@@ -46,13 +46,13 @@ insert_all es (n ∷ ns) = insert_all (insert es n) ns
 
 -- "an unmapped id"
 abbrev pub unmapped : Held → Bool
-unmapped (Mapped l) = false
-unmapped Unmapped = true
+unmapped (Some l) = false
+unmapped None = true
 
 -- held at that very location
 abbrev pub mapped_to : Held → ℕ → Bool
-mapped_to (Mapped l) m = eqb l m
-mapped_to Unmapped m = false
+mapped_to (Some l) m = eqb l m
+mapped_to None m = false
 
 -- "a new id in a full table"
 unfoldable pub full : List Entry → ℕ → ℕ → Bool

@@ -1,7 +1,7 @@
 -- The table as a list of entries: lookups after stores, the order, lengths.
-use Rattle.std.specs.Prelude.{◌≡◌, ◌⊎◌, ◌≤◌, ◌∷◌}
+use Rattle.std.specs.Prelude.{◌≡◌, ◌⊎◌, ◌≤◌, ◌∷◌, None, Some}
 use Rattle.rules.specs.Base.{List, [], ℕ, suc}
-use Rattle.rules.specs.Types.{Entry, Held, Mapped, Unmapped}
+use Rattle.rules.specs.Types.{Entry, Held}
 
 -- "ids strictly rising", from a least one on
 pub data Rising : ℕ → List Entry → Type 0 where
@@ -16,5 +16,5 @@ Has (e ∷ es) x l = ((e.id ≡ x) × (e.location ≡ l)) ⊎ Has es x l
 -- ---- many stores
 -- the first, or else the second
 abbrev pub or_else : Held → Held → Held
-or_else (Mapped l) o = Mapped l
-or_else Unmapped o = o
+or_else (Some l) o = Some l
+or_else None o = o

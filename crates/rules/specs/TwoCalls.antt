@@ -1,7 +1,7 @@
 -- Document 02, request P7, "Maintenance in two calls": plan, rewrite, and the nightly job over these and prune.
-use Rattle.std.specs.Prelude.{◌||◌, ◌∷◌, ◌++◌, ◌+◌, ◌-◌}
+use Rattle.std.specs.Prelude.{◌||◌, ◌∷◌, ◌++◌, ◌+◌, ◌-◌, Err, Ok}
 use Rattle.rules.specs.Base.{Bool, not, List, [], map, ℕ, length, replicate, leb, ltb, eqb, pick, within, sum}
-use Rattle.rules.specs.Types.{Refusal, Limits, Generation, Moved, Stopped}
+use Rattle.rules.specs.Types.{Refusal, Limits, Generation, stopped_with}
 use Rattle.rules.specs.Refusal.{Test, ◌gives◌, decide, after, number_of}
 use Rattle.rules.specs.Ops.{Op, objects_of, file_bytes}
 use Rattle.rules.specs.Layout.{Table, capacity_of}
@@ -159,15 +159,15 @@ job_of w room = job_from (1 ∷ 2 ∷ 3 ∷ []) room (mark_of w) (count_of w) (r
 
 -- "then prune"
 abbrev pub job_ended : Stop → Course → After
-job_ended (stopped r g) c = leaving (maintain_given (Stopped r g c.moved)) c.world
+job_ended (stopped r g) c = leaving (maintain_given (Err (stopped_with r g c.moved))) c.world
 job_ended going c =
     after (decide (refused1 c.world gives Limits ∷ []))
-    (λ (r : Refusal). leaving (maintain_given (Stopped r 0 c.moved)) c.world)
-    (leaving (maintain_given (Moved c.moved)) (pruned c.world))
+    (λ (r : Refusal). leaving (maintain_given (Err (stopped_with r 0 c.moved))) c.world)
+    (leaving (maintain_given (Ok c.moved)) (pruned c.world))
 
 -- "the nightly job becomes plan, rewrite 1, 2, 3, then prune"; "its answer is the old call's"
 unfoldable pub nightly_call : World → ℕ → After
 nightly_call w room =
     after (decide (refused_noting w room gives Limits ∷ []))
-    (λ (r : Refusal). leaving (maintain_given (Stopped r 0 0)) w)
+    (λ (r : Refusal). leaving (maintain_given (Err (stopped_with r 0 0))) w)
     (job_ended (job_of w room).stop (job_of w room))

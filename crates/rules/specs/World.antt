@@ -1,7 +1,7 @@
 -- What a call is given and leaves: settings, state, claims and the lent buffers; and its answer as the paper's number and values.
-use Rattle.std.specs.Prelude.{◌∷◌}
+use Rattle.std.specs.Prelude.{◌∷◌, Err, None, Ok, Some}
 use Rattle.rules.specs.Base.{List, [], ℕ, length}
-use Rattle.rules.specs.Types.{Entry, Settings, Record, State, Claims, Refusal, Answer, Done, Refused, ReadAnswer, Found, Deleted, NeverWritten, ReadRefused, MaintainAnswer, Moved, Stopped, RewriteAnswer, Rewrote, RewriteRefused, CountsAnswer, Counted, CountsRefused, Held, Mapped, Unmapped, Loaded, At, DeletedAt, Never, LoadAnswer, Loads, LoadRefused, GreaterAnswer, Before, GreaterRefused, CompareAnswer, Swapped, Differs, CompareRefused}
+use Rattle.rules.specs.Types.{Entry, Settings, Record, State, Claims, Refusal, Answer, ReadAnswer, Found, Deleted, NeverWritten, MaintainAnswer, RewriteAnswer, CountsAnswer, Held, Loaded, At, DeletedAt, Never, LoadAnswer, GreaterAnswer, CompareAnswer, Swapped, Differs, stopped_with}
 use Rattle.rules.specs.Refusal.{number_of}
 use Rattle.rules.specs.Settings.{slots_in}
 use Rattle.rules.specs.Layout.{Table, used_entries}
@@ -67,30 +67,30 @@ refused r = record { number = number_of r; values = [] }
 
 -- "a definition provides this paper's number and values for each of the enum's cases"
 abbrev pub answer_given : Answer → Given
-answer_given Done = accepted []
-answer_given (Refused r) = refused r
+answer_given (Ok _) = accepted []
+answer_given (Err r) = refused r
 
 -- the kind of what is read or loaded, the first value: 0 never written, 1 deleted, 2 an object; then where the part starts and its length
 abbrev pub read_given : ReadAnswer → Given
-read_given (Found start size) = accepted (2 ∷ start ∷ size ∷ [])
-read_given Deleted = accepted (1 ∷ [])
-read_given NeverWritten = accepted (0 ∷ [])
-read_given (ReadRefused r) = refused r
+read_given (Ok (Found start size)) = accepted (2 ∷ start ∷ size ∷ [])
+read_given (Ok Deleted) = accepted (1 ∷ [])
+read_given (Ok NeverWritten) = accepted (0 ∷ [])
+read_given (Err r) = refused r
 
 -- "the count of ids moved"; "number, generation and ids moved so far"
 abbrev pub maintain_given : MaintainAnswer → Given
-maintain_given (Moved n) = accepted (n ∷ [])
-maintain_given (Stopped r generation n) = record { number = number_of r; values = generation ∷ n ∷ [] }
+maintain_given (Ok n) = accepted (n ∷ [])
+maintain_given (Err s) = record { number = number_of s.refusal; values = s.generation ∷ s.moved ∷ [] }
 
 -- request P7: "It answers ids moved, or the number alone."
 abbrev pub rewrite_given : RewriteAnswer → Given
-rewrite_given (Rewrote n) = accepted (n ∷ [])
-rewrite_given (RewriteRefused r) = refused r
+rewrite_given (Ok n) = accepted (n ∷ [])
+rewrite_given (Err r) = refused r
 
 -- "Files, bytes, present, live"
 abbrev pub counts_given : CountsAnswer → Given
-counts_given (Counted c) = accepted (c.files ∷ c.bytes ∷ c.present ∷ c.live ∷ [])
-counts_given (CountsRefused r) = refused r
+counts_given (Ok c) = accepted (c.files ∷ c.bytes ∷ c.present ∷ c.live ∷ [])
+counts_given (Err r) = refused r
 
 -- the kind, then the raw location
 abbrev pub loaded_given : Loaded → Given
@@ -100,24 +100,24 @@ loaded_given Never = accepted (0 ∷ [])
 
 -- load
 abbrev pub load_given : LoadAnswer → Given
-load_given (Loads l) = loaded_given l
-load_given (LoadRefused r) = refused r
+load_given (Ok l) = loaded_given l
+load_given (Err r) = refused r
 
 -- the location held, or nothing
 abbrev pub held_given : Held → Given
-held_given (Mapped l) = accepted (l ∷ [])
-held_given Unmapped = accepted []
+held_given (Some l) = accepted (l ∷ [])
+held_given None = accepted []
 
 -- "Store-if-greater gives the location held before or nothing"
 abbrev pub greater_given : GreaterAnswer → Given
-greater_given (Before h) = held_given h
-greater_given (GreaterRefused r) = refused r
+greater_given (Ok h) = held_given h
+greater_given (Err r) = refused r
 
 -- nothing, or the current location that differs
 abbrev pub compare_given : CompareAnswer → Given
-compare_given Swapped = accepted []
-compare_given (Differs l) = accepted (l ∷ [])
-compare_given (CompareRefused r) = refused r
+compare_given (Ok Swapped) = accepted []
+compare_given (Ok (Differs l)) = accepted (l ∷ [])
+compare_given (Err r) = refused r
 
 -- ---- a call's answer and everything after it
 pub record After : Type 0 where

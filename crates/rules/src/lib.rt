@@ -25,7 +25,7 @@ pub const RECORDS: usize = 256;
 
 // "Settings": the six that a caller chooses; slots and table entries come from the buffers.
 #[repr(C)]
-#[derive(Clone, Copy)]
+#[derive(Clone, Copy, PartialEq, Eq)]
 pub struct Settings {
     pub slot_bytes: u64,
     pub file_compaction_percent: u64,
@@ -37,7 +37,7 @@ pub struct Settings {
 
 // A slot's label: its five numbers.
 #[repr(C)]
-#[derive(Clone, Copy)]
+#[derive(Clone, Copy, PartialEq, Eq)]
 pub struct Label {
     pub lsn: u64,
     pub trailer_offset: u64,
@@ -49,7 +49,7 @@ pub struct Label {
 // "A record holds the label's five numbers and the live count" and, since request P6, "the synced mark": 0 clear, 1 set.
 // All zeros: empty.
 #[repr(C)]
-#[derive(Clone, Copy)]
+#[derive(Clone, Copy, PartialEq, Eq)]
 pub struct Record {
     pub label: Label,
     pub live: u64,
@@ -83,7 +83,7 @@ pub struct State {
 
 // "a claim record of the host's": slot s is bit s % 64 of word s / 64.
 #[repr(C)]
-#[derive(Clone, Copy)]
+#[derive(Clone, Copy, PartialEq, Eq)]
 pub struct Claims {
     pub a: u64,
     pub b: u64,
@@ -118,34 +118,20 @@ pub enum Refusal {
     Generation,
 }
 
-// The answer of a call that gives nothing but its success: write, claim, release, prune, reopen, the table's store.
+// What a read finds: the body's start in the heap and its length; or that the id is deleted, or never written.
 #[derive(Clone, Copy)]
-pub enum Answer {
-    Done,
-    Refused(Refusal),
-}
-
-// The body's start in the heap and its length; or that the id is deleted, or never written.
-#[derive(Clone, Copy)]
-pub enum ReadAnswer {
+pub enum Lookup {
     Found(u64, u64),
     Deleted,
     NeverWritten,
-    ReadRefused(Refusal),
 }
 
-// Ids moved; or the refusal, its generation and the ids moved before it.
+// Why maintenance stopped: the refusal, its generation and the ids moved before it.
 #[derive(Clone, Copy)]
-pub enum MaintainAnswer {
-    Moved(u64),
-    Stopped(Refusal, u64, u64),
-}
-
-// Request P7: "It answers ids moved, or the number alone."
-#[derive(Clone, Copy)]
-pub enum RewriteAnswer {
-    Rewrote(u64),
-    RewriteRefused(Refusal),
+pub struct Stopped {
+    pub refusal: Refusal,
+    pub generation: u64,
+    pub moved: u64,
 }
 
 #[repr(C)]
@@ -157,12 +143,6 @@ pub struct Counts {
     pub live: u64,
 }
 
-#[derive(Clone, Copy)]
-pub enum CountsAnswer {
-    Counted(Counts),
-    CountsRefused(Refusal),
-}
-
 // What a load tells of an id: its raw location, of an object or of a delete; or that it was never written.
 #[derive(Clone, Copy)]
 pub enum Loaded {
@@ -171,44 +151,17 @@ pub enum Loaded {
     Never,
 }
 
-#[derive(Clone, Copy)]
-pub enum LoadAnswer {
-    Loads(Loaded),
-    LoadRefused(Refusal),
-}
-
-// What the table held before a store-if-greater.
-#[derive(Clone, Copy)]
-pub enum GreaterAnswer {
-    Before(Held),
-    GreaterRefused(Refusal),
-}
-
-#[derive(Clone, Copy)]
-pub enum CompareAnswer {
-    Swapped,
-    Differs(u64),
-    CompareRefused(Refusal),
-}
-
-// What the table has for an id.
-#[derive(Clone, Copy)]
-pub enum Held {
-    Mapped(u64),
-    Unmapped,
-}
-
-// A slot found in the file map.
-#[derive(Clone, Copy)]
-pub enum Slot {
-    Is(u64),
-    NoSlot,
-}
-
 // What the label's bytes of a slot say: empty, five numbers, or no label.
 #[derive(Clone, Copy)]
 pub enum LabelAnswer {
     Vacant,
     Five(Label),
     Wrong,
+}
+
+// What a compare-and-store did: it stored, or the current location differs.
+#[derive(Clone, Copy)]
+pub enum Compared {
+    Swapped,
+    Differs(u64),
 }

@@ -1,5 +1,5 @@
 -- The call's answer, by the paper's number and values; any two results that its contract admits are equal.
-use Rattle.std.specs.Prelude.{◌≡◌, ◌∷◌}
+use Rattle.std.specs.Prelude.{◌≡◌, ◌∷◌, Err, Ok, Result}
 use Rattle.std.proofs.Math.Path.{refl}
 use Rattle.std.proofs.Common.{sym, ap, ◌∙◌}
 use Rattle.rules.specs.Base.{true, false, List, [], ℕ, length, each}
@@ -11,13 +11,17 @@ use Rattle.rules.specs.Layout.{Table}
 use Rattle.rules.specs.Condition1.{out_of_range}
 use Rattle.rules.specs.Stores.{made}
 use Rattle.rules.specs.World.{Given, accepted, refused}
-use Rattle.salvage.specs.Types.{Settings, Limits, SalvageAnswer, GivenUp, SalvageRefused}
+use Rattle.rules.specs.declared.Refusal.{Refusal}
+use Rattle.salvage.specs.Types.{Settings, Limits}
 use Rattle.losses.specs.Salvage.{report_of, emptying_of, loss_words, Salvaged, salvage_call}
 
 -- the number of lines; "Refusals: 1 only"
+abbrev pub SalvageAnswer : Type 0
+SalvageAnswer = Result ℕ Refusal
+
 abbrev pub salvage_given : SalvageAnswer → Given
-salvage_given (GivenUp n) = accepted (n ∷ [])
-salvage_given (SalvageRefused r) = refused r
+salvage_given (Ok n) = accepted (n ∷ [])
+salvage_given (Err r) = refused r
 
 -- what the call left, as its result, the lent report and the heap give it
 abbrev pub salvaged : SalvageAnswer → List ℕ → List ℕ → Salvaged
@@ -25,14 +29,14 @@ salvaged answer words heap = record { answer = salvage_given answer; report = wo
 
 module _ (s : Settings) (heap : List ℕ) (table : Table) (words : List ℕ) where
   -- 1
-  pub salvage-refused : out_of_range s (length heap) table ≡ true → salvaged (SalvageRefused Limits) words heap ≡ salvage_call s heap table words
+  pub salvage-refused : out_of_range s (length heap) table ≡ true → salvaged (Err Limits) words heap ≡ salvage_call s heap table words
   unfolding salvage_call
   salvage-refused e = rw (decide-first (out_of_range s (length heap) table) Limits [] e)
 
   -- the report, its number and the heap
   pub salvage-done : out_of_range s (length heap) table ≡ false → (n : ℕ) (told left : List ℕ) → n ≡ length (report_of s heap)
       → told ≡ front (each loss_words (report_of s heap)) words → left ≡ made (emptying_of s (report_of s heap)) heap
-      → salvaged (GivenUp n) told left ≡ salvage_call s heap table words
+      → salvaged (Ok n) told left ≡ salvage_call s heap table words
   unfolding salvage_call
   salvage-done e n told left a b c =
       let clear = decide-next (out_of_range s (length heap) table) Limits [] e ∙ decide-none in
@@ -41,11 +45,11 @@ module _ (s : Settings) (heap : List ℕ) (table : Table) (words : List ℕ) whe
 -- ---- "Show that any two results it admits are equal"
 -- one number and number of lines, one answer
 salvage-answer-one : (a b : SalvageAnswer) → salvage_given a ≡ salvage_given b → a ≡ b
-salvage-answer-one = inverse-one salvage_given (λ (g : Given). by_number g SalvageRefused (GivenUp (value_at g 0))) go
+salvage-answer-one = inverse-one salvage_given (λ (g : Given). by_number g Err (Ok (value_at g 0))) go
   where
-    go : (a : SalvageAnswer) → by_number (salvage_given a) SalvageRefused (GivenUp (value_at (salvage_given a) 0)) ≡ a
-    go (GivenUp n) = refl
-    go (SalvageRefused r) = rw ((known r).some, (known r).back)
+    go : (a : SalvageAnswer) → by_number (salvage_given a) Err (Ok (value_at (salvage_given a) 0)) ≡ a
+    go (Ok n) = refl
+    go (Err r) = rw ((known r).some, (known r).back)
 
 -- what its contract says of a result, for the call's definition
 abbrev pub Salvages : Salvaged → SalvageAnswer → List ℕ → List ℕ → Type 0

@@ -1,6 +1,4 @@
 -- The declared types that the definitions here name, in one place.
 pub use Rattle.rules.specs.declared.Settings.{Settings}
 pub use Rattle.rules.specs.declared.Refusal.TheVariants.{Limits}
-pub use Rattle.slot_file.specs.declared.SlotAnswer.{SlotAnswer}
-pub use Rattle.salvage.specs.declared.SalvageAnswer.{SalvageAnswer}
-pub use Rattle.salvage.specs.declared.SalvageAnswer.TheVariants.{GivenUp, SalvageRefused}
+pub use Rattle.slot_file.specs.Answers.{SlotAnswer}

@@ -6,41 +6,34 @@ ghost use Rattle.losses.specs.Starts.{start_shown, end_shown, start_in, end_in, 
 use disk_location::masked;
 use faults::own;
 use losses::lines::note;
-use slot_file::SlotAnswer;
+use rules::{Label, Refusal};
 use slot_file::slot::slot_at;
 
 // The line of a slot with a fault of its own.
-fn own_line(report: &mut [u64], count: u64, slot: u64, shown: SlotAnswer) -> u64
+// Kept: the checker's has the same two arms and another line; one function for both, handed the line as a closure, would be longer.
+fn own_line(report: &mut [u64], count: u64, slot: u64, shown: Result<Option<Label>, Refusal>) -> u64
     requires { 2 * count + 2 ≤ length report.old }
     ensures { Reports count (loss_shown slot shown) report.old report.new result }
 {
     match shown {
-        SlotAnswer::Damaged(r) => note(report, count, slot, r),
-        SlotAnswer::Empty => count,
-        SlotAnswer::Holds(_) => count,
+        Err(r) => note(report, count, slot, r),
+        Ok(_) => count,
     }
 }
 
-// A sound file's masked lsn, which is never 0; 0 for a slot without one.
-fn start(shown: SlotAnswer) -> u64
-    ensures { result ≡ start_shown shown }
-{
-    match shown {
-        SlotAnswer::Holds(l) => masked(l.lsn),
-        SlotAnswer::Empty => 0,
-        SlotAnswer::Damaged(_) => 0,
-    }
-}
-
-// "the end (masked lsn + T)"
-fn end(shown: SlotAnswer) -> u64
+// Where a sound file begins, which is never 0, and "the end (masked lsn + T)"; 0 and 0 for a slot without one.
+// Kept: 0 for none, as the definition `start_shown` has it; an Option for each of 256 slots would double both lists on the stack.
+fn range(shown: Result<Option<Label>, Refusal>) -> (u64, u64)
     requires { end_shown shown < 2 ^ 64 }
-    ensures { result ≡ end_shown shown }
+    ensures start { result.0 ≡ start_shown shown }
+    ensures end { result.1 ≡ end_shown shown }
 {
     match shown {
-        SlotAnswer::Holds(l) => masked(l.lsn) + l.trailer_offset,
-        SlotAnswer::Empty => 0,
-        SlotAnswer::Damaged(_) => 0,
+        Ok(Some(l)) => {
+            let start = masked(l.lsn);
+            (start, start + l.trailer_offset)
+        }
+        _ => (0, 0),
     }
 }
 
@@ -59,15 +52,11 @@ pub fn first_kind(
     ensures starts { starts.new ≡ map start_in (slots_judged (length starts.old) size heap.now) }
     ensures ends { ends.new ≡ map end_in (slots_judged (length starts.old) size heap.now) }
 {
-    let n = starts.len();
     let mut count: u64 = 0;
-    let mut k: usize = 0;
-    while k < n {
+    for k in 0..starts.len() {
         let shown = own(slot_at(heap, size, k));
-        starts[k] = start(shown);
-        ends[k] = end(shown);
+        (starts[k], ends[k]) = range(shown);
         count = own_line(report, count, k as u64, shown);
-        k += 1;
     }
     count
 }

@@ -20,13 +20,6 @@ use losses::lines::empty_slots;
 use losses::second::{in_order, second_kind};
 use rules::{RECORDS, Refusal, Settings};
 
-// How many slots were given up; "Refusals: 1 only"
-#[derive(Clone, Copy)]
-pub enum SalvageAnswer {
-    GivenUp(u64),
-    SalvageRefused(Refusal),
-}
-
 // The report, with three lists to work on: each slot's masked lsn and end, and the sound slots in order.
 fn both_kinds(
     report: &mut [u64],
@@ -85,12 +78,12 @@ pub fn salvage(
     heap: &mut [u8],
     table: &[u64],
     report: &mut [u64; 512],
-) -> SalvageAnswer
+) -> Result<u64, Refusal>
     ensures { salvaged result report.new heap.new
         ≡ salvage_call settings heap.old table.now report.old }
 {
     if out_of_range(settings, heap.len() as u64, table) {
-        return SalvageAnswer::SalvageRefused(Refusal::Limits);
+        return Err(Refusal::Limits);
     }
-    SalvageAnswer::GivenUp(give_up(settings, heap, report, RECORDS as u64))
+    Ok(give_up(settings, heap, report, RECORDS as u64))
 }

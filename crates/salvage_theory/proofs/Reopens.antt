@@ -1,6 +1,6 @@
 -- Request P9, "Reopening afterwards is accepted, or is refused with 6. A heap that reopening accepts gets an empty report.": the report is
 -- empty exactly of the heaps that reopening accepts or refuses with 6.
-use Rattle.std.specs.Prelude.{◌≡◌, refl, ◌⊎◌, ◌≤◌, ◌∷◌, ◌++◌}
+use Rattle.std.specs.Prelude.{◌≡◌, refl, ◌⊎◌, ◌≤◌, ◌∷◌, ◌++◌, Err, Ok}
 use Rattle.std.proofs.Common.{sym, ◌∙◌, subst, inl, inr, arith}
 use Rattle.std.proofs.Math.Path.{ap}
 use Rattle.rules.specs.Base.{Bool, true, false, List, [], map, ℕ, suc, length, ltb, pick, any, each}
@@ -14,7 +14,7 @@ use Rattle.rules.specs.Stores.{made}
 use Rattle.rules.specs.SlotFile.{View, empty, damaged, holds}
 use Rattle.rules.specs.Reopen.{view_tests, files_in, overlapping, not_rising, table_of, reopen_tests, given_up, opened, reopen_call}
 use Rattle.rules.specs.World.{World, Given, slots_of, accepted, refused, answer_given, unchanged}
-use Rattle.theory.specs.Types.{Refusal, Limits, TableRoom, Overlap, NotRising, Answer, Done, Refused}
+use Rattle.theory.specs.Types.{Refusal, Limits, TableRoom, Overlap, NotRising, Answer}
 use Rattle.theory.specs.Places.{view_at}
 use Rattle.theory.proofs.Files.{undamaged, no-damage-tests, overlap-apart, no-overlap}
 use Rattle.theory.specs.Picture.{views_of}
@@ -82,14 +82,14 @@ none-opens w range n =
       n.rising,
     ) (go (ltb (capacity_of w.table) (length (table_of (files_in (views_of w))))))
   where
-    go : (b : Bool) → ((after (pick b (Refused TableRoom) Done) (given_up w) (opened w (views_of w))).answer ≡ accepted [])
-        ⊎ ((after (pick b (Refused TableRoom) Done) (given_up w) (opened w (views_of w))).answer ≡ refused TableRoom)
+    go : (b : Bool) → ((after (pick b (Err TableRoom) (Ok tt)) (given_up w) (opened w (views_of w))).answer ≡ accepted [])
+        ⊎ ((after (pick b (Err TableRoom) (Ok tt)) (given_up w) (opened w (views_of w))).answer ≡ refused TableRoom)
     go true = inr refl
     go false = inl refl
 
 -- 8 to 13 slot by slot decide for 6: none of them holds, and what comes behind decides
 six-late : (views : List View) (ts : List Test) → ((k : ℕ) (r : Refusal) → view_at views k ≡ damaged r → 8 ≤ number_of r)
-    → decide (each view_tests views ++ ts) ≡ Refused TableRoom → NoneHolds (each view_tests views) × (decide ts ≡ Refused TableRoom)
+    → decide (each view_tests views ++ ts) ≡ Err TableRoom → NoneHolds (each view_tests views) × (decide ts ≡ Err TableRoom)
 unfolding each decide NoneHolds
 six-late [] ts h e = (tt, e)
 six-late (empty ∷ vs) ts h e = six-late vs ts (λ k. h (suc k)) e
@@ -100,25 +100,25 @@ six-late (damaged r ∷ vs) ts h e =
 six-late (holds f ∷ vs) ts h e = six-late vs ts (λ k. h (suc k)) e
 
 -- 14 and 15 do not hold either
-six-last : (a b c : Bool) → decide (a gives Overlap ∷ b gives NotRising ∷ c gives TableRoom ∷ []) ≡ Refused TableRoom → (a ≡ false) × (b ≡ false)
+six-last : (a b c : Bool) → decide (a gives Overlap ∷ b gives NotRising ∷ c gives TableRoom ∷ []) ≡ Err TableRoom → (a ≡ false) × (b ≡ false)
 unfolding decide
 six-last true b c e = absurd (let n : ◌≡◌ {A = ℕ} 14 6 = ap (λ (x : Answer). (answer_given x).number) e in omega arith)
 six-last false true c e = absurd (let n : ◌≡◌ {A = ℕ} 15 6 = ap (λ (x : Answer). (answer_given x).number) e in omega arith)
 six-last false false c e = (refl, refl)
 
 -- what a reopening refused with 6 decided
-six-decided : (w : World) → (reopen_call w).answer ≡ refused TableRoom → decide (reopen_tests w (views_of w)) ≡ Refused TableRoom
+six-decided : (w : World) → (reopen_call w).answer ≡ refused TableRoom → decide (reopen_tests w (views_of w)) ≡ Err TableRoom
 unfolding reopen_call given_up opened decide
 six-decided w h = go (out_of_range w.settings (length w.heap) w.table) h
   where
     go : (b : Bool) → (after (decide (b gives Limits ∷ [])) (unchanged w) (after (decide (reopen_tests w (views_of w))) (given_up w) (opened w (views_of w)))).answer ≡ refused TableRoom
-        → decide (reopen_tests w (views_of w)) ≡ Refused TableRoom
+        → decide (reopen_tests w (views_of w)) ≡ Err TableRoom
     go true e = absurd (let n : ◌≡◌ {A = ℕ} 1 6 = ap (λ (g : Given). g.number) e in omega arith)
     go false e = by (decide (reopen_tests w (views_of w))) e
       where
-        by : (a : Answer) → (after a (given_up w) (opened w (views_of w))).answer ≡ refused TableRoom → a ≡ Refused TableRoom
-        by Done q = absurd (let n : ◌≡◌ {A = ℕ} 0 6 = ap (λ (g : Given). g.number) q in omega arith)
-        by (Refused r) q = answer-one (Refused r) (Refused TableRoom) q
+        by : (a : Answer) → (after a (given_up w) (opened w (views_of w))).answer ≡ refused TableRoom → a ≡ Err TableRoom
+        by (Ok _) q = absurd (let n : ◌≡◌ {A = ℕ} 0 6 = ap (λ (g : Given). g.number) q in omega arith)
+        by (Err r) q = answer-one (Err r) (Err TableRoom) q
 
 opens-none : (w : World) → AcceptedOr6 w → NoneOf8To15 w
 unfolding reopen_tests

@@ -16,21 +16,11 @@ use Rattle.script.specs.declared.Keyword.TheVariants.{Blank, Bad}
 use Rattle.script.specs.declared.Order.{Order}
 use Rattle.script.specs.declared.Shape.{Shape}
 use Rattle.script.specs.Hex.{bytes_of}
-use Rattle.script.specs.Names.{Name, same_bytes, named_in, keyword_of}
+use Rattle.script.specs.Names.{keyword_of}
 use Rattle.script.specs.Shapes.{shape_of}
 use Rattle.script.specs.Words.{before_comment, has_comment, words_of, none}
-use Rattle.script.specs.Asked.{Asked, no_numbers, bare, numbered, numbers_in, says_bytes, ends_well, bytes_in, ended_by, shaped_by, asked_in, asked_by, order_for}
+use Rattle.script.specs.Asked.{Asked, no_numbers, bare, numbered, numbers_in, says_bytes, ends_well, bytes_in, ended_by, shaped_by, asked_in, asked_by, order_for, Behind}
 use Rattle.script.specs.AskedLaws.{bytes-length, asked-fits}
-
-pub name-end : (w : List ℕ) (other : Keyword) → other ≡ named_in [] w other
-unfolding named_in
-name-end w other = refl
-
--- one name before others
-pub name-before : (n : Name) (ns : List Name) (w : List ℕ) (other r rest : Keyword) → r ≡ pick (same_bytes w n.name) n.keyword rest → rest ≡ named_in ns w other
-    → r ≡ named_in (n ∷ ns) w other
-unfolding named_in
-name-before n ns w other r rest e f = e ∙ ap (pick (same_bytes w n.name) n.keyword) f
 
 -- ---- the order for what is asked, and the buffer with its bytes
 abbrev pub Given : Asked → List ℕ → Order → List ℕ → Type 0
@@ -102,11 +92,10 @@ module _ (room : ℕ) (comment : Bool) (ws : List (List ℕ)) where
     unfolding shaped_by
     asked-wrong h = shaped ∙ ap (λ (t : Bool). pick t (ended_by room s.bytes k (front (numbers_in s.numbers more) no_numbers) (drop s.numbers more)) (bare Bad)) h
 
-    pub asked-on : (good bytes : Bool) (values : List ℕ) (left : List (List ℕ)) → good ≡ true → good ≡ numbered s.numbers more
-        → values ≡ pick good (front (numbers_in s.numbers more) no_numbers) no_numbers → left ≡ pick good (drop s.numbers more) more → s.bytes ≡ bytes
-        → asked_in room comment ws ≡ ended_by room bytes k values left
+    pub asked-on : (bytes : Bool) (text values : List ℕ) (next : ℕ) → Behind s.numbers more text values next → s.bytes ≡ bytes
+        → asked_in room comment ws ≡ ended_by room bytes k values (words_of (drop next text))
     unfolding shaped_by
-    asked-on good bytes values left h tested v l b = shaped ∙ rw (sym tested ∙ h, b, v, l, h) refl
+    asked-on bytes text values next r b = shaped ∙ rw (r.tested, b, r.said, r.rest) refl
 
 -- ---- the line up to its comment
 pub asked-whole : (room : ℕ) (line : List ℕ) (e : ℕ) → e ≡ 0 + index_of 35 (slice 0 (length line) line)

@@ -1,6 +1,6 @@
 -- Turns of the loops over a word or over bytes.
-use mathlib.Core.Path.{◌≡◌, refl, ◌∙◌}
-use mathlib.Core.Bool.{Bool, true, false, ◌&&◌, beq}
+use mathlib.Core.Path.{◌≡◌, refl, ap, ◌∙◌}
+use mathlib.Core.Bool.{Bool, true, false, cond, ◌&&◌, beq}
 use mathlib.Core.List.{List, [], ◌∷◌}
 use Prim.Native.Nat.{ℕ, suc, ◌+◌, ◌*◌, ◌/◌, ◌%◌, ◌<◌, ◌≤◌}
 use native.Mathlib.Omega.{arith}
@@ -8,19 +8,30 @@ use native.Mathlib.Numerals.{add-one}
 use lib.ListN.{length, drop, get_or, set, length-drop, length-set, drop_of_length-le}
 use lib.Seq.{drop-cons}
 use borrow.Author.Tests.{eq-eqb, ne_eqb}
+use Rattle.std.specs.List.{list_all, prefix_len, take_while}
+use Rattle.std.proofs.lemmas.List.Folds.{length-prefix_len}
 use Rattle.numbers.specs.Choice.{pick}
 use Rattle.numbers.specs.Parts.{put_at, put_step}
 use Rattle.script.specs.Words.{is_blank, run_of}
 use Rattle.script.specs.Hex.{is_hex_digit, is_hex, all_hex, nibble_of, bytes_of, glyph_of, text_of}
 
-pub run-turn : (blank : Bool) (s : List ℕ) (i : ℕ) → i < length s
-    → run_of blank (drop i s) ≡ pick (beq (is_blank (get_or s i 0)) blank) (suc (run_of blank (drop (i + 1) s))) 0
-unfolding run_of
-run-turn blank s i h = rw (add-one, drop-cons s i 0 h) refl
+counted : (t : Bool) (m n : ℕ) → m ≡ n → cond t (1 + m) 0 ≡ pick t (suc n) 0
+counted true m n e = omega arith
+counted false m n e = refl
 
-pub run_end : (blank : Bool) (s : List ℕ) (i : ℕ) → length s ≤ i → run_of blank (drop i s) ≡ 0
+run-prefix : (blank : Bool) (s : List ℕ) → prefix_len (λ b. beq (is_blank b) blank) s ≡ run_of blank s
 unfolding run_of
-run_end blank s i h = rw (drop_of_length-le s {i = i} h) refl
+run-prefix blank [] = refl
+run-prefix blank (b ∷ s) = counted (beq (is_blank b) blank) _ _ (run-prefix blank s)
+
+-- the bytes that are taken, counted
+pub run-taken : (blank : Bool) (s : List ℕ) → length (take_while (λ b. beq (is_blank b) blank) s) ≡ run_of blank s
+run-taken blank s = length-prefix_len (λ b. beq (is_blank b) blank) s ∙ run-prefix blank s
+
+pub digits-all : (w : List ℕ) → list_all is_hex_digit w ≡ all_hex w
+unfolding all_hex
+digits-all [] = refl
+digits-all (b ∷ w) = ap (λ (t : Bool). is_hex_digit b && t) (digits-all w)
 
 pub odd-none : (w : List ℕ) → (length w % 2 ≡ 0 → ⊥) → is_hex w ≡ false
 unfolding is_hex
@@ -29,14 +40,6 @@ odd-none w h = rw (ne_eqb _ _ h) refl
 pub even-hex : (w : List ℕ) → length w % 2 ≡ 0 → is_hex w ≡ all_hex w
 unfolding is_hex
 even-hex w h = rw (eq-eqb _ _ h) refl
-
-pub hex-turn : (s : List ℕ) (i : ℕ) → i < length s → all_hex (drop i s) ≡ (is_hex_digit (get_or s i 0) && all_hex (drop (i + 1) s))
-unfolding all_hex
-hex-turn s i h = rw (add-one, drop-cons s i 0 h) refl
-
-pub hex-end : (s : List ℕ) (i : ℕ) → length s ≤ i → all_hex (drop i s) ≡ true
-unfolding all_hex
-hex-end s i h = rw (drop_of_length-le s {i = i} h) refl
 
 -- a pair from an even place on
 pub pair_turn : (s : List ℕ) (k : ℕ) → k < length s / 2

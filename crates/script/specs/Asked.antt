@@ -1,9 +1,8 @@
 -- What a line asks for.
-use Rattle.std.specs.Prelude.{Bool, true, false, ◌&&◌, ◌||◌, List, [], ◌∷◌, ℕ, zero, suc, ◌/◌, length, drop, replicate, leb}
+use Rattle.std.specs.Prelude.{◌≡◌, ◌≤◌, Bool, true, false, ◌&&◌, ◌||◌, List, [], ◌∷◌, ℕ, zero, suc, ◌/◌, length, drop, replicate, leb, None, Some}
 use Rattle.numbers.specs.Choice.{pick}
 use Rattle.numbers.specs.Parts.{front}
-use Rattle.script.specs.declared.words.Parsed.{Parsed}
-use Rattle.script.specs.declared.words.Parsed.TheVariants.{Value, Wrong}
+use Rattle.script.specs.Answers.{Parsed}
 use Rattle.script.specs.declared.Keyword.{Keyword}
 use Rattle.script.specs.declared.Keyword.TheVariants.{Blank, Bad}
 use Rattle.script.specs.declared.Order.{Order}
@@ -31,13 +30,13 @@ bare k = record { keyword = k; numbers = no_numbers; bytes = [] }
 -- ---- numbers
 -- a number is said
 abbrev pub is_said : Parsed → Bool
-is_said (Value n) = true
-is_said Wrong = false
+is_said (Some n) = true
+is_said None = false
 
 -- the number that is said
 abbrev pub said_in : Parsed → ℕ
-said_in (Value n) = n
-said_in Wrong = 0
+said_in (Some n) = n
+said_in None = 0
 
 -- the first n words are there and are numbers
 unfoldable pub numbered : ℕ → List (List ℕ) → Bool
@@ -50,6 +49,13 @@ unfoldable pub numbers_in : ℕ → List (List ℕ) → List ℕ
 numbers_in zero ws = []
 numbers_in (suc n) [] = []
 numbers_in (suc n) (w ∷ ws) = said_in (number_of w) ∷ numbers_in n ws
+
+-- the first n words of a text are numbers, and the other words stand from `next` on
+pub record Behind (n : ℕ) (ws : List (List ℕ)) (text values : List ℕ) (next : ℕ) : Type 0 where
+  pub tested : numbered n ws ≡ true
+  pub said : values ≡ front (numbers_in n ws) no_numbers
+  pub rest : words_of (drop next text) ≡ drop n ws
+  pub within : next ≤ length text
 
 -- ---- bytes
 -- `-`, or hex pairs that fit the room

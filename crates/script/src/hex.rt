@@ -1,24 +1,18 @@
 // Bytes as hex pairs, both ways.
 ghost use Rattle.std.specs.Prelude.{◌≡◌, ◌+◌, ◌*◌, ◌/◌, ◌≤◌, ◌<◌, length};
+ghost use Rattle.std.specs.List.{list_all};
 ghost use Rattle.numbers.specs.Parts.{front};
 ghost use Rattle.script.specs.Hex.{is_hex_digit, is_hex, nibble_of, bytes_of, glyph_of, text_of};
 
+#[tactic(auto, unfolding(crate::specs::Hex::is_hex_digit))]
 pub fn is_digit(b: u8) -> bool
     ensures { result ≡ is_hex_digit b }
 {
-    if b <= b'9' {
-        return b'0' <= b;
-    }
-    if b <= b'F' {
-        return b'A' <= b;
-    }
-    if b'a' <= b {
-        return b <= b'f';
-    }
-    false
+    matches!(b, b'0'..=b'9' | b'A'..=b'F' | b'a'..=b'f')
 }
 
 // What a digit of either case says; of another byte something below 16.
+#[tactic(auto, unfolding(crate::specs::Hex::nibble_of))]
 pub fn nibble(b: u8) -> u8
     ensures answers { result ≡ nibble_of b }
     ensures fits { result < 16 }
@@ -29,20 +23,16 @@ pub fn nibble(b: u8) -> u8
     (b % 16 + 9) % 16
 }
 
+fn all_digits(word: &[u8]) -> bool
+    ensures { result ≡ list_all is_hex_digit word.now }
+{
+    word.iter().all(|b| is_digit(*b))
+}
+
 pub fn is_hex(word: &[u8]) -> bool
     ensures { result ≡ is_hex word.now }
 {
-    if word.len() % 2 != 0 {
-        return false;
-    }
-    let mut i: usize = 0;
-    while i < word.len() {
-        if !is_digit(word[i]) {
-            return false;
-        }
-        i += 1;
-    }
-    true
+    word.len() % 2 == 0 && all_digits(word)
 }
 
 fn pair(a: u8, b: u8) -> u8
@@ -56,15 +46,12 @@ pub fn put_bytes(word: &[u8], out: &mut [u8])
     requires { length word.now / 2 ≤ length out.old }
     ensures { out.new ≡ front (bytes_of word.now) out.old }
 {
-    let n = word.len() / 2;
-    let mut k: usize = 0;
-    while k < n {
-        let i = k * 2;
-        out[k] = pair(word[i], word[i + 1]);
-        k += 1;
+    for (k, b) in out[..word.len() / 2].iter_mut().enumerate() {
+        *b = pair(word[k * 2], word[k * 2 + 1]);
     }
 }
 
+#[tactic(auto, unfolding(crate::specs::Hex::glyph_of))]
 pub fn glyph(n: u8) -> u8
     requires { n < 16 }
     ensures { result ≡ glyph_of n }
@@ -77,12 +64,8 @@ pub fn put_text(bytes: &[u8], out: &mut [u8])
     requires { length bytes.now * 2 ≤ length out.old }
     ensures { out.new ≡ front (text_of bytes.now) out.old }
 {
-    let mut k: usize = 0;
-    while k < bytes.len() {
-        let b = bytes[k];
-        let i = k * 2;
-        out[i] = glyph(b / 16);
-        out[i + 1] = glyph(b % 16);
-        k += 1;
+    for (k, b) in bytes.iter().enumerate() {
+        out[k * 2] = glyph(*b / 16);
+        out[k * 2 + 1] = glyph(*b % 16);
     }
 }

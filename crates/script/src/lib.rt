@@ -2,19 +2,17 @@
 
 #![tactic(auto)]
 
-ghost use Rattle.std.specs.Prelude.{◌≡◌, true, false, ◌≤◌, length, drop};
+ghost use Rattle.std.specs.Prelude.{◌≡◌, true, false, ◌≤◌, length, drop, MatchOption};
 ghost use Rattle.numbers.specs.Choice.{pick};
 ghost use Rattle.numbers.specs.Parts.{front};
 ghost use Rattle.script.specs.declared.Keyword.TheVariants.{Blank, Bad};
 ghost use Rattle.script.specs.Shapes.{shape_of};
 ghost use Rattle.script.specs.Words.{words_of};
-ghost use Rattle.script.specs.Asked.{no_numbers, bare, numbered, numbers_in, says_bytes, ended_by, asked_in, asked_by, order_for};
+ghost use Rattle.script.specs.Asked.{bare, numbered, Behind, says_bytes, ended_by, asked_in, asked_by, order_for};
 
 pub mod hex;
 pub mod names;
 pub mod words;
-
-use words::Parsed;
 
 // A line's first word. Blank: a comment alone; Bad: a line that is no command, an empty one too.
 #[derive(Clone, Copy)]
@@ -72,11 +70,11 @@ pub struct Order {
 // The numbers of a line, and the position after them.
 #[derive(Clone, Copy)]
 struct Numbers {
-    good: bool,
     values: [u64; 9],
     next: usize,
 }
 
+#[tactic(auto, unfolding(crate::specs::Shapes::shape_of))]
 pub fn shape_of(keyword: Keyword) -> Shape
     ensures answers { result ≡ shape_of keyword }
     ensures fits { result.numbers ≤ 9 }
@@ -131,6 +129,7 @@ pub fn shape_of(keyword: Keyword) -> Shape
     }
 }
 
+#[tactic(auto, unfolding(crate::specs::Asked::order_for))]
 fn no_order(keyword: Keyword) -> Order
     ensures { result ≡ order_for (bare keyword) }
 {
@@ -141,53 +140,33 @@ fn no_order(keyword: Keyword) -> Order
     }
 }
 
-// `n` numbers from `from` on, a word each; none of them where one is missing or wrong.
-fn numbers_from(text: &[u8], from: usize, n: usize) -> Numbers
+// `n` numbers from `from` on, a word each; none where one is missing or wrong.
+fn numbers_from(text: &[u8], from: usize, n: usize) -> Option<Numbers>
     requires from_in_bounds { from ≤ length text.now }
     requires n_bound { n ≤ 9 }
-    ensures within { result.next ≤ length text.now }
-    ensures good { result.good ≡ numbered n (words_of (drop from text.now)) }
-    ensures values { result.values
-        ≡ pick result.good (front (numbers_in n (words_of (drop from text.now))) no_numbers) no_numbers }
-    ensures rest { words_of (drop result.next text.now)
-        ≡ pick result.good (drop n (words_of (drop from text.now))) (words_of (drop from text.now)) }
+    ensures { MatchOption result
+        (numbered n (words_of (drop from text.now)) ≡ false)
+        (λ r. Behind n (words_of (drop from text.now)) text.now r.values r.next) }
 {
     let mut values = [0u64; 9];
     let mut at = from;
-    let mut k: usize = 0;
-    while k < n {
+    for value in &mut values[..n] {
         let word = words::next_word(text, at);
-        let start = word.start;
-        let end = word.end;
-        let Parsed::Value(v) = words::number(&text[start..end]) else {
-            return Numbers {
-                good: false,
-                values: [0u64; 9],
-                next: from,
-            };
-        };
-        values[k] = v;
-        at = end;
-        k += 1;
+        *value = words::number(&text[word.start..word.end])?;
+        at = word.end;
     }
-    Numbers {
-        good: true,
+    Some(Numbers {
         values: values,
         next: at,
-    }
+    })
 }
 
 // Hex pairs that fit the room, or `-` for none.
+#[tactic(auto, unfolding(crate::specs::Asked::says_bytes))]
 fn says_bytes(word: &[u8], room: usize) -> bool
     ensures { result ≡ says_bytes room word.now }
 {
-    if names::same(word, b"-") {
-        return true;
-    }
-    if room < word.len() / 2 {
-        return false;
-    }
-    hex::is_hex(word)
+    names::same(word, b"-") || word.len() / 2 <= room && hex::is_hex(word)
 }
 
 // The order, unless another word follows.
@@ -265,17 +244,13 @@ fn order_in(text: &[u8], comment: bool, bytes: &mut [u8]) -> Order
     }
     let keyword = names::keyword_of(&text[start..end]);
     let shape = shape_of(keyword);
-    let count = shape.numbers;
-    let numbers = numbers_from(text, end, count);
-    if !numbers.good {
+    let Some(numbers) = numbers_from(text, end, shape.numbers) else {
         return no_order(Keyword::Bad);
-    }
-    let values = numbers.values;
-    let next = numbers.next;
+    };
     if shape.bytes {
-        return with_bytes(keyword, values, text, next, bytes);
+        return with_bytes(keyword, numbers.values, text, numbers.next, bytes);
     }
-    ended(keyword, values, text, next)
+    ended(keyword, numbers.values, text, numbers.next)
 }
 
 // What a line asks for. Its bytes, if it has any, come to stand at the front of `bytes`.

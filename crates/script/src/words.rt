@@ -1,14 +1,9 @@
 // Words of a line, and the number that a word says.
 ghost use Rattle.std.specs.Prelude.{◌≡◌, ◌+◌, ◌≤◌, length, drop};
+ghost use Rattle.std.specs.Bool.{beq};
+ghost use Rattle.std.specs.List.{take_while};
 ghost use Rattle.script.specs.Words.{is_blank, run_of, words_of, none, next_word};
 ghost use Rattle.script.specs.Decimal.{number_of, longer_by};
-
-// A decimal number of 64 bits, or none.
-#[derive(Clone, Copy)]
-pub enum Parsed {
-    Value(u64),
-    Wrong,
-}
 
 // Where a word stands; start and end are the same where there is none.
 #[derive(Clone, Copy)]
@@ -17,16 +12,18 @@ pub struct Word {
     pub end: usize,
 }
 
+#[tactic(auto, unfolding(crate::specs::Words::is_blank))]
 pub fn is_blank(b: u8) -> bool
     ensures { result ≡ is_blank b }
 {
-    if b == b' ' {
-        return true;
-    }
-    if b == b'\t' {
-        return true;
-    }
-    b == b'\r'
+    matches!(b, b' ' | b'\t' | b'\r')
+}
+
+// How many bytes at the front are all blank, or all not.
+fn run(text: &[u8], blank: bool) -> usize
+    ensures { result ≡ length (take_while (λ b. beq (is_blank b) blank) text.now) }
+{
+    text.iter().take_while(|b| is_blank(**b) == blank).count()
 }
 
 // The end of the run of bytes from `from` on that are all blank, or all not.
@@ -35,14 +32,7 @@ fn run_end(text: &[u8], from: usize, blank: bool) -> usize
     ensures answers { result ≡ from + run_of blank (drop from text.now) }
     ensures within { (from ≤ result) × (result ≤ length text.now) }
 {
-    let mut i = from;
-    while i < text.len() {
-        if is_blank(text[i]) != blank {
-            return i;
-        }
-        i += 1;
-    }
-    i
+    from + run(&text[from..], blank)
 }
 
 pub fn next_word(text: &[u8], from: usize) -> Word
@@ -68,40 +58,26 @@ pub fn no_more(text: &[u8], from: usize) -> bool
 }
 
 // One digit more behind n.
-fn longer(n: u64, b: u8) -> Parsed
+#[tactic(auto, unfolding(crate::specs::Decimal::longer_by))]
+fn longer(n: u64, b: u8) -> Option<u64>
     ensures { result ≡ longer_by n b }
 {
-    if b < b'0' {
-        return Parsed::Wrong;
+    if !b.is_ascii_digit() {
+        return None;
     }
-    if b'9' < b {
-        return Parsed::Wrong;
-    }
-    if u64::MAX / 10 < n {
-        return Parsed::Wrong;
-    }
-    let tens = n * 10;
-    let digit = (b - b'0') as u64;
-    if u64::MAX - tens < digit {
-        return Parsed::Wrong;
-    }
-    Parsed::Value(tens + digit)
+    n.checked_mul(10)?.checked_add(u64::from(b - b'0'))
 }
 
-pub fn number(word: &[u8]) -> Parsed
+// The number that a word's digits say, if it has 64 bits.
+pub fn number(word: &[u8]) -> Option<u64>
     ensures { result ≡ number_of word.now }
 {
-    if word.len() == 0 {
-        return Parsed::Wrong;
+    if word.is_empty() {
+        return None;
     }
     let mut n: u64 = 0;
-    let mut i: usize = 0;
-    while i < word.len() {
-        let Parsed::Value(more) = longer(n, word[i]) else {
-            return Parsed::Wrong;
-        };
-        n = more;
-        i += 1;
+    for b in word {
+        n = longer(n, *b)?;
     }
-    Parsed::Value(n)
+    Some(n)
 }

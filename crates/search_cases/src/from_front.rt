@@ -4,7 +4,7 @@ ghost use Rattle.rules.specs.Layout.{used_entries, capacity_of};
 ghost use Rattle.location_table.specs.Tables.{Formed};
 ghost use Rattle.location_table.specs.Places.{place};
 
-use location_table::{Place, Searched, capacity, id_at, location_at};
+use location_table::{Searched, capacity, id_at, location_at};
 
 pub fn search(table: &[u64], id: u64) -> Searched
     requires { Formed table.now }
@@ -12,33 +12,24 @@ pub fn search(table: &[u64], id: u64) -> Searched
     ensures looks { result.looked ≤ capacity_of table.now }
 {
     let n = capacity(table);
-    let mut i: usize = 0;
-    let mut looked: u64 = 0;
-    while i < n {
-        looked += 1;
-        if location_at(table, i) == 0 {
+    for i in 0..n {
+        let looked = i as u64 + 1;
+        let here = id_at(table, i);
+        if location_at(table, i) == 0 || id < here {
             return Searched {
-                place: Place::Gap(i),
+                place: Err(i),
                 looked: looked,
             };
         }
-        let here = id_at(table, i);
         if id == here {
             return Searched {
-                place: Place::Found(i),
+                place: Ok(i),
                 looked: looked,
             };
         }
-        if id < here {
-            return Searched {
-                place: Place::Gap(i),
-                looked: looked,
-            };
-        }
-        i += 1;
     }
     Searched {
-        place: Place::Gap(i),
-        looked: looked,
+        place: Err(n),
+        looked: n as u64,
     }
 }

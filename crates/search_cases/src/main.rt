@@ -9,10 +9,9 @@ mod from_front;
 ghost use Rattle.std.specs.Prelude.{◌≡◌, ◌*◌, ◌<◌, ◌≤◌, length};
 ghost use Rattle.location_table.specs.Tables.{Formed};
 
-use location_table::{Place, capacity, formed, search, set_pair};
-use script::words::{Parsed, Word, next_word, number};
+use location_table::{Searched, capacity, formed, search, set_pair};
+use script::words::{Word, next_word, number};
 use std::io;
-use std::num::wrapping_add_u64;
 
 // So many ids are sought in a round.
 const SOUGHT: u64 = 1000;
@@ -20,14 +19,14 @@ const SOUGHT: u64 = 1000;
 const MOST_ENTRIES: u64 = 65536;
 
 // At how many places a search looked: the most for one id, and all.
-#[derive(Clone, Copy)]
+#[derive(Clone, Copy, Default)]
 struct Looks {
     most: u64,
     all: u64,
 }
 
 // Both searches, and how often they answered otherwise.
-#[derive(Clone, Copy)]
+#[derive(Clone, Copy, Default)]
 struct Beside {
     halving: Looks,
     front: Looks,
@@ -42,12 +41,9 @@ fn table_words() -> [u64; 131072]
 
 // Every place used: odd ids are there, even ones are not.
 fn fill(table: &mut [u64]) {
-    let n = capacity(table);
-    let mut k: usize = 0;
-    while k < n {
+    for k in 0..capacity(table) {
         let id = 2 * k as u64 + 1;
         set_pair(table, k, id, id);
-        k += 1;
     }
 }
 
@@ -58,38 +54,11 @@ fn sought(entries: u64, j: u64) -> u64
     2 * entries * j / 999
 }
 
-fn larger(a: u64, b: u64) -> u64 {
-    if a < b {
-        return b;
-    }
-    a
-}
-
 fn with_look(looks: Looks, looked: u64) -> Looks {
     Looks {
-        most: larger(looks.most, looked),
-        all: wrapping_add_u64(looks.all, looked),
+        most: looks.most.max(looked),
+        all: looks.all.wrapping_add(looked),
     }
-}
-
-fn same(a: Place, b: Place) -> bool {
-    match a {
-        Place::Found(i) => match b {
-            Place::Found(j) => i == j,
-            Place::Gap(_) => false,
-        },
-        Place::Gap(i) => match b {
-            Place::Found(_) => false,
-            Place::Gap(j) => i == j,
-        },
-    }
-}
-
-fn apart(a: Place, b: Place) -> u64 {
-    if same(a, b) {
-        return 0;
-    }
-    1
 }
 
 // One id more.
@@ -98,33 +67,19 @@ fn sought_by_both(table: &[u64], id: u64, b: Beside) -> Beside
 {
     let h = search(table, id);
     let f = from_front::search(table, id);
-    let halving = b.halving;
-    let front = b.front;
-    let found = h.place;
-    let found_too = f.place;
     Beside {
-        halving: with_look(halving, h.looked),
-        front: with_look(front, f.looked),
-        apart: wrapping_add_u64(b.apart, apart(found, found_too)),
+        halving: with_look(b.halving, h.looked),
+        front: with_look(b.front, f.looked),
+        apart: b.apart.wrapping_add(u64::from(h.place != f.place)),
     }
-}
-
-fn no_looks() -> Looks {
-    Looks { most: 0, all: 0 }
 }
 
 fn all_sought(table: &[u64], entries: u64) -> Beside
     requires { Formed table.now × (entries ≤ 65536) }
 {
-    let mut b = Beside {
-        halving: no_looks(),
-        front: no_looks(),
-        apart: 0,
-    };
-    let mut j: u64 = 0;
-    while j < SOUGHT {
+    let mut b = Beside::default();
+    for j in 0..SOUGHT {
         b = sought_by_both(table, sought(entries, j), b);
-        j += 1;
     }
     b
 }
@@ -142,10 +97,8 @@ fn say_looks(rt: &impl Print, word: &[u8], looks: Looks) -> io::Result<()> {
 
 fn say_beside(rt: &impl Print, entries: u64, b: Beside) -> io::Result<()> {
     say(rt, b"", entries)?;
-    let halving = b.halving;
-    say_looks(rt, b" entries, 1000 ids sought: by halving ", halving)?;
-    let front = b.front;
-    say_looks(rt, b"; from the front ", front)?;
+    say_looks(rt, b" entries, 1000 ids sought: by halving ", b.halving)?;
+    say_looks(rt, b"; from the front ", b.front)?;
     say(rt, b"; answers that differ: ", b.apart)?;
     rt.write_all(b"\n")
 }
@@ -178,37 +131,24 @@ fn all_sizes(rt: &impl Print, words: &mut [u64]) -> io::Result<()>
 }
 
 // ---- one search alone, for a clock outside
-fn looked(table: &[u64], id: u64, halving: bool) -> u64
-    requires { Formed table.now }
-{
-    if halving {
-        let h = search(table, id);
-        return h.looked;
-    }
-    let f = from_front::search(table, id);
-    f.looked
-}
-
-fn round(table: &[u64], entries: u64, halving: bool) -> u64
-    requires { Formed table.now × (entries ≤ 65536) }
+fn round<F: Fn(u64) -> Searched>(look: &F, entries: u64) -> u64
+    requires callable { F.IsAlwaysCallable look.now }
+    requires few { entries ≤ 65536 }
 {
     let mut all: u64 = 0;
-    let mut j: u64 = 0;
-    while j < SOUGHT {
-        all = wrapping_add_u64(all, looked(table, sought(entries, j), halving));
-        j += 1;
+    for j in 0..SOUGHT {
+        all = all.wrapping_add(look(sought(entries, j)).looked);
     }
     all
 }
 
-fn rounds(table: &[u64], entries: u64, halving: bool, n: u64) -> u64
-    requires { Formed table.now × (entries ≤ 65536) }
+fn rounds<F: Fn(u64) -> Searched>(look: &F, entries: u64, n: u64) -> u64
+    requires callable { F.IsAlwaysCallable look.now }
+    requires few { entries ≤ 65536 }
 {
     let mut all: u64 = 0;
-    let mut k: u64 = 0;
-    while k < n {
-        all = wrapping_add_u64(all, round(table, entries, halving));
-        k += 1;
+    for _ in 0..n {
+        all = all.wrapping_add(round(look, entries));
     }
     all
 }
@@ -219,7 +159,12 @@ fn run_rounds(rt: &impl Print, table: &[u64], entries: u64, halving: bool, n: u6
     if !formed(table) {
         return rt.write_all(b"not in form\n");
     }
-    say(rt, b"", rounds(table, entries, halving, n))?;
+    let places = if halving {
+        rounds(&|id| search(table, id), entries, n)
+    } else {
+        rounds(&|id| from_front::search(table, id), entries, n)
+    };
+    say(rt, b"", places)?;
     rt.write_all(b" places\n")
 }
 
@@ -230,8 +175,8 @@ fn number_in(text: &[u8], w: Word) -> u64
     let start = w.start;
     let end = w.end;
     match number(&text[start..end]) {
-        Parsed::Value(n) => n,
-        Parsed::Wrong => 0,
+        Some(n) => n,
+        None => 0,
     }
 }
 

@@ -3,40 +3,33 @@ ghost use Rattle.rules.specs.Base.{zeros};
 ghost use Rattle.rules.specs.Label.{label_in, five_in};
 
 use file_map::labelled;
-use numbers::{Number, groups};
+use numbers::groups;
 use rules::{LABEL_BYTES, LabelAnswer};
 
 // "Zeros fill the 64 bytes."
 fn rest_zero(s: &[u8], from: usize) -> bool
     ensures { result ≡ zeros (drop from s.now) }
 {
-    let mut i = from;
-    while i < s.len() {
-        if s[i] != 0 {
-            return false;
-        }
-        i += 1;
-    }
-    true
+    s.iter().skip(from).all(|b| *b == 0)
 }
 
 // Five numbers one behind the other, zeros behind them.
 fn five(s: &[u8]) -> LabelAnswer
     ensures { result ≡ five_in s.now }
 {
-    let Number::Said(lsn, a) = groups::decode(s, 0) else {
+    let Some((lsn, a)) = groups::decode(s, 0) else {
         return LabelAnswer::Wrong;
     };
-    let Number::Said(offset, b) = groups::decode(s, a) else {
+    let Some((offset, b)) = groups::decode(s, a) else {
         return LabelAnswer::Wrong;
     };
-    let Number::Said(size, c) = groups::decode(s, b) else {
+    let Some((size, c)) = groups::decode(s, b) else {
         return LabelAnswer::Wrong;
     };
-    let Number::Said(present, d) = groups::decode(s, c) else {
+    let Some((present, d)) = groups::decode(s, c) else {
         return LabelAnswer::Wrong;
     };
-    let Number::Said(generation, e) = groups::decode(s, d) else {
+    let Some((generation, e)) = groups::decode(s, d) else {
         return LabelAnswer::Wrong;
     };
     if rest_zero(s, e) {

@@ -5,9 +5,9 @@ ghost use Rattle.rules.specs.SlotFile.{bytes_of_slot, file_in, object_part, trai
 ghost use Rattle.slot_file.specs.Labels.{Inside};
 ghost use Rattle.slot_file.specs.Slots.{shown_by, entry_tests};
 
-use crate::{SlotAnswer, label};
+use crate::label;
 use label_bounds::out_of_bounds;
-use rules::{Answer, LABEL_BYTES, Label, LabelAnswer, Refusal};
+use rules::{LABEL_BYTES, Label, LabelAnswer, Refusal};
 
 // Slot k, a part of the lent heap.
 pub fn slot_at(heap: &[u8], size: usize, k: usize) -> &[u8]
@@ -60,50 +60,44 @@ pub fn trailer_part(slot: &[u8], l: Label) -> &[u8]
 }
 
 // 9 to 13, in order.
-fn check_trailer(bytes: &[u8], l: Label) -> Answer
+fn check_trailer(bytes: &[u8], l: Label) -> Result<(), Refusal>
     ensures { result ≡ decide (entry_tests l bytes.now) }
 {
-    match trailer::check(bytes) {
-        Answer::Refused(refusal) => Answer::Refused(refusal),
-        Answer::Done => {
-            if trailer::some_misplaced(bytes, l.trailer_offset) {
-                return Answer::Refused(Refusal::EntryPosition);
-            }
-            if l.present_objects != trailer::count(bytes) {
-                return Answer::Refused(Refusal::PresentCount);
-            }
-            Answer::Done
-        }
+    trailer::check(bytes)?;
+    if trailer::some_misplaced(bytes, l.trailer_offset) {
+        return Err(Refusal::EntryPosition);
     }
+    if l.present_objects != trailer::count(bytes) {
+        return Err(Refusal::PresentCount);
+    }
+    Ok(())
 }
 
 // 8 to 13, in order, for a label's five numbers.
-fn check_file(slot: &[u8], l: Label) -> Answer
+fn check_file(slot: &[u8], l: Label) -> Result<(), Refusal>
     ensures { result ≡ decide (slot_tests l slot.now) }
 {
     if out_of_bounds(slot.len() as u64, l) {
-        return Answer::Refused(Refusal::LabelBytes);
+        return Err(Refusal::LabelBytes);
     }
     check_trailer(trailer_part(slot, l), l)
 }
 
 // What the five numbers show of their slot.
-fn shown(slot: &[u8], l: Label) -> SlotAnswer
+fn shown(slot: &[u8], l: Label) -> Result<Option<Label>, Refusal>
     ensures { result ≡ shown_by (view_by (Five l) slot.now) }
 {
-    match check_file(slot, l) {
-        Answer::Done => SlotAnswer::Holds(l),
-        Answer::Refused(refusal) => SlotAnswer::Damaged(refusal),
-    }
+    check_file(slot, l)?;
+    Ok(Some(l))
 }
 
 // What a slot's bytes show, whatever they are.
-pub fn check(slot: &[u8]) -> SlotAnswer
+pub fn check(slot: &[u8]) -> Result<Option<Label>, Refusal>
     ensures { result ≡ shown_by (view_in slot.now) }
 {
     match label::read(slot) {
-        LabelAnswer::Vacant => SlotAnswer::Empty,
-        LabelAnswer::Wrong => SlotAnswer::Damaged(Refusal::LabelBytes),
+        LabelAnswer::Vacant => Ok(None),
+        LabelAnswer::Wrong => Err(Refusal::LabelBytes),
         LabelAnswer::Five(l) => shown(slot, l),
     }
 }

@@ -6,24 +6,16 @@ ghost use Rattle.std.specs.Prelude.{◌≤◌, ◌<◌, length};
 
 use as_numbers::answers::refusal_number;
 use rules::{Entry, Label};
-use slot_file::SlotAnswer;
 use std::io;
-use stored_object::{BodyAnswer, Step};
-
-fn word(rt: &impl Print, text: &[u8]) -> io::Result<()> {
-    rt.write_all(text)
-}
-
-fn number(rt: &impl Print, n: u64) -> io::Result<()> {
-    print!(rt; " {n}")
-}
+use stored_object::Step;
+use test_host::{number, text};
 
 fn end_line(rt: &impl Print) -> io::Result<()> {
-    rt.write_all(b"\n")
+    text(rt, b"\n")
 }
 
 fn show_label(rt: &impl Print, l: Label) -> io::Result<()> {
-    word(rt, b"holds")?;
+    text(rt, b"holds")?;
     number(rt, l.lsn)?;
     number(rt, l.trailer_offset)?;
     number(rt, l.file_size)?;
@@ -33,25 +25,25 @@ fn show_label(rt: &impl Print, l: Label) -> io::Result<()> {
 
 fn show_slot(rt: &impl Print, slot: &[u8]) -> io::Result<()> {
     match slot_file::slot::check(slot) {
-        SlotAnswer::Empty => word(rt, b"empty")?,
-        SlotAnswer::Damaged(refusal) => {
-            word(rt, b"damaged")?;
+        Ok(None) => text(rt, b"empty")?,
+        Err(refusal) => {
+            text(rt, b"damaged")?;
             number(rt, refusal_number(refusal))?;
         }
-        SlotAnswer::Holds(l) => show_label(rt, l)?,
+        Ok(Some(l)) => show_label(rt, l)?,
     }
     end_line(rt)
 }
 
 fn show_body(rt: &impl Print, file: &[u8], position: u64, id: u64) -> io::Result<()> {
     match stored_object::object::read(file, position, id) {
-        BodyAnswer::Body(start, size) => {
-            word(rt, b"body")?;
+        Ok((start, size)) => {
+            text(rt, b"body")?;
             number(rt, start)?;
             number(rt, size)?;
         }
-        BodyAnswer::Unread(refusal) => {
-            word(rt, b"refused")?;
+        Err(refusal) => {
+            text(rt, b"refused")?;
             number(rt, refusal_number(refusal))?;
         }
     }
@@ -60,10 +52,10 @@ fn show_body(rt: &impl Print, file: &[u8], position: u64, id: u64) -> io::Result
 
 fn show_step(rt: &impl Print, objects: &[u8], position: u64) -> io::Result<()> {
     match stored_object::object::step(objects, position) {
-        Step::End => word(rt, b"end")?,
-        Step::HeaderCut => word(rt, b"cut")?,
+        Step::End => text(rt, b"end")?,
+        Step::HeaderCut => text(rt, b"cut")?,
         Step::Here(h) => {
-            word(rt, b"object")?;
+            text(rt, b"object")?;
             number(rt, h.id)?;
             number(rt, h.size)?;
             number(rt, h.room)?;
@@ -79,10 +71,8 @@ fn show_byte(rt: &impl Print, b: u8) -> io::Result<()> {
 fn show_bytes(rt: &impl Print, slot: &[u8], n: usize) -> io::Result<()>
     requires { n ≤ length slot.now }
 {
-    let mut i: usize = 0;
-    while i < n {
-        show_byte(rt, slot[i])?;
-        i += 1;
+    for b in &slot[..n] {
+        show_byte(rt, *b)?;
     }
     end_line(rt)
 }
@@ -194,41 +184,25 @@ fn wrong_numbers(rt: &impl Print) -> io::Result<()> {
     show_written(rt, 2, 43, s)
 }
 
-// 1 where the first k stores leave the slot empty.
-fn empty_after(k: u64) -> u64
-    ensures { result ≤ 1 }
-{
+// Whether the first k stores leave the slot empty.
+fn is_empty_after(k: u64) -> bool {
     let mut heap = [0u8; 192];
     write_file(&mut heap, 2, 43, p10(), k);
-    match slot_file::slot::check(&heap) {
-        SlotAnswer::Empty => 1,
-        SlotAnswer::Damaged(_) => 0,
-        SlotAnswer::Holds(_) => 0,
-    }
+    matches!(slot_file::slot::check(&heap), Ok(None))
 }
 
 // Power pulled after each of the 129 stores.
 fn cut_off(rt: &impl Print) -> io::Result<()> {
-    let mut n: u64 = 0;
-    let mut k: u64 = 0;
-    while k < 200 {
-        n += empty_after(k);
-        k += 1;
-    }
-    word(rt, b"empty after")?;
-    number(rt, n)?;
+    let n = (0..200).filter(|k| is_empty_after(*k)).count();
+    text(rt, b"empty after")?;
+    number(rt, n as u64)?;
     end_line(rt)
 }
 
 // Slots of 192 bytes, one behind the other.
 fn show_slots(rt: &impl Print, slots: &[u8]) -> io::Result<()> {
-    let n = slots.len() / 192;
-    let mut k: usize = 0;
-    while k < n {
-        let at = k * 192;
-        let end = at + 192;
-        show_slot(rt, &slots[at..end])?;
-        k += 1;
+    for slot in slots.chunks_exact(192) {
+        show_slot(rt, slot)?;
     }
     Ok(())
 }

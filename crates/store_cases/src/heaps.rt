@@ -77,18 +77,8 @@ pub fn two(rt: &impl Print, f: TwoEntries, g: TwoEntries, table: &mut [u64]) -> 
     Ok(())
 }
 
-fn raised(b: u8) -> u8 {
-    if b == 255 {
-        return 0;
-    }
-    b + 1
-}
-
 fn changed(b: u8, flip: bool) -> u8 {
-    if flip {
-        return 255 - b;
-    }
-    raised(b)
+    if flip { !b } else { b.wrapping_add(1) }
 }
 
 fn damage(heap: &mut [u8], at: usize, flip: bool) {

@@ -80,12 +80,10 @@ fn small_batches(rt: &impl Print) -> io::Result<()> {
 
 // Every beginning of a batch, the whole of it last.
 fn beginnings(rt: &impl Print, batch: &[u8]) -> io::Result<()> {
-    let mut n: usize = 0;
-    while n < batch.len() {
-        alone(rt, &batch[0..n])?;
-        n += 1;
+    for n in 0..=batch.len() {
+        alone(rt, &batch[..n])?;
     }
-    alone(rt, batch)
+    Ok(())
 }
 
 // Ids 300 (put), 7 (put), 300 (delete).
@@ -191,10 +189,8 @@ fn one_byte(rt: &impl Print, at: usize) -> io::Result<()> {
 }
 
 fn each_byte(rt: &impl Print, start: usize, end: usize) -> io::Result<()> {
-    let mut at = start;
-    while at < end {
+    for at in start..end {
         one_byte(rt, at)?;
-        at += 1;
     }
     Ok(())
 }

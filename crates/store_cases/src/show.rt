@@ -1,5 +1,5 @@
 // What a call answered.
-use rules::{Answer, ReadAnswer};
+use rules::{Lookup, Refusal};
 use std::io;
 use test_host::{refused, text};
 
@@ -8,10 +8,8 @@ fn byte(rt: &impl Print, b: u8) -> io::Result<()> {
 }
 
 fn hex(rt: &impl Print, s: &[u8]) -> io::Result<()> {
-    let mut i: usize = 0;
-    while i < s.len() {
-        byte(rt, s[i])?;
-        i += 1;
+    for b in s {
+        byte(rt, *b)?;
     }
     Ok(())
 }
@@ -23,21 +21,21 @@ pub fn bytes(rt: &impl Print, s: &[u8]) -> io::Result<()> {
     hex(rt, s)
 }
 
-pub fn answer(rt: &impl Print, a: Answer) -> io::Result<()> {
+pub fn answer(rt: &impl Print, a: Result<(), Refusal>) -> io::Result<()> {
     match a {
-        Answer::Done => text(rt, b" ok"),
-        Answer::Refused(r) => refused(rt, r),
+        Ok(()) => text(rt, b" ok"),
+        Err(r) => refused(rt, r),
     }
 }
 
-pub fn read(rt: &impl Print, a: ReadAnswer, body: &[u8]) -> io::Result<()> {
+pub fn read(rt: &impl Print, a: Result<Lookup, Refusal>, body: &[u8]) -> io::Result<()> {
     match a {
-        ReadAnswer::Found(_, _) => {
+        Ok(Lookup::Found(_, _)) => {
             text(rt, b" ok ")?;
             bytes(rt, body)
         }
-        ReadAnswer::Deleted => text(rt, b" deleted"),
-        ReadAnswer::NeverWritten => text(rt, b" never"),
-        ReadAnswer::ReadRefused(r) => refused(rt, r),
+        Ok(Lookup::Deleted) => text(rt, b" deleted"),
+        Ok(Lookup::NeverWritten) => text(rt, b" never"),
+        Err(r) => refused(rt, r),
     }
 }

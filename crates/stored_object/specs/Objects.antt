@@ -1,5 +1,5 @@
 -- Objects as the code answers them, and the walk over them.
-use Rattle.std.specs.Prelude.{◌≡◌, refl, Bool, true, false, List, [], ◌∷◌, ℕ, zero, suc, ◌+◌, ◌≤◌, ◌<◌, ltb, length, drop}
+use Rattle.std.specs.Prelude.{◌≡◌, refl, Bool, true, false, List, [], ◌∷◌, ℕ, zero, suc, ◌+◌, ◌≤◌, ◌<◌, ltb, length, drop, Err, Ok}
 use Rattle.std.proofs.Common.{ap, ◌∙◌, subst, arith, ltb-true, ltb-false, length-drop, drop_of_length-le, drop-drop}
 use Rattle.numbers.specs.Choice.{pick}
 use Rattle.rules.specs.Refusal.{decide, after}
@@ -9,8 +9,7 @@ use Rattle.rules.proofs.ObjectLaws.{stored-room, objects-enough, objects-next as
 use Rattle.stored_object.specs.declared.Header.{Header}
 use Rattle.stored_object.specs.declared.Step.{Step}
 use Rattle.stored_object.specs.declared.Step.TheVariants.{End, HeaderCut, Here}
-use Rattle.stored_object.specs.declared.BodyAnswer.{BodyAnswer}
-use Rattle.stored_object.specs.declared.BodyAnswer.TheVariants.{Body, Unread}
+use Rattle.stored_object.specs.Answers.{BodyAnswer}
 
 -- an object's numbers; its body stays in the bytes
 abbrev pub header_of : Stored → Header
@@ -18,7 +17,7 @@ header_of o = record { checksum = o.checksum; id = o.id; size = o.size; room = o
 
 -- where the body of what stands at a position of a file lies: "16 (header or body past file_size), 10, 17"
 abbrev pub body_of : ℕ → Stored → BodyAnswer
-body_of id o = after (decide (object_tests id o)) Unread (Body (o.position + 20) o.size)
+body_of id o = after (decide (object_tests id o)) Err (Ok (o.position + 20, o.size))
 
 -- the objects from a position on
 unfoldable pub objects_at : List ℕ → ℕ → List Stored

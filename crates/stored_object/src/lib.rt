@@ -22,10 +22,3 @@ pub enum Step {
     HeaderCut,
     Here(Header),
 }
-
-// A body's start in its file and its length.
-#[derive(Clone, Copy)]
-pub enum BodyAnswer {
-    Body(u64, u64),
-    Unread(Refusal),
-}

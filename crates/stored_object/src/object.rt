@@ -2,7 +2,7 @@ ghost use Rattle.std.specs.Prelude.{◌≡◌, ◌+◌, ◌-◌, ◌≤◌, leng
 ghost use Rattle.rules.specs.Object.{stored_at, bad_checksum};
 ghost use Rattle.stored_object.specs.Objects.{header_of, step_of, body_of, objects_at};
 
-use crate::{BodyAnswer, Header, Step};
+use crate::{Header, Step};
 use numbers::little_endian;
 use rules::{LENGTH_AT, OBJECT_HEADER, Refusal};
 
@@ -10,11 +10,7 @@ use rules::{LENGTH_AT, OBJECT_HEADER, Refusal};
 fn room(bytes: &[u8], position: u64) -> u64
     ensures { result ≡ length bytes.now - position }
 {
-    let n = bytes.len() as u64;
-    if n < position {
-        return 0;
-    }
-    n - position
+    (bytes.len() as u64).saturating_sub(position)
 }
 
 // "checksum 4, id 8, length 8": the numbers of the object at a position.
@@ -63,22 +59,22 @@ pub fn step(objects: &[u8], position: u64) -> Step
 }
 
 // Where the body of the object at a position of a file lies: 16, 10, 17 in order. No stored length is trusted.
-pub fn read(file: &[u8], position: u64, id: u64) -> BodyAnswer
+pub fn read(file: &[u8], position: u64, id: u64) -> Result<(u64, u64), Refusal>
     ensures { result ≡ body_of id (stored_at position (drop position file.now)) }
 {
     if room(file, position) < OBJECT_HEADER as u64 {
-        return BodyAnswer::Unread(Refusal::CutShort);
+        return Err(Refusal::CutShort);
     }
     let h = header(file, position);
     let most = h.room - OBJECT_HEADER as u64;
     if most < h.size {
-        return BodyAnswer::Unread(Refusal::CutShort);
+        return Err(Refusal::CutShort);
     }
     if bad_checksum(file, position, h) {
-        return BodyAnswer::Unread(Refusal::Checksum);
+        return Err(Refusal::Checksum);
     }
     if h.id != id {
-        return BodyAnswer::Unread(Refusal::OtherId);
+        return Err(Refusal::OtherId);
     }
-    BodyAnswer::Body(position + OBJECT_HEADER as u64, h.size)
+    Ok((position + OBJECT_HEADER as u64, h.size))
 }

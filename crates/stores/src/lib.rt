@@ -12,10 +12,7 @@ use numbers::little_endian;
 fn lesser(a: usize, b: u64) -> usize
     ensures { result ≡ min a b }
 {
-    if (a as u64) < b {
-        return a;
-    }
-    b as usize
+    b.min(a as u64) as usize
 }
 
 // x in n bytes, low byte first, from `at` on.
@@ -44,10 +41,6 @@ pub fn move_bytes(heap: &mut [u8], at: usize, from: usize, n: usize, left: u64) 
     ensures { Made left (stores_of at (take n (drop from heap.old))) heap.old heap.new result }
 {
     let many = lesser(n, left);
-    let mut i: usize = 0;
-    while i < many {
-        heap[at + i] = heap[from + i];
-        i += 1;
-    }
+    heap.copy_within(from..from + many, at);
     left - many as u64
 }

@@ -1,11 +1,11 @@
 -- Files with no live entry are removed: the invariant holds again and nothing else is said of any id.
-use Rattle.std.specs.Prelude.{◌≡◌, ◌⊎◌, ◌-◌}
+use Rattle.std.specs.Prelude.{◌≡◌, ◌⊎◌, ◌-◌, None, Some}
 use Rattle.std.proofs.Math.Path.{refl, sym, ap}
 use Rattle.std.proofs.Common.{◌∙◌, inl, inr}
 use Rattle.std.proofs.Math.Logic.{⊎_elim}
 use native.Mathlib.Omega.{arith}
 use Rattle.rules.specs.Base.{List, ℕ}
-use Rattle.theory.specs.Types.{Entry, Record, Held, Mapped, Unmapped, Slot}
+use Rattle.theory.specs.Types.{Entry, Record, Held, Slot}
 use Rattle.disk_location.specs.Locations.{position_of}
 use Rattle.rules.specs.SlotFile.{File, View, holds}
 use Rattle.rules.specs.Table.{lookup}
@@ -44,7 +44,7 @@ module _ (bounds : ℕ) (p : Picture) (told : ℕ → Said) (s : Sound bounds p 
       agree k (inr c) = rw (c.1, c.2) refl
 
   -- what the table maps into a slot keeps the slot
-  kept : (x l k : ℕ) → lookup p.table x ≡ Mapped l → Stands p.views x l k
+  kept : (x l k : ℕ) → lookup p.table x ≡ Some l → Stands p.views x l k
       → (view_at q.views k ≡ view_at p.views k) × (record_at q.records k ≡ record_at p.records k)
   unfolding mapped_into
   kept x l k h t = ⊎_elim (λ c. c) (λ c. absurd (no c.0)) (e.each k)
@@ -56,7 +56,7 @@ module _ (bounds : ℕ) (p : Picture) (told : ℕ → Said) (s : Sound bounds p 
           let c = s.counted k t.file t.shows in
           omega arith
 
-  stands-kept : (x l k : ℕ) → lookup p.table x ≡ Mapped l → Stands p.views x l k → Stands q.views x l k
+  stands-kept : (x l k : ℕ) → lookup p.table x ≡ Some l → Stands p.views x l k → Stands q.views x l k
   stands-kept x l k h t =
       record { file = t.file; raw = t.raw; shows = (kept x l k h t).0 ∙ t.shows; entry = t.entry; located = t.located }
 
@@ -83,8 +83,8 @@ module _ (bounds : ℕ) (p : Picture) (told : ℕ → Said) (s : Sound bounds p 
   says-emptied x = ap (λ (t : List Entry). held_says q (lookup t x) x) e.table ∙ go (lookup p.table x) refl
     where
       go : (o : Held) → lookup p.table x ≡ o → held_says q o x ≡ held_says p o x
-      go Unmapped h = refl
-      go (Mapped l) h =
+      go None h = refl
+      go (Some l) h =
           let z = table-stands bounds p told s x l h in
           let c = kept x l z.0 h z.1 in
           held_same q p l x (

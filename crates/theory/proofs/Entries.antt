@@ -1,9 +1,9 @@
 -- Entries of tables and trailers: stores of old ids, absolute locations, lists one behind the other.
-use Rattle.std.specs.Prelude.{◌≡◌, refl, ◌⊎◌, ◌∷◌, ◌++◌, ◌+◌, ◌*◌, ◌%◌}
+use Rattle.std.specs.Prelude.{◌≡◌, refl, ◌⊎◌, ◌∷◌, ◌++◌, ◌+◌, ◌*◌, ◌%◌, Some}
 use Rattle.std.proofs.Common.{sym, ap, ◌∙◌, inl, inr, ⊎_elim, zero-le, arith, eqb-true}
 use Rattle.std.proofs.lemmas.Bool.{eqb-false}
 use Rattle.rules.specs.Base.{Bool, true, false, List, [], map, ℕ, suc, length, eqb}
-use Rattle.theory.specs.Types.{Entry, Mapped}
+use Rattle.theory.specs.Types.{Entry}
 use Rattle.rules.proofs.BaseLaws.{same?}
 use Rattle.rules.specs.Table.{lookup, insert, insert_all}
 use Rattle.rules.specs.TableLaws.{Rising, rise, rise-end, Has}
@@ -12,7 +12,7 @@ use Rattle.rules.specs.Trailer.{absolute}
 use Rattle.theory.specs.Entries.{shift_held}
 
 -- ---- a store of ids that are there takes no room
-pub insert-all-old : (t es : List Entry) → Rising 0 t → ((x l : ℕ) → Has es x l → (m : ℕ) × (lookup t x ≡ Mapped m)) → length (insert_all t es) ≡ length t
+pub insert-all-old : (t es : List Entry) → Rising 0 t → ((x l : ℕ) → Has es x l → (m : ℕ) × (lookup t x ≡ Some m)) → length (insert_all t es) ≡ length t
 unfolding insert_all
 insert-all-old t [] r h = refl
 insert-all-old t (e ∷ es) r h =
@@ -20,7 +20,7 @@ insert-all-old t (e ∷ es) r h =
     insert-all-old (insert t e) es (rising-insert 0 t e zero-le r) (λ x l k. still x l k (same? e.id x))
     ∙ insert-old 0 t r e w.0 w.1
   where
-    still : (x l : ℕ) → Has es x l → (e.id ≡ x) ⊎ (e.id ≡ x → ⊥) → (m : ℕ) × (lookup (insert t e) x ≡ Mapped m)
+    still : (x l : ℕ) → Has es x l → (e.id ≡ x) ⊎ (e.id ≡ x → ⊥) → (m : ℕ) × (lookup (insert t e) x ≡ Some m)
     still x l k (inl q) = (e.location, ap (lookup (insert t e)) (sym q) ∙ lookup-insert-same t e)
     still x l k (inr q) = let w = h x l (inr k) in (w.0, lookup-insert-other t e x q ∙ w.1)
 
@@ -41,7 +41,7 @@ lookup-absolute n (e ∷ es) x = go (lookup-absolute n es x) (same? e.id x)
     go : lookup (map (absolute n) es) x ≡ shift_held n (lookup es x) → (e.id ≡ x) ⊎ (e.id ≡ x → ⊥)
         → lookup (absolute n e ∷ map (absolute n) es) x ≡ shift_held n (lookup (e ∷ es) x)
     go ih (inl q) =
-        lookup-here (absolute n e) (map (absolute n) es) x q ∙ ap Mapped (absolute-location n e) ∙ sym (ap (shift_held n) (lookup-here e es x q))
+        lookup-here (absolute n e) (map (absolute n) es) x q ∙ ap Some (absolute-location n e) ∙ sym (ap (shift_held n) (lookup-here e es x q))
     go ih (inr q) = lookup-next (absolute n e) (map (absolute n) es) x q ∙ ih ∙ sym (ap (shift_held n) (lookup-next e es x q))
 
 -- ids do not change

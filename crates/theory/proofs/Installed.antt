@@ -1,5 +1,5 @@
 -- A file of operations is added above all others: the invariant holds again, and the file's entries count before what was said.
-use Rattle.std.specs.Prelude.{◌≡◌, ◌⊎◌, ◌<◌, ◌≤◌, ◌+◌, ◌-◌, ◌*◌, ◌/◌, ◌%◌, ◌^◌}
+use Rattle.std.specs.Prelude.{◌≡◌, ◌⊎◌, ◌<◌, ◌≤◌, ◌+◌, ◌-◌, ◌*◌, ◌/◌, ◌%◌, ◌^◌, Err, None, Ok, Some}
 use Rattle.std.proofs.Math.Path.{refl, sym, ap}
 use Rattle.std.proofs.Common.{◌∙◌, subst, ⊎_elim, zero-le}
 use Rattle.std.proofs.Math.Logic.{inl, inr}
@@ -7,7 +7,7 @@ use native.Mathlib.Omega.{arith}
 use Rattle.std.proofs.Math.ListN.{length-set}
 use Rattle.std.proofs.Math.Seq.{get_or-set_same, get_or-set_other}
 use Rattle.rules.specs.Base.{Bool, true, false, List, ℕ, length, drop, eqb, pick}
-use Rattle.theory.specs.Types.{Record, Answer, Done, Refused, Held, Mapped, Unmapped, Slot, Is}
+use Rattle.theory.specs.Types.{Record, Answer, Held, Slot}
 use Rattle.disk_location.specs.Locations.{masked_of, position_of, delete_of}
 use Rattle.rules.proofs.BaseLaws.{same?}
 use Rattle.rules.specs.Refusal.{decide, after}
@@ -179,7 +179,7 @@ module _ (bounds : ℕ) (p : Picture) (told : ℕ → Said) (s : Sound bounds p 
   rows-rising = rising-absolute lsn 0 (entries_of 0 os) (entries-of-rising 0 0 os a.rising)
 
   -- the new entries are above all that the table holds
-  all_above : (x l m : ℕ) → Has (rows_for lsn 0 os) x l → lookup p.table x ≡ Mapped m → masked_at m < masked_at l
+  all_above : (x l m : ℕ) → Has (rows_for lsn 0 os) x l → lookup p.table x ≡ Some m → masked_at m < masked_at l
   unfolding new_record new_label
   all_above x l m h e =
       let n = absolute-has lsn (entries_of 0 os) x l h in
@@ -211,7 +211,7 @@ module _ (bounds : ℕ) (p : Picture) (told : ℕ → Said) (s : Sound bounds p 
 
   -- ---- live counts
   -- the locations held lie outside the new file's masked range, the new ones inside it
-  old-outside : (x m : ℕ) → lookup p.table x ≡ Mapped m → in_range (new_label lsn g os) (masked_at m) ≡ false
+  old-outside : (x m : ℕ) → lookup p.table x ≡ Some m → in_range (new_label lsn g os) (masked_at m) ≡ false
   old-outside x m e =
       let z = table-stands bounds p told s x m e in
       let t = stands-old x m z.0 z.1 in
@@ -254,20 +254,20 @@ module _ (bounds : ℕ) (p : Picture) (told : ℕ → Said) (s : Sound bounds p 
       go (inr z) = ap (λ (r : Record). r.live) (record-old j z) ∙ counted-old j h z (sym (view-old j z) ∙ e)
 
   -- ---- what is said
-  over-entry : (r x : ℕ) (t : Said) → over (entry_says (file_of_ops lsn g os) (Mapped r) x) t ≡ entry_says (file_of_ops lsn g os) (Mapped r) x
+  over-entry : (r x : ℕ) (t : Said) → over (entry_says (file_of_ops lsn g os) (Some r) x) t ≡ entry_says (file_of_ops lsn g os) (Some r) x
   over-entry r x t = go (delete_of r) (decide (object_tests x (stored_at (position_of r) (drop (position_of r) (objects_of os)))))
     where
       go : (b : Bool) (c : Answer)
           → over (pick b gone (after c broken (body (stored_at (position_of r) (drop (position_of r) (objects_of os))).body))) t
           ≡ pick b gone (after c broken (body (stored_at (position_of r) (drop (position_of r) (objects_of os))).body))
       go true c = refl
-      go false Done = refl
-      go false (Refused n) = refl
+      go false (Ok _) = refl
+      go false (Err n) = refl
 
   -- of an old location the same is said
   old-says : (x : ℕ) (o : Held) → lookup p.table x ≡ o → held_says (added lsn g p k os) o x ≡ held_says p o x
-  old-says x Unmapped h = refl
-  old-says x (Mapped l) h =
+  old-says x None h = refl
+  old-says x (Some l) h =
       let z = table-stands bounds p told s x l h in
       let t = stands-old x l z.0 z.1 in
       held_same (added lsn g p k os) p l x (
@@ -275,17 +275,17 @@ module _ (bounds : ℕ) (p : Picture) (told : ℕ → Said) (s : Sound bounds p 
       ∙ same z.0 t.0
       ∙ sym (ap (λ (o : Slot). slot_says p o l x) (own-file p.views p.records s.filed x l z.0 z.1)))
     where
-      same : (j : ℕ) → (j ≡ k → ⊥) → slot_says (added lsn g p k os) (Is j) l x ≡ slot_says p (Is j) l x
+      same : (j : ℕ) → (j ≡ k → ⊥) → slot_says (added lsn g p k os) (Some j) l x ≡ slot_says p (Some j) l x
       same j n =
           let m : (record_at (added lsn g p k os).records j).label.lsn ≡ (record_at p.records j).label.lsn
           = ap (λ (r : Record). r.label.lsn) (record-old j n ∙ (losing-record p.table os p.records j).same) in
           ap (λ (v : View). view_says v (position_of l - (record_at (added lsn g p k os).records j).label.lsn) x) (view-old j n)
           ∙ ap (λ (i : ℕ). view_says (view_at p.views j) (position_of l - i) x) m
 
-  new-says : (x r : ℕ) → Has (entries_of 0 os) x r → held_says (added lsn g p k os) (Mapped (r + 2 * lsn)) x ≡ entry_says (file_of_ops lsn g os) (Mapped r) x
+  new-says : (x r : ℕ) → Has (entries_of 0 os) x r → held_says (added lsn g p k os) (Some (r + 2 * lsn)) x ≡ entry_says (file_of_ops lsn g os) (Some r) x
   unfolding new_record new_label
   new-says x r h =
-      let y : file_for (added lsn g p k os).records (r + 2 * lsn) ≡ Is k
+      let y : file_for (added lsn g p k os).records (r + 2 * lsn) ≡ Some k
       = own-file (added lsn g p k os).views (added lsn g p k os).records filed-added x (r + 2 * lsn) k (stands-new x (r + 2 * lsn) (has-absolute lsn (entries_of 0 os) x r h)) in
       let even : (r + 2 * lsn) % 2 ≡ r % 2 = omega arith in
       let d : delete_of (r + 2 * lsn) ≡ delete_of r = ap (λ (n : ℕ). eqb n 1) even in
@@ -310,8 +310,8 @@ module _ (bounds : ℕ) (p : Picture) (told : ℕ → Said) (s : Sound bounds p 
       go : (o : Held) → lookup (entries_of 0 os) x ≡ o
           → held_says (added lsn g p k os) (or_else (shift_held lsn o) (lookup p.table x)) x
           ≡ over (entry_says (file_of_ops lsn g os) o x) (held_says p (lookup p.table x) x)
-      go Unmapped h = old-says x (lookup p.table x) refl
-      go (Mapped r) h = new-says x r (lookup-has (entries_of 0 os) x r h) ∙ sym (over-entry r x (held_says p (lookup p.table x) x))
+      go None h = old-says x (lookup p.table x) refl
+      go (Some r) h = new-says x r (lookup-has (entries_of 0 os) x r h) ∙ sym (over-entry r x (held_says p (lookup p.table x) x))
 
   above-added : (j : ℕ) (h : File) → view_at (added lsn g p k os).views j ≡ holds h → masked_of h.label.lsn + h.label.trailer_offset < (added lsn g p k os).next
   unfolding new_record new_label added
@@ -338,9 +338,9 @@ module _ (bounds : ℕ) (p : Picture) (told : ℕ → Said) (s : Sound bounds p 
       (sym (lookup-insert-all 0 p.table (rows_for lsn 0 os) rows-rising x)
       ∙ has-lookup 0 (insert_all p.table (rows_for lsn 0 os)) (rising-insert-all p.table (rows_for lsn 0 os) (table-rising bounds p told s)) x l h)
     where
-      go : (o : Held) → lookup (rows_for lsn 0 os) x ≡ o → or_else o (lookup p.table x) ≡ Mapped l → x < 2 ^ 64
-      go (Mapped m) e d = a.narrow x m (lookup-has (rows_for lsn 0 os) x m e)
-      go Unmapped e d = s.narrow x l (lookup-has p.table x l d)
+      go : (o : Held) → lookup (rows_for lsn 0 os) x ≡ o → or_else o (lookup p.table x) ≡ Some l → x < 2 ^ 64
+      go (Some m) e d = a.narrow x m (lookup-has (rows_for lsn 0 os) x m e)
+      go None e d = s.narrow x l (lookup-has p.table x l d)
 
   -- LAW: the invariant after a file is added
   pub sound-added : Sound bounds (added lsn g p k os) (λ x. over (file_says (file_of_ops lsn g os) x) (told x))

@@ -1,11 +1,11 @@
 -- "each replaced location's file .. loses one live": live counts as ids leave their old locations, one by one.
-use Rattle.std.specs.Prelude.{◌≡◌, ◌∷◌, ◌+◌, ◌-◌}
+use Rattle.std.specs.Prelude.{◌≡◌, ◌∷◌, ◌+◌, ◌-◌, None, Some}
 use Rattle.std.proofs.Math.Path.{refl, ap}
 use Rattle.std.proofs.Common.{◌∙◌, inl, inr}
 use Prim.Native.Nat.{◌≤◌, zero-le}
 use native.Mathlib.Omega.{arith}
 use Rattle.rules.specs.Base.{Bool, true, false, List, [], ℕ, suc, length}
-use Rattle.theory.specs.Types.{Entry, Record, Held, Mapped, Unmapped, Slot}
+use Rattle.theory.specs.Types.{Entry, Record, Held, Slot}
 use Rattle.disk_location.specs.Locations.{bit_of}
 use Rattle.rules.specs.Ops.{Op, size_of, entries_of}
 use Rattle.rules.specs.OpsLaws.{RisingOps, ops-rise}
@@ -29,14 +29,14 @@ less-file o rs l = file-same (less_live o rs) rs (less-live-length o rs) (λ j. 
 -- ---- all that are replaced
 -- p: being in slot j, said of locations. t is the table before, u what it has become; the ids still to come have not changed.
 module _ (p : ℕ → Bool) (j lsn : ℕ) (t : List Entry) where
-  held_share : (rs : List Record) (o : Held) → ((m : ℕ) → o ≡ Mapped m → is_at j (file_for rs m) ≡ p m) → bit_of (is_at j (file_holding rs (loaded_of o))) ≡ had p o
-  held_share rs Unmapped h = refl
-  held_share rs (Mapped m) h = ap (λ (s : Slot). bit_of (is_at j s)) (holding-mapped rs m) ∙ ap bit_of (h m refl)
+  held_share : (rs : List Record) (o : Held) → ((m : ℕ) → o ≡ Some m → is_at j (file_for rs m) ≡ p m) → bit_of (is_at j (file_holding rs (loaded_of o))) ≡ had p o
+  held_share rs None h = refl
+  held_share rs (Some m) h = ap (λ (s : Slot). bit_of (is_at j s)) (holding-mapped rs m) ∙ ap bit_of (h m refl)
 
   -- LAW: a live count stays the number of ids in the slot, as ids leave it for another
   pub losing-live : (f position : ℕ) (u : List Entry) (os : List Op) (rs : List Record) → Rising 0 u → RisingOps f os
       → ((x : ℕ) → f ≤ x → lookup u x ≡ lookup t x)
-      → ((x m : ℕ) → lookup t x ≡ Mapped m → is_at j (file_for rs m) ≡ p m)
+      → ((x m : ℕ) → lookup t x ≡ Some m → is_at j (file_for rs m) ≡ p m)
       → ((x l : ℕ) → Has (rows_for lsn position os) x l → p l ≡ false)
       → live_at rs j ≡ count p u
       → live_at (losing t os rs) j ≡ count p (insert_all u (rows_for lsn position os))
@@ -63,7 +63,7 @@ module _ (p : ℕ → Bool) (j lsn : ℕ) (t : List Entry) where
   -- LAW: all entries of a new file are in its slot
   pub losing-new : (f position : ℕ) (u : List Entry) (os : List Op) → Rising 0 u → RisingOps f os
       → ((x : ℕ) → f ≤ x → lookup u x ≡ lookup t x)
-      → ((x m : ℕ) → lookup t x ≡ Mapped m → p m ≡ false)
+      → ((x m : ℕ) → lookup t x ≡ Some m → p m ≡ false)
       → ((x l : ℕ) → Has (rows_for lsn position os) x l → p l ≡ true)
       → count p (insert_all u (rows_for lsn position os)) ≡ count p u + length os
   unfolding insert_all entries_of
@@ -76,6 +76,6 @@ module _ (p : ℕ → Bool) (j lsn : ℕ) (t : List Entry) where
       let y : had p (lookup u o.id) ≡ 0 = ap (had p) (same o.id a) ∙ none (lookup t o.id) (old o.id) in
       omega arith
     where
-      none : (o : Held) → ((m : ℕ) → o ≡ Mapped m → p m ≡ false) → had p o ≡ 0
-      none Unmapped h = refl
-      none (Mapped m) h = ap bit_of (h m refl)
+      none : (o : Held) → ((m : ℕ) → o ≡ Some m → p m ≡ false) → had p o ≡ 0
+      none None h = refl
+      none (Some m) h = ap bit_of (h m refl)

@@ -1,11 +1,11 @@
 -- Request P6: the marks say nothing of the files. A store whose records are marked is sound as before.
-use Rattle.std.specs.Prelude.{◌≡◌, ◌⊎◌, ◌≤◌, ◌&&◌, ◌||◌, ◌∷◌, ◌+◌, ◌-◌}
+use Rattle.std.specs.Prelude.{◌≡◌, ◌⊎◌, ◌≤◌, ◌&&◌, ◌||◌, ◌∷◌, ◌+◌, ◌-◌, None, Some}
 use Rattle.std.proofs.Math.Path.{refl, ap}
 use Rattle.std.proofs.Common.{sym, ◌∙◌, true≢false, inl, inr, zero-add, arith, ne_eqb}
 use Rattle.std.proofs.lemmas.List.{length-map}
 use Rattle.std.proofs.lemmas.Bool.{eqb-false}
 use Rattle.rules.specs.Base.{Bool, true, false, not, List, [], map, ℕ, zero, suc, eqb, pick, any, sum}
-use Rattle.theory.specs.Types.{Label, Record, Held, Mapped, Unmapped, Slot, Is, NoSlot}
+use Rattle.theory.specs.Types.{Label, Record, Held, Slot}
 use Rattle.disk_location.specs.Locations.{position_of}
 use Rattle.rules.specs.SlotFile.{View, empty, damaged, holds}
 use Rattle.rules.specs.Table.{lookup}
@@ -150,12 +150,12 @@ module _ (bounds : ℕ) (p : Picture) (told : ℕ → Said) (s : Sound bounds p 
   says-marked x = held (lookup p.table x)
     where
       found : (o : Slot) (l : ℕ) → slot_says (with_records p qs) o l x ≡ slot_says p o l x
-      found NoSlot l = refl
-      found (Is k) l = ap (λ (c : Label). view_says (view_at p.views k) (position_of l - c.lsn) x) (label-at k)
+      found None l = refl
+      found (Some k) l = ap (λ (c : Label). view_says (view_at p.views k) (position_of l - c.lsn) x) (label-at k)
 
       held : (o : Held) → held_says (with_records p qs) o x ≡ held_says p o x
-      held Unmapped = refl
-      held (Mapped l) =
+      held None = refl
+      held (Some l) =
           held_same (with_records p qs) p l x (ap (λ (o : Slot). slot_says (with_records p qs) o l x) (file-found l) ∙ found (file_for p.records l) l)
 
   -- LAW: the invariant does not hang on the marks, of whichever records they are set

@@ -1,8 +1,8 @@
 -- "Each id maps to its entry of greatest masked position": what `latest_of` holds.
-use Rattle.std.specs.Prelude.{◌≡◌, refl, ◌⊎◌, ◌<◌, ◌≤◌, ◌∷◌}
+use Rattle.std.specs.Prelude.{◌≡◌, refl, ◌⊎◌, ◌<◌, ◌≤◌, ◌∷◌, None, Some}
 use Rattle.std.proofs.Common.{sym, ap, ◌∙◌, inl, inr, ⊎_elim, zero-le, arith, ltb-true, ltb-false, lt-ltb, eq-eqb, ne_eqb}
 use Rattle.rules.specs.Base.{Bool, true, false, List, [], ℕ, suc, ltb, pick}
-use Rattle.theory.specs.Types.{Entry, Held, Mapped, Unmapped}
+use Rattle.theory.specs.Types.{Entry, Held}
 use Rattle.rules.specs.Table.{lookup, insert, insert_all}
 use Rattle.rules.specs.Reopen.{masked_position, latest, latest_from, latest_of}
 use Rattle.rules.proofs.BaseLaws.{order, same?}
@@ -13,30 +13,30 @@ use Rattle.theory.specs.Newest.{masked_at, Newest, later, held_with}
 
 -- the same candidates
 pub newest-iff : (P Q : ℕ → Type 0) (o : Held) → ((l : ℕ) → P l → Q l) → ((l : ℕ) → Q l → P l) → Newest P o → Newest Q o
-newest-iff P Q Unmapped f g n = λ l q. n l (g l q)
-newest-iff P Q (Mapped l) f g n = (f l n.0, λ m q. n.1 m (g m q))
+newest-iff P Q None f g n = λ l q. n l (g l q)
+newest-iff P Q (Some l) f g n = (f l n.0, λ m q. n.1 m (g m q))
 
 -- candidates of different positions have one greatest
 pub newest-one : (P : ℕ → Type 0) (o u : Held) → ((l m : ℕ) → P l → P m → masked_at l ≡ masked_at m → l ≡ m) → Newest P o → Newest P u → o ≡ u
-newest-one P Unmapped Unmapped d n k = refl
-newest-one P Unmapped (Mapped m) d n k = absurd (n m k.0)
-newest-one P (Mapped l) Unmapped d n k = absurd (k l n.0)
-newest-one P (Mapped l) (Mapped m) d n k =
+newest-one P None None d n k = refl
+newest-one P None (Some m) d n k = absurd (n m k.0)
+newest-one P (Some l) None d n k = absurd (k l n.0)
+newest-one P (Some l) (Some m) d n k =
     let a = n.1 m k.0 in
     let b = k.1 l n.0 in
-    ap Mapped (d l m n.0 k.0 (omega arith))
+    ap Some (d l m n.0 k.0 (omega arith))
 
 -- fewer candidates: the greatest stays if it is still there
-pub newest-less : (P Q : ℕ → Type 0) (o : Held) → ((l : ℕ) → Q l → P l) → ((l : ℕ) → o ≡ Mapped l → Q l) → Newest P o → Newest Q o
-newest-less P Q Unmapped g h n = λ l q. n l (g l q)
-newest-less P Q (Mapped l) g h n = (h l refl, λ m q. n.1 m (g m q))
+pub newest-less : (P Q : ℕ → Type 0) (o : Held) → ((l : ℕ) → Q l → P l) → ((l : ℕ) → o ≡ Some l → Q l) → Newest P o → Newest Q o
+newest-less P Q None g h n = λ l q. n l (g l q)
+newest-less P Q (Some l) g h n = (h l refl, λ m q. n.1 m (g m q))
 
 -- the later of two entries of one id
 lookup-later : (n e : Entry) (es : List Entry) → e.id ≡ n.id → (x : ℕ) → n.id ≡ x
-    → lookup (pick (ltb (masked_position e) (masked_position n)) n e ∷ es) x ≡ later (Mapped e.location) n.location
+    → lookup (pick (ltb (masked_position e) (masked_position n)) n e ∷ es) x ≡ later (Some e.location) n.location
 lookup-later n e es h x q = go (ltb (masked_position e) (masked_position n))
   where
-    go : (b : Bool) → lookup (pick b n e ∷ es) x ≡ pick b (Mapped n.location) (Mapped e.location)
+    go : (b : Bool) → lookup (pick b n e ∷ es) x ≡ pick b (Some n.location) (Some e.location)
     go true = lookup-here n es x q
     go false = lookup-here e es x (h ∙ q)
 
@@ -90,8 +90,8 @@ newest-with : (P : ℕ → Type 0) (o : Held) (e : Entry) (x : ℕ) → Newest P
     → Newest (λ l. P l ⊎ ((e.id ≡ x) × (e.location ≡ l))) (held_with o e x)
 newest-with P o e x n = go o n (same? e.id x)
   where
-    up : e.id ≡ x → (k : ℕ) → Newest P (Mapped k) → (b : Bool) → ltb (masked_at k) (masked_at e.location) ≡ b
-        → Newest (λ l. P l ⊎ ((e.id ≡ x) × (e.location ≡ l))) (pick b (Mapped e.location) (Mapped k))
+    up : e.id ≡ x → (k : ℕ) → Newest P (Some k) → (b : Bool) → ltb (masked_at k) (masked_at e.location) ≡ b
+        → Newest (λ l. P l ⊎ ((e.id ≡ x) × (e.location ≡ l))) (pick b (Some e.location) (Some k))
     up q k n true h = (inr (q, refl), most)
       where
         most : (m : ℕ) → P m ⊎ ((e.id ≡ x) × (e.location ≡ m)) → masked_at m ≤ masked_at e.location
@@ -105,12 +105,12 @@ newest-with P o e x n = go o n (same? e.id x)
             let c : masked_at e.location ≡ masked_at m = ap masked_at b in let d = ltb-false (masked_at k) (masked_at e.location) h in omega arith
 
     go : (o : Held) → Newest P o → (e.id ≡ x) ⊎ (e.id ≡ x → ⊥) → Newest (λ l. P l ⊎ ((e.id ≡ x) × (e.location ≡ l))) (held_with o e x)
-    go Unmapped n (inl q) = rw (eq-eqb e.id x q) (inr (q, refl), alone)
+    go None n (inl q) = rw (eq-eqb e.id x q) (inr (q, refl), alone)
       where
         alone : (m : ℕ) → P m ⊎ ((e.id ≡ x) × (e.location ≡ m)) → masked_at m ≤ masked_at e.location
         alone m (inl a) = absurd (n m a)
         alone m (inr (a, b)) = let c : masked_at e.location ≡ masked_at m = ap masked_at b in omega arith
-    go (Mapped k) n (inl q) = rw (eq-eqb e.id x q) (up q k n (ltb (masked_at k) (masked_at e.location)) refl)
+    go (Some k) n (inl q) = rw (eq-eqb e.id x q) (up q k n (ltb (masked_at k) (masked_at e.location)) refl)
     go o n (inr q) = rw (ne_eqb e.id x q) (newest-iff P (λ l. P l ⊎ ((e.id ≡ x) × (e.location ≡ l))) o (λ l a. inl a) (λ l. ⊎_elim (λ a. a) (λ b. absurd (q b.0))) n)
 
 -- each id maps to the greatest of what the table held and of the entries
@@ -135,13 +135,13 @@ newest-latest es x =
     (newest-from [] es x (λ l. ⊥) rise-end (λ l a. a))
 
 -- ---- stores in the order of the ids
-later-put : (o : Held) (l : ℕ) → ((m : ℕ) → o ≡ Mapped m → masked_at m < masked_at l) → later o l ≡ Mapped l
-later-put Unmapped l h = refl
-later-put (Mapped k) l h = rw (lt-ltb (masked_at k) (masked_at l) (h k refl))
+later-put : (o : Held) (l : ℕ) → ((m : ℕ) → o ≡ Some m → masked_at m < masked_at l) → later o l ≡ Some l
+later-put None l h = refl
+later-put (Some k) l h = rw (lt-ltb (masked_at k) (masked_at l) (h k refl))
 
 -- candidates that the table holds, and entries of rising ids that are later than those: storing them keeps the greatest
 pub newest-insert-all : (f : ℕ) (t es : List Entry) (x : ℕ) (P : ℕ → Type 0) → Rising f es
-    → ((l m : ℕ) → Has es x l → lookup t x ≡ Mapped m → masked_at m < masked_at l)
+    → ((l m : ℕ) → Has es x l → lookup t x ≡ Some m → masked_at m < masked_at l)
     → Newest P (lookup t x) → Newest (λ l. P l ⊎ Has es x l) (lookup (insert_all t es) x)
 unfolding insert_all
 newest-insert-all f t [] x P r h n = newest-iff P (λ l. P l ⊎ ⊥) (lookup t x) (λ l a. inl a) (λ l. ⊎_elim (λ a. a) (λ b. absurd b)) n

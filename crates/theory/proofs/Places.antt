@@ -1,9 +1,9 @@
 -- Files in slots: bounds, disjoint masked ranges; an entry's location is looked up in the file where it stands.
-use Rattle.std.specs.Prelude.{◌≡◌, refl, ◌⊎◌, ◌<◌, ◌≤◌, ◌&&◌, ◌∷◌, ◌++◌, ◌+◌, ◌-◌, ◌*◌, ◌/◌, ◌%◌, ◌^◌}
+use Rattle.std.specs.Prelude.{◌≡◌, refl, ◌⊎◌, ◌<◌, ◌≤◌, ◌&&◌, ◌∷◌, ◌++◌, ◌+◌, ◌-◌, ◌*◌, ◌/◌, ◌%◌, ◌^◌, Some}
 use Rattle.std.proofs.Common.{sym, ap, ◌∙◌, subst, inl, inr, ⊎_elim, arith, ltb-true, ltb-false, le-leb, eq-eqb, ne_eqb}
 use Rattle.std.proofs.lemmas.Bool.{lt-leb}
 use Rattle.rules.specs.Base.{Bool, true, false, List, [], ℕ, zero, suc, length, ltb, leb, eqb, each}
-use Rattle.theory.specs.Types.{Entry, Record, Refusal, Is}
+use Rattle.theory.specs.Types.{Entry, Record, Refusal}
 use Rattle.disk_location.specs.Locations.{masked_of, position_of}
 use Rattle.disk_location.proofs.LocationLaws.{masked-pos}
 use Rattle.rules.specs.SlotFile.{File, View, empty, damaged, holds}
@@ -147,7 +147,7 @@ module _ (views : List View) (rs : List Record) (filed : Filed views rs) where
           omega arith
 
   -- LAW: a location inside a file is looked up in that file
-  pub own-place : (k : ℕ) (f : File) (r : ℕ) → view_at views k ≡ holds f → position_of r ≤ f.label.trailer_offset → file_for rs (r + 2 * f.label.lsn) ≡ Is k
+  pub own-place : (k : ℕ) (f : File) (r : ℕ) → view_at views k ≡ holds f → position_of r ≤ f.label.trailer_offset → file_for rs (r + 2 * f.label.lsn) ≡ Some k
   own-place k f r h i =
       let q : (record_at rs k).label.lsn ≡ f.label.lsn = ap (λ (r : Record). r.label.lsn) (record-holds k f h) in
       let a = masked-pos f.label.lsn (filed.made k f h).placed in
@@ -169,7 +169,7 @@ module _ (views : List View) (rs : List Record) (filed : Filed views rs) where
           omega arith
 
   -- LAW: an entry's location is looked up in its own file
-  pub own-file : (x l k : ℕ) → Stands views x l k → file_for rs l ≡ Is k
+  pub own-file : (x l k : ℕ) → Stands views x l k → file_for rs l ≡ Some k
   own-file x l k s =
       ap (file_for rs) s.located ∙ own-place k s.file s.raw s.shows ((filed.made k s.file s.shows).inside x s.raw s.entry)
 

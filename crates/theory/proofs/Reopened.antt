@@ -1,9 +1,9 @@
 -- G: what an accepted reopening means, whoever wrote the files.
-use Rattle.std.specs.Prelude.{◌≡◌, refl, ◌≤◌, ◌∷◌}
+use Rattle.std.specs.Prelude.{◌≡◌, refl, ◌≤◌, ◌∷◌, Err, Ok}
 use Rattle.std.proofs.Math.Path.{sym, ap, subst}
 use Rattle.std.proofs.Common.{◌∙◌, true≢false, arith, ltb-false, eq-eqb}
 use Rattle.rules.specs.Base.{Bool, true, false, List, [], ℕ, length, each}
-use Rattle.theory.specs.Types.{Entry, Record, Refusal, Limits, Answer, Done, Refused}
+use Rattle.theory.specs.Types.{Entry, Record, Refusal, Limits, Answer}
 use Rattle.disk_location.proofs.LocationLaws.{masked-pos}
 use Rattle.rules.specs.Refusal.{◌gives◌, decide, after, number_of, NoneHolds}
 use Rattle.rules.proofs.RefusalLaws.{clear-when, none_first, none_rest}
@@ -64,8 +64,8 @@ passed w h = go (out_of_range w.settings (length w.heap) w.table) refl h
     go false l e = by (decide (reopen_tests w (views_of w))) refl e
       where
         by : (a : Answer) → decide (reopen_tests w (views_of w)) ≡ a → (after a (given_up w) (opened w (views_of w))).answer ≡ accepted [] → Passed w
-        by (Refused r) c e = absurd (refused-not r (ap (λ g. g.number) e))
-        by Done c e = tests-passed w l (clear-when (reopen_tests w (views_of w)) c) (rw (l, c) refl)
+        by (Err r) c e = absurd (refused-not r (ap (λ g. g.number) e))
+        by (Ok _) c e = tests-passed w l (clear-when (reopen_tests w (views_of w)) c) (rw (l, c) refl)
 
 -- a file that a slot of the heap shows is well made
 pub shown-made : (n size : ℕ) (heap : List ℕ) (k : ℕ) (f : File) → view_at (views_in n size heap) k ≡ holds f → WellMade f

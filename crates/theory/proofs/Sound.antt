@@ -1,9 +1,9 @@
 -- The invariant of a store, on its picture; and what makes a file whole.
-use Rattle.std.specs.Prelude.{◌≡◌, ◌⊎◌, ◌+◌, ◌*◌}
+use Rattle.std.specs.Prelude.{◌≡◌, ◌⊎◌, ◌+◌, ◌*◌, Some}
 use Rattle.std.proofs.Common.{sym, ap, ◌∙◌, subst, true≢false, inl, inr}
 use Rattle.rules.specs.Base.{true, false, List, ℕ}
 use Rattle.rules.proofs.BaseLaws.{same?}
-use Rattle.theory.specs.Types.{Entry, Mapped}
+use Rattle.theory.specs.Types.{Entry}
 use Rattle.rules.specs.SlotFile.{File, View, holds}
 use Rattle.rules.specs.Table.{lookup}
 use Rattle.rules.specs.Reopen.{files_in, in_range, table_of}
@@ -36,11 +36,11 @@ module _ (bounds : ℕ) (p : Picture) (told : ℕ → Said) (s : Sound bounds p 
   table-newest x = subst (λ (t : List Entry). Newest (Has (rows_of p.views) x) (lookup t x)) (sym s.newest) (newest-table p.views x)
 
   -- what the table holds stands in a slot
-  pub table-stands : (x l : ℕ) → lookup p.table x ≡ Mapped l → (k : ℕ) × Stands p.views x l k
+  pub table-stands : (x l : ℕ) → lookup p.table x ≡ Some l → (k : ℕ) × Stands p.views x l k
   table-stands x l h = has-stands p.views x l (subst (Newest (Has (rows_of p.views) x)) h (table-newest x)).0
 
   -- LAW: a location that lies in a file's masked range is that of an entry of the file
-  pub range-entry : (x l k : ℕ) (f : File) → lookup p.table x ≡ Mapped l → view_at p.views k ≡ holds f → in_range f.label (masked_at l) ≡ true
+  pub range-entry : (x l k : ℕ) (f : File) → lookup p.table x ≡ Some l → view_at p.views k ≡ holds f → in_range f.label (masked_at l) ≡ true
       → (r : ℕ) × Has f.entries x r × (l ≡ r + 2 * f.label.lsn)
   range-entry x l k f e h i = by (table-stands x l e)
     where

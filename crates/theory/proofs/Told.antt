@@ -1,9 +1,9 @@
 -- A file of operations says of each id what its last operation says.
-use Rattle.std.specs.Prelude.{◌≡◌, refl, ◌⊎◌, ◌<◌, ◌∷◌, ◌+◌, ◌-◌, ◌^◌}
+use Rattle.std.specs.Prelude.{◌≡◌, refl, ◌⊎◌, ◌<◌, ◌∷◌, ◌+◌, ◌-◌, ◌^◌, None, Some}
 use Rattle.std.proofs.Common.{sym, ap, ◌∙◌, subst, inl, inr, arith, eq-eqb, ne_eqb}
 use Rattle.std.proofs.Math.Nat.{sub-zero}
 use Rattle.rules.specs.Base.{Bool, true, false, List, [], ℕ, suc, length, drop, pick}
-use Rattle.theory.specs.Types.{Answer, Held, Mapped, Unmapped}
+use Rattle.theory.specs.Types.{Answer, Held}
 use Rattle.disk_location.specs.Locations.{position_of, delete_of, raw_of}
 use Rattle.disk_location.proofs.LocationLaws.{delete-raw}
 use Rattle.rules.proofs.BaseLaws.{same?}
@@ -34,12 +34,12 @@ last-stands f q (o ∷ os) (ops-rise a r) x c p (inl (i, b, e)) =
 last-stands f q (o ∷ os) (ops-rise a r) x c p (inr h) =
     ap (λ (l : Last). or_earlier l (said_by o x)) (last-stands (suc o.id) (q + size_of o.content) os r x c p h)
 
-last_none : (q : ℕ) (os : List Op) (x : ℕ) → lookup (entries_of q os) x ≡ Unmapped → last_on os x ≡ silent
+last_none : (q : ℕ) (os : List Op) (x : ℕ) → lookup (entries_of q os) x ≡ None → last_on os x ≡ silent
 unfolding last_on entries_of
 last_none q [] x h = refl
 last_none q (o ∷ os) x h = go (last_none (q + size_of o.content) os x) (same? o.id x)
   where
-    go : (lookup (entries_of (q + size_of o.content) os) x ≡ Unmapped → last_on os x ≡ silent) → (o.id ≡ x) ⊎ (o.id ≡ x → ⊥)
+    go : (lookup (entries_of (q + size_of o.content) os) x ≡ None → last_on os x ≡ silent) → (o.id ≡ x) ⊎ (o.id ≡ x → ⊥)
         → or_earlier (last_on os x) (said_by o x) ≡ silent
     go ih (inl i) =
         absurd (mapped-not (sym (lookup-here (record { id = o.id; location = raw_of q (is_delete o.content) }) (entries_of (q + size_of o.content) os) x i) ∙ h))
@@ -56,7 +56,7 @@ over_last (last delete) b = refl
 
 -- ---- what was written is read
 entry-says : (lsn g : ℕ) (os : List Op) (x r : ℕ) → IdsFit os → length (objects_of os) < 2 ^ 64 → x < 2 ^ 64 → (w : Of 0 os x r)
-    → entry_says (file_of_ops lsn g os) (Mapped r) x ≡ last_says (last w.content)
+    → entry_says (file_of_ops lsn g os) (Some r) x ≡ last_says (last w.content)
 entry-says lsn g os x r i n t w = go w.content w.stands w.location
   where
     go : (c : Content) → Stands 0 os x c (position_of r) → r ≡ raw_of (position_of r) (is_delete c) → pick (delete_of r) gone (place_says (file_of_ops lsn g os) (position_of r) x) ≡ last_says (last c)
@@ -85,8 +85,8 @@ unfolding file_says
 file-says lsn g os r i n x = go (lookup (entries_of 0 os) x) refl
   where
     go : (o : Held) → lookup (entries_of 0 os) x ≡ o → entry_says (file_of_ops lsn g os) o x ≡ last_says (last_on os x)
-    go Unmapped h = ap last_says (sym (last_none 0 os x h))
-    go (Mapped l) h =
+    go None h = ap last_says (sym (last_none 0 os x h))
+    go (Some l) h =
         let a = lookup-has (entries_of 0 os) x l h in
         let w = entry-stands 0 os x l a in
         entry-says lsn g os x l i n (ids-fit os i 0 x l a) w

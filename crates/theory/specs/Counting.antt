@@ -1,6 +1,7 @@
 -- How many entries of a table have a location that passes a test.
+use Rattle.std.specs.Prelude.{None, Some}
 use Rattle.rules.specs.Base.{Bool, List, ℕ, length, keep}
-use Rattle.theory.specs.Types.{Entry, Held, Mapped, Unmapped}
+use Rattle.theory.specs.Types.{Entry, Held}
 use Rattle.disk_location.specs.Locations.{bit_of}
 
 -- how many
@@ -9,5 +10,5 @@ count p t = length (keep (λ (e : Entry). p e.location) t)
 
 -- the share of the entry that an id has
 abbrev pub had : (ℕ → Bool) → Held → ℕ
-had p Unmapped = 0
-had p (Mapped l) = bit_of (p l)
+had p None = 0
+had p (Some l) = bit_of (p l)

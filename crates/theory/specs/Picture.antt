@@ -1,7 +1,7 @@
 -- A store as its slots' views, its records, its table and its next position; and what it says of an id.
-use Rattle.std.specs.Prelude.{◌+◌, ◌-◌}
+use Rattle.std.specs.Prelude.{◌+◌, ◌-◌, None, Some}
 use Rattle.rules.specs.Base.{List, ℕ, length, set, drop, pick}
-use Rattle.theory.specs.Types.{Entry, Record, Refusal, NotThere, Held, Mapped, Unmapped, Loaded, At, DeletedAt, Never, Slot, Is, NoSlot}
+use Rattle.theory.specs.Types.{Entry, Record, Refusal, NotThere, Held, Loaded, At, DeletedAt, Never, Slot}
 use Rattle.disk_location.specs.Locations.{position_of, delete_of}
 use Rattle.rules.specs.Refusal.{decide, after}
 use Rattle.rules.specs.Object.{Stored, stored_at}
@@ -49,8 +49,8 @@ place_says f position x = object_says x (stored_at position (drop position f.obj
 
 -- by a file's own trailer
 abbrev pub entry_says : File → Held → ℕ → Said
-entry_says f Unmapped x = unheard
-entry_says f (Mapped r) x = pick (delete_of r) gone (place_says f (position_of r) x)
+entry_says f None x = unheard
+entry_says f (Some r) x = pick (delete_of r) gone (place_says f (position_of r) x)
 
 -- of an id
 unfoldable pub file_says : File → ℕ → Said
@@ -64,8 +64,8 @@ view_says (holds f) position x = place_says f position x
 
 -- at a location, by the file that is found for it
 abbrev pub slot_says : Picture → Slot → ℕ → ℕ → Said
-slot_says p NoSlot l x = broken NotThere
-slot_says p (Is k) l x = view_says (view_at p.views k) (position_of l - (record_at p.records k).label.lsn) x
+slot_says p None l x = broken NotThere
+slot_says p (Some k) l x = view_says (view_at p.views k) (position_of l - (record_at p.records k).label.lsn) x
 
 -- by what load tells
 abbrev pub loaded_says : Picture → Loaded → ℕ → Said

@@ -1,7 +1,7 @@
 -- G: what an accepted reopening means, whoever wrote the files.
-use Rattle.std.specs.Prelude.{◌≡◌, ◌<◌, ◌≤◌, ◌+◌}
+use Rattle.std.specs.Prelude.{◌≡◌, ◌<◌, ◌≤◌, ◌+◌, None, Some}
 use Rattle.rules.specs.Base.{false, ℕ, length, any}
-use Rattle.theory.specs.Types.{Refusal, Mapped, Unmapped, Is}
+use Rattle.theory.specs.Types.{Refusal}
 use Rattle.disk_location.specs.Locations.{masked_of}
 use Rattle.rules.specs.Condition1Laws.{InLimits}
 use Rattle.rules.specs.SlotFile.{File, damaged, holds}
@@ -24,14 +24,14 @@ Mentioned w x l = (k : ℕ) × Stands (views_of w) x l k
 -- v: what a reopening of w leaves
 pub record Opened (w v : World) : Type 0 where
   -- "Each id maps to its entry of greatest masked position": one that a trailer has, and at least as great as every other
-  pub mentioned : (x l : ℕ) → lookup (mappings v) x ≡ Mapped l → Mentioned w x l
-  pub greatest : (x l m : ℕ) → lookup (mappings v) x ≡ Mapped l → Mentioned w x m → masked_at m ≤ masked_at l
+  pub mentioned : (x l : ℕ) → lookup (mappings v) x ≡ Some l → Mentioned w x l
+  pub greatest : (x l m : ℕ) → lookup (mappings v) x ≡ Some l → Mentioned w x m → masked_at m ≤ masked_at l
   -- there is one such: of one id no two entries have the same masked position
   pub one : (x l m : ℕ) → Mentioned w x l → Mentioned w x m → masked_at l ≡ masked_at m → l ≡ m
   -- an id that is unmapped is in no trailer
-  pub unmentioned : (x l : ℕ) → lookup (mappings v) x ≡ Unmapped → Mentioned w x l → ⊥
+  pub unmentioned : (x l : ℕ) → lookup (mappings v) x ≡ None → Mentioned w x l → ⊥
   -- the location is looked up in the file where the entry stands
-  pub found : (x l k : ℕ) → Stands (views_of w) x l k → file_for (records_of v) l ≡ Is k
+  pub found : (x l k : ℕ) → Stands (views_of w) x l k → file_for (records_of v) l ≡ Some k
   -- a slot's record has its label's five numbers, as live count the number of ids that are mapped into the file, and the mark set
   pub labelled : (k : ℕ) (f : File) → view_at (views_of w) k ≡ holds f → record_at (records_of v) k ≡ recorded f.label (live_at (records_of v) k) 1
   pub counted : (k : ℕ) (f : File) → view_at (views_of w) k ≡ holds f

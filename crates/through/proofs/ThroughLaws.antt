@@ -1,11 +1,10 @@
 -- The last operation on an id, step by step; pieces that are named lie in their slices; what the contracts admit is one.
-use Rattle.std.specs.Prelude.{◌≡◌, ◌≤◌, ◌∷◌, ◌+◌, ◌-◌, ◌*◌}
+use Rattle.std.specs.Prelude.{◌≡◌, ◌≤◌, ◌∷◌, ◌+◌, ◌-◌, ◌*◌, Err, None, Ok, Some}
 use Rattle.std.proofs.Math.Path.{refl}
 use Rattle.std.proofs.Common.{sym, ap, ap₂, ◌∙◌, subst, arith, leb-true}
 use Rattle.rules.specs.Base.{Bool, true, false, not, List, [], ℕ, zero, suc, length, take, drop, get_or, leb, ltb, eqb, pick}
 use Rattle.numbers.specs.Groups.{number_in, saying}
-use Rattle.numbers.specs.declared.Number.{Number}
-use Rattle.numbers.specs.declared.Number.TheVariants.{Said, Malformed}
+use Rattle.numbers.specs.Answers.{Number}
 use Rattle.disk_location.specs.Locations.{position_of}
 use Rattle.rules.specs.declared.Settings.{Settings}
 use Rattle.rules.specs.declared.State.{State}
@@ -13,10 +12,8 @@ use Rattle.rules.specs.declared.Claims.{Claims}
 use Rattle.rules.specs.declared.Refusal.TheVariants.{Limits, BatchBytes, CutShort, Checksum, OtherId}
 use Rattle.rules.specs.declared.Loaded.{Loaded}
 use Rattle.rules.specs.declared.Loaded.TheVariants.{At, DeletedAt, Never}
-use Rattle.rules.specs.declared.Slot.{Slot}
-use Rattle.rules.specs.declared.Slot.TheVariants.{Is, NoSlot}
-use Rattle.rules.specs.declared.ReadAnswer.{ReadAnswer}
-use Rattle.rules.specs.declared.ReadAnswer.TheVariants.{Found, Deleted, NeverWritten, ReadRefused}
+use Rattle.rules.specs.Types.{Slot, ReadAnswer}
+use Rattle.rules.specs.declared.Lookup.TheVariants.{Found, Deleted, NeverWritten}
 use Rattle.rules.specs.Refusal.{◌gives◌, decide, after}
 use Rattle.rules.specs.Answers.{by_number}
 use Rattle.rules.proofs.Answers.{inverse-one, known}
@@ -35,8 +32,8 @@ use Rattle.batch.specs.ReadingLaws.{piece-length}
 use Rattle.batch.specs.Behind.{number_behind, operation-behind}
 use Rattle.readpath.specs.Reads.{Within as ReadWithin}
 use Rattle.readpath.specs.ReadLaws.{read-refused, read-loaded, read_named}
-use Rattle.through.specs.declared.ThroughAnswer.{ThroughAnswer}
-use Rattle.through.specs.declared.ThroughAnswer.TheVariants.{InBatch, InHeap, ThroughDeleted, ThroughNever, ThroughRefused}
+use Rattle.through.specs.Answers.{ThroughAnswer}
+use Rattle.through.specs.declared.ThroughLookup.TheVariants.{InBatch, InHeap, ThroughDeleted, ThroughNever}
 use Rattle.through.specs.declared.LastOperation.{LastOperation}
 use Rattle.through.specs.declared.LastOperation.TheVariants.{Puts, Deletes, NoOperation}
 use Rattle.through.specs.Through.{content_at, said_by, or_earlier, last_by, last_from, last_in, as_read, answer_by, through_of, through_part, through_given}
@@ -59,8 +56,8 @@ put-ends s id at = go (number_in 10 s at) refl
     go : (n : Number) → number_in 10 s at ≡ n
         → EndsIn s (saying malformed n (λ size start.
         pick (leb size (length s - start)) (parsed (record { id = id; content = put (take size (drop start s)) }) (start + size)) malformed))
-    go Malformed q = tt
-    go (Said size start) q = fits size start (number_behind 10 s at size start q).1 (leb size (length s - start)) refl
+    go None q = tt
+    go (Some (size, start)) q = fits size start (number_behind 10 s at size start q).1 (leb size (length s - start)) refl
 
 operation-ends : (s : List ℕ) (at : ℕ) → EndsIn s (operation_at s at)
 unfolding operation_at
@@ -77,8 +74,8 @@ operation-ends s at = go (number_in 10 s at)
         → EndsIn s (saying malformed n (λ id tag.
         pick (leb (length s) tag) malformed
         (pick (eqb (get_or s tag 0) 0) (parsed (record { id = id; content = delete }) (suc tag)) (pick (eqb (get_or s tag 0) 1) (put_operation s id (suc tag)) malformed))))
-    go Malformed = tt
-    go (Said id tag) = tagged id tag (leb (length s) tag) (eqb (get_or s tag 0) 0) (eqb (get_or s tag 0) 1)
+    go None = tt
+    go (Some (id, tag)) = tagged id tag (leb (length s) tag) (eqb (get_or s tag 0) 0) (eqb (get_or s tag 0) 1)
 
 pub ends : (s : List ℕ) (at : ℕ) (o : Op) (next : ℕ) → operation_at s at ≡ parsed o next → Ends s next o.content
 ends s at o next e = subst (EndsIn s) e (operation-ends s at)
@@ -156,7 +153,7 @@ module _ (w : World) (id : ℕ) where
     where
       go : (a b c d : Bool)
           → refused_first (after (decide (a gives CutShort ∷ b gives CutShort ∷ c gives Checksum ∷ d gives OtherId ∷ []))
-          ReadRefused (Found (k * w.settings.slot_bytes + 64 + o.position + 20) o.size)) ≡ false
+          Err (Ok (Found (k * w.settings.slot_bytes + 64 + o.position + 20) o.size))) ≡ false
       go true b c d = refl
       go false true c d = refl
       go false false true d = refl
@@ -164,8 +161,8 @@ module _ (w : World) (id : ℕ) where
       go false false false false = refl
 
   file-first : (l : ℕ) (k : Slot) → refused_first (read_file w id l k) ≡ false
-  file-first l NoSlot = refl
-  file-first l (Is k) = object-first k (object_in w k (position_of l - (record_at (records_of w) k).label.lsn))
+  file-first l None = refl
+  file-first l (Some k) = object-first k (object_in w k (position_of l - (record_at (records_of w) k).label.lsn))
 
   loaded-first : (l : Loaded) → refused_first (read_loaded w id l) ≡ false
   loaded-first Never = refl
@@ -181,12 +178,12 @@ module _ (w : World) (id : ℕ) where
       go false e = ap refused_first (read-loaded w id e) ∙ loaded-first (load (mappings w) id) ∙ sym e
 
   -- 1
-  pub through-refused : (batch : List ℕ) → refused1 w ≡ true → through_of w batch id ≡ ThroughRefused Limits
+  pub through-refused : (batch : List ℕ) → refused1 w ≡ true → through_of w batch id ≡ Err Limits
   unfolding through_of decide
   through-refused batch e = rw e
 
   -- not 1: 2
-  pub through-bad : (batch : List ℕ) → refused1 w ≡ false → is_malformed (batch_in batch) ≡ true → through_of w batch id ≡ ThroughRefused BatchBytes
+  pub through-bad : (batch : List ℕ) → refused1 w ≡ false → is_malformed (batch_in batch) ≡ true → through_of w batch id ≡ Err BatchBytes
   unfolding through_of decide
   through-bad batch e m = rw (e, m)
 
@@ -200,10 +197,10 @@ module _ (w : World) (id : ℕ) where
   through-named batch = go (refused1 w) (is_malformed (batch_in batch)) refl refl
     where
       stored : (r : ReadAnswer) → ReadWithin r (length w.heap) → Within (as_read r) (length batch) (length w.heap)
-      stored (Found start size) h = h
-      stored Deleted h = tt
-      stored NeverWritten h = tt
-      stored (ReadRefused r) h = tt
+      stored (Ok (Found start size)) h = h
+      stored (Ok Deleted) h = tt
+      stored (Ok NeverWritten) h = tt
+      stored (Err r) h = tt
 
       by : (l : LastOperation) → PutWithin l (length batch) → Within (answer_by l (as_read (read_of w id))) (length batch) (length w.heap)
       by (Puts start size) h = h
@@ -236,11 +233,11 @@ module _ (s : Settings) (t : State) (heap table batch : List ℕ) (id : ℕ) whe
 
 -- one number and values, one answer
 pub through-given-one : (a b : ThroughAnswer) → through_given a ≡ through_given b → a ≡ b
-through-given-one = inverse-one through_given (λ (g : Given). by_number g ThroughRefused (through_values g)) go
+through-given-one = inverse-one through_given (λ (g : Given). by_number g Err (through_values g)) go
   where
-    go : (a : ThroughAnswer) → by_number (through_given a) ThroughRefused (through_values (through_given a)) ≡ a
-    go (InBatch start size) = refl
-    go (InHeap start size) = refl
-    go ThroughDeleted = refl
-    go ThroughNever = refl
-    go (ThroughRefused r) = rw ((known r).some, (known r).back)
+    go : (a : ThroughAnswer) → by_number (through_given a) Err (through_values (through_given a)) ≡ a
+    go (Ok (InBatch start size)) = refl
+    go (Ok (InHeap start size)) = refl
+    go (Ok ThroughDeleted) = refl
+    go (Ok ThroughNever) = refl
+    go (Err r) = rw ((known r).some, (known r).back)

@@ -1,3 +1,4 @@
+pub mod Answers
 pub mod Through
 pub mod Pieces
 pub mod ThroughLaws

@@ -1,17 +1,17 @@
 -- Request P3, "Let the editor see what it hasn't saved": "a read over a batch buffer and the heap, whose answer is a piece of the batch or a piece of the heap".
-use Rattle.std.specs.Prelude.{◌∷◌, ◌-◌}
+use Rattle.std.specs.Prelude.{◌∷◌, ◌-◌, Err, Ok}
 use Rattle.rules.specs.Base.{List, [], ℕ, zero, suc, length, take, drop, eqb, pick}
 use Rattle.rules.specs.declared.Refusal.TheVariants.{Limits, BatchBytes}
-use Rattle.rules.specs.declared.ReadAnswer.{ReadAnswer}
-use Rattle.rules.specs.declared.ReadAnswer.TheVariants.{Found, Deleted, NeverWritten, ReadRefused}
+use Rattle.rules.specs.Types.{ReadAnswer}
+use Rattle.rules.specs.declared.Lookup.TheVariants.{Found, Deleted, NeverWritten}
 use Rattle.rules.specs.Refusal.{◌gives◌, decide, after}
 use Rattle.rules.specs.Ops.{Content, put, delete, Op}
 use Rattle.rules.specs.Batch.{Parsed, malformed, parsed, operation_at, batch_in, is_malformed}
 use Rattle.rules.specs.Condition1.{refused1}
 use Rattle.rules.specs.Read.{read_of}
 use Rattle.rules.specs.World.{World, Given, accepted, refused, After}
-use Rattle.through.specs.declared.ThroughAnswer.{ThroughAnswer}
-use Rattle.through.specs.declared.ThroughAnswer.TheVariants.{InBatch, InHeap, ThroughDeleted, ThroughNever, ThroughRefused}
+use Rattle.through.specs.Answers.{ThroughAnswer}
+use Rattle.through.specs.declared.ThroughLookup.TheVariants.{InBatch, InHeap, ThroughDeleted, ThroughNever}
 use Rattle.through.specs.declared.LastOperation.{LastOperation}
 use Rattle.through.specs.declared.LastOperation.TheVariants.{Puts, Deletes, NoOperation}
 
@@ -48,38 +48,38 @@ last_in s x = last_from (length s) s x 0
 -- ---- the call
 -- a read's own answer: a piece of the heap
 abbrev pub as_read : ReadAnswer → ThroughAnswer
-as_read (Found start size) = InHeap start size
-as_read Deleted = ThroughDeleted
-as_read NeverWritten = ThroughNever
-as_read (ReadRefused r) = ThroughRefused r
+as_read (Ok (Found start size)) = Ok (InHeap start size)
+as_read (Ok Deleted) = Ok ThroughDeleted
+as_read (Ok NeverWritten) = Ok ThroughNever
+as_read (Err r) = Err r
 
 -- "The last operation on the id in the batch decides; with none, the store answers as today."
 abbrev pub answer_by : LastOperation → ThroughAnswer → ThroughAnswer
-answer_by (Puts start size) stored = InBatch start size
-answer_by Deletes stored = ThroughDeleted
+answer_by (Puts start size) stored = Ok (InBatch start size)
+answer_by Deletes stored = Ok ThroughDeleted
 answer_by NoOperation stored = stored
 
 -- "Refusals: 1, then 2 on a malformed batch, then read's own."
 unfoldable pub through_of : World → List ℕ → ℕ → ThroughAnswer
 through_of w batch id =
     after (decide (refused1 w gives Limits ∷ is_malformed (batch_in batch) gives BatchBytes ∷ []))
-    ThroughRefused (answer_by (last_in batch id) (as_read (read_of w id)))
+    Err (answer_by (last_in batch id) (as_read (read_of w id)))
 
 -- the piece's bytes, of the batch or of the heap; none where nothing is found
 abbrev pub through_part : ThroughAnswer → List ℕ → List ℕ → List ℕ
-through_part (InBatch start size) batch heap = take size (drop start batch)
-through_part (InHeap start size) batch heap = take size (drop start heap)
-through_part ThroughDeleted batch heap = []
-through_part ThroughNever batch heap = []
-through_part (ThroughRefused r) batch heap = []
+through_part (Ok (InBatch start size)) batch heap = take size (drop start batch)
+through_part (Ok (InHeap start size)) batch heap = take size (drop start heap)
+through_part (Ok ThroughDeleted) batch heap = []
+through_part (Ok ThroughNever) batch heap = []
+through_part (Err r) batch heap = []
 
 -- the kind, as a read gives it: 0 never written, 1 deleted, 2 an object; then 1 for a piece of the batch, 0 for one of the heap; its start and its length
 abbrev pub through_given : ThroughAnswer → Given
-through_given (InBatch start size) = accepted (2 ∷ 1 ∷ start ∷ size ∷ [])
-through_given (InHeap start size) = accepted (2 ∷ 0 ∷ start ∷ size ∷ [])
-through_given ThroughDeleted = accepted (1 ∷ [])
-through_given ThroughNever = accepted (0 ∷ [])
-through_given (ThroughRefused r) = refused r
+through_given (Ok (InBatch start size)) = accepted (2 ∷ 1 ∷ start ∷ size ∷ [])
+through_given (Ok (InHeap start size)) = accepted (2 ∷ 0 ∷ start ∷ size ∷ [])
+through_given (Ok ThroughDeleted) = accepted (1 ∷ [])
+through_given (Ok ThroughNever) = accepted (0 ∷ [])
+through_given (Err r) = refused r
 
 -- the call: nothing changes
 unfoldable pub through_call : World → List ℕ → ℕ → After

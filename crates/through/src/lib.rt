@@ -2,44 +2,36 @@
 
 #![tactic(auto)]
 
-ghost use Rattle.std.specs.Prelude.{◌≡◌, false, ◌≤◌, length};
+ghost use Rattle.std.specs.Prelude.{◌≡◌, false, ◌≤◌, length, None, Some, Ok};
 ghost use Rattle.numbers.specs.Choice.{pick};
 ghost use Rattle.rules.specs.declared.Claims.{Claims};
 ghost use Rattle.rules.specs.Batch.{batch_in, is_malformed};
 ghost use Rattle.rules.specs.Read.{read_of};
 ghost use Rattle.rules.specs.World.{World, world};
-ghost use Rattle.through.specs.declared.Pass.TheVariants.{Whole, BadBatch};
 ghost use Rattle.through.specs.Through.{or_earlier, last_in, as_read, answer_by, through_of, through_part};
 ghost use Rattle.through.specs.Pieces.{said_in, refused_first, Within, through_place};
 
 use as_numbers::answers::refusal_number;
-use batch::{Operation, Parse, operation_at};
+use batch::{Operation, operation_at};
 use readpath::read_answer;
-use rules::{ReadAnswer, Refusal, Settings, State};
+use rules::{Lookup, Refusal, Settings, State};
 
 // A piece of the batch or of the heap, by its start and length; or that the id is deleted, or never written.
 #[derive(Clone, Copy)]
-pub enum ThroughAnswer {
+pub enum ThroughLookup {
     InBatch(u64, u64),
     InHeap(u64, u64),
     ThroughDeleted,
     ThroughNever,
-    ThroughRefused(Refusal),
 }
 
 // The last operation of a batch on an id: a put, by its body's start in the batch and its length; a delete; or none.
+// Kept: NoOperation is a variant and no None, since the law last-examples and through_theory's definitions name the three words.
 #[derive(Clone, Copy)]
 pub enum LastOperation {
     Puts(u64, u64),
     Deletes,
     NoOperation,
-}
-
-// What a pass over a batch finds: the last operation, or bytes that are no batch.
-#[derive(Clone, Copy)]
-pub enum Pass {
-    Whole(LastOperation),
-    BadBatch,
 }
 
 // What one operation says of an id. A put's body ends where the operation ends, at `next`.
@@ -63,73 +55,72 @@ fn or_earlier(later: LastOperation, earlier: LastOperation) -> LastOperation
     ensures { result ≡ or_earlier later earlier }
 {
     match later {
-        LastOperation::Puts(_, _) => later,
-        LastOperation::Deletes => later,
+        LastOperation::Puts(_, _) | LastOperation::Deletes => later,
         LastOperation::NoOperation => earlier,
     }
 }
 
 // One pass over the batch, to its end: 2 is decided on the whole of it.
-fn last_on(batch: &[u8], id: u64) -> Pass
-    ensures { result ≡ pick (is_malformed (batch_in batch.now)) BadBatch (Whole (last_in batch.now id)) }
+fn last_on(batch: &[u8], id: u64) -> Option<LastOperation>
+    ensures { result ≡ pick (is_malformed (batch_in batch.now)) None (Some (last_in batch.now id)) }
 {
     let mut last = LastOperation::NoOperation;
     let mut at: usize = 0;
     while at < batch.len() {
-        let Parse::Holds(o, next) = operation_at(batch, at) else {
-            return Pass::BadBatch;
-        };
+        let (o, next) = operation_at(batch, at)?;
         last = or_earlier(said_by(o, next, id), last);
         at = next;
     }
-    Pass::Whole(last)
+    Some(last)
 }
 
 // A read's own answer.
-fn as_read(stored: ReadAnswer) -> ThroughAnswer
+fn as_read(stored: Result<Lookup, Refusal>) -> Result<ThroughLookup, Refusal>
     ensures { result ≡ as_read stored }
 {
-    match stored {
-        ReadAnswer::Found(start, size) => ThroughAnswer::InHeap(start, size),
-        ReadAnswer::Deleted => ThroughAnswer::ThroughDeleted,
-        ReadAnswer::NeverWritten => ThroughAnswer::ThroughNever,
-        ReadAnswer::ReadRefused(refusal) => ThroughAnswer::ThroughRefused(refusal),
+    match stored? {
+        Lookup::Found(start, size) => Ok(ThroughLookup::InHeap(start, size)),
+        Lookup::Deleted => Ok(ThroughLookup::ThroughDeleted),
+        Lookup::NeverWritten => Ok(ThroughLookup::ThroughNever),
     }
 }
 
 // Whether a read was refused with 1, which is decided before 2.
-fn refused_first(stored: ReadAnswer) -> bool
+fn refused_first(stored: Result<Lookup, Refusal>) -> bool
     ensures { result ≡ refused_first stored }
 {
     match stored {
-        ReadAnswer::Found(_, _) => false,
-        ReadAnswer::Deleted => false,
-        ReadAnswer::NeverWritten => false,
-        ReadAnswer::ReadRefused(refusal) => refusal_number(refusal) == 1,
+        Ok(_) => false,
+        Err(refusal) => refusal_number(refusal) == 1,
     }
 }
 
 // "The last operation on the id in the batch decides; with none, the store answers as today."
-fn answer_by(last: LastOperation, stored: ThroughAnswer) -> ThroughAnswer
+fn answer_by(
+    last: LastOperation,
+    stored: Result<ThroughLookup, Refusal>,
+) -> Result<ThroughLookup, Refusal>
     ensures { result ≡ answer_by last stored }
 {
     match last {
-        LastOperation::Puts(start, size) => ThroughAnswer::InBatch(start, size),
-        LastOperation::Deletes => ThroughAnswer::ThroughDeleted,
+        LastOperation::Puts(start, size) => Ok(ThroughLookup::InBatch(start, size)),
+        LastOperation::Deletes => Ok(ThroughLookup::ThroughDeleted),
         LastOperation::NoOperation => stored,
     }
 }
 
 // "Refusals: 1, then 2 on a malformed batch, then read's own": what the store's own read gave, seen through a batch.
-pub fn seen(stored: ReadAnswer, batch: &[u8], id: u64) -> ThroughAnswer
+pub fn seen(
+    stored: Result<Lookup, Refusal>,
+    batch: &[u8],
+    id: u64,
+) -> Result<ThroughLookup, Refusal>
     ensures { (w : World) → stored ≡ read_of w id → result ≡ through_of w batch.now id }
 {
     if refused_first(stored) {
-        return ThroughAnswer::ThroughRefused(Refusal::Limits);
+        return Err(Refusal::Limits);
     }
-    let Pass::Whole(last) = last_on(batch, id) else {
-        return ThroughAnswer::ThroughRefused(Refusal::BatchBytes);
-    };
+    let last = last_on(batch, id).ok_or(Refusal::BatchBytes)?;
     answer_by(last, as_read(stored))
 }
 
@@ -141,7 +132,7 @@ pub fn through_answer(
     table: &[u64],
     batch: &[u8],
     id: u64,
-) -> ThroughAnswer
+) -> Result<ThroughLookup, Refusal>
     ensures { (c : Claims) → result ≡ through_of
         (world settings state c heap.now table.now)
         batch.now id }
@@ -150,25 +141,23 @@ pub fn through_answer(
 }
 
 // The piece that an answer names; an empty part of the heap where it names none.
-fn piece<'a>(batch: &'a [u8], heap: &'a [u8], answer: ThroughAnswer) -> &'a [u8]
+fn piece<'a>(batch: &'a [u8], heap: &'a [u8], answer: Result<ThroughLookup, Refusal>) -> &'a [u8]
     requires { Within answer (length batch.now) (length heap.now) }
     ensures bytes { result.now ≡ through_part answer batch.now heap.now }
     ensures place { result.ref_ptr ≡ through_place answer batch.entry.ref_ptr heap.entry.ref_ptr }
 {
     match answer {
-        ThroughAnswer::InBatch(at, size) => {
+        Ok(ThroughLookup::InBatch(at, size)) => {
             let start = at as usize;
             let end = start + size as usize;
             &batch[start..end]
         }
-        ThroughAnswer::InHeap(at, size) => {
+        Ok(ThroughLookup::InHeap(at, size)) => {
             let start = at as usize;
             let end = start + size as usize;
             &heap[start..end]
         }
-        ThroughAnswer::ThroughDeleted => &heap[0..0],
-        ThroughAnswer::ThroughNever => &heap[0..0],
-        ThroughAnswer::ThroughRefused(_) => &heap[0..0],
+        _ => &heap[0..0],
     }
 }
 

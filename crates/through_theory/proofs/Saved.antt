@@ -1,8 +1,8 @@
 -- Request P3: "For a store left by its own calls (here and below: one that demand 3 covers) and a batch that write would accept, the bytes equal those of the ordinary read after that write."
-use Rattle.std.specs.Prelude.{◌≡◌, refl}
+use Rattle.std.specs.Prelude.{◌≡◌, refl, Err, Ok}
 use Rattle.std.proofs.Common.{sym, ap, ap₂, ◌∙◌, arith}
 use Rattle.rules.specs.Base.{Bool, true, false, List, [], ℕ, length, take, drop}
-use Rattle.theory.specs.Types.{Answer, Done, Refused, ReadAnswer, Found, Deleted, NeverWritten, ReadRefused}
+use Rattle.theory.specs.Types.{Answer, ReadAnswer, Found, Deleted, NeverWritten}
 use Rattle.rules.specs.Refusal.{decide, after}
 use Rattle.rules.specs.Ops.{put, delete, Op, settled}
 use Rattle.rules.specs.SettledLaws.{Last, silent, last, last_on}
@@ -21,8 +21,8 @@ use Rattle.history_theory.specs.Writes.{deleted, bytes, got_by, got, left_by}
 use Rattle.history_theory.proofs.Writes.{write-means}
 use Rattle.batch.specs.ReadingLaws.{piece-length}
 use Rattle.readpath.specs.ReadLaws.{read-refused}
-use Rattle.through.specs.declared.ThroughAnswer.{ThroughAnswer}
-use Rattle.through.specs.declared.ThroughAnswer.TheVariants.{InBatch, InHeap, ThroughDeleted, ThroughNever, ThroughRefused}
+use Rattle.through.specs.Answers.{ThroughAnswer}
+use Rattle.through.specs.declared.ThroughLookup.TheVariants.{InBatch, InHeap, ThroughDeleted, ThroughNever}
 use Rattle.through.specs.declared.LastOperation.{LastOperation}
 use Rattle.through.specs.declared.LastOperation.TheVariants.{Puts, Deletes, NoOperation}
 use Rattle.through.specs.Through.{last_in, as_read, answer_by, through_of, through_part}
@@ -38,10 +38,10 @@ by_last : (w : World) (batch : List ℕ) (l : LastOperation) (r : ReadAnswer)
     → got_through_by (answer_by l (as_read r)) (through_part (answer_by l (as_read r)) batch w.heap) ≡ left_by (heard_in batch l) (got_by r (part_of r w.heap))
 by_last w batch (Puts start size) r = refl
 by_last w batch Deletes r = refl
-by_last w batch NoOperation (Found start size) = refl
-by_last w batch NoOperation Deleted = refl
-by_last w batch NoOperation NeverWritten = refl
-by_last w batch NoOperation (ReadRefused r) = refl
+by_last w batch NoOperation (Ok (Found start size)) = refl
+by_last w batch NoOperation (Ok Deleted) = refl
+by_last w batch NoOperation (Ok NeverWritten) = refl
+by_last w batch NoOperation (Err r) = refl
 
 -- LAW: where neither 1 nor 2 refuses, an id of the batch reads as its last operation there says, every other id as the store has it; 3 to 7 are not asked
 pub through-left : (w : World) (batch : List ℕ) → refused1 w ≡ false → is_malformed (batch_in batch) ≡ false → (id : ℕ)
@@ -70,38 +70,38 @@ module _ (w : World) (batch : List ℕ) (m : is_malformed (batch_in batch) ≡ f
   module _ (p : refused1 w ≡ false) where
     -- LAW: after a put, the piece of the batch that is its body, also one of no bytes
     pub through-put : (body : List ℕ) → last_on (ops_of (batch_in batch)) id ≡ last (put body)
-        → (start : ℕ) × (through_of w batch id ≡ InBatch start (length body)) × (through_part (through_of w batch id) batch w.heap ≡ body)
+        → (start : ℕ) × (through_of w batch id ≡ Ok (InBatch start (length body))) × (through_part (through_of w batch id) batch w.heap ≡ body)
     through-put body n = go (last_in batch id) (last_within (length batch) batch id 0) (last-heard batch id m ∙ n) (through-last w id batch p m)
       where
         go : (l : LastOperation) → PutWithin l (length batch) → heard_in batch l ≡ last (put body) → through_of w batch id ≡ answer_by l (as_read (read_of w id))
-            → (start : ℕ) × (through_of w batch id ≡ InBatch start (length body)) × (through_part (through_of w batch id) batch w.heap ≡ body)
+            → (start : ℕ) × (through_of w batch id ≡ Ok (InBatch start (length body))) × (through_part (through_of w batch id) batch w.heap ≡ body)
         go (Puts start size) h e q =
             let is : take size (drop start batch) ≡ body = cc in
             let long : size ≡ length body = sym (piece-length batch start size h) ∙ ap length is in
-            (start, q ∙ ap (InBatch start) long, ap (λ (a : ThroughAnswer). through_part a batch w.heap) q ∙ is)
+            (start, q ∙ ap (λ (n : ℕ). Ok (InBatch start n)) long, ap (λ (a : ThroughAnswer). through_part a batch w.heap) q ∙ is)
         go Deletes h e q = absurd (let z : ◌≡◌ {A = ℕ} 0 1 = cc in omega arith)
         go NoOperation h e q = absurd (let z : ◌≡◌ {A = ℕ} 0 1 = cc in omega arith)
 
     -- LAW: after a delete, deleted, whatever the store has
-    pub through-delete : last_on (ops_of (batch_in batch)) id ≡ last delete → through_of w batch id ≡ ThroughDeleted
+    pub through-delete : last_on (ops_of (batch_in batch)) id ≡ last delete → through_of w batch id ≡ Ok ThroughDeleted
     through-delete n = through-last w id batch p m ∙ go (last_in batch id) (last-heard batch id m ∙ n)
       where
-        go : (l : LastOperation) → heard_in batch l ≡ last delete → answer_by l (as_read (read_of w id)) ≡ ThroughDeleted
+        go : (l : LastOperation) → heard_in batch l ≡ last delete → answer_by l (as_read (read_of w id)) ≡ Ok ThroughDeleted
         go (Puts start size) e = absurd (let z : ◌≡◌ {A = ℕ} 0 1 = cc in omega arith)
         go Deletes e = refl
         go NoOperation e = absurd (let z : ◌≡◌ {A = ℕ} 0 1 = cc in omega arith)
 
 -- LAW: a piece of the batch only where the last operation on the id is a put of it
-pub in-batch-only : (w : World) (batch : List ℕ) (id start size : ℕ) → through_of w batch id ≡ InBatch start size → last_on (ops_of (batch_in batch)) id ≡ last (put (take size (drop start batch)))
+pub in-batch-only : (w : World) (batch : List ℕ) (id start size : ℕ) → through_of w batch id ≡ Ok (InBatch start size) → last_on (ops_of (batch_in batch)) id ≡ last (put (take size (drop start batch)))
 in-batch-only w batch id start size e = go (refused1 w) (is_malformed (batch_in batch)) refl refl
   where
-    stored : (r : ReadAnswer) → as_read r ≡ InBatch start size → ⊥
-    stored (Found a n) q = let z : ◌≡◌ {A = ℕ} 0 1 = cc in omega arith
-    stored Deleted q = let z : ◌≡◌ {A = ℕ} 0 1 = cc in omega arith
-    stored NeverWritten q = let z : ◌≡◌ {A = ℕ} 0 1 = cc in omega arith
-    stored (ReadRefused r) q = let z : ◌≡◌ {A = ℕ} 0 1 = cc in omega arith
+    stored : (r : ReadAnswer) → as_read r ≡ Ok (InBatch start size) → ⊥
+    stored (Ok (Found a n)) q = let z : ◌≡◌ {A = ℕ} 0 1 = cc in omega arith
+    stored (Ok Deleted) q = let z : ◌≡◌ {A = ℕ} 0 1 = cc in omega arith
+    stored (Ok NeverWritten) q = let z : ◌≡◌ {A = ℕ} 0 1 = cc in omega arith
+    stored (Err r) q = let z : ◌≡◌ {A = ℕ} 0 1 = cc in omega arith
 
-    by : (l : LastOperation) → answer_by l (as_read (read_of w id)) ≡ InBatch start size → heard_in batch l ≡ last (put (take size (drop start batch)))
+    by : (l : LastOperation) → answer_by l (as_read (read_of w id)) ≡ Ok (InBatch start size) → heard_in batch l ≡ last (put (take size (drop start batch)))
     by (Puts a n) q =
         let same : a ≡ start = cc in
         let long : n ≡ size = cc in
@@ -125,9 +125,9 @@ write-readable : (w : World) (batch : List ℕ) → (write_call w batch).answer 
 unfolding write_call
 write-readable w batch e = let a = write-accepted w batch (go (decide (write_tests w batch)) e) in (a.passed, a.parsed)
   where
-    go : (a : Answer) → (after a (unchanged w) (record { answer = accepted []; world = written w (settled (ops_of (batch_in batch))) })).answer ≡ accepted [] → a ≡ Done
-    go Done e = refl
-    go (Refused r) e = absurd (refused-not r (ap (λ (g : Given). g.number) e))
+    go : (a : Answer) → (after a (unchanged w) (record { answer = accepted []; world = written w (settled (ops_of (batch_in batch))) })).answer ≡ accepted [] → a ≡ Ok tt
+    go (Ok _) e = refl
+    go (Err r) e = absurd (refused-not r (ap (λ (g : Given). g.number) e))
 
 -- on any store of the invariant
 pub sound-through : (w : World) (history : List Op) → SoundWorld w (engine history) → (batch : List ℕ) → (write_call w batch).answer ≡ accepted [] → (id : ℕ)
@@ -142,17 +142,17 @@ pub through-as-after-the-write : (l : Life) → Starts l → (calls : List Call)
 through-as-after-the-write l s calls batch e id = sound-through (lived l calls).world (lived l calls).history (sound-lived l s calls) batch e id
 
 part-through : (a : ThroughAnswer) (batch heap : List ℕ) → bytes_of (got_through_by a (through_part a batch heap)) ≡ through_part a batch heap
-part-through (InBatch start size) batch heap = refl
-part-through (InHeap start size) batch heap = refl
-part-through ThroughDeleted batch heap = refl
-part-through ThroughNever batch heap = refl
-part-through (ThroughRefused r) batch heap = refl
+part-through (Ok (InBatch start size)) batch heap = refl
+part-through (Ok (InHeap start size)) batch heap = refl
+part-through (Ok ThroughDeleted) batch heap = refl
+part-through (Ok ThroughNever) batch heap = refl
+part-through (Err r) batch heap = refl
 
 part-read : (a : ReadAnswer) (heap : List ℕ) → bytes_of (got_by a (part_of a heap)) ≡ part_of a heap
-part-read (Found start size) heap = refl
-part-read Deleted heap = refl
-part-read NeverWritten heap = refl
-part-read (ReadRefused r) heap = refl
+part-read (Ok (Found start size)) heap = refl
+part-read (Ok Deleted) heap = refl
+part-read (Ok NeverWritten) heap = refl
+part-read (Err r) heap = refl
 
 -- LAW: "the bytes equal those of the ordinary read after that write", where the same was got
 pub same_bytes : (w v : World) (batch : List ℕ) (id : ℕ) → got_through w batch id ≡ got v id

@@ -1,11 +1,10 @@
 -- A trailer's entries by number, and how many there are.
-use Rattle.std.specs.Prelude.{◌≡◌, refl, List, ℕ, zero, suc, ◌+◌, ◌*◌, ◌<◌, ◌≤◌, length, take, drop, get_or}
+use Rattle.std.specs.Prelude.{◌≡◌, refl, List, ℕ, zero, suc, ◌+◌, ◌*◌, ◌<◌, ◌≤◌, length, take, drop, get_or, Ok}
 use Rattle.std.proofs.Math.Path.{ap}
 use Rattle.std.proofs.Common.{◌∙◌, arith, ltb-false, drop-drop}
 use Rattle.std.proofs.Math.ListN.{length-drop}
 use Rattle.numbers.specs.LittleEndian.{le_value}
 use Rattle.rules.specs.declared.Entry.{Entry}
-use Rattle.rules.specs.declared.Answer.TheVariants.{Done}
 use Rattle.rules.specs.Refusal.{decide, NoneHolds}
 use Rattle.rules.proofs.RefusalLaws.{clear-when}
 use Rattle.rules.specs.Trailer.{count_in, trailer_tests, entries_from, entries_in}
@@ -44,6 +43,6 @@ module _ (trailer : List ℕ) (fit : 12 + 16 * count_in trailer ≤ length trail
       entries-get (count_in trailer) k (drop 12 trailer) h (omega (arith, length-drop 12 trailer)) ∙ ap entry_at (drop-drop (16 * k) 12 trailer)
 
 -- where 9, 10 and 11 are clear, the entries lie within
-pub clear-fits : (trailer : List ℕ) → decide (trailer_tests trailer) ≡ Done → 12 + 16 * count_in trailer ≤ length trailer
+pub clear-fits : (trailer : List ℕ) → decide (trailer_tests trailer) ≡ Ok tt → 12 + 16 * count_in trailer ≤ length trailer
 unfolding trailer_tests NoneHolds
 clear-fits trailer e = ltb-false _ _ (clear-when (trailer_tests trailer) e).1.1.0

@@ -12,7 +12,7 @@ ghost use Rattle.rules.specs.Table.{no_entry};
 
 use disk_location::RelativeDiskLocation;
 use numbers::little_endian;
-use rules::{Answer, Entry, OBJECT_HEADER, Refusal, TRAILER_ENTRY, TRAILER_HEAD, TRAILER_LEAST};
+use rules::{Entry, OBJECT_HEADER, Refusal, TRAILER_ENTRY, TRAILER_HEAD, TRAILER_LEAST};
 
 // "entry count 8"
 pub fn count(trailer: &[u8]) -> u64
@@ -23,23 +23,23 @@ pub fn count(trailer: &[u8]) -> u64
 }
 
 // "trailer (9, 10, 11)": a count is only held against the room, so that no product of it can wrap.
-pub fn check(trailer: &[u8]) -> Answer
+pub fn check(trailer: &[u8]) -> Result<(), Refusal>
     ensures { result ≡ decide (trailer_tests trailer.now) }
 {
     if trailer.len() < TRAILER_LEAST {
-        return Answer::Refused(Refusal::TrailerShort);
+        return Err(Refusal::TrailerShort);
     }
     let stored = little_endian::get(trailer, 4);
     let sum = checksum::sum(&trailer[4..]) as u64;
     if stored != sum {
-        return Answer::Refused(Refusal::Checksum);
+        return Err(Refusal::Checksum);
     }
     let n = count(trailer);
     let room = ((trailer.len() - TRAILER_HEAD) / TRAILER_ENTRY) as u64;
     if room < n {
-        return Answer::Refused(Refusal::EntryCount);
+        return Err(Refusal::EntryCount);
     }
-    Answer::Done
+    Ok(())
 }
 
 // Entry k, from the bytes: no list is built.
@@ -76,13 +76,10 @@ pub fn some_misplaced(trailer: &[u8], offset: u64) -> bool
     requires { 12 + 16 * count_in trailer.now ≤ length trailer.now }
     ensures { result ≡ any (misplaced offset) (entries_in trailer.now) }
 {
-    let n = count(trailer);
-    let mut k: u64 = 0;
-    while k < n {
+    for k in 0..count(trailer) {
         if misplaced(entry(trailer, k), offset) {
             return true;
         }
-        k += 1;
     }
     false
 }

@@ -1,16 +1,14 @@
 -- "The four table calls are proved to give the same answers under the old and new layout, once over the number of entries."
-use Rattle.std.specs.Prelude.{◌≡◌, ◌&&◌, ◌||◌, ◌∷◌, ◌%◌}
+use Rattle.std.specs.Prelude.{◌≡◌, ◌&&◌, ◌||◌, ◌∷◌, ◌%◌, Err, Ok}
 use Rattle.std.proofs.Math.Path.{refl, sym, ap, ap₂}
 use Rattle.std.proofs.Common.{subst, ◌∙◌, arith, length-append}
 use borrow.Author.Tests.{eq-eqb, ne_eqb}
 use Rattle.std.proofs.lemmas.List.{length-map, length-replicate}
 use Rattle.rules.specs.Base.{Bool, true, false, not, List, [], map, ℕ, length, eqb, pick, padded, within}
 use Rattle.rules.specs.declared.Entry.{Entry}
-use Rattle.rules.specs.declared.Held.{Held}
+use Rattle.rules.specs.Types.{Held, Answer}
 use Rattle.rules.specs.declared.Refusal.{Refusal}
 use Rattle.rules.specs.declared.Refusal.TheVariants.{Limits, TableRoom, NotThere, EqualLocation, Location}
-use Rattle.rules.specs.declared.Answer.{Answer}
-use Rattle.rules.specs.declared.Answer.TheVariants.{Done, Refused}
 use Rattle.rules.specs.Refusal.{◌gives◌, decide, after}
 use Rattle.rules.proofs.RefusalLaws.{decide-first}
 use Rattle.rules.specs.Table.{lookup, loaded_of, insert, unmapped, mapped_to, full}
@@ -87,8 +85,8 @@ module _ (b : Table) (even : length b % 2 ≡ 0) where
   decided d e x y h s = subst (λ (c : Answer). Same (after c (λ (r : Refusal). two.same apart (refused r)) x) (after e (λ (r : Refusal). same b (refused r)) y)) (sym h) (go e)
     where
       go : (e : Answer) → Same (after e (λ (r : Refusal). two.same apart (refused r)) x) (after e (λ (r : Refusal). same b (refused r)) y)
-      go Done = s
-      go (Refused r) = record { answer = refl; table = parted b even }
+      go (Ok _) = s
+      go (Err r) = record { answer = refl; table = parted b even }
 
   -- ---- the four calls
   load_apart : (id : ℕ) → Same (two.load_call apart id) (load_call b id)

@@ -1,9 +1,9 @@
 -- A clean heap that no writer of ours made, worked out: ids fall and one repeats, a delete's position is inside an object, bytes follow the
 -- entries, the generation is 255, a body is of max_object_size, and the next position comes over 2^62.
-use Rattle.std.specs.Prelude.{◌≡◌, refl, ◌∷◌}
+use Rattle.std.specs.Prelude.{◌≡◌, refl, ◌∷◌, Err}
 use Rattle.std.proofs.Common.{sym, ap, ◌∙◌, subst, true≢false, inl, inr, arith, leb-false}
 use Rattle.rules.specs.Base.{false, List, [], ℕ, zero, suc, leb, any, zeros, keep, each, sum, greatest, padded}
-use Rattle.theory.specs.Types.{ObjectSize, PositionsSpent, Stopped}
+use Rattle.theory.specs.Types.{ObjectSize, PositionsSpent, stopped_with}
 use Rattle.numbers.specs.LittleEndian.{Bytes, le_bytes, le_value}
 use Rattle.disk_location.specs.Locations.{masked_of, position_of, delete_of, digits_in}
 use Rattle.rules.proofs.BaseLaws.{or-false}
@@ -85,7 +85,7 @@ pub foreign-answers :
     (got (reopen_call foreign).world 3 ∷ got (reopen_call foreign).world 4 ∷ got (reopen_call foreign).world 5 ∷ got (reopen_call foreign).world 6 ∷ []
     ≡ bytes (0x42 ∷ 0x43 ∷ []) ∷ deleted ∷ bytes (0x44 ∷ []) ∷ never ∷ [])
     × ((rewrite_call (reopen_call foreign).world 3 3 (mark_of (reopen_call foreign).world) (count_of (reopen_call foreign).world)).answer ≡ refused ObjectSize)
-    × ((nightly_call (reopen_call foreign).world 3).answer ≡ maintain_given (Stopped ObjectSize 3 0))
+    × ((nightly_call (reopen_call foreign).world 3).answer ≡ maintain_given (Err (stopped_with ObjectSize 3 0)))
     × ((write_call (reopen_call foreign).world (0x03 ∷ 0x00 ∷ [])).answer ≡ refused PositionsSpent)
 unfolding any zeros keep each sum greatest padded operation_at batch_from batch_in any_too_large out_of_range not_the_states bad_record bad_from condition_one is_empty no_files slots_where empty_slots leads lead_from file_for file_count room_tests position_tests label_bytes five_in label_in out_of_bounds table_ids table_locations alternating lengths_in_range form_from in_form used_in used_entries laid_out worth_it cut_off joining split_from files_of object_bytes stored_at objects_of entries_of file_bytes joined settled decide files_in overlapping not_rising latest latest_from table_of reopen_tests mapped_into records_from next_after opened reopen_call in_ranges heap_in_range same_settings slot_tests view_in views_in lookup insert insert_all listed trailer_bytes trailer_tests entries_from entries_in misplaced too_many_ids write_tests write_call le_bytes le_value groups_of read_groups number_in shift_bit shifts crc_from crc32 object_sum masked_of digits_in is_claimed is_candidate group moved_tests delete_tests deletes_of file_tests objects_found deletes_found found group_tests rewrite_group rewrite_tests generation_rewritten rewrite_of job_from job_of nightly_call objects_from objects_in bad_checksum object_tests read_of bytes_of_slot given_up
 foreign-answers = (refl, refl, refl, refl)

@@ -1,10 +1,10 @@
 -- A life that was worked out, every call of demand 3 in it: a delete is moved by a rewrite while the put that it deletes still stands in a
 -- claimed file, then that file's other id by the nightly job; an id is put again, the file that it leaves is pruned, and the store reopened. Each
 -- file's mark is seen.
-use Rattle.std.specs.Prelude.{◌≡◌, refl, ◌∷◌}
+use Rattle.std.specs.Prelude.{◌≡◌, refl, ◌∷◌, Ok}
 use Rattle.rules.specs.Base.{[], any, zeros, keep, each, sum, greatest, padded}
 use Rattle.rules.specs.Sync.{is_unsynced, marked, too_long, sync_call, sync_state}
-use Rattle.theory.specs.Types.{Claim, Moved, Generation}
+use Rattle.theory.specs.Types.{Claim, Generation}
 use Rattle.rules.specs.World.{accepted, refused, maintain_given}
 use Rattle.history_theory.specs.History.{write, rewrite, prune, reopen, quiet}
 use Rattle.history_theory.specs.Quiet.{claim, release, sync, plan}
@@ -76,7 +76,7 @@ pub moves :
     ∷ record { answer = accepted []; files = set ∷ none ∷ set ∷ clear ∷ []; reads = deleted ∷ deleted ∷ bytes (0x42 ∷ []) ∷ bytes (0x44 ∷ []) ∷ [] }
     ∷ record { answer = accepted []; files = set ∷ none ∷ set ∷ set ∷ []; reads = deleted ∷ deleted ∷ bytes (0x42 ∷ []) ∷ bytes (0x44 ∷ []) ∷ [] }
     ∷ record { answer = refused Claim; files = set ∷ none ∷ set ∷ set ∷ []; reads = deleted ∷ deleted ∷ bytes (0x42 ∷ []) ∷ bytes (0x44 ∷ []) ∷ [] }
-    ∷ record { answer = maintain_given (Moved 1); files = none ∷ clear ∷ set ∷ set ∷ []; reads = deleted ∷ deleted ∷ bytes (0x42 ∷ []) ∷ bytes (0x44 ∷ []) ∷ [] }
+    ∷ record { answer = maintain_given (Ok 1); files = none ∷ clear ∷ set ∷ set ∷ []; reads = deleted ∷ deleted ∷ bytes (0x42 ∷ []) ∷ bytes (0x44 ∷ []) ∷ [] }
     ∷ record { answer = accepted []; files = clear ∷ clear ∷ set ∷ set ∷ []; reads = deleted ∷ deleted ∷ bytes (0x42 ∷ []) ∷ bytes (0x45 ∷ []) ∷ [] }
     ∷ record { answer = accepted []; files = clear ∷ clear ∷ none ∷ set ∷ []; reads = deleted ∷ deleted ∷ bytes (0x42 ∷ []) ∷ bytes (0x45 ∷ []) ∷ [] }
     ∷ record { answer = accepted (1 ∷ []); files = set ∷ set ∷ none ∷ set ∷ []; reads = deleted ∷ deleted ∷ bytes (0x42 ∷ []) ∷ bytes (0x45 ∷ []) ∷ [] }

@@ -1,5 +1,5 @@
 -- What a batch comes to, by what the tests in their order say.
-use Rattle.std.specs.Prelude.{◌≡◌, refl, ◌≤◌, ◌<◌, ◌||◌, ◌∷◌, ◌++◌, ◌+◌, ◌^◌}
+use Rattle.std.specs.Prelude.{◌≡◌, refl, Some, None, Ok, Err, ◌≤◌, ◌<◌, ◌||◌, ◌∷◌, ◌++◌, ◌+◌, ◌^◌}
 use Rattle.std.proofs.Common.{sym, ap₂, ◌∙◌, ⊎_elim, arith, lt-ltb, le-ltb}
 use Rattle.std.proofs.Math.Path.{ap}
 use Rattle.numbers.specs.GroupLaws.{either_way}
@@ -7,7 +7,6 @@ use Rattle.rules.specs.Base.{Bool, true, false, List, [], ℕ, length, get_or, d
 use Rattle.rules.specs.declared.Refusal.{Refusal}
 use Rattle.rules.specs.declared.Refusal.TheVariants.{Limits, SlotRoom, NoEmptySlot, TableRoom, PositionsSpent}
 use Rattle.rules.specs.declared.Record.{Record}
-use Rattle.rules.specs.declared.Answer.TheVariants as answer
 use Rattle.rules.specs.Refusal.{Test, ◌gives◌, decide, NoneHolds}
 use Rattle.rules.proofs.RefusalLaws.{clear-when, decide-none, decide-first, decide-next, decide-early, decide-late}
 use Rattle.rules.specs.Ops.{Op, objects_of, entries_of, file_bytes, settled}
@@ -27,9 +26,8 @@ use Rattle.batch.specs.Reading.{ops_in}
 use Rattle.batch.specs.ReadingLaws.{ops-of}
 use Rattle.write_decision.specs.Sizes.{sizes_of}
 use Rattle.write_decision.specs.SizeLaws.{Told, large-told}
-use Rattle.write_decision.specs.declared.Sizing.TheVariants.{TooLarge}
-use Rattle.write_decision.specs.Decisions.{filed, decision_of, batch_tests, decision-refused, decision-done}
-use Rattle.write_decision.specs.declared.Decision.TheVariants.{Refused, Nothing, File}
+use Rattle.write_decision.specs.declared.BatchSizes.{BatchSizes}
+use Rattle.write_decision.specs.Decisions.{Decision, filed, decision_of, batch_tests, decision-refused, decision-done}
 
 -- 4 to 7 for the one file of a batch that is not empty
 abbrev pub file_tests : World → List Op → List Test
@@ -61,7 +59,7 @@ late-some w (o ∷ os) h =
     (omega arith)
 
 -- and of an empty one: a table in form has no more ids than entries
-late-none : (w : World) → decide (late_tests w []) ≡ answer.Done
+late-none : (w : World) → decide (late_tests w []) ≡ Ok tt
 unfolding late_tests room_tests position_tests any too_many_ids entries_of insert_all decide
 late-none w = rw (le-ltb (empty_of w) 0 (omega arith), le-ltb (capacity_of w.table) (length (mappings w)) (used-length w.table))
 
@@ -84,22 +82,22 @@ large-some [] h = absurd (omega (arith, file-length [], ap length objects-nil))
 large-some (o ∷ os) h = omega arith
 
 -- a batch that is not empty makes a file
-filed-some : (slot : ℕ) (ops : List Op) → 0 < length ops → filed slot ops ≡ File slot (length ops) (length (objects_of ops))
+filed-some : (slot : ℕ) (ops : List Op) → 0 < length ops → filed slot ops ≡ Some (record { slot = slot; count = length ops; total = length (objects_of ops) })
 filed-some slot [] h = absurd (omega arith)
 filed-some slot (o ∷ os) h = refl
 
 -- an empty one makes none
-filed-none : (slot : ℕ) (ops : List Op) → length ops ≡ 0 → (ops ≡ []) × (filed slot ops ≡ Nothing)
+filed-none : (slot : ℕ) (ops : List Op) → length ops ≡ 0 → (ops ≡ []) × (filed slot ops ≡ None)
 filed-none slot [] h = (refl, refl)
 filed-none slot (o ∷ os) h = absurd (omega arith)
 
 module _ (w : World) (bytes : List ℕ) where
   -- a refusal that is given
-  given : (r : Refusal) → decide (write_tests w bytes) ≡ answer.Refused r → Refused r ≡ decision_of w bytes
+  given : (r : Refusal) → decide (write_tests w bytes) ≡ Err r → Err r ≡ decision_of w bytes
   given r e = sym (decision-refused w bytes r e)
 
   -- 1
-  pub decision-1 : refused1 w ≡ true → Refused Limits ≡ decision_of w bytes
+  pub decision-1 : refused1 w ≡ true → Err Limits ≡ decision_of w bytes
   unfolding write_tests
   decision-1 e = given Limits (decide-first (refused1 w) Limits _ e)
 
@@ -110,10 +108,10 @@ module _ (w : World) (bytes : List ℕ) where
     rest = decide-next (refused1 w) Limits _ first
 
     -- 2, 3
-    pub decision-batch : (r : Refusal) → decide (batch_tests w.settings bytes) ≡ answer.Refused r → Refused r ≡ decision_of w bytes
+    pub decision-batch : (r : Refusal) → decide (batch_tests w.settings bytes) ≡ Err r → Err r ≡ decision_of w bytes
     decision-batch r e = given r (rest ∙ decide-early (batch_tests w.settings bytes) _ r e)
 
-    module _ (second : decide (batch_tests w.settings bytes) ≡ answer.Done) where
+    module _ (second : decide (batch_tests w.settings bytes) ≡ Ok tt) where
       -- 2 does not hold: the operations are those of the walk
       same : settled (ops_of (batch_in bytes)) ≡ settled (ops_in bytes)
       unfolding NoneHolds
@@ -124,30 +122,30 @@ module _ (w : World) (bytes : List ℕ) where
       late = rest ∙ decide-late (batch_tests w.settings bytes) _ second ∙ ap (λ (os : List Op). decide (late_tests w os)) same
 
       -- none is given
-      done : decide (write_tests w bytes) ≡ answer.Done → filed (new_slot w) (settled (ops_in bytes)) ≡ decision_of w bytes
-      done e = sym (decision-done w bytes e ∙ ap (filed (new_slot w)) same)
+      done : decide (write_tests w bytes) ≡ Ok tt → Ok (filed (new_slot w) (settled (ops_in bytes))) ≡ decision_of w bytes
+      done e = sym (decision-done w bytes e ∙ ap (λ (os : List Op). Ok (filed (new_slot w) os)) same)
 
       -- "An empty batch succeeds and changes nothing."
-      pub decision-none : length (settled (ops_in bytes)) ≡ 0 → Nothing ≡ decision_of w bytes
+      pub decision-none : length (settled (ops_in bytes)) ≡ 0 → Ok None ≡ decision_of w bytes
       decision-none h =
           let n = filed-none (new_slot w) (settled (ops_in bytes)) h in
-          sym n.1 ∙ done (late ∙ ap (λ (os : List Op). decide (late_tests w os)) n.0 ∙ late-none w)
+          ap Ok (sym n.1) ∙ done (late ∙ ap (λ (os : List Op). decide (late_tests w os)) n.0 ∙ late-none w)
 
       -- 4
-      pub decision-4 : sizes_of w.settings.slot_bytes (mappings w) (settled (ops_in bytes)) ≡ TooLarge → Refused SlotRoom ≡ decision_of w bytes
+      pub decision-4 : sizes_of w.settings.slot_bytes (mappings w) (settled (ops_in bytes)) ≡ None → Err SlotRoom ≡ decision_of w bytes
       decision-4 e =
           let over = large-told _ (mappings w) (settled (ops_in bytes)) e in
           let low = (passed w.settings _ w.table w.state first).limits.settings.slot-low in
           let some = large-some (settled (ops_in bytes)) (omega arith) in
           given SlotRoom (late ∙ late-some w (settled (ops_in bytes)) some ∙ decide-first _ SlotRoom _ (lt-ltb _ _ over))
 
-      module _ (count total new : ℕ) (told : Told w.settings.slot_bytes (mappings w) (settled (ops_in bytes)) count total new) (some : 0 < count) where
+      module _ (n : BatchSizes) (told : Told w.settings.slot_bytes (mappings w) (settled (ops_in bytes)) n) (some : 0 < n.count) where
         -- 4 does not hold: 5 to 7 are left
         behind-4 : decide (write_tests w bytes) ≡ decide (drop 1 (file_tests w (settled (ops_in bytes))))
         behind-4 = late ∙ late-some w (settled (ops_in bytes)) (omega (arith, told.entries)) ∙ decide-next _ SlotRoom _ (le-ltb _ _ told.fits)
 
         -- 5
-        pub decision-5 : slots_of w ≤ new_slot w → Refused NoEmptySlot ≡ decision_of w bytes
+        pub decision-5 : slots_of w ≤ new_slot w → Err NoEmptySlot ≡ decision_of w bytes
         decision-5 h = given NoEmptySlot (behind-4 ∙ decide-first _ NoEmptySlot _ (lt-ltb _ _ (free-none (slots_of w) (records_of w) h)))
 
         module _ (free : new_slot w < slots_of w) where
@@ -156,23 +154,24 @@ module _ (w : World) (bytes : List ℕ) where
           behind-5 = behind-4 ∙ decide-next _ NoEmptySlot _ (le-ltb _ _ (free-some (slots_of w) (records_of w) free))
 
           -- 6
-          pub decision-6 : too_many_ids (capacity_of w.table) (mappings w) (settled (ops_in bytes)) ≡ true → Refused TableRoom ≡ decision_of w bytes
+          pub decision-6 : too_many_ids (capacity_of w.table) (mappings w) (settled (ops_in bytes)) ≡ true → Err TableRoom ≡ decision_of w bytes
           decision-6 e = given TableRoom (behind-5 ∙ decide-first _ TableRoom _ e)
 
           module _ (room : too_many_ids (capacity_of w.table) (mappings w) (settled (ops_in bytes)) ≡ false) where
             -- nor does 6
-            behind-6 : decide (write_tests w bytes) ≡ decide (ltb (2 ^ 62) (w.state.next_position + (total + 1)) gives PositionsSpent ∷ [])
+            behind-6 : decide (write_tests w bytes) ≡ decide (ltb (2 ^ 62) (w.state.next_position + (n.total + 1)) gives PositionsSpent ∷ [])
             behind-6 =
                 behind-5 ∙ decide-next _ TableRoom _ room
-                ∙ ap (λ (n : ℕ). decide (ltb (2 ^ 62) (w.state.next_position + (n + 1)) gives PositionsSpent ∷ [])) (sym told.objects)
+                ∙ ap (λ (t : ℕ). decide (ltb (2 ^ 62) (w.state.next_position + (t + 1)) gives PositionsSpent ∷ [])) (sym told.objects)
 
             -- 7
-            pub decision-7 : ltb (2 ^ 62) (w.state.next_position + (total + 1)) ≡ true → Refused PositionsSpent ≡ decision_of w bytes
+            pub decision-7 : ltb (2 ^ 62) (w.state.next_position + (n.total + 1)) ≡ true → Err PositionsSpent ≡ decision_of w bytes
             decision-7 e = given PositionsSpent (behind-6 ∙ decide-first _ PositionsSpent _ e)
 
             -- none of them
-            pub decision-file : ltb (2 ^ 62) (w.state.next_position + (total + 1)) ≡ false → File (new_slot w) count total ≡ decision_of w bytes
+            pub decision-file : ltb (2 ^ 62) (w.state.next_position + (n.total + 1)) ≡ false → Ok (Some (record { slot = new_slot w; count = n.count; total = n.total })) ≡ decision_of w bytes
             decision-file e =
-                ap₂ (File (new_slot w)) told.entries told.objects
-                ∙ sym (filed-some (new_slot w) (settled (ops_in bytes)) (omega (arith, told.entries)))
+                let file : ℕ → ℕ → Decision = λ k t. Ok (Some (record { slot = new_slot w; count = k; total = t })) in
+                ap₂ file told.entries told.objects
+                ∙ ap Ok (sym (filed-some (new_slot w) (settled (ops_in bytes)) (omega (arith, told.entries))))
                 ∙ done (behind-6 ∙ decide-next _ PositionsSpent _ e ∙ decide-none)

@@ -14,49 +14,54 @@ ghost use Rattle.batch.specs.Walk.{Begins};
 ghost use Rattle.write_decision.specs.Sizes.{sizes_of};
 ghost use Rattle.write_decision.specs.Decisions.{decision_of, Parsed};
 
-use batch::{Cursor, Step};
+use batch::Cursor;
 use limits::{Rest, bad_files, refused_apart, rest_of};
 use location_table::{find_near, number_of};
 use new_file::{spent, too_large};
-use rules::{Answer, FileMap, Refusal, Settings, State};
+use rules::{FileMap, Refusal, Settings, State};
 use table_merge::new_at;
 
-// A refusal; nothing, for an empty batch; or a file: its slot, its count of entries and T.
+// A batch's file to be: its slot, its count of entries and T.
 #[derive(Clone, Copy)]
-pub enum Decision {
-    Refused(Refusal),
-    Nothing,
-    File(usize, u64, u64),
+pub struct NewFile {
+    pub slot: usize,
+    pub count: u64,
+    pub total: u64,
 }
 
-// How many operations count, T, and how many of their ids the table does not have; or no slot has room for their file.
+// How many operations count, T, and how many of their ids the table does not have.
 #[derive(Clone, Copy)]
-pub enum Sizing {
-    Fits(u64, u64, u64),
-    TooLarge,
+struct BatchSizes {
+    count: u64,
+    total: u64,
+    new: u64,
 }
 
-// Refusal 4, and what 5 to 7 are asked by, in one walk: an operation more is held against what those before it leave of the slot.
-fn sizes(table: &[u64], order: &mut [u64], batch: &[u8], begin: Cursor, slot_bytes: u64) -> Sizing
+// What 5 to 7 are asked by, in one walk, or nothing where no slot has room for the file: an operation more is held against what those
+// before it leave of the slot.
+fn sizes(
+    table: &[u64],
+    order: &mut [u64],
+    batch: &[u8],
+    begin: Cursor,
+    slot_bytes: u64,
+) -> Option<BatchSizes>
     requires { Formed table.now × (length order.old ≡ 1024) × Begins batch.now order.old begin }
     ensures sizes { result ≡ sizes_of slot_bytes (used_entries table.now) (settled (ops_in batch.now)) }
     ensures again { Begins batch.now order.new begin }
 {
     if too_large(slot_bytes, 0, 0) {
-        return Sizing::TooLarge;
+        return None;
     }
     let mut count: u64 = 0;
     let mut total: u64 = 0;
     let mut new: u64 = 0;
     let mut near: usize = 0;
     let mut cursor = begin;
-    loop {
-        let Step::Next(o, after) = batch::next(order, batch, cursor) else {
-            return Sizing::Fits(count, total, new);
-        };
+    while let Some((o, after)) = batch::next(order, batch, cursor) {
         let size = batch::size_of(o);
         if too_large(slot_bytes - total, size, count + 1) {
-            return Sizing::TooLarge;
+            return None;
         }
         let place = find_near(table, o.id, near);
         new += new_at(place);
@@ -65,6 +70,11 @@ fn sizes(table: &[u64], order: &mut [u64], batch: &[u8], begin: Cursor, slot_byt
         count += 1;
         cursor = after;
     }
+    Some(BatchSizes {
+        count: count,
+        total: total,
+        new: new,
+    })
 }
 
 // "6 more distinct ids than table entries": the table's, and so many that it does not have.
@@ -76,7 +86,7 @@ fn too_many(table: &[u64], more: u64) -> bool
     (location_table::capacity(table) as u64) < used + more
 }
 
-// 4 to 7, for a batch that passed 1 to 3; an empty one passes.
+// 4 to 7, for a batch that passed 1 to 3; an empty one passes, and makes no file.
 fn room(
     settings: Settings,
     rest: Rest,
@@ -86,7 +96,7 @@ fn room(
     order: &mut [u64],
     batch: &[u8],
     begin: Cursor,
-) -> Decision
+) -> Result<Option<NewFile>, Refusal>
     requires parsed { Parsed settings (state_of rest files) heap.now table.now batch.now }
     requires order_len { (length order.old ≡ 1024) × Begins batch.now order.old begin }
     ensures decides { (c : Claims) → result ≡ decision_of
@@ -94,27 +104,30 @@ fn room(
         batch.now }
     ensures again { Begins batch.now order.new begin }
 {
-    let Sizing::Fits(count, total, new) = sizes(table, order, batch, begin, settings.slot_bytes)
-    else {
-        return Decision::Refused(Refusal::SlotRoom);
-    };
-    if count == 0 {
-        return Decision::Nothing;
+    let sizes = sizes(table, order, batch, begin, settings.slot_bytes).ok_or(Refusal::SlotRoom)?;
+    if sizes.count == 0 {
+        return Ok(None);
     }
     let n = heap.len() / settings.slot_bytes as usize;
     let slot = file_map::lowest_empty(files, n);
     if n <= slot {
-        return Decision::Refused(Refusal::NoEmptySlot);
+        return Err(Refusal::NoEmptySlot);
     }
-    if too_many(table, new) {
-        return Decision::Refused(Refusal::TableRoom);
+    if too_many(table, sizes.new) {
+        return Err(Refusal::TableRoom);
     }
-    if spent(rest.next_position, total + 1) {
-        return Decision::Refused(Refusal::PositionsSpent);
+    if spent(rest.next_position, sizes.total + 1) {
+        return Err(Refusal::PositionsSpent);
     }
-    Decision::File(slot, count, total)
+    let file = NewFile {
+        slot: slot,
+        count: sizes.count,
+        total: sizes.total,
+    };
+    Ok(Some(file))
 }
 
+// The refusal of a write, or the file that it makes: none for an empty batch.
 pub fn decided(
     settings: Settings,
     state: State,
@@ -123,7 +136,7 @@ pub fn decided(
     order: &mut [u64],
     batch: &[u8],
     begin: Cursor,
-) -> Decision
+) -> Result<Option<NewFile>, Refusal>
     requires { (length order.old ≡ 1024) × Begins batch.now order.old begin }
     ensures decides { (c : Claims) → result ≡ decision_of
         (world settings state c heap.now table.now)
@@ -134,10 +147,8 @@ pub fn decided(
     let bad = bad_files(settings, heap.len() as u64, table, files);
     let rest = rest_of(state);
     if refused_apart(settings, heap.len() as u64, table, rest, bad) {
-        return Decision::Refused(Refusal::Limits);
+        return Err(Refusal::Limits);
     }
-    match batch::check(batch, settings.max_object_size) {
-        Answer::Refused(r) => Decision::Refused(r),
-        Answer::Done => room(settings, rest, files, heap, table, order, batch, begin),
-    }
+    batch::check(batch, settings.max_object_size)?;
+    room(settings, rest, files, heap, table, order, batch, begin)
 }

@@ -5,7 +5,7 @@ use Rattle.rules.specs.Base.{List, ℕ}
 use Rattle.rules.specs.declared.Settings.{Settings}
 use Rattle.rules.specs.declared.State.{State}
 use Rattle.rules.specs.declared.Claims.{Claims}
-use Rattle.rules.specs.declared.Answer.{Answer}
+use Rattle.rules.specs.Types.{Answer}
 use Rattle.rules.proofs.Answers.{answer-one}
 use Rattle.rules.specs.Layout.{Table}
 use Rattle.rules.specs.Write.{write_call}

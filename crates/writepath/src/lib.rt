@@ -18,13 +18,13 @@ ghost use Rattle.writepath.specs.Filing.{Filed};
 
 use batch::Cursor;
 use install::StoredFile;
-use rules::{Answer, Label, Settings, State};
-use write_decision::Decision;
+use rules::{Label, Refusal, Settings, State};
+use write_decision::NewFile;
 
 // The answer, and the state after the call.
 #[derive(Clone, Copy)]
 pub struct Written {
-    pub answer: Answer,
+    pub answer: Result<(), Refusal>,
     pub state: State,
 }
 
@@ -55,14 +55,6 @@ fn put_file(
 {
     let k = heap.len() as u64;
     batch_file::write_file(heap, start, order, batch, begin, new, k);
-}
-
-// A batch's file to be: its slot, its count of entries and T.
-#[derive(Clone, Copy)]
-struct NewFile {
-    slot: usize,
-    count: u64,
-    total: u64,
 }
 
 // The file of the batch in its slot, then table, live counts, record and next position by the trailer that stands there.
@@ -113,23 +105,18 @@ pub fn write(
     let mut order = [0u64; batch::ORDER_PLACES];
     let begin = batch::start(&mut order, batch);
     match write_decision::decided(settings, state, heap, table, &mut order, batch, begin) {
-        Decision::Refused(r) => Written {
-            answer: Answer::Refused(r),
+        Err(r) => Written {
+            answer: Err(r),
             state: state,
         },
-        Decision::Nothing => Written {
-            answer: Answer::Done,
+        Ok(None) => Written {
+            answer: Ok(()),
             state: state,
         },
-        Decision::File(slot, count, total) => {
-            let file = NewFile {
-                slot: slot,
-                count: count,
-                total: total,
-            };
+        Ok(Some(file)) => {
             let after = add_file(settings, state, heap, table, &mut order, batch, begin, file);
             Written {
-                answer: Answer::Done,
+                answer: Ok(()),
                 state: after,
             }
         }

@@ -1,10 +1,7 @@
-use Rattle.std.proofs.Common.{◌≡◌, ◌++◌, ◌∙◌, ap, take, drop, length, ℕ, arith}
-use lib.Seq.{take-length}
+use Rattle.std.proofs.Common.{◌++◌, ap, drop, length, List, ℕ}
 use Rattle.numbers.specs.Parts.{front}
 use Rattle.byte_parts.proofs.copy.Goals as goal
 
 pub returns : goal.returns
 unfolding front
-returns c =
-    let all : c.loop-i.i ≡ length c.args.from.now = omega arith in
-    c.loop-i.invariant.1 ∙ rw (all, take-length)
+returns c = ap (λ (l : List ℕ). l ++ drop (length c.args.from.now) c.args.to.now) c.copy_from_slice.ensures.after

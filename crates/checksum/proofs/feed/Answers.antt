@@ -1,49 +1,36 @@
-use mathlib.Core.Path.{◌≡◌, refl, sym, ap, ap₂, ◌∙◌}
-use mathlib.Core.List.{[]}
-use Prim.Native.Nat.{ℕ, ◌+◌, ◌-◌, ◌≤◌, zero-le}
-use native.Mathlib.Omega.{arith}
-use lib.Bits.{bit_xor}
-use lib.ListN.{length, drop, drop_of_length-le}
-use Rattle.numbers.proofs.Lent.{read-in}
-use Rattle.checksum.specs.Checksum.{shifts, crc_from, crc-nil}
+use Rattle.std.proofs.Common.{refl, sym, ap, ap₂, ◌∙◌, ℕ, ◌+◌, drop, drop_of_length-le}
+use Rattle.checksum.specs.Checksum.{crc_from, crc-nil}
 use Rattle.checksum.proofs.ByteTurns.{bytes-turn, list-turn}
 use Rattle.checksum.proofs.feed.Goals as goal
-use Rattle.checksum.proofs.feed.Goals.{then-s-i-ge4, else-s-i-ge4}
+use Rattle.checksum.proofs.feed.Goals.{in-Some-split_at_checked, in_default-split_at_checked}
 
-pub loop-i-init : goal.loop-i-init
-loop-i-init c = (zero-le, refl)
+pub loop-word-init : goal.loop-word-init
+loop-word-init c = (λ j. (c.type_inv.s j).fits, refl)
 
-pub loop-i-preserved : goal.loop-i-preserved
-loop-i-preserved c =
-    let l = c.loop-i in
-    let s = c.args.s.now in
-    let room : l.i + 8 ≤ length s = omega arith in
-    let read = read-in s l.i 8 c.get.result room c.get.ensures in
-    let fed = c.eight-x.ensures ∙ ap (λ (v : ℕ). shifts 64 (bit_xor l.x v)) read in
-    (room, ap (λ (x : ℕ). crc_from x (drop (l.i + 8) s)) fed ∙ bytes-turn 8 s l.i l.x (λ j. (c.type_inv.s j).fits) room ∙ l.invariant.1)
+pub loop-word-preserved : goal.loop-word-preserved
+loop-word-preserved c =
+    let l = c.loop-word in
+    let turn = bytes-turn 8 l.rest.now c.in-Some.word.now c.in-Some.more.now l.x c.get.result c.eight-x.result l.invariant.0 c.in-Some.ensures.cases c.get.ensures c.eight-x.ensures in
+    (turn.0, turn.1 ∙ l.invariant.1)
 
-pub loop-i-2-init : goal.loop-i-2-init
-loop-i-2-init c =
-    let l = c.loop-i in
-    let s = c.args.s.now in
-    let at : ℕ → ℕ → ℕ = λ x i. crc_from x (drop i s) in
-    elim c.if-s-i-ge4.branch [
-      | then-s-i-ge4 w ↦
-          let room : l.i + 4 ≤ length s = omega arith in
-          let read = read-in s l.i 4 w.get-then-s-i-ge4.result room w.get-then-s-i-ge4.ensures in
-          let fed = w.x-is ∙ w.four-x.ensures ∙ ap (λ (v : ℕ). shifts 32 (bit_xor l.x v)) read in
-          (omega arith, ap₂ at fed w.i-is ∙ bytes-turn 4 s l.i l.x (λ j. (c.type_inv.s j).fits) room ∙ l.invariant.1)
-      | else-s-i-ge4 w ↦ (omega arith, ap₂ at w.x-is w.i-is ∙ l.invariant.1)
+pub loop-b-init : goal.loop-b-init
+loop-b-init c =
+    let l = c.loop-word in
+    elim c.match-split_at_checked-2.branch [
+      | in-Some-split_at_checked w ↦
+          let arm = w.in-Some-split_at_checked in
+          let turn = bytes-turn 4 l.rest.now arm.word.now arm.more.now l.x w.get-in-Some-split_at_checked.result w.four-x.result l.invariant.0 arm.ensures.cases w.get-in-Some-split_at_checked.ensures w.four-x.ensures in
+          ap₂ crc_from w.x-is (ap (λ r. r.now) w.rest-is) ∙ turn.1 ∙ l.invariant.1
+      | in_default-split_at_checked w ↦ ap₂ crc_from w.x-is (ap (λ r. r.now) w.rest-is) ∙ l.invariant.1
     ]
 
-pub loop-i-2-preserved : goal.loop-i-2-preserved
-loop-i-2-preserved c =
-    let l = c.loop-i-2 in
-    let s = c.args.s.now in
-    (omega arith, ap (λ (x : ℕ). crc_from x (drop (l.i + 1) s)) c.one-x.ensures ∙ list-turn s l.i l.x c.loop-i-2-test.true ∙ l.invariant.1)
+pub loop-b-preserved : goal.loop-b-preserved
+loop-b-preserved c =
+    let l = c.loop-b in
+    ap (λ (x : ℕ). crc_from x (drop (l.b-index + 1) c.match-split_at_checked-2.rest.now)) c.one-x.ensures ∙ list-turn c.match-split_at_checked-2.rest.now l.b-index l.x c.loop-b-test.true ∙ l.invariant
 
 pub returns : goal.returns
 returns c =
-    let l = c.loop-i-2 in
-    let end : drop l.i c.args.s.now ≡ [] = drop_of_length-le _ c.loop-i-2-test.false in
-    sym (crc-nil l.x) ∙ ap (crc_from l.x) (sym end) ∙ l.invariant.1
+    let l = c.loop-b in
+    let end = drop_of_length-le c.match-split_at_checked-2.rest.now {i = l.b-index} c.loop-b-test.false in
+    sym (crc-nil l.x) ∙ ap (crc_from l.x) (sym end) ∙ l.invariant

@@ -4,4 +4,4 @@ use Rattle.claims.proofs.with_claim.Goals as goal
 
 pub returns : goal.returns
 unfolding claim_set
-returns c = c.with_word.ensures ∙ rw (c.bit_set.ensures, c.word_of.ensures) refl
+returns c = c.with_word.ensures ∙ rw (c.bit_of.ensures, c.word_of.ensures) refl

@@ -1,6 +1,6 @@
 use mathlib.Core.Path.{sym, ap, ◌∙◌, ◌≡◌}
 use mathlib.Core.List.{List, map}
-use Prim.Native.Nat.{ℕ, zero-le}
+use Prim.Native.Nat.{ℕ}
 use native.Mathlib.Omega.{arith}
 use lib.ListN.{length, set, length-map}
 use Rattle.rules.specs.declared.Label.{Label}
@@ -15,7 +15,7 @@ use Rattle.faults.proofs.sound.Goals as goal
 pub loop-k-init : goal.loop-k-init
 loop-k-init c =
     let a = c.args in
-    (zero-le, c.no_labels-slots.ensures ∙ sym (labels-start (map judged (views_in a.n a.size a.heap.now))))
+    c.no_labels-slots.ensures ∙ sym (labels-start (map judged (views_in a.n a.size a.heap.now)))
 
 pub slot_at-requires : goal.slot_at-requires
 slot_at-requires c =
@@ -34,14 +34,12 @@ loop-k-preserved c =
     c.label.ensures ∙ ap label_shown c.own.ensures ∙ label-shown (judged (view_in c.slot_at.result.now))
     ∙ ap (λ (s : List ℕ). label_of (judged (view_in s))) c.slot_at.ensures
     ∙ ap (λ (v : View). label_of (judged v)) (sym (views-at a.n a.size a.heap.now k low))
-    ∙ ap label_of (sym (judged-at views k)) in (
-      omega arith,
-      ap (λ (ls : List Label). set ls k c.label.result) c.loop-k.invariant.1 ∙ labels_next (map judged views) k _ (omega arith) (omega arith) label,
-    )
+    ∙ ap label_of (sym (judged-at views k)) in
+    ap (λ (ls : List Label). set ls k c.label.result) c.loop-k.invariant ∙ labels_next (map judged views) k _ (omega arith) (omega arith) label
 
 pub returns : goal.returns
 returns c =
     let a = c.args in
     let views = views_in a.n a.size a.heap.now in
     let many = views-length a.n a.size a.heap.now in
-    c.loop-k.invariant.1 ∙ labels-end (map judged views) c.loop-k.k (length-map views judged ∙ many ∙ omega arith)
+    c.loop-k.invariant ∙ labels-end (map judged views) c.loop-k.k (length-map views judged ∙ many ∙ omega arith)

@@ -11,48 +11,47 @@ use native.Mathlib.Nat.{add-zero}
 use Rattle.file_map.proofs.counts.Goals as goal
 use Rattle.file_map.proofs.counts.Goals.{then-not-is_empty, else-not-is_empty}
 
-pub loop-i-init : goal.loop-i-init
-loop-i-init c =
+pub loop-r-init : goal.loop-r-init
+loop-r-init c =
     let rs = c.args.m.records in
     let l : length rs ≡ 256 = search (mapped-length, rules) in
-    (omega arith, omega arith, omega arith, omega arith, omega arith, counts_start rs)
+    (omega arith, omega arith, omega arith, omega arith, counts_start rs)
 
 pub overflow_add-bytes : goal.overflow_add-bytes
 overflow_add-bytes c =
-    let w = c.requires c.loop-i.i in
+    let w = c.requires c.loop-r.r-index in
     omega arith
 
 pub overflow_add-present : goal.overflow_add-present
 overflow_add-present c =
-    let w = c.requires c.loop-i.i in
+    let w = c.requires c.loop-r.r-index in
     omega arith
 
 pub overflow_add-live : goal.overflow_add-live
 overflow_add-live c =
-    let w = c.requires c.loop-i.i in
+    let w = c.requires c.loop-r.r-index in
     omega arith
 
-pub loop-i-preserved : goal.loop-i-preserved
-loop-i-preserved c =
+pub loop-r-preserved : goal.loop-r-preserved
+loop-r-preserved c =
     let rs = c.args.m.records in
     let l : length rs ≡ 256 = search (mapped-length, rules) in
-    let w = c.requires c.loop-i.i in
-    let i = c.loop-i.i in
-    let f : c.if-not-is_empty.files ≡ c.loop-i.files + pick (is_empty (record_at rs i)) 0 1 =
+    let w = c.requires c.loop-r.r-index in
+    let i = c.loop-r.r-index in
+    let f : c.if-not-is_empty.files ≡ c.loop-r.files + pick (is_empty (record_at rs i)) 0 1 =
     elim c.if-not-is_empty.branch [
-      | then-not-is_empty w ↦ w.files-is ∙ ap (λ (t : Bool). c.loop-i.files + pick t 0 1) (sym (sym c.is_empty.ensures ∙ w.if-not-is_empty.true))
-      | else-not-is_empty w ↦ w.files-is ∙ sym (add-zero c.loop-i.files) ∙ ap (λ (t : Bool). c.loop-i.files + pick t 0 1) (sym (sym c.is_empty.ensures ∙ w.if-not-is_empty.false))
+      | then-not-is_empty w ↦ w.files-is ∙ ap (λ (t : Bool). c.loop-r.files + pick t 0 1) (sym (sym c.is_empty.ensures ∙ w.if-not-is_empty.true))
+      | else-not-is_empty w ↦ w.files-is ∙ sym (add-zero c.loop-r.files) ∙ ap (λ (t : Bool). c.loop-r.files + pick t 0 1) (sym (sym c.is_empty.ensures ∙ w.if-not-is_empty.false))
     ] in (
-      omega arith,
       elim c.if-not-is_empty.branch [ then-not-is_empty w ↦ omega arith | else-not-is_empty w ↦ omega arith ],
       omega arith,
       omega arith,
       omega arith,
-      c.loop-i.invariant.5 ∙ counts-next rs i c.loop-i.files c.loop-i.bytes c.loop-i.present c.loop-i.live c.if-not-is_empty.files (omega arith) f,
+      c.loop-r.invariant.4 ∙ counts-next rs i c.loop-r.files c.loop-r.bytes c.loop-r.present c.loop-r.live c.if-not-is_empty.files (omega arith) f,
     )
 
 pub returns : goal.returns
 returns c =
     let rs = c.args.m.records in
     let l : length rs ≡ 256 = search (mapped-length, rules) in
-    sym (c.loop-i.invariant.5 ∙ counts_end rs c.loop-i.i c.loop-i.files c.loop-i.bytes c.loop-i.present c.loop-i.live (omega arith))
+    sym (c.loop-r.invariant.4 ∙ counts_end rs c.loop-r.r-index c.loop-r.files c.loop-r.bytes c.loop-r.present c.loop-r.live (omega arith))

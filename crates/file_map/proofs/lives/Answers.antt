@@ -19,10 +19,10 @@ pub loop-i-preserved : goal.loop-i-preserved
 loop-i-preserved c =
     let rs = c.args.m.records in
     let l : length rs ≡ 256 = search (mapped-length, rules) in
-    copying-next (λ (r : Record). r.live) rs (replicate 256 0) l zeros c.loop-i.i c.loop-i.r c.loop-i.invariant (omega arith)
+    copying-next (λ (r : Record). r.live) rs (replicate 256 0) l zeros c.loop-i.i c.loop-i.lives c.loop-i.invariant (omega arith)
 
 pub returns : goal.returns
 returns c =
     let rs = c.args.m.records in
     let l : length rs ≡ 256 = search (mapped-length, rules) in
-    copying-end (λ (r : Record). r.live) rs (replicate 256 0) l zeros c.loop-i.i c.loop-i.r c.loop-i.invariant (omega arith)
+    copying-end (λ (r : Record). r.live) rs (replicate 256 0) l zeros c.loop-i.i c.loop-i.lives c.loop-i.invariant (omega arith)

@@ -13,7 +13,7 @@ loop-i-init c =
     let rs = c.args.m.records in
     let ls = c.args.lives.now in
     let l : length rs ≡ 256 = search (mapped-length, rules) in
-    (omega arith, l, lives-start rs ls)
+    (l, lives-start rs ls)
 
 pub loop-i-preserved : goal.loop-i-preserved
 loop-i-preserved c =
@@ -21,8 +21,7 @@ loop-i-preserved c =
     let ls = c.args.lives.now in
     let l : length rs ≡ 256 = search (mapped-length, rules) in
     let i = c.loop-i.i in
-    let e = c.loop-i.invariant.2 in (
-      omega arith,
+    let e = c.loop-i.invariant.1 in (
       simp length-set (omega arith),
       ap (λ (s : List Record). set s i c.with_live.result) e
           ∙ ap (set (lives_to i rs ls) i) (c.with_live.ensures ∙ ap (λ (r : Record). with_live r (get_or ls i 0)) (ap (λ (s : List Record). record_at s i) e ∙ lives-read rs ls i (omega arith) (omega arith)))
@@ -34,4 +33,4 @@ returns c =
     let rs = c.args.m.records in
     let ls = c.args.lives.now in
     let l : length rs ≡ 256 = search (mapped-length, rules) in
-    c.loop-i.invariant.2 ∙ lives-end rs ls c.loop-i.i (omega arith)
+    c.loop-i.invariant.1 ∙ lives-end rs ls c.loop-i.i (omega arith)

@@ -1,11 +1,7 @@
-use Prim.Native.Nat.{◌≤◌, ◌-◌}
 use mathlib.Core.Path.{◌≡◌}
 use lib.ListN.{length}
 use Rattle.file_map.proofs.RecordTurns.{lives_to}
 use Rattle.file_map.proofs.with_lives.Given as goal
 
 abbrev pub invariant-loop-i : goal.invariant-loop-i
-invariant-loop-i l = (l.i ≤ 256) × (length l.n.records ≡ 256) × (l.n.records ≡ lives_to l.i l.initial.n.records l.lives)
-
-abbrev pub decreases-loop-i : goal.decreases-loop-i
-decreases-loop-i l = 256 - l.i
+invariant-loop-i l = (length l.n.records ≡ 256) × (l.n.records ≡ lives_to l.i l.initial.n.records l.lives)

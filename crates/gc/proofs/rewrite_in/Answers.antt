@@ -4,7 +4,7 @@ use Prim.Native.Nat.{ℕ, ◌<◌}
 use native.Mathlib.Omega.{arith}
 use lib.ListN.{length}
 use Rattle.rules.proofs.BaseLaws.{or-holds, or-clear}
-use Rattle.rules.specs.declared.RewriteAnswer.{RewriteAnswer}
+use Rattle.rules.specs.Types.{RewriteAnswer}
 use Rattle.rules.specs.Condition1.{refused1}
 use Rattle.rules.proofs.Condition1Laws.{passed}
 use Rattle.rules.specs.TwoCalls.{room_of, short}
@@ -52,8 +52,8 @@ returns-then-asked-eq0 c =
       pieces = c.clear-then-asked-eq0.ensures;
     }
 
-pub rewrite_generation-course-requires : goal.rewrite_generation-course-requires
-rewrite_generation-course-requires c =
+pub rewrite_generation-answer-requires : goal.rewrite_generation-answer-requires
+rewrite_generation-answer-requires c =
     let a = c.args in
     let some = c.if-asked-eq0.false in record {
       passed_2 = passed a.settings (length a.heap.now) a.table.now (state_in a.state.now) (sym c.refused_in.ensures ∙ c.if-refused_in.false);
@@ -69,16 +69,11 @@ returns c =
     let q = c.args.asked in
     let some = c.if-asked-eq0.false in
     let clear = or-clear _ _ (sym c.refused_in.ensures ∙ c.if-refused_in.false) (sym c.too_short.ensures ∙ c.if-too_short.false) in
-    let answer = c.rewrite_generation-course.result.answer in
-    let moved = c.rewrite_generation-course.result.moved in
-    let after = world c.args.settings (state_in c.rewrite_generation-course.new.state) c.args.claims c.rewrite_generation-course.new.heap c.rewrite_generation-course.new.table in
-    let answered = rewrite_given c.answered.result in
-    let own : answered.number ≡ 1 → ⊥ =
-    subst (λ (x : RewriteAnswer). (rewrite_given x).number ≡ 1 → ⊥) (sym c.answered.ensures)
-    (answered-own q.generation answer moved after w q.mark q.count c.rewrite_generation-course.ensures.leaves) in record {
-      leaves = ap (λ (x : RewriteAnswer). leaving (rewrite_given x) after) c.answered.ensures
-          ∙ rewrite-given w room q.generation q.mark q.count clear (omega (arith, some)) (omega arith) answer moved after
-          c.rewrite_generation-course.ensures.leaves;
-      places = notes-cleared answered c.args.places.now c.rewrite_generation-course.new.places _ own c.rewrite_generation-course.auto.places c.clear-2.ensures;
-      pieces = notes-cleared answered c.args.pieces.now c.rewrite_generation-course.new.pieces _ own c.rewrite_generation-course.auto.pieces c.clear-3.ensures;
+    let done = c.rewrite_generation-answer in
+    let after = world a.settings (state_in done.new.state) a.claims done.new.heap done.new.table in
+    let answered = rewrite_given done.result in
+    let own : answered.number ≡ 1 → ⊥ = answered-own q.generation done.result after w q.mark q.count done.ensures.leaves in record {
+      leaves = rewrite-given w room q.generation q.mark q.count clear (omega (arith, some)) (omega arith) done.result after done.ensures.leaves;
+      places = notes-cleared answered c.args.places.now done.new.places _ own done.auto.places c.clear-2.ensures;
+      pieces = notes-cleared answered c.args.pieces.now done.new.pieces _ own done.auto.pieces c.clear-3.ensures;
     }

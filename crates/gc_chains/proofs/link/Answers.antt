@@ -12,20 +12,6 @@ loop-i-init c =
     let begins = linking-start (table_ids a.table.now) a.places.now a.links.now a.words.now _ c.requires.linkable in
     (omega (arith, at), subst (λ (n : ℕ). Linking (table_ids a.table.now) a.places.now a.links.now a.words.now n a.links.now a.words.now) at begins)
 
-pub bounds-places-i : goal.bounds-places-i
-bounds-places-i c =
-    let w = c.requires.linkable in
-    omega (arith, c.loop-i.invariant.0, c.loop-i-test.true, w.low, w.wide)
-
-pub link_entry-requires : goal.link_entry-requires
-link_entry-requires c =
-    let w = c.requires.linkable in
-    let more = c.loop-i-test.true in
-    record {
-      i_in_bounds = omega (arith, c.loop-i.invariant.0, c.loop-i.invariant.1.long, more, w.low, w.numbered);
-      i_bound = omega (arith, c.loop-i.invariant.0, more, w.low, w.few);
-    }
-
 pub loop-i-preserved : goal.loop-i-preserved
 loop-i-preserved c =
     let a = c.args in
@@ -35,12 +21,6 @@ loop-i-preserved c =
     let on : c.loop-i.i ≡ suc (c.loop-i.i - 1) = omega (arith, more) in
     let before = subst (λ (n : ℕ). Linking (table_ids a.table.now) a.places.now a.links.now a.words.now n c.loop-i.links c.loop-i.words) on inv.1 in
     (omega (arith, inv.0), c.link_entry.ensures (table_ids a.table.now) a.places.now a.links.now a.words.now _ w (omega (arith, inv.0, more, w.low)) refl before)
-
-pub shape_of-links : goal.shape_of-links
-shape_of-links c = c.loop-i.invariant.1.long
-
-pub shape_of-words : goal.shape_of-words
-shape_of-words c = c.loop-i.invariant.1.many
 
 pub returns : goal.returns
 returns c =

@@ -6,6 +6,3 @@ use Rattle.gc_chains.proofs.link.Given as goal
 
 abbrev pub invariant-loop-i : goal.invariant-loop-i
 invariant-loop-i l = (l.i ≤ length (used_entries l.table)) × Linking (table_ids l.table) l.places l.initial.links l.initial.words l.i l.links l.words
-
-abbrev pub decreases-loop-i : goal.decreases-loop-i
-decreases-loop-i l = l.i

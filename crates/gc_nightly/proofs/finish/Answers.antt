@@ -1,5 +1,4 @@
-use mathlib.Core.Path.{ap₂, ◌∙◌}
-use Rattle.rules.specs.declared.MaintainAnswer.{MaintainAnswer}
+use mathlib.Core.Path.{ap, ◌∙◌}
 use Rattle.rules.specs.World.{World, world, maintain_given, leaving}
 use Rattle.gc_course.specs.RunLaws.{finish-run}
 use Rattle.gc_nightly.proofs.finish.Goals as goal
@@ -11,9 +10,7 @@ pruned-after-requires c =
 pub returns : goal.returns
 returns c =
     let a = c.args in
-    rw (c.put_state.ensures, ← c.state_in-was.ensures) (record {
-      answers = c.answer_of.ensures;
-      leaves = λ table clear.
-          ap₂ (λ (x : MaintainAnswer) (w : World). leaving (maintain_given x) w) c.answer_of.ensures (c.pruned-after.ensures table)
-          ∙ finish-run a.run (world a.settings c.state_in-was.result a.claims a.heap.now table) clear c.is_going.result c.is_going.ensures;
-    })
+    rw (c.put_state.ensures, ← c.state_in-was.ensures)
+    (λ table clear.
+    ap (λ (w : World). leaving (maintain_given a.answer) w) (c.pruned-after.ensures table)
+    ∙ finish-run a.answer (world a.settings c.state_in-was.result a.claims a.heap.now table) clear c.is_prune_due.result c.is_prune_due.ensures)

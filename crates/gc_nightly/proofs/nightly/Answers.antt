@@ -2,4 +2,4 @@ use Rattle.gc_nightly.proofs.nightly.Goals as goal
 
 pub returns : goal.returns
 returns c =
-    rw (c.state_held.ensures, ← c.put_state.ensures) c.nightly_in-answer.ensures
+    rw (c.state_in.ensures, ← c.put_state.ensures) c.nightly_in-answer.ensures

@@ -3,7 +3,7 @@ use mathlib.Core.Logic.{inl, inr}
 use Prim.Native.Nat.{ℕ}
 use lib.ListN.{length}
 use Rattle.rules.proofs.BaseLaws.{or-holds, or-clear}
-use Rattle.rules.specs.declared.MaintainAnswer.{MaintainAnswer}
+use Rattle.rules.specs.Types.{MaintainAnswer}
 use Rattle.rules.specs.Condition1.{refused1}
 use Rattle.rules.proofs.Condition1Laws.{passed, passes}
 use Rattle.rules.specs.Maintenance.{Course}
@@ -39,8 +39,8 @@ returns-then-too_short c =
       pieces = refl;
     }
 
-pub rewrites-run-requires : goal.rewrites-run-requires
-rewrites-run-requires c =
+pub rewrites-answer-requires : goal.rewrites-answer-requires
+rewrites-answer-requires c =
     let a = c.args in record {
       passed_2 = passed a.settings (length a.heap.now) a.table.now (state_in a.state.now) (sym c.refused_in.ensures ∙ c.if-refused_in.false);
       table_in_bounds = long-enough a.places.now a.pieces.now a.table.now (sym c.too_short.ensures ∙ c.if-too_short.false);
@@ -49,20 +49,18 @@ rewrites-run-requires c =
 pub finish-requires : goal.finish-requires
 finish-requires c =
     let a = c.args in
-    passed-labels a.settings _ _ _ c.rewrites-run.ensures.passed
+    passed-labels a.settings _ _ _ c.rewrites-answer.ensures.passed
 
 pub returns : goal.returns
 returns c =
     let a = c.args in
     let w = world a.settings (state_in a.state.now) a.claims a.heap.now a.table.now in
     let room = room_of a.places.now a.pieces.now in
-    let run = c.rewrites-run.result in
-    let still = passes a.settings _ _ _ c.rewrites-run.ensures.passed in
+    let still = passes a.settings _ _ _ c.rewrites-answer.ensures.passed in
     let clear = or-clear _ _ (sym c.refused_in.ensures ∙ c.if-refused_in.false) (sym c.too_short.ensures ∙ c.if-too_short.false) in
-    let answered = maintain_given c.finish.result in
-    let own : answered.number ≡ 1 → ⊥ =
-    subst (λ (x : MaintainAnswer). (maintain_given x).number ≡ 1 → ⊥) (sym c.finish.ensures.answers) (ended-own run.halt run.moved c.rewrites-run.ensures.own) in record {
-      leaves = c.finish.ensures.leaves c.rewrites-run.new.table still ∙ ap (λ (d : Course). job_ended d.stop d) c.rewrites-run.ensures.leaves ∙ nightly-accepted w room clear;
-      places = notes-cleared answered a.places.now c.rewrites-run.new.places _ own c.rewrites-run.auto.places c.clear.ensures;
-      pieces = notes-cleared answered a.pieces.now c.rewrites-run.new.pieces _ own c.rewrites-run.auto.pieces c.clear-2.ensures;
+    let answered = maintain_given c.rewrites-answer.result in
+    let own : answered.number ≡ 1 → ⊥ = ended-own c.rewrites-answer.result c.rewrites-answer.ensures.own in record {
+      leaves = c.finish.ensures c.rewrites-answer.new.table still ∙ ap (λ (d : Course). job_ended d.stop d) c.rewrites-answer.ensures.leaves ∙ nightly-accepted w room clear;
+      places = notes-cleared answered a.places.now c.rewrites-answer.new.places _ own c.rewrites-answer.auto.places c.clear.ensures;
+      pieces = notes-cleared answered a.pieces.now c.rewrites-answer.new.pieces _ own c.rewrites-answer.auto.pieces c.clear-2.ensures;
     }

@@ -13,19 +13,18 @@ use Rattle.gc_candidates.specs.Plan.{planned}
 use Rattle.gc_group.specs.Source.{source}
 use Rattle.gc_files.specs.Places.{places_for}
 use Rattle.gc_places.specs.GroupLaws.{group-checked, marks-used, placeables, places-told}
+use Rattle.std.proofs.lemmas.Result.{err_from_is_err_and}
 use Rattle.gc_places.proofs.place_group.Goals as goal
 
-pub returns-in-Refused : goal.returns-in-Refused
-returns-in-Refused c =
-    record {
-      answers = sym c.in-Refused.is ∙ c.mark_group.ensures.answers;
-      places = λ e. absurd (let z : ◌≡◌ {A = ℕ} 0 1 = cc in omega arith);
-    }
+pub returns-in_err-mark_group-clause-answers : goal.returns-in_err-mark_group-clause-answers
+returns-in_err-mark_group-clause-answers c =
+    let p = err_from_is_err_and c.from_residual.result c.from_residual.ensures.1 in
+    rw (p.1, p.2) (sym c.in_err-mark_group.was ∙ c.mark_group.ensures.answers)
 
 pub place_all-requires : goal.place_all-requires
 place_all-requires c =
     let a = c.args in
-    let done = c.in-Done.is in
+    let done = c.in_ok-mark_group.was in
     let lsns = c.mark_group.ensures.lsns done in
     let marks = c.mark_group.ensures.marks done in
     let checked = group-checked a.group.settings a.heap.now a.m.records a.plan.now a.group.generation a.table.now (length a.marks.now) c.requires.in_ranges c.requires.ready
@@ -46,7 +45,7 @@ place_all-requires c =
 pub returns : goal.returns
 returns c =
     let a = c.args in
-    let done = c.in-Done.is in
+    let done = c.in_ok-mark_group.was in
     let lsns = c.mark_group.ensures.lsns done in
     let marks = c.mark_group.ensures.marks done in
     let checked = group-checked a.group.settings a.heap.now a.m.records a.plan.now a.group.generation a.table.now (length a.marks.now) c.requires.in_ranges c.requires.ready

@@ -1,46 +1,38 @@
-use mathlib.Core.Path.{sym, ap, ◌∙◌}
+use mathlib.Core.Path.{ap}
 use native.Mathlib.Omega.{arith}
-use Rattle.std.specs.Prelude.{◌+◌, ◌-◌}
+use Rattle.std.specs.Prelude.{◌+◌, ◌-◌, None}
 use Rattle.rules.specs.Base.{ℕ}
-use Rattle.gc_course.specs.declared.Halt.TheVariants.{Going}
-use Rattle.gc_plan.specs.Forecasts.{joined_by}
 use Rattle.gc_plan.proofs.joined.Goals as goal
 
 pub overflow_add-result : goal.overflow_add-result
 overflow_add-result c =
     let b = c.requires.within in
-    omega (arith, b.slots, (c.requires.fits c.in-Done.is).slots)
+    omega (arith, b.slots, c.requires.fits.slots)
 
 pub file_bytes-requires : goal.file_bytes-requires
 file_bytes-requires c =
     let b = c.requires.within in
-    omega (arith, b.slots, (c.requires.fits c.in-Done.is).slots, (c.requires.fits c.in-Done.is).bytes)
+    omega (arith, b.slots, c.requires.fits.slots, c.requires.fits.bytes)
 
-pub overflow_add-result-in-Done : goal.overflow_add-result-in-Done
-overflow_add-result-in-Done c =
+pub overflow_add-result-2 : goal.overflow_add-result-2
+overflow_add-result-2 c =
     let b = c.requires.within in
-    omega (arith, c.file_bytes.ensures, b.slots, b.bytes, (c.requires.fits c.in-Done.is).slots, (c.requires.fits c.in-Done.is).bytes)
+    omega (arith, c.file_bytes.ensures, b.slots, b.bytes, c.requires.fits.slots, c.requires.fits.bytes)
 
 pub overflow_sub-result : goal.overflow_sub-result
-overflow_sub-result c = omega (arith, (c.requires.fits c.in-Done.is).slots)
+overflow_sub-result c = omega (arith, c.requires.fits.slots)
 
-pub overflow_add-result-in-Done-2 : goal.overflow_add-result-in-Done-2
-overflow_add-result-in-Done-2 c = omega (arith, (c.requires.fits c.in-Done.is).positions)
+pub overflow_add-result-3 : goal.overflow_add-result-3
+overflow_add-result-3 c = omega (arith, c.requires.fits.positions)
 
-pub returns-in-Refused : goal.returns-in-Refused
-returns-in-Refused c =
-    let a = c.args in
-    ap (joined_by a.generation a.total a.f) (sym c.in-Refused.is)
-
-pub returns-in-Done : goal.returns-in-Done
-returns-in-Done c =
+pub returns : goal.returns
+returns c =
     let a = c.args in
     ap
     (λ (n : ℕ). record {
-      halt = Going;
+      halt = None;
       files = a.f.files + a.total.files;
       bytes = a.f.bytes + n;
       room = record { empty = a.f.room.empty - a.total.files; base = a.f.room.base + a.total.positions };
     })
     c.file_bytes.ensures
-    ∙ ap (joined_by a.generation a.total a.f) (sym c.in-Done.is)

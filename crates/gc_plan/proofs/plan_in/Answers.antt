@@ -1,9 +1,9 @@
+use Rattle.std.specs.Prelude.{Ok}
 use mathlib.Core.Path.{sym, ◌∙◌}
 use mathlib.Core.Logic.{inl, inr}
 use Prim.Native.Nat.{ℕ}
 use lib.ListN.{length}
 use Rattle.rules.proofs.BaseLaws.{or-holds, or-clear}
-use Rattle.rules.specs.declared.Answer.TheVariants.{Done}
 use Rattle.rules.specs.Condition1.{refused1}
 use Rattle.rules.proofs.Condition1Laws.{passed}
 use Rattle.rules.specs.TwoCalls.{room_of, short}
@@ -46,7 +46,7 @@ pub returns : goal.returns
 returns c =
     let a = c.args in
     let clear = or-clear _ _ (sym c.refused_in.ensures ∙ c.if-refused_in.false) (sym c.too_short.ensures ∙ c.if-too_short.false) in
-    let answered = plan_given (record { answer = Done; plan = c.worked_out-worked.result }) in
+    let answered = plan_given (record { answer = Ok tt; plan = c.worked_out-worked.result }) in
     let own = plan-own c.worked_out-worked.result in record {
       answers = plan-accepted (world a.settings (state_in a.state.now) a.claims a.heap.now a.table.now) (room_of a.places.now a.pieces.now) clear _ c.worked_out-worked.ensures;
       places = notes-cleared answered a.places.now c.worked_out-worked.new.places _ own c.worked_out-worked.auto.places c.clear.ensures;

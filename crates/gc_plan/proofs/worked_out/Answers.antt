@@ -41,12 +41,9 @@ empties-requires c =
 pub loop-generation-init : goal.loop-generation-init
 loop-generation-init c =
     let a = c.args in
-    let few = empty-most (slots_in a.settings (length a.heap.now)) (state_in a.state.now).files.records in (
-      refl,
-      refl,
-      λ k q. foretelling-start (world a.settings (state_in a.state.now) k a.heap.now a.table.now)
-          (omega (arith, few, c.requires.passed.limits.heap.most)) _ _ (omega (arith, c.mark_in-mark.type_inv)) c.empties.ensures.counts c.mark_in-mark.ensures,
-    )
+    let few = empty-most (slots_in a.settings (length a.heap.now)) (state_in a.state.now).files.records in
+    λ k q. foretelling-start (world a.settings (state_in a.state.now) k a.heap.now a.table.now)
+    (omega (arith, few, c.requires.passed.limits.heap.most)) _ _ (omega (arith, c.mark_in-mark.type_inv)) c.empties.ensures.counts c.mark_in-mark.ensures
 
 pub foretell_in-f-requires : goal.foretell_in-f-requires
 foretell_in-f-requires c =
@@ -59,7 +56,7 @@ foretell_in-f-requires c =
     c.candidates_in-candidates.ensures
     ∙ ap₂ (λ (mark n : ℕ). plan_of a.settings a.claims mark n (state_in a.state.now).files.records) c.mark_in-mark.ensures c.count_in-count.ensures in
     let inv = c.loop-generation.invariant in
-    let m = inv.2 a.claims found in
+    let m = inv a.claims found in
     let limits = c.requires.passed.limits in record {
       in_ranges = limits.settings;
       ready = rw c.candidates_in-candidates.ensures
@@ -67,20 +64,17 @@ foretell_in-f-requires c =
       formed = passed-formed a.settings (length a.heap.now) b (state_in a.state.now) c.requires.passed;
       table_len_bound = (
         omega (arith, ids-count b, limits.table.most),
-        omega (arith, ids-count b, c.requires.table_in_bounds.1, inv.1),
-        omega (arith, ids-count b, c.requires.table_in_bounds.0, inv.0),
+        omega (arith, ids-count b, c.requires.table_in_bounds.1, c.loop-generation.auto.pieces),
+        omega (arith, ids-count b, c.requires.table_in_bounds.0, c.loop-generation.auto.places),
       );
       within = m.here.bounds;
     }
 
 pub loop-generation-preserved : goal.loop-generation-preserved
 loop-generation-preserved c =
-    let a = c.args in (
-      search rules,
-      search rules,
-      λ k p. foretelling-turn (world a.settings (state_in a.state.now) k a.heap.now a.table.now) c.loop-generation.generation c.loop-generation.f (c.loop-generation.invariant.2 k p)
-          c.loop-generation-test.true c.requires.passed.limits.settings _ p _ c.foretell_in-f.ensures,
-    )
+    let a = c.args in
+    λ k p. foretelling-turn (world a.settings (state_in a.state.now) k a.heap.now a.table.now) c.loop-generation.generation c.loop-generation.f (c.loop-generation.invariant k p)
+    (omega arith) c.requires.passed.limits.settings _ p _ c.foretell_in-f.ensures
 
 pub returns : goal.returns
 unfolding planned_generations
@@ -90,7 +84,7 @@ returns c =
     c.candidates_in-candidates.ensures
     ∙ ap₂ (λ (mark n : ℕ). plan_of a.settings a.claims mark n (state_in a.state.now).files.records) c.mark_in-mark.ensures c.count_in-count.ensures in
     let w = world a.settings (state_in a.state.now) a.claims a.heap.now a.table.now in
-    let told = foretelling-end w c.loop-generation.generation c.loop-generation.f (c.loop-generation.invariant.2 a.claims found) c.loop-generation-test.false in
+    let told = foretelling-end w c.loop-generation.generation c.loop-generation.f (c.loop-generation.invariant a.claims found) (omega arith) in
     plan-made w _
     c.mark_in-mark.ensures
     c.count_in-count.ensures

@@ -1,6 +1,4 @@
 use mathlib.Core.Path.{◌≡◌}
-use Prim.Native.Nat.{◌-◌}
-use lib.ListN.{length}
 use Rattle.rules.specs.declared.Claims.{Claims}
 use Rattle.rules.specs.TwoCalls as calls
 use Rattle.rules.specs.World.{world}
@@ -10,9 +8,5 @@ use Rattle.gc_plan.proofs.Turns.{Foretelling}
 use Rattle.gc_plan.proofs.worked_out.Given as goal
 
 abbrev pub invariant-loop-generation : goal.invariant-loop-generation
-invariant-loop-generation l = (length l.places ≡ length l.initial.places)
-    × (length l.pieces ≡ length l.initial.pieces)
-    × ((c : Claims) → l.candidates ≡ candidates_of (world l.settings (state_in l.state) c l.heap l.table) → Foretelling (world l.settings (state_in l.state) c l.heap l.table) l.generation l.f)
-
-abbrev pub decreases-loop-generation : goal.decreases-loop-generation
-decreases-loop-generation l = 4 - l.generation
+invariant-loop-generation l =
+    (c : Claims) → l.candidates ≡ candidates_of (world l.settings (state_in l.state) c l.heap l.table) → Foretelling (world l.settings (state_in l.state) c l.heap l.table) l.generation l.f

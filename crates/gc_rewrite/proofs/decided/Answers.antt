@@ -5,7 +5,7 @@ use borrow.Author.Rules.{rules}
 use mathlib.Core.List.{List}
 use lib.ListN.{length, get_or}
 use Rattle.rules.specs.declared.Settings.{Settings}
-use Rattle.rules.specs.declared.Answer.{Answer}
+use Rattle.rules.specs.Types.{Answer}
 use Rattle.gc_decision.specs.Empties.{empty_in}
 use Rattle.rules.specs.declared.FileMap.{FileMap}
 use Rattle.rules.specs.Refusal.{decide}
@@ -15,8 +15,12 @@ use Rattle.limits.specs.Settled.{passed-formed}
 use Rattle.as_numbers.specs.StateWords.{state_in}
 use Rattle.gc_candidates.specs.Plan.{planned}
 use Rattle.gc_group.specs.Source.{source}
-use Rattle.gc_decision.specs.Decisions.{decision_tests}
-use Rattle.gc_rewrite.specs.Rewriting.{group_decision}
+use Rattle.gc_decision.specs.Decisions.{decision_tests, verdict}
+use Rattle.rules.specs.declared.Refusal.{Refusal}
+use Rattle.gc_decision.specs.declared.Decision.{Decision}
+use Rattle.gc_decision.specs.Splits.{SplitUp}
+use Rattle.std.specs.Prelude.{Result, Ok, Err, OnOk, IfOk}
+use Rattle.gc_rewrite.specs.Rewriting.{group_decision, Decided}
 use Rattle.gc_rewrite.proofs.decided.Goals as goal
 
 pub decide_group-requires : goal.decide_group-requires
@@ -41,20 +45,29 @@ answers-are settings words heap table plan generation empty files answer is few 
     decided
     ∙ ap₂ (λ (m : FileMap) (n : ℕ). decide (decision_tests settings (source settings.slot_bytes heap m.records (used_entries table)) (planned plan generation) n (state_in words).next_position)) is few
 
+-- of a decision that is no refusal
+split-decided : (r : Result Decision Refusal) (a : Answer) {P : Type 0} (Q R : Decision → Type 0) → verdict r ≡ a → OnOk r P → IfOk r Q
+    → ((d : Decision) → P → Q d → a ≡ Ok tt → R d) → IfOk r R
+split-decided (Ok d) a Q R e p q f = f d p q (sym e)
+split-decided (Err x) a Q R e p q f = tt
+
 pub returns : goal.returns
 returns c =
     let a = c.args in
     let answers = answers-are a.group.settings a.state.now a.heap.now a.table.now a.plan.now a.group.generation a.empty _ _ c.files_in-files.ensures c.requires.empty_value c.decide_group.ensures.answers in
     let room = c.requires.table_in_bounds in
+    let done = c.decide_group.ensures in
     record {
       answers = answers;
-      splits = λ done. record {
-        limits = c.requires.passed;
-        filled = c.requires.filled;
-        wide = search (room, rules);
-        numbered = search (room, rules);
-        clear = sym answers ∙ done;
-        placed = rw (← c.files_in-files.ensures) (c.decide_group.ensures.places done);
-        split = c.decide_group.ensures.splits done;
-      };
+      splits = split-decided _ _ (λ (d : Decision). SplitUp a.group.settings a.heap.now (table_ids a.table.now) c.decide_group.new.places c.decide_group.new.pieces d.order d.total)
+          (λ (d : Decision). Decided a.group.settings (state_in a.state.now) a.heap.now a.table.now a.plan.now a.group.generation c.decide_group.new.places c.decide_group.new.pieces d.order d.total)
+          answers done.places done.splits (λ d placed split clear. record {
+            limits = c.requires.passed;
+            filled = c.requires.filled;
+            wide = search (room, rules);
+            numbered = search (room, rules);
+            clear = clear;
+            placed = rw (← c.files_in-files.ensures) placed;
+            split = split;
+          });
     }

@@ -1,7 +1,10 @@
-use mathlib.Core.Path.{refl}
 use Rattle.gc_split.specs.Tally.{closing}
 use Rattle.gc_split.proofs.closed.Goals as goal
 
-pub returns : goal.returns
+pub returns-then-t : goal.returns-then-t
 unfolding closing
-returns c = rw (c.either.ensures, c.too_large-large.ensures) refl
+returns-then-t c = rw c.if-t.true
+
+pub returns-else-t : goal.returns-else-t
+unfolding closing
+returns-else-t c = rw (c.if-t.false, c.too_large-large.ensures)

@@ -31,7 +31,7 @@ put_trailer-behind_trailer-requires c =
     let same = chain-elsewhere away a.file.first (table_ids a.table.now) a.places.now a.links.now w.apart in
     let room = writing-room w in
     rw same (record {
-      free = free_part (free-elsewhere (writing-free w) away) (a.file.start + 64 + a.file.total) (12 + 16 * a.file.count) (omega arith) (omega arith);
+      free = free_part (free-elsewhere (writing-free w) away) (a.file.start + 64 + a.file.sizes.total) (12 + 16 * a.file.sizes.count) (omega arith) (omega arith);
       leads = w.leads;
       count_value = w.entries;
       checksum_value = made.summed;

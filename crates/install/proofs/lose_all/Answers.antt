@@ -1,5 +1,5 @@
-use mathlib.Core.Path.{◌≡◌, refl, sym, ap, ◌∙◌}
-use Prim.Native.Nat.{◌+◌, ◌≤◌, ◌<◌, zero-le}
+use mathlib.Core.Path.{◌≡◌, sym, ap, ◌∙◌}
+use Prim.Native.Nat.{◌+◌, ◌≤◌, ◌<◌}
 use native.Mathlib.Omega.{arith}
 use lib.ListN.{length, drop, get_or}
 use Rattle.rules.specs.declared.Entry.{Entry}
@@ -13,34 +13,20 @@ use Rattle.file_lists.specs.ListLaws.{length-less}
 use Rattle.install.specs.Losing.{slot_holding, losing_lives, losing-next, losing-end}
 use Rattle.install.proofs.lose_all.Goals as goal
 
-pub loop-k-init : goal.loop-k-init
-loop-k-init c = (c.count-n.ensures, zero-le, refl, refl)
-
-pub lose_one-requires : goal.lose_one-requires
-lose_one-requires c =
-    let l = c.loop-k in
-    let pre = c.requires in
-    (omega (arith, l.invariant.2, pre.1), pre.3)
-
 pub loop-k-preserved : goal.loop-k-preserved
 loop-k-preserved c =
     let l = c.loop-k in
     let a = c.args in
     let es = entries_in a.trailer.now in
     let t = used_entries a.table.now in
-    let h : l.k < length es = omega (arith, l.invariant.0, entries-count a.trailer.now c.requires.2, c.loop-k-test.true) in
+    let h : l.k < length es = omega (arith, c.count-k-end.ensures, entries-count a.trailer.now c.requires.2, c.loop-k-test.true) in
     let lost : c.lose_one.new.lives ≡ less_at (slot_holding a.lsns.now (load t (get_or es l.k no_entry).id)) l.lives =
     c.lose_one.ensures
     ∙ ap (λ (x : Loaded). less_at (slot_holding a.lsns.now x) l.lives) c.load_found-loaded.ensures
     ∙ ap (λ (e : Entry). less_at (slot_holding a.lsns.now (load t e.id)) l.lives) c.entry-e.ensures in (
-      l.invariant.0,
-      omega arith,
-      ap length lost ∙ length-less (slot_holding a.lsns.now (load t (get_or es l.k no_entry).id)) l.lives ∙ l.invariant.2,
-      ap (losing_lives a.lsns.now t (drop (l.k + 1) es)) lost ∙ sym (losing-next a.lsns.now t es l.lives l.k no_entry h) ∙ l.invariant.3,
+      ap length lost ∙ length-less (slot_holding a.lsns.now (load t (get_or es l.k no_entry).id)) l.lives ∙ l.invariant.0,
+      ap (losing_lives a.lsns.now t (drop (l.k + 1) es)) lost ∙ sym (losing-next a.lsns.now t es l.lives l.k no_entry h) ∙ l.invariant.1,
     )
-
-pub shape_of-lives : goal.shape_of-lives
-shape_of-lives c = c.loop-k.invariant.2
 
 pub returns : goal.returns
 returns c =
@@ -48,5 +34,5 @@ returns c =
     let a = c.args in
     let es = entries_in a.trailer.now in
     let t = used_entries a.table.now in
-    let done : length es ≤ l.k = omega (arith, l.invariant.0, entries-count a.trailer.now c.requires.2, c.loop-k-test.false) in
-    sym (losing-end a.lsns.now t es l.lives l.k done) ∙ l.invariant.3
+    let done : length es ≤ l.k = omega (arith, c.count-k-end.ensures, entries-count a.trailer.now c.requires.2, c.loop-k-test.false) in
+    sym (losing-end a.lsns.now t es l.lives l.k done) ∙ l.invariant.1

@@ -1,7 +1,7 @@
-use mathlib.Core.Path.{◌≡◌, refl, sym, ap, ap₂, subst, ◌∙◌}
+use mathlib.Core.Path.{◌≡◌, sym, ap, ap₂, subst, ◌∙◌}
 use mathlib.Core.List.{List}
 use mathlib.Core.Bool.{false}
-use Prim.Native.Nat.{ℕ, ◌^◌, ◌*◌, ◌+◌, ◌≤◌, ◌<◌, zero-le}
+use Prim.Native.Nat.{ℕ, ◌^◌, ◌*◌, ◌+◌, ◌≤◌, ◌<◌}
 use native.Mathlib.Omega.{arith}
 use lib.ListN.{length, drop, get_or}
 use Rattle.rules.specs.declared.Entry.{Entry}
@@ -41,53 +41,37 @@ met b table s lsn n k e long placed some fits count more same all here =
       next = next;
     }
 
-pub loop-k-init : goal.loop-k-init
-loop-k-init c =
-    let pre = c.requires in
-    (c.count-n.ensures, zero-le, pre.0, refl, refl)
-
-pub find_near-place-requires : goal.find_near-place-requires
-find_near-place-requires c = c.loop-k.invariant.2
-
 pub store_one-requires : goal.store_one-requires
 store_one-requires c =
     let l = c.loop-k in
     let a = c.args in
     let pre = c.requires in
-    let m = met a.table.now l.table a.trailer.now a.lsn c.count-n.result l.k c.entry-e.result pre.1 pre.2 pre.3 pre.4 l.invariant.0 c.loop-k-test.true l.invariant.3 l.invariant.4 c.entry-e.ensures in
-    (l.invariant.2, c.find_near-place.ensures, m.placed, m.positive, m.room)
+    let m = met a.table.now l.table a.trailer.now a.lsn c.count-k-end.result l.k c.entry-e.result pre.1 pre.2 pre.3 pre.4 c.count-k-end.ensures c.loop-k-test.true l.invariant.1 l.invariant.2 c.entry-e.ensures in
+    (l.invariant.0, c.find_near-place.ensures, m.placed, m.positive, m.room)
 
 pub loop-k-preserved : goal.loop-k-preserved
 loop-k-preserved c =
     let l = c.loop-k in
     let a = c.args in
     let pre = c.requires in
-    let m = met a.table.now l.table a.trailer.now a.lsn c.count-n.result l.k c.entry-e.result pre.1 pre.2 pre.3 pre.4 l.invariant.0 c.loop-k-test.true l.invariant.3 l.invariant.4 c.entry-e.ensures in
+    let m = met a.table.now l.table a.trailer.now a.lsn c.count-k-end.result l.k c.entry-e.result pre.1 pre.2 pre.3 pre.4 c.count-k-end.ensures c.loop-k-test.true l.invariant.1 l.invariant.2 c.entry-e.ensures in
     let es = entries_in a.trailer.now in
     let e = c.entry-e.result in
     let some : 0 < (absolute a.lsn e).location = omega (arith, m.positive) in
     let stored = c.store_one.ensures in (
-      l.invariant.0,
-      omega arith,
-      subst Formed (sym stored) (formed-after l.table l.invariant.2 e.id (absolute a.lsn e).location some m.room),
-      ap capacity_of stored ∙ length-after l.table l.invariant.2 e.id (absolute a.lsn e).location some m.room ∙ l.invariant.3,
+      subst Formed (sym stored) (formed-after l.table l.invariant.0 e.id (absolute a.lsn e).location some m.room),
+      ap capacity_of stored ∙ length-after l.table l.invariant.0 e.id (absolute a.lsn e).location some m.room ∙ l.invariant.1,
       ap (λ (t : List Entry). insert_all t (taken a.lsn (drop (l.k + 1) es)))
-          (ap used_entries stored ∙ used-after l.table l.invariant.2 e.id (absolute a.lsn e).location some m.room)
+          (ap used_entries stored ∙ used-after l.table l.invariant.0 e.id (absolute a.lsn e).location some m.room)
           ∙ m.next
-          ∙ l.invariant.4,
+          ∙ l.invariant.2,
     )
-
-pub shape_of-table : goal.shape_of-table
-shape_of-table c =
-    let l = c.loop-k in
-    let pre = c.requires in
-    omega (arith, l.invariant.3, l.invariant.2.even, pre.0.even)
 
 pub returns : goal.returns
 returns c =
     let l = c.loop-k in
     let a = c.args in
     let es = entries_in a.trailer.now in
-    let done : length es ≤ l.k = omega (arith, l.invariant.0, entries-count a.trailer.now c.requires.1, c.loop-k-test.false) in
-    laid_out_lem l.table l.invariant.2
-    ∙ ap₂ laid_out l.invariant.3 (sym (adding-end a.lsn (used_entries l.table) es l.k done) ∙ l.invariant.4)
+    let done : length es ≤ l.k = omega (arith, c.count-k-end.ensures, entries-count a.trailer.now c.requires.1, c.loop-k-test.false) in
+    laid_out_lem l.table l.invariant.0
+    ∙ ap₂ laid_out l.invariant.1 (sym (adding-end a.lsn (used_entries l.table) es l.k done) ∙ l.invariant.2)

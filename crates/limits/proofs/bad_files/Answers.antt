@@ -1,4 +1,3 @@
-use Prim.Native.Nat.{◌-◌}
 use mathlib.Core.Path.{◌≡◌, refl, sym, ◌∙◌}
 use native.Mathlib.Omega.{arith}
 use borrow.Author.Rules.{rules}
@@ -17,7 +16,7 @@ pub loop-i-init : goal.loop-i-init
 loop-i-init c =
     let a = c.args in
     let w = within-true 128 1048576 a.s.slot_bytes (sym c.within.ensures ∙ c.if-not-within.false) in
-    (omega arith, w.0, w.1, bad-files a.s a.heap a.table.now a.files.records w.0 w.1)
+    (w.0, w.1, bad-files a.s a.heap a.table.now a.files.records w.0 w.1)
 
 pub returns-then-bad_record : goal.returns-then-bad_record
 returns-then-bad_record c =
@@ -26,7 +25,7 @@ returns-then-bad_record c =
     let rs = a.files.records in
     let all : length rs ≡ 256 = search (mapped-length, rules) in
     let i = c.loop-i.i in
-    sym (c.loop-i.invariant.3 ∙ bad-here a.s a.heap b rs i (omega arith) (sym c.bad_record.ensures ∙ c.if-bad_record.true))
+    sym (c.loop-i.invariant.2 ∙ bad-here a.s a.heap b rs i (omega arith) (sym c.bad_record.ensures ∙ c.if-bad_record.true))
 
 pub loop-i-preserved : goal.loop-i-preserved
 loop-i-preserved c =
@@ -36,7 +35,7 @@ loop-i-preserved c =
     let all : length rs ≡ 256 = search (mapped-length, rules) in
     let i = c.loop-i.i in
     let inv = c.loop-i.invariant in
-    (omega arith, inv.1, inv.2, inv.3 ∙ bad-next a.s a.heap b rs i (omega arith) (sym c.bad_record.ensures ∙ c.if-bad_record.false))
+    (inv.0, inv.1, inv.2 ∙ bad-next a.s a.heap b rs i (omega arith) (sym c.bad_record.ensures ∙ c.if-bad_record.false))
 
 pub returns : goal.returns
 returns c =
@@ -44,4 +43,4 @@ returns c =
     let rs = a.files.records in
     let all : length rs ≡ 256 = search (mapped-length, rules) in
     let i = c.loop-i.i in
-    sym (c.loop-i.invariant.3 ∙ bad-end a.s a.heap a.table.now rs i (omega arith))
+    sym (c.loop-i.invariant.2 ∙ bad-end a.s a.heap a.table.now rs i (omega arith))

@@ -1,4 +1,4 @@
-use Prim.Native.Nat.{◌≤◌, ◌-◌}
+use Prim.Native.Nat.{◌≤◌}
 use mathlib.Core.Path.{◌≡◌}
 use lib.ListN.{drop}
 use Rattle.rules.specs.Condition1.{bad_from}
@@ -6,10 +6,6 @@ use Rattle.limits.specs.Settled.{bad_files}
 use Rattle.limits.proofs.bad_files.Given as goal
 
 abbrev pub invariant-loop-i : goal.invariant-loop-i
-invariant-loop-i l = (l.i ≤ 256)
-    × (128 ≤ l.s.slot_bytes)
+invariant-loop-i l = (128 ≤ l.s.slot_bytes)
     × (l.s.slot_bytes ≤ 1048576)
-    × (bad_files l.s l.heap l.table l.files.records ≡ bad_from l.s l.heap l.table l.i (drop l.i l.files.records))
-
-abbrev pub decreases-loop-i : goal.decreases-loop-i
-decreases-loop-i l = 256 - l.i
+    × (bad_files l.s l.heap l.table l.fn.files.records ≡ bad_from l.s l.heap l.table l.i (drop l.i l.fn.files.records))

@@ -1,7 +1,6 @@
 use Prim.Native.Nat.{◌%◌}
 use mathlib.Core.Path.{refl, ◌∙◌}
 use borrow.Author.Tests.{eq-eqb, ne_eqb}
-use Rattle.rules.specs.Base.{within}
 use Rattle.rules.specs.Settings.{heap_in_range}
 use Rattle.limits.proofs.heap_in_range.Goals as goal
 

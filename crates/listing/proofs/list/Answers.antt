@@ -4,8 +4,8 @@ use Rattle.rules.proofs.Condition1Laws.{passed}
 use Rattle.limits.specs.Settled.{passed-formed}
 use Rattle.listing.proofs.list.Goals as goal
 
-pub used-used-requires : goal.used-used-requires
-used-used-requires g c =
+pub used-requires : goal.used-requires
+used-requires g c =
     let a = c.args in
     let n = length a.heap.now in
     let clear = sym c.refused.ensures ∙ c.if-refused.false in

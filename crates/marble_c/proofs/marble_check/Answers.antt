@@ -7,6 +7,6 @@ pub returns : goal.returns
 returns c =
     let done = c.check in
     record {
-      answers = c.check_shown-done.ensures ∙ ap (λ (x : Checked). shown 1 x.answer) done.ensures;
+      answers = c.count_shown-done.ensures.check ∙ ap (λ (x : Checked). shown 1 x.answer) done.ensures;
       lists = ap (λ (x : Checked). x.listing) done.ensures;
     }

@@ -2,4 +2,4 @@ use Rattle.marble_c.proofs.marble_claim.Goals as goal
 
 pub returns : goal.returns
 returns c =
-    rw (c.number.ensures, c.put_claims.ensures, ← c.claims_in-held.ensures, ← c.state_in-was.ensures) c.claim-done.ensures
+    rw (c.number.ensures, c.put_claims.ensures, ← c.claims_in.ensures, ← c.state_in.ensures) c.claim-done.ensures

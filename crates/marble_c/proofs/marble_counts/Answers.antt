@@ -5,4 +5,4 @@ use Rattle.marble_c.proofs.marble_counts.Goals as goal
 
 pub returns : goal.returns
 returns c =
-    λ claims. rw (c.put_counts.ensures, ← c.state_in-was.ensures) (c.counts_shown-done.ensures ∙ ap (λ (e : After). shown 4 e.answer) (c.counts.ensures claims))
+    λ claims. rw (c.put_counts.ensures, ← c.state_in.ensures) (c.counts_shown-done.ensures ∙ ap (λ (e : After). shown 4 e.answer) (c.counts.ensures claims))

@@ -10,7 +10,7 @@ pub returns : goal.returns
 returns c =
     let a = c.args in
     let told = ap (λ (g : Given). g.number) c.maintain_shown-stopped.ensures in
-    rw (c.put_two.ensures, c.maintain_shown-stopped.ensures, ← c.claims_in-held.ensures) (record {
+    rw (c.maintain_shown-stopped.ensures, ← c.claims_in.ensures) (record {
       leaves = ap stop_after c.nightly_in.ensures.leaves;
       places = c.nightly_in.ensures.places ∙ ap (λ (n : ℕ). notes_left (numbered n) a.places.now) (sym told);
       pieces = c.nightly_in.ensures.pieces ∙ ap (λ (n : ℕ). notes_left (numbered n) a.pieces.now) (sym told);

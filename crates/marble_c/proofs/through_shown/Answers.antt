@@ -2,32 +2,15 @@ use mathlib.Core.Path.{sym, ap, ◌∙◌}
 use mathlib.Core.List.{◌∷◌, []}
 use Prim.Native.Nat.{ℕ}
 use Rattle.rules.specs.Base.{padded}
-use Rattle.rules.specs.World.{Given}
-use Rattle.through.specs.declared.ThroughAnswer.{ThroughAnswer}
+use Rattle.through.specs.Answers.{ThroughAnswer}
 use Rattle.through.specs.Through.{through_given}
 use Rattle.as_numbers.specs.Shown.{given, shown}
 use Rattle.marble_c.proofs.through_shown.Goals as goal
 
--- the answer that the match tells, in four places
-abbrev places : ThroughAnswer → Given
-places x = shown 4 (through_given x)
-
-pub returns-in-InBatch : goal.returns-in-InBatch
+pub returns-in-Ok : goal.returns-in-Ok
 unfolding padded
-returns-in-InBatch c = ap places (sym c.in-InBatch.is)
+returns-in-Ok c = c.places_of.ensures ∙ ap (λ (x : ThroughAnswer). shown 4 (through_given x)) (sym c.in-Ok.is)
 
-pub returns-in-InHeap : goal.returns-in-InHeap
+pub returns-in-Err : goal.returns-in-Err
 unfolding padded
-returns-in-InHeap c = ap places (sym c.in-InHeap.is)
-
-pub returns-in-ThroughDeleted : goal.returns-in-ThroughDeleted
-unfolding padded
-returns-in-ThroughDeleted c = ap places (sym c.in-ThroughDeleted.is)
-
-pub returns-in-ThroughNever : goal.returns-in-ThroughNever
-unfolding padded
-returns-in-ThroughNever c = ap places (sym c.in-ThroughNever.is)
-
-pub returns-in-ThroughRefused : goal.returns-in-ThroughRefused
-unfolding padded
-returns-in-ThroughRefused c = ap (λ (n : ℕ). given n (0 ∷ 0 ∷ 0 ∷ 0 ∷ [])) c.refusal_number.ensures ∙ ap places (sym c.in-ThroughRefused.is)
+returns-in-Err c = ap (λ (n : ℕ). given n (0 ∷ 0 ∷ 0 ∷ 0 ∷ [])) c.refusal_number.ensures ∙ ap (λ (x : ThroughAnswer). shown 4 (through_given x)) (sym c.in-Err.is)

@@ -1,7 +1,7 @@
-use mathlib.Core.Path.{◌≡◌, sym, ap, ap₂, ◌∙◌}
+use mathlib.Core.Path.{sym, ap, ap₂, ◌∙◌}
 use borrow.Author.Tests.{not-true}
 use lib.ListN.{length}
-use Rattle.rules.specs.declared.Answer.{Answer}
+use Rattle.rules.specs.Types.{Answer}
 use Rattle.rules.specs.Condition1.{condition_one}
 use Rattle.rules.proofs.Condition1Laws.{passed}
 use Rattle.rules.specs.World.{World, world, leaving, answer_given}

@@ -1,5 +1,5 @@
 use mathlib.Core.Path.{ap, ◌∙◌}
-use Rattle.rules.specs.declared.ReadAnswer.{ReadAnswer}
+use Rattle.rules.specs.Types.{ReadAnswer}
 use Rattle.rules.specs.Claims.{no_claims}
 use Rattle.rules.specs.World.{world}
 use Rattle.rules.specs.Read.{part_of}

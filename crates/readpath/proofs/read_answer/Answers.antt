@@ -9,7 +9,7 @@ use Rattle.disk_location.specs.Locations.{position_of}
 use Rattle.rules.specs.declared.Claims.{Claims}
 use Rattle.rules.specs.declared.Settings.{Settings}
 use Rattle.rules.specs.declared.State.{State}
-use Rattle.rules.specs.declared.Slot.{Slot}
+use Rattle.rules.specs.Types.{Slot}
 use Rattle.rules.specs.declared.Loaded.{Loaded}
 use Rattle.rules.specs.declared.Loaded.TheVariants.{At}
 use Rattle.rules.specs.Table.{load}
@@ -73,20 +73,20 @@ load-requires c =
     let asked = sym (c.refused_apart.ensures.answers a.state.files c.bad_files-bad.ensures ∙ ap (condition_one a.settings (length a.heap.now) a.table.now) c.rest_of.ensures) in
     passed-formed a.settings (length a.heap.now) a.table.now a.state (passed a.settings (length a.heap.now) a.table.now a.state (asked ∙ c.if-refused_apart.false))
 
-pub returns-in_default : goal.returns-in_default
-returns-in_default c =
+pub returns-in_err-slot-in-At : goal.returns-in_err-slot-in-At
+returns-in_err-slot-in-At c =
     let a = c.args in
     let asked = sym (c.refused_apart.ensures.answers a.state.files c.bad_files-bad.ensures ∙ ap (condition_one a.settings (length a.heap.now) a.table.now) c.rest_of.ensures) in
     let at = placed a.settings a.state a.heap.now a.table.now a.id c.in-At.location _ c.lsn_at.result c.lsn_at.ensures c.lsns-lsns.ensures in
-    λ claims. sym (filed a.settings a.state a.heap.now a.table.now a.id (asked ∙ c.if-refused_apart.false) c.load.result c.load.ensures c.in-At.location c.in-At.is c.lsn_at.result at claims ∙ ap (read_file (given a.settings a.state a.heap.now a.table.now a.id claims) a.id c.in-At.location) c.in_default.is)
+    λ claims. search (rules, sym (filed a.settings a.state a.heap.now a.table.now a.id (asked ∙ c.if-refused_apart.false) c.load.result c.load.ensures c.in-At.location c.in-At.is c.lsn_at.result at claims ∙ ap (read_file (given a.settings a.state a.heap.now a.table.now a.id claims) a.id c.in-At.location) c.in_err-slot-in-At.ensures.ok_part))
 
 pub offset_bounds-files-i : goal.offset_bounds-files-i
 offset_bounds-files-i c =
     let a = c.args in
     let asked = sym (c.refused_apart.ensures.answers a.state.files c.bad_files-bad.ensures ∙ ap (condition_one a.settings (length a.heap.now) a.table.now) c.rest_of.ensures) in
     let at = placed a.settings a.state a.heap.now a.table.now a.id c.in-At.location _ c.lsn_at.result c.lsn_at.ensures c.lsns-lsns.ensures in
-    let found = file-at a.state.files.records c.in-At.location c.in-Is.slot (sym at ∙ c.in-Is.is) in
-    let place = (lies a.settings a.state a.heap.now a.table.now a.id (asked ∙ c.if-refused_apart.false) c.in-At.location c.in-Is.slot found).place in
+    let found = file-at a.state.files.records c.in-At.location c.in_ok-slot-in-At.slot (sym at ∙ c.in_ok-slot-in-At.ensures.ok_part) in
+    let place = (lies a.settings a.state a.heap.now a.table.now a.id (asked ∙ c.if-refused_apart.false) c.in-At.location c.in_ok-slot-in-At.slot found).place in
     search rules
 
 pub bounds-files-i : goal.bounds-files-i
@@ -94,15 +94,15 @@ bounds-files-i c =
     let a = c.args in
     let asked = sym (c.refused_apart.ensures.answers a.state.files c.bad_files-bad.ensures ∙ ap (condition_one a.settings (length a.heap.now) a.table.now) c.rest_of.ensures) in
     let at = placed a.settings a.state a.heap.now a.table.now a.id c.in-At.location _ c.lsn_at.result c.lsn_at.ensures c.lsns-lsns.ensures in
-    let found = file-at a.state.files.records c.in-At.location c.in-Is.slot (sym at ∙ c.in-Is.is) in
-    let place = (lies a.settings a.state a.heap.now a.table.now a.id (asked ∙ c.if-refused_apart.false) c.in-At.location c.in-Is.slot found).place in
+    let found = file-at a.state.files.records c.in-At.location c.in_ok-slot-in-At.slot (sym at ∙ c.in_ok-slot-in-At.ensures.ok_part) in
+    let place = (lies a.settings a.state a.heap.now a.table.now a.id (asked ∙ c.if-refused_apart.false) c.in-At.location c.in_ok-slot-in-At.slot found).place in
     search rules
 
 pub overflow_sub-position : goal.overflow_sub-position
 overflow_sub-position c =
     let a = c.args in
     let at = placed a.settings a.state a.heap.now a.table.now a.id c.in-At.location _ c.lsn_at.result c.lsn_at.ensures c.lsns-lsns.ensures in
-    let found = file-at a.state.files.records c.in-At.location c.in-Is.slot (sym at ∙ c.in-Is.is) in
+    let found = file-at a.state.files.records c.in-At.location c.in_ok-slot-in-At.slot (sym at ∙ c.in_ok-slot-in-At.ensures.ok_part) in
     let low = found.low in
     let half = c.position.ensures in
     omega arith
@@ -112,8 +112,8 @@ object_at-requires c =
     let a = c.args in
     let asked = sym (c.refused_apart.ensures.answers a.state.files c.bad_files-bad.ensures ∙ ap (condition_one a.settings (length a.heap.now) a.table.now) c.rest_of.ensures) in
     let at = placed a.settings a.state a.heap.now a.table.now a.id c.in-At.location _ c.lsn_at.result c.lsn_at.ensures c.lsns-lsns.ensures in
-    let found = file-at a.state.files.records c.in-At.location c.in-Is.slot (sym at ∙ c.in-Is.is) in
-    lies a.settings a.state a.heap.now a.table.now a.id (asked ∙ c.if-refused_apart.false) c.in-At.location c.in-Is.slot found
+    let found = file-at a.state.files.records c.in-At.location c.in_ok-slot-in-At.slot (sym at ∙ c.in_ok-slot-in-At.ensures.ok_part) in
+    lies a.settings a.state a.heap.now a.table.now a.id (asked ∙ c.if-refused_apart.false) c.in-At.location c.in_ok-slot-in-At.slot found
 
 pub returns-in-Never : goal.returns-in-Never
 returns-in-Never c =
@@ -127,13 +127,13 @@ returns-in-DeletedAt c =
     let asked = sym (c.refused_apart.ensures.answers a.state.files c.bad_files-bad.ensures ∙ ap (condition_one a.settings (length a.heap.now) a.table.now) c.rest_of.ensures) in
     λ claims. sym (loaded a.settings a.state a.heap.now a.table.now a.id (asked ∙ c.if-refused_apart.false) c.load.result c.load.ensures claims ∙ ap (read_loaded (given a.settings a.state a.heap.now a.table.now a.id claims) a.id) c.in-DeletedAt.is)
 
-pub returns-in-Is : goal.returns-in-Is
-returns-in-Is c =
+pub returns-in_ok-slot-in-At : goal.returns-in_ok-slot-in-At
+returns-in_ok-slot-in-At c =
     let a = c.args in
     let asked = sym (c.refused_apart.ensures.answers a.state.files c.bad_files-bad.ensures ∙ ap (condition_one a.settings (length a.heap.now) a.table.now) c.rest_of.ensures) in
     let at = placed a.settings a.state a.heap.now a.table.now a.id c.in-At.location _ c.lsn_at.result c.lsn_at.ensures c.lsns-lsns.ensures in
     let l = c.in-At.location in
-    let k = c.in-Is.slot in
+    let k = c.in_ok-slot-in-At.slot in
     let r = (record_at a.state.files.records k).label in
     let size = a.settings.slot_bytes in
     let file = file_in r (bytes_of_slot size a.heap.now k) in
@@ -142,4 +142,4 @@ returns-in-Is c =
     c.object_at.ensures
     ∙ ap (λ (p : ℕ). in_heap (k * size + 64) (body_of a.id (stored_at (p - r.lsn) (drop (p - r.lsn) file)))) c.position.ensures
     ∙ sym (read-object w a.id k (object_in w k (position_of l - r.lsn)))
-    ∙ sym (filed a.settings a.state a.heap.now a.table.now a.id (asked ∙ c.if-refused_apart.false) c.load.result c.load.ensures l c.in-At.is c.lsn_at.result at claims ∙ ap (read_file w a.id l) c.in-Is.is)
+    ∙ sym (filed a.settings a.state a.heap.now a.table.now a.id (asked ∙ c.if-refused_apart.false) c.load.result c.load.ensures l c.in-At.is c.lsn_at.result at claims ∙ ap (read_file w a.id l) c.in_ok-slot-in-At.ensures.ok_part)

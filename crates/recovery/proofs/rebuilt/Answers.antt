@@ -1,7 +1,6 @@
 use mathlib.Core.Path.{sym, ap, subst, ◌∙◌}
 use mathlib.Core.List.{List, map}
 use Prim.Native.Nat.{ℕ, ◌^◌, ◌<◌}
-use borrow.Author.Tests.{not-true, not-false}
 use Rattle.rules.specs.SlotFile.{views_in}
 use Rattle.rules.specs.Reopen.{files_in, table_of}
 use Rattle.reopen_tests.specs.Shown.{sound-views}

@@ -14,8 +14,8 @@ use native.Mathlib.Omega.{arith}
 use lib.ListN.{length}
 use Rattle.recovery.proofs.recovered.Goals as goal
 
-pub survey-found-requires : goal.survey-found-requires
-survey-found-requires c =
+pub survey-requires : goal.survey-requires
+survey-requires c =
     let a = c.args in
     record {
       size_in_bounds = omega (arith, heap-whole a.settings (length a.heap.now) c.requires.heap);
@@ -28,31 +28,31 @@ tested-requires c =
     let a = c.args in
     let heap = a.heap.now in
     let views = views_in (slots_in a.settings (length heap)) a.settings.slot_bytes heap in
-    let done = c.in-Done.is in (
+    let done = c.in-Ok.is in (
       record {
         within = omega (arith, heap-whole a.settings (length heap) c.requires.heap);
         most = c.requires.heap.most;
-        clear = told-clear (decide (each view_tests views)) views _ c.survey-found.ensures done;
-        labels = told-labels (decide (each view_tests views)) views _ c.survey-found.ensures done;
+        clear = told-clear (decide (each view_tests views)) views _ c.survey.ensures _ done;
+        labels = told-labels (decide (each view_tests views)) views _ c.survey.ensures _ done;
       },
       c.requires.settings.slot-high,
       cleared-blank a.table.now c.requires.table.even _ c.clear.ensures,
     )
 
-pub returns-in-Refused : goal.returns-in-Refused
+pub returns-in-Err : goal.returns-in-Err
 unfolding surveyed
-returns-in-Refused c =
+returns-in-Err c =
     let a = c.args in
     let heap = a.heap.now in
     let views = views_in (slots_in a.settings (length heap)) a.settings.slot_bytes heap in
     let wiped = c.clear in
-    let said = slots-refuse views _ (told-refused (decide (each view_tests views)) views _ c.survey-found.ensures _ c.in-Refused.is) in
-    gives_up a.settings heap a.table.now _ _ _ c.in-Refused.r c.given_up.ensures (c.capacity.ensures ∙ ap (λ (n : ℕ). n / 2) wiped.auto.table) wiped.ensures
-    ∙ sym (tests-refuse (bare a.settings heap a.table.now) views c.in-Refused.r said)
+    let said = slots-refuse views _ (told-refused (decide (each view_tests views)) views _ c.survey.ensures _ c.in-Err.is) in
+    gives_up a.settings heap a.table.now _ _ _ c.in-Err.r c.given_up.ensures (c.capacity.ensures ∙ ap (λ (n : ℕ). n / 2) wiped.auto.table) wiped.ensures
+    ∙ sym (tests-refuse (bare a.settings heap a.table.now) views c.in-Err.r said)
 
-pub returns-in-Done : goal.returns-in-Done
+pub returns-in-Ok : goal.returns-in-Ok
 unfolding surveyed
-returns-in-Done c =
+returns-in-Ok c =
     let a = c.args in
     let heap = a.heap.now in
     let views = views_in (slots_in a.settings (length heap)) a.settings.slot_bytes heap in

@@ -7,18 +7,18 @@ use Rattle.recovery.proofs.tested.Goals as goal
 pub rebuilt-requires : goal.rebuilt-requires
 rebuilt-requires c =
     let a = c.args in
-    (c.requires.0, c.requires.1, c.requires.2, tests-apart a.n a.size a.heap.now _ c.requires.0 (sym c.check.ensures ∙ c.in-Done.is))
+    (c.requires.0, c.requires.1, c.requires.2, tests-apart a.n a.size a.heap.now _ c.requires.0 (sym c.check.ensures ∙ c.in-Ok.is))
 
-pub returns-in-Refused : goal.returns-in-Refused
-returns-in-Refused c =
+pub returns-in-Err : goal.returns-in-Err
+returns-in-Err c =
     let a = c.args in
     let w = bare a.settings a.heap.now a.table.now in
-    gives_up a.settings a.heap.now a.table.now _ _ _ c.in-Refused.r c.given_up.ensures c.capacity.ensures c.requires.2.zero
-    ∙ sym (tests-refuse w (views_in a.n a.size a.heap.now) c.in-Refused.r (sym c.check.ensures ∙ c.in-Refused.is))
+    gives_up a.settings a.heap.now a.table.now _ _ _ c.in-Err.r c.given_up.ensures c.capacity.ensures c.requires.2.zero
+    ∙ sym (tests-refuse w (views_in a.n a.size a.heap.now) c.in-Err.r (sym c.check.ensures ∙ c.in-Err.is))
 
-pub returns-in-Done : goal.returns-in-Done
-returns-in-Done c =
+pub returns-in-Ok : goal.returns-in-Ok
+returns-in-Ok c =
     let a = c.args in
     let w = bare a.settings a.heap.now a.table.now in
     c.rebuilt.ensures
-    ∙ sym (tests-clear w (views_in a.n a.size a.heap.now) (sym c.check.ensures ∙ c.in-Done.is))
+    ∙ sym (tests-clear w (views_in a.n a.size a.heap.now) (sym c.check.ensures ∙ c.in-Ok.is))

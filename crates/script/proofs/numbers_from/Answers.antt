@@ -1,42 +1,35 @@
-use mathlib.Core.Path.{refl, sym, ◌∙◌}
-use native.Mathlib.Omega.{arith}
-use lib.ListN.{drop, length-set}
+use Rattle.std.proofs.Common.{◌<◌, ◌≤◌, sym, ◌∙◌, length, length-take, take, drop, arith}
+use Rattle.script.specs.Asked.{no_numbers}
 use Rattle.script.specs.Words.{words_of}
-use Rattle.script.proofs.Taken.{underway-start, underway-turn, underway-good, underway-put, underway-behind, number-no, number_word}
+use Rattle.script.proofs.Taken.{underway-start, underway-turn, underway-end, number-no, number_word}
 use Rattle.script.proofs.numbers_from.Goals as goal
 
-pub loop-k-init : goal.loop-k-init
-loop-k-init c =
-    let a = c.args in
-    (omega arith, omega arith, underway-start a.n (words_of (drop a.from a.text.now)), refl)
+pub loop-value-init : goal.loop-value-init
+loop-value-init c = (c.requires.from_in_bounds, underway-start c.args.n (words_of (drop c.args.from c.args.text.now)) (take c.args.n no_numbers))
 
-pub returns-in_default : goal.returns-in_default
-returns-in_default c =
+pub returns-in_err-value : goal.returns-in_err-value
+returns-in_err-value c =
     let a = c.args in
-    record {
-      within = c.requires.from_in_bounds;
-      good = number-no a.text.now c.loop-k.at c.next_word-word.result c.next_word-word.ensures.answers a.n c.loop-k.k _ c.loop-k.values (omega arith) (sym c.number.ensures ∙ c.in_default.is) c.loop-k.invariant.2;
-      values = refl;
-      rest = refl;
-    }
+    let l = c.loop-value in
+    let inside : l.value-index < a.n = omega (arith, length-take a.n no_numbers) in
+    rw c.from_residual.ensures
+    (sym (number-no a.text.now l.at c.next_word-word.result c.next_word-word.ensures.answers a.n l.value-index _ _ l.value-items inside (sym c.number.ensures ∙ c.in_err-value.was) l.invariant.1))
 
-pub loop-k-preserved : goal.loop-k-preserved
-loop-k-preserved c =
+pub loop-value-preserved : goal.loop-value-preserved
+loop-value-preserved c =
     let a = c.args in
     let s = a.text.now in
-    let v = c.in-Value.v in
-    let said = sym c.number.ensures ∙ c.in-Value.is in
-    (omega arith, omega arith, underway-turn a.n c.loop-k.k (words_of (drop a.from s)) (words_of (drop c.loop-k.at s)) _ c.loop-k.values _ v (omega arith) (omega (arith, c.loop-k.invariant.3)) (number_word s c.loop-k.at c.next_word-word.result c.next_word-word.ensures.answers v said) said c.loop-k.invariant.2, length-set c.loop-k.values c.loop-k.k v ∙ c.loop-k.invariant.3)
+    let l = c.loop-value in
+    let v = c.in_ok-value.field-0 in
+    let said = sym c.number.ensures ∙ c.in_ok-value.was in
+    let inside : l.value-index < a.n = omega (arith, length-take a.n no_numbers) in
+    let room : l.value-index < length l.value-items = omega (arith, length-take a.n no_numbers) in
+    let word = number_word s l.at c.next_word-word.result c.next_word-word.ensures.answers v said in
+    (omega arith, underway-turn a.n l.value-index (words_of (drop a.from s)) (words_of (drop l.at s)) _ (take a.n no_numbers) l.value-items _ v inside room word said l.invariant.1)
 
 pub returns : goal.returns
 returns c =
     let a = c.args in
-    let ws = words_of (drop a.from a.text.now) in
-    let left = words_of (drop c.loop-k.at a.text.now) in
-    let u = c.loop-k.invariant.2 in
-    record {
-      within = c.loop-k.invariant.0;
-      good = underway-good a.n c.loop-k.k ws left c.loop-k.values (omega arith) u;
-      values = underway-put a.n c.loop-k.k ws left c.loop-k.values (omega arith) u;
-      rest = underway-behind a.n c.loop-k.k ws left c.loop-k.values (omega arith) u;
-    }
+    let l = c.loop-value in
+    let all : a.n ≤ l.value-index = omega (arith, length-take a.n no_numbers, c.requires.n_bound) in
+    underway-end a.n l.value-index l.at (words_of (drop a.from a.text.now)) a.text.now l.value-items all l.invariant.0 l.invariant.1

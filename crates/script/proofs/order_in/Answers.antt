@@ -1,6 +1,4 @@
-use mathlib.Core.Path.{sym, ◌∙◌}
 use mathlib.Core.Bool.{true, false}
-use borrow.Author.Tests.{not-true, not-false}
 use Rattle.numbers.specs.Choice.{pick}
 use Rattle.script.specs.declared.Keyword.TheVariants.{Blank, Bad}
 use Rattle.script.proofs.Cuts.{word_none, word_some}
@@ -17,11 +15,11 @@ returns-then-start-end c =
       writes = whole.1;
     }
 
-pub returns-then-not-numbers : goal.returns-then-not-numbers
-returns-then-not-numbers c =
+pub returns-in_default : goal.returns-in_default
+returns-in_default c =
     let a = c.args in
     let there = word_some a.text.now 0 c.next_word-first.result c.next_word-first.ensures.answers c.if-start-end.false in
-    let whole = given-bare _ Bad _ _ (asked-wrong _ a.comment _ _ _ c.keyword_of-keyword.result c.shape_of-shape.result there c.keyword_of-keyword.ensures c.shape_of-shape.ensures.answers (sym c.numbers_from-numbers.ensures.good ∙ not-true _ c.if-not-numbers.true)) c.no_order.ensures in
+    let whole = given-bare _ Bad _ _ (asked-wrong _ a.comment _ _ _ c.keyword_of-keyword.result c.shape_of-shape.result there c.keyword_of-keyword.ensures c.shape_of-shape.ensures.answers c.in_default.ensures) c.no_order.ensures in
     record {
       answers = whole.0;
       writes = whole.1;
@@ -31,8 +29,7 @@ pub returns-then-shape : goal.returns-then-shape
 returns-then-shape c =
     let a = c.args in
     let there = word_some a.text.now 0 c.next_word-first.result c.next_word-first.ensures.answers c.if-start-end.false in
-    let good = not-false _ c.if-not-numbers.false in
-    let whole = given-same _ _ _ _ _ (asked-on _ a.comment _ _ _ c.keyword_of-keyword.result c.shape_of-shape.result there c.keyword_of-keyword.ensures c.shape_of-shape.ensures.answers _ true _ _ good c.numbers_from-numbers.ensures.good c.numbers_from-numbers.ensures.values c.numbers_from-numbers.ensures.rest c.if-shape.true) (c.with_bytes.ensures.answers, c.with_bytes.ensures.writes) in
+    let whole = given-same _ _ _ _ _ (asked-on _ a.comment _ _ _ c.keyword_of-keyword.result c.shape_of-shape.result there c.keyword_of-keyword.ensures c.shape_of-shape.ensures.answers true _ _ _ c.in-Some.ensures c.if-shape.true) (c.with_bytes.ensures.answers, c.with_bytes.ensures.writes) in
     record {
       answers = whole.0;
       writes = whole.1;
@@ -42,8 +39,7 @@ pub returns : goal.returns
 returns c =
     let a = c.args in
     let there = word_some a.text.now 0 c.next_word-first.result c.next_word-first.ensures.answers c.if-start-end.false in
-    let good = not-false _ c.if-not-numbers.false in
-    let whole = given-same _ _ _ _ _ (asked-on _ a.comment _ _ _ c.keyword_of-keyword.result c.shape_of-shape.result there c.keyword_of-keyword.ensures c.shape_of-shape.ensures.answers _ false _ _ good c.numbers_from-numbers.ensures.good c.numbers_from-numbers.ensures.values c.numbers_from-numbers.ensures.rest c.if-shape.false) (plain-given _ _ _ _ _ _ c.ended.ensures) in
+    let whole = given-same _ _ _ _ _ (asked-on _ a.comment _ _ _ c.keyword_of-keyword.result c.shape_of-shape.result there c.keyword_of-keyword.ensures c.shape_of-shape.ensures.answers false _ _ _ c.in-Some.ensures c.if-shape.false) (plain-given _ _ _ _ _ _ c.ended.ensures) in
     record {
       answers = whole.0;
       writes = whole.1;

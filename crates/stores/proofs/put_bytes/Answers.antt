@@ -1,6 +1,5 @@
-use mathlib.Core.Path.{◌≡◌, sym, ap, ◌∙◌}
+use mathlib.Core.Path.{◌≡◌, ap, ◌∙◌}
 use lib.ListN.{take, length-take}
-use lib.Seq.{length-take-le}
 use Rattle.numbers.specs.Parts.{put_at}
 use Rattle.numbers.proofs.Lent.{lent}
 use Rattle.stores.specs.Runs.{made-put}
@@ -8,14 +7,6 @@ use Rattle.stores.proofs.FirstBytes.{take-lesser}
 use Prim.Native.Nat.{ℕ}
 use native.Mathlib.Omega.{arith}
 use Rattle.stores.proofs.put_bytes.Goals as goal
-
-pub slice_bounds-copy-end : goal.slice_bounds-copy-end
-slice_bounds-copy-end c =
-    sym (length-take-le c.lesser-many.result c.args.from.now (omega (arith, c.lesser-many.ensures)))
-
-pub copy-requires : goal.copy-requires
-copy-requires c =
-    omega (arith, c.lesser-many.ensures, length-take c.lesser-many.result c.args.from.now, length-take c.lesser-many.result c.args.from.now)
 
 pub returns : goal.returns
 returns c =

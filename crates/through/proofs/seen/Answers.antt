@@ -1,7 +1,8 @@
+use Rattle.std.proofs.Common.{rules}
 use mathlib.Core.Path.{◌≡◌, sym, ap, ap₂, ◌∙◌}
 use mathlib.Core.Bool.{Bool}
 use Prim.Native.Nat.{ℕ}
-use Rattle.rules.specs.declared.ReadAnswer.{ReadAnswer}
+use Rattle.rules.specs.Types.{ReadAnswer}
 use Rattle.rules.specs.Batch.{batch_in, is_malformed}
 use Rattle.rules.specs.Condition1.{refused1}
 use Rattle.rules.specs.Read.{read_of}
@@ -21,18 +22,18 @@ returns-then-refused_first c =
     let a = c.args in
     λ w e. sym (through-refused w a.id a.batch.now (asked a.stored a.id c.refused_first.result c.refused_first.ensures w e ∙ c.if-refused_first.true))
 
-pub returns-in_default : goal.returns-in_default
-returns-in_default c =
+pub returns-in_err-last : goal.returns-in_err-last
+returns-in_err-last c =
     let a = c.args in
     let m = is_malformed (batch_in a.batch.now) in
-    let bad = pass-bad m (last_in a.batch.now a.id) (sym c.last_on.ensures ∙ c.in_default.is) in
-    λ w e. sym (through-bad w a.id a.batch.now (asked a.stored a.id c.refused_first.result c.refused_first.ensures w e ∙ c.if-refused_first.false) bad)
+    let bad = pass-bad m (last_in a.batch.now a.id) (sym c.last_on.ensures ∙ c.in_err-last.ensures.ok_part) in
+    λ w e. search (rules, sym (through-bad w a.id a.batch.now (asked a.stored a.id c.refused_first.result c.refused_first.ensures w e ∙ c.if-refused_first.false) bad))
 
 pub returns : goal.returns
 returns c =
     let a = c.args in
     let m = is_malformed (batch_in a.batch.now) in
-    let whole = pass-whole m (last_in a.batch.now a.id) c.in-Whole.last (sym c.last_on.ensures ∙ c.in-Whole.is) in
+    let whole = pass-whole m (last_in a.batch.now a.id) _ (sym c.last_on.ensures ∙ c.in_ok-last.ensures.ok_part) in
     λ w e.
     c.answer_by.ensures
     ∙ ap₂ answer_by (sym whole.1) (c.as_read.ensures ∙ ap as_read e)

@@ -8,7 +8,6 @@ use Rattle.rules.specs.Refusal.{decide}
 use Prim.Native.Nat.{◌*◌, ℕ, ◌+◌, ◌-◌}
 use Rattle.rules.specs.Trailer.{trailer_tests, count_in}
 use native.Mathlib.Omega.{arith}
-use borrow.Author.Rules.{rules}
 use Rattle.trailer.proofs.check.Goals as goal
 
 pub returns-then-trailer-lt-TRAILER_LEAST : goal.returns-then-trailer-lt-TRAILER_LEAST
@@ -16,9 +15,6 @@ unfolding decide trailer_tests
 returns-then-trailer-lt-TRAILER_LEAST c =
     let s = c.args.trailer.now in
     rw (lt-ltb (length s) 20 c.if-trailer-lt-TRAILER_LEAST.true) refl
-
-pub overflow_cast-sum : goal.overflow_cast-sum
-overflow_cast-sum c = search rules
 
 -- the right checksum
 right : (s : List ℕ) (sum : ℕ) → sum ≡ crc32 (take (length s - 4) (drop 4 s)) → sum ≡ crc32 (drop 4 s)

@@ -6,11 +6,11 @@ use borrow.Author.Tests.{ltb-true, ltb-false}
 use lib.ListN.{length}
 use Rattle.rules.specs.Layout.{used_entries}
 use Rattle.rules.specs.Table.{lookup}
-use Rattle.rules.specs.Ops.{Op, objects_of, settled}
+use Rattle.rules.specs.Ops.{Op, settled}
 use Rattle.location_table.specs.LayoutLaws.{used-rising}
 use Rattle.batch.specs.Reading.{ops_in}
 use Rattle.batch.specs.Walk.{left}
-use Rattle.batch.specs.WalkLaws.{stepped, stepped-end, walk_start, walk-next, walk_end}
+use Rattle.batch.specs.WalkLaws.{stepped, stepped-end, walk-next, walk_end}
 use Rattle.batch.specs.SizeLaws.{total-next, total-end}
 use Rattle.table_merge.specs.NewIds.{new_at, is_new, new_ids, new-at, new-next, new-end, new-one}
 use Rattle.write_decision.specs.NewIds.{ids_of}
@@ -23,17 +23,8 @@ returns-then-too_large-clause-sizes c =
     let over : a.slot_bytes < 64 + (0 + (12 + 16 * 0)) = ltb-true _ _ (sym c.too_large.ensures ∙ c.if-too_large.true) in
     sizes-large _ _ (settled (ops_in a.batch.now)) (omega arith)
 
-pub loop-o-init : goal.loop-o-init
-loop-o-init c =
-    let room : 64 + (0 + (12 + 16 * 0)) ≤ c.args.slot_bytes = ltb-false _ _ (sym c.too_large.ensures ∙ c.if-too_large.false) in
-    let e = c.requires.2.all in
-    let one = ap length e in
-    let more = ap (λ (os : List Op). length (objects_of os)) e in
-    let ids = ap (λ (os : List Op). new_ids (used_entries c.args.table.now) (ids_of os)) e in
-    (walk_start c.requires.2, c.requires.1, omega arith, omega arith, omega arith, omega arith, omega arith)
-
-pub returns-in_default : goal.returns-in_default
-returns-in_default c =
+pub returns : goal.returns
+returns c =
     let a = c.args in
     let s = a.batch.now in
     let t = used_entries a.table.now in
@@ -46,62 +37,36 @@ returns-in_default c =
       again = walk_end c.loop-o.invariant.0 c.next.ensures.keeps c.in_default.is;
     }
 
-pub size_of-size-requires : goal.size_of-size-requires
-size_of-size-requires c =
-    let e = stepped _ c.next.ensures.steps c.next.ensures.within c.in-Next.is in
-    omega (arith, e.inside)
-
 pub returns-then-too_large-2 : goal.returns-then-too_large-2
 returns-then-too_large-2 c =
     let a = c.args in
-    let e = stepped _ c.next.ensures.steps c.next.ensures.within c.in-Next.is in
+    let e = stepped _ c.next.ensures.steps c.next.ensures.within c.in-Some.is in
     let one = ap length e.next in
     let more = total-next e in
     let size = c.size_of-size.ensures in
     let over : a.slot_bytes - c.loop-o.total < 64 + (c.size_of-size.result + (12 + 16 * (c.loop-o.count + 1))) =
-    ltb-true _ _ (sym c.too_large-in-loop-o.ensures ∙ c.if-too_large-2.true) in
+    ltb-true _ _ (sym c.too_large-in-Some.ensures ∙ c.if-too_large-2.true) in
     record {
       sizes = sizes-large _ _ (settled (ops_in a.batch.now)) (omega arith);
-      again = (walk-next c.loop-o.invariant.0 c.next.ensures.keeps c.in-Next.is).begins;
+      again = (walk-next c.loop-o.invariant.0 c.next.ensures.keeps c.in-Some.is).begins;
     }
-
-pub overflow_add-new : goal.overflow_add-new
-overflow_add-new c =
-    let b = c.args.table.now in
-    let t = used_entries b in
-    let id = c.in-Next.o.id in
-    let room : 64 + (c.size_of-size.result + (12 + 16 * (c.loop-o.count + 1))) ≤ c.args.slot_bytes - c.loop-o.total =
-    ltb-false _ _ (sym c.too_large-in-loop-o.ensures ∙ c.if-too_large-2.false) in
-    let added : c.new_at-new.result ≡ is_new t id = c.new_at-new.ensures ∙ ap new_at c.find_near-place.ensures ∙ new-at t (used-rising b c.requires.0) id in
-    omega (arith, added, new-one (lookup t id), c.loop-o.invariant.5)
-
-pub overflow_add-total : goal.overflow_add-total
-overflow_add-total c =
-    let room : 64 + (c.size_of-size.result + (12 + 16 * (c.loop-o.count + 1))) ≤ c.args.slot_bytes - c.loop-o.total =
-    ltb-false _ _ (sym c.too_large-in-loop-o.ensures ∙ c.if-too_large-2.false) in
-    omega arith
-
-pub loop-o-smaller : goal.loop-o-smaller
-loop-o-smaller c =
-    let e = stepped _ c.next.ensures.steps c.next.ensures.within c.in-Next.is in
-    omega (arith, ap length e.next)
 
 pub loop-o-preserved : goal.loop-o-preserved
 loop-o-preserved c =
     let a = c.args in
-    let e = stepped _ c.next.ensures.steps c.next.ensures.within c.in-Next.is in
+    let e = stepped _ c.next.ensures.steps c.next.ensures.within c.in-Some.is in
     let one = ap length e.next in
     let more = total-next e in
     let size = c.size_of-size.ensures in
     let room : 64 + (c.size_of-size.result + (12 + 16 * (c.loop-o.count + 1))) ≤ a.slot_bytes - c.loop-o.total =
-    ltb-false _ _ (sym c.too_large-in-loop-o.ensures ∙ c.if-too_large-2.false) in
+    ltb-false _ _ (sym c.too_large-in-Some.ensures ∙ c.if-too_large-2.false) in
     let t = used_entries a.table.now in
-    let id = c.in-Next.o.id in
+    let id = c.in-Some.o.id in
     let ids = ap (λ (os : List Op). new_ids t (ids_of os)) e.next in
-    let next = new-next t id (ids_of (left a.batch.now c.next.new.order c.in-Next.after)) in
+    let next = new-next t id (ids_of (left a.batch.now c.next.new.order c.in-Some.after)) in
     let new : c.new_at-new.result ≡ is_new t id = c.new_at-new.ensures ∙ ap new_at c.find_near-place.ensures ∙ new-at t (used-rising a.table.now c.requires.0) id in
     let most = new-one (lookup t id) in (
-      walk-next c.loop-o.invariant.0 c.next.ensures.keeps c.in-Next.is,
+      walk-next c.loop-o.invariant.0 c.next.ensures.keeps c.in-Some.is,
       omega arith,
       omega arith,
       omega arith,

@@ -1,20 +1,26 @@
-use mathlib.Core.Path.{sym, ap, ◌∙◌}
-use mathlib.Core.List.{◌∷◌, []}
+use mathlib.Core.Path.{◌≡◌, refl, ap, ◌∙◌}
+use borrow.Author.Rules.{rules}
+use Rattle.std.specs.Prelude.{Ok, Err}
 use Rattle.rules.specs.Base.{padded}
-use Rattle.rules.specs.declared.CompareAnswer.{CompareAnswer}
-use Rattle.rules.specs.World.{compare_given}
-use Rattle.as_numbers.specs.Shown.{given, shown}
-use Prim.Native.Nat.{ℕ}
+use Rattle.rules.specs.declared.Compared.TheVariants.{Swapped, Differs}
+use Rattle.rules.specs.Types.{CompareAnswer, RewriteAnswer}
+use Rattle.rules.specs.World.{rewrite_given, compare_given}
+use Rattle.as_numbers.specs.Shown.{shown}
 use Rattle.as_numbers.proofs.answers.compare_shown.Goals as goal
 
-pub returns-in-Swapped : goal.returns-in-Swapped
-unfolding padded
-returns-in-Swapped c = ap (λ (x : CompareAnswer). shown 1 (compare_given x)) (sym c.in-Swapped.is)
+-- the number that is shown
+abbrev told : CompareAnswer → RewriteAnswer
+told (Ok Swapped) = Ok 0
+told (Ok (Differs l)) = Ok l
+told (Err r) = Err r
 
-pub returns-in-Differs : goal.returns-in-Differs
+told-shown : (a : CompareAnswer) → shown 1 (rewrite_given (told a)) ≡ shown 1 (compare_given a)
 unfolding padded
-returns-in-Differs c = ap (λ (x : CompareAnswer). shown 1 (compare_given x)) (sym c.in-Differs.is)
+told-shown (Ok Swapped) = refl
+told-shown (Ok (Differs l)) = refl
+told-shown (Err r) = refl
 
-pub returns-in-CompareRefused : goal.returns-in-CompareRefused
-unfolding padded
-returns-in-CompareRefused c = ap (λ (n : ℕ). given n (0 ∷ [])) c.refusal_number.ensures ∙ ap (λ (x : CompareAnswer). shown 1 (compare_given x)) (sym c.in-CompareRefused.is)
+pub returns : goal.returns
+returns c =
+    let e : c.map.result ≡ told c.args.a = search (rules, c.map.ensures.cases) in
+    c.rewrite_shown.ensures ∙ ap (λ (x : RewriteAnswer). shown 1 (rewrite_given x)) e ∙ told-shown c.args.a

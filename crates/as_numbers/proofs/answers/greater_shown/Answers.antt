@@ -1,16 +1,25 @@
-use mathlib.Core.Path.{sym, ap, ◌∙◌}
-use mathlib.Core.List.{◌∷◌, []}
+use mathlib.Core.Path.{◌≡◌, refl, ap, ◌∙◌}
+use borrow.Author.Rules.{rules}
+use Rattle.std.specs.Prelude.{Ok, Err, Some, None}
+use Rattle.std.specs.Option.{unwrap_or}
 use Rattle.rules.specs.Base.{padded}
-use Rattle.rules.specs.declared.GreaterAnswer.{GreaterAnswer}
-use Rattle.rules.specs.World.{greater_given}
-use Rattle.as_numbers.specs.Shown.{given, shown}
-use Prim.Native.Nat.{ℕ}
+use Rattle.rules.specs.Types.{GreaterAnswer, RewriteAnswer}
+use Rattle.rules.specs.World.{rewrite_given, greater_given}
+use Rattle.as_numbers.specs.Shown.{shown}
 use Rattle.as_numbers.proofs.answers.greater_shown.Goals as goal
 
-pub returns-in-Before : goal.returns-in-Before
-unfolding padded
-returns-in-Before c = c.held_shown.ensures ∙ ap (λ (x : GreaterAnswer). shown 1 (greater_given x)) (sym c.in-Before.is)
+-- the number that is shown
+abbrev told : GreaterAnswer → RewriteAnswer
+told (Ok h) = Ok (unwrap_or h 0)
+told (Err r) = Err r
 
-pub returns-in-GreaterRefused : goal.returns-in-GreaterRefused
+told-shown : (a : GreaterAnswer) → shown 1 (rewrite_given (told a)) ≡ shown 1 (greater_given a)
 unfolding padded
-returns-in-GreaterRefused c = ap (λ (n : ℕ). given n (0 ∷ [])) c.refusal_number.ensures ∙ ap (λ (x : GreaterAnswer). shown 1 (greater_given x)) (sym c.in-GreaterRefused.is)
+told-shown (Ok None) = refl
+told-shown (Ok (Some l)) = refl
+told-shown (Err r) = refl
+
+pub returns : goal.returns
+returns c =
+    let e : c.map.result ≡ told c.args.a = search (rules, c.map.ensures.cases) in
+    c.rewrite_shown.ensures ∙ ap (λ (x : RewriteAnswer). shown 1 (rewrite_given x)) e ∙ told-shown c.args.a

@@ -3,5 +3,5 @@ use Rattle.rules.specs.World.{answer_given}
 use Rattle.as_numbers.specs.Numbered.{numbered}
 use Rattle.as_numbers.proofs.answers.number.Goals as goal
 
-pub returns-in-Refused : goal.returns-in-Refused
-returns-in-Refused c = ap numbered c.refusal_number.ensures ∙ sym (ap answer_given c.in-Refused.is)
+pub returns-in-Err : goal.returns-in-Err
+returns-in-Err c = ap numbered c.refusal_number.ensures ∙ sym (ap answer_given c.in-Err.is)

@@ -1,12 +1,9 @@
 use mathlib.Core.List.{◌++◌}
-use Prim.Native.Nat.{◌*◌, ◌+◌, ◌≤◌, ◌-◌}
+use Prim.Native.Nat.{◌*◌, ◌+◌, ◌-◌}
 use lib.ListN.{take, length}
 use Rattle.as_numbers.specs.StateWords.{records_from}
 use mathlib.Core.Path.{◌≡◌}
 use Rattle.as_numbers.proofs.state_words.files_in.Given as goal
 
 abbrev pub invariant-loop-k : goal.invariant-loop-k
-invariant-loop-k l = (l.k ≤ 256) × (length l.files.records ≡ 256) × (take l.k l.files.records ++ records_from (256 - l.k) l.words (8 + 7 * l.k) ≡ records_from 256 l.words 8)
-
-abbrev pub decreases-loop-k : goal.decreases-loop-k
-decreases-loop-k l = 256 - l.k
+invariant-loop-k l = (length l.r-items ≡ 256) × (take l.k l.r-items ++ records_from (256 - l.k) l.words (8 + 7 * l.k) ≡ records_from 256 l.words 8)

@@ -1,11 +1,8 @@
 use lib.ListN.{drop, length}
 use Rattle.rules.specs.Layout.{table_ids, table_locations, used_in, used_entries}
-use Prim.Native.Nat.{◌+◌, ◌≤◌, ◌-◌}
+use Prim.Native.Nat.{◌+◌}
 use mathlib.Core.Path.{◌≡◌}
 use Rattle.bench.proofs.show.used.Given as goal
 
 abbrev pub invariant-loop-k : goal.invariant-loop-k
-invariant-loop-k l = (l.k + length (used_in (drop l.k (table_ids l.table)) (drop l.k (table_locations l.table))) ≡ length (used_entries l.table)) × (l.k ≤ l.n)
-
-abbrev pub decreases-loop-k : goal.decreases-loop-k
-decreases-loop-k l = l.n - l.k
+invariant-loop-k l = l.k + length (used_in (drop l.k (table_ids l.table)) (drop l.k (table_locations l.table))) ≡ length (used_entries l.table)

@@ -1,10 +1,10 @@
 use mathlib.Core.Path.{◌≡◌, refl, sym, ap, ◌∙◌}
 use mathlib.Core.List.{List}
 use mathlib.Core.Bool.{Bool}
-use Prim.Native.Nat.{ℕ, ◌+◌, ◌≤◌, ◌<◌, zero-le}
+use Prim.Native.Nat.{ℕ, ◌+◌, ◌≤◌, ◌<◌}
 use lib.ListN.{length, take, get_or, length-append, length-map}
 use Rattle.rules.specs.SlotFile.{empty, bytes_of_slot, view_in, views_in}
-use Rattle.rules.proofs.SlotLaws.{slots_apart, views-length}
+use Rattle.rules.proofs.SlotLaws.{views-length}
 use Rattle.faults.specs.Faults.{judged, slot_faults}
 use Rattle.faults.specs.Judging.{Judged, judges-at}
 use Rattle.file_faults.proofs.Telling.{tells_none, tells_as, going_start, going-as, going_on, going-last}
@@ -18,11 +18,7 @@ use Rattle.checker.proofs.slots.all_lines.Goals as goal
 
 pub loop-k-init : goal.loop-k-init
 loop-k-init c = let a = c.args in
-    (zero-le, refl, going-as (sym (lines-all (slots_judged a.n a.size a.heap.now))) going_start)
-
-pub slot_at-requires : goal.slot_at-requires
-slot_at-requires c =
-    omega (arith, c.requires.judged.within, slots_apart c.args.size c.loop-k.k c.args.n c.loop-k-test.true)
+    (refl, going-as (sym (lines-all (slots_judged a.n a.size a.heap.now))) going_start)
 
 -- slot k is one of them
 low : (n size : ℕ) (heap : List ℕ) (k : ℕ) → k < n → k < length (slots_judged n size heap)
@@ -45,19 +41,19 @@ slot_lines-count-requires c =
     let vs = slots_judged a.n a.size a.heap.now in
     let k = c.loop-k.k in
     let first = slot_faults k (earlier_to k vs) (get_or vs k empty) in record {
-      judges = rw c.slot_at.ensures (judges-at a.n a.size a.heap.now a.slots.labels c.requires.judged k c.loop-k-test.true);
-      slot_bound = omega (arith, c.requires.heap_len_bound, ap length (chunk a.n a.size a.heap.now a.slots.labels c.requires.judged c.loop-k.k c.slot_at.result.now c.meets_earlier-met.result c.loop-k-test.true c.slot_at.ensures c.meets_earlier-met.ensures), (going-as (lines_next vs k (low a.n a.size a.heap.now c.loop-k.k c.loop-k-test.true)) c.loop-k.invariant.2).count, length-append first (lines_from (k + 1) vs));
+      judges = rw c.slot_at.ensures (judges-at a.n a.size a.heap.now a.slots.now.labels c.requires.judged k c.loop-k-test.true);
+      slot_bound = omega (arith, c.requires.heap_len_bound, ap length (chunk a.n a.size a.heap.now a.slots.now.labels c.requires.judged c.loop-k.k c.slot_at.result.now c.meets_earlier-met.result c.loop-k-test.true c.slot_at.ensures c.meets_earlier-met.ensures), (going-as (lines_next vs k (low a.n a.size a.heap.now c.loop-k.k c.loop-k-test.true)) c.loop-k.invariant.1).count, length-append first (lines_from (k + 1) vs));
     }
 
 pub loop-k-preserved : goal.loop-k-preserved
 loop-k-preserved c =
     let a = c.args in
     let vs = slots_judged a.n a.size a.heap.now in
-    (omega arith, c.slot_lines-count.auto.listing ∙ c.loop-k.invariant.1, going_on (going-as (lines_next vs c.loop-k.k (low a.n a.size a.heap.now c.loop-k.k c.loop-k-test.true)) c.loop-k.invariant.2) (tells_as (chunk a.n a.size a.heap.now a.slots.labels c.requires.judged c.loop-k.k c.slot_at.result.now c.meets_earlier-met.result c.loop-k-test.true c.slot_at.ensures c.meets_earlier-met.ensures) c.slot_lines-count.ensures))
+    (c.slot_lines-count.auto.listing ∙ c.loop-k.invariant.0, going_on (going-as (lines_next vs c.loop-k.k (low a.n a.size a.heap.now c.loop-k.k c.loop-k-test.true)) c.loop-k.invariant.1) (tells_as (chunk a.n a.size a.heap.now a.slots.now.labels c.requires.judged c.loop-k.k c.slot_at.result.now c.meets_earlier-met.result c.loop-k-test.true c.slot_at.ensures c.meets_earlier-met.ensures) c.slot_lines-count.ensures))
 
 pub returns : goal.returns
 returns c =
     let a = c.args in
     let vs = slots_judged a.n a.size a.heap.now in
     let past : length vs ≤ c.loop-k.k = omega (arith, length-map (views_in a.n a.size a.heap.now) judged, views-length a.n a.size a.heap.now, c.loop-k-test.false) in
-    going-last (going-as (lines_none vs c.loop-k.k past) c.loop-k.invariant.2) (tells_none c.loop-k.count c.loop-k.listing)
+    going-last (going-as (lines_none vs c.loop-k.k past) c.loop-k.invariant.1) (tells_none c.loop-k.count c.loop-k.listing)

@@ -1,6 +1,5 @@
 use mathlib.Core.Path.{◌≡◌}
 use mathlib.Core.List.{[]}
-use Prim.Native.Nat.{◌-◌, ◌≤◌}
 use lib.ListN.{length}
 use Rattle.faults.specs.Faults.{faults_from}
 use Rattle.file_faults.specs.Telling.{Going}
@@ -8,8 +7,5 @@ use Rattle.checker.specs.SlotLines.{slots_judged, lines_from}
 use Rattle.checker.proofs.slots.all_lines.Given as goal
 
 abbrev pub invariant-loop-k : goal.invariant-loop-k
-invariant-loop-k l = (l.k ≤ l.n) × (length l.listing ≡ length l.initial.listing)
+invariant-loop-k l = (length l.listing ≡ length l.initial.listing)
     × Going 0 (faults_from 0 [] (slots_judged l.n l.size l.heap)) l.initial.listing l.count (lines_from l.k (slots_judged l.n l.size l.heap)) l.listing
-
-abbrev pub decreases-loop-k : goal.decreases-loop-k
-decreases-loop-k l = l.n - l.k

@@ -5,19 +5,14 @@ use Rattle.checker.specs.Types.{Fault}
 use Rattle.checker.specs.SlotLines.{own_line}
 use Rattle.checker.proofs.slots.own_line.Goals as goal
 
-pub returns-in-Damaged : goal.returns-in-Damaged
-returns-in-Damaged c =
+pub returns-in-Err : goal.returns-in-Err
+returns-in-Err c =
     let a = c.args in
     tells_as
-    (ap (λ (x : Fault). x ∷ []) c.nowhere.ensures ∙ ap (own_line a.number) (sym c.in-Damaged.is ∙ c.own.ensures))
+    (ap (λ (x : Fault). x ∷ []) c.nowhere.ensures ∙ ap (own_line a.number) (sym c.in-Err.is ∙ c.own.ensures))
     c.note.ensures
 
-pub returns-in-Empty : goal.returns-in-Empty
-returns-in-Empty c =
+pub returns-in-Ok : goal.returns-in-Ok
+returns-in-Ok c =
     let a = c.args in
-    tells_as (ap (own_line a.number) (sym c.in-Empty.is ∙ c.own.ensures)) (tells_none a.count a.listing.now)
-
-pub returns-in-Holds : goal.returns-in-Holds
-returns-in-Holds c =
-    let a = c.args in
-    tells_as (ap (own_line a.number) (sym c.in-Holds.is ∙ c.own.ensures)) (tells_none a.count a.listing.now)
+    tells_as (ap (own_line a.number) (sym c.in-Ok.is ∙ c.own.ensures)) (tells_none a.count a.listing.now)

@@ -12,4 +12,4 @@ returns-then-heap-bytes c =
 pub returns : goal.returns
 returns c =
     let a = c.args in
-    λ table. rw (c.done.ensures, c.zero_bytes.ensures, le-ltb (length a.heap.now) a.bytes (omega arith)) refl
+    λ table. rw (c.done.ensures, c.fill.ensures.after (λ y e. e), le-ltb (length a.heap.now) a.bytes (omega arith)) refl

@@ -1,5 +1,5 @@
 use mathlib.Core.Path.{ap}
-use Rattle.rules.specs.declared.ReadAnswer.{ReadAnswer}
+use Rattle.rules.specs.Types.{ReadAnswer}
 use Rattle.rules.specs.Read.{read_call}
 use Rattle.rules.specs.World.{read_given, leaving}
 use Rattle.desk.specs.Desk.{desk, found, world_of, answered}

@@ -1,6 +1,6 @@
 use mathlib.Core.Path.{ap}
 use Rattle.rules.specs.World.{leaving}
-use Rattle.through.specs.declared.ThroughAnswer.{ThroughAnswer}
+use Rattle.through.specs.Answers.{ThroughAnswer}
 use Rattle.through.specs.Through.{through_given, through_call}
 use Rattle.desk.specs.Desk.{desk, pieced, world_of, answered}
 use Rattle.desk.proofs.calls.through.Goals as goal

@@ -1,4 +1,4 @@
-use mathlib.Core.Path.{◌≡◌, sym, ◌∙◌}
+use mathlib.Core.Path.{sym, ◌∙◌}
 use mathlib.Core.List.{List}
 use Rattle.stored_object.specs.declared.Header.{Header}
 use Prim.Native.Nat.{ℕ, ◌+◌, ◌-◌, ◌≤◌}

@@ -1,5 +1,4 @@
 use mathlib.Core.Path.{◌≡◌}
-use Prim.Native.Nat.{◌-◌, ◌≤◌}
 use lib.ListN.{take, drop}
 use Rattle.rules.specs.Base.{any}
 use Rattle.rules.specs.Trailer.{entries_in}
@@ -7,7 +6,4 @@ use Rattle.file_faults.specs.Walks.{entered_as}
 use Rattle.file_faults.proofs.objects.find.Given as goal
 
 abbrev pub invariant-loop-k : goal.invariant-loop-k
-invariant-loop-k l = (l.k ≤ l.to) × (any (entered_as l.id l.position) (drop l.k (take l.to (entries_in l.trailer))) ≡ any (entered_as l.id l.position) (drop l.from (take l.to (entries_in l.trailer))))
-
-abbrev pub decreases-loop-k : goal.decreases-loop-k
-decreases-loop-k l = l.to - l.k
+invariant-loop-k l = any (entered_as l.id l.position) (drop l.k (take l.to (entries_in l.trailer))) ≡ any (entered_as l.id l.position) (drop l.from (take l.to (entries_in l.trailer)))

@@ -1,12 +1,13 @@
 use mathlib.Core.Path.{◌≡◌, refl, sym, ap, ◌∙◌}
-use mathlib.Core.Bool.{Bool, not}
+use mathlib.Core.Bool.{Bool, true, false, not}
+use Rattle.std.proofs.Common.{Option, None, Some, MatchOption, is_some}
 use mathlib.Core.List.{List, [], ◌∷◌, ◌++◌}
 use Prim.Native.Nat.{ℕ, ◌+◌, ◌<◌, ◌-◌, ◌≤◌, zero-le}
 use lib.ListN.{length, drop}
 use Rattle.rules.specs.Base.{any}
 use Rattle.stored_object.specs.declared.Header.{Header}
 use Rattle.rules.specs.Object.{stored_at, bad_checksum}
-use Rattle.rules.specs.Trailer.{entries_in}
+use Rattle.rules.specs.Trailer.{count_in, entries_in}
 use Rattle.stored_object.specs.Objects.{Walked, CutOff, told-by, header-begins, header-fits}
 use Rattle.faults.specs.Faults.{line}
 use Rattle.file_faults.specs.Types.{CutShort, Object, Fault}
@@ -15,6 +16,7 @@ use Rattle.file_faults.specs.Walks.{object_lines, entered_as}
 use Rattle.file_faults.proofs.Walks.{cut-passes, short-passes, lines_from, lines_start, lines_end, lines_cut, lines-on}
 use native.Mathlib.Omega.{arith}
 use Rattle.file_faults.proofs.objects.object_lines.Goals as goal
+use Rattle.file_faults.proofs.objects.object_lines.Goals.{in-Some, in_default}
 
 pub loop-listing-init : goal.loop-listing-init
 loop-listing-init c = let a = c.args in
@@ -123,10 +125,20 @@ loop-listing-smaller c =
     let w : Walked a.objects.now p h = told-by _ _ _ (sym c.step.ensures ∙ c.in-Here.is) in
     omega (arith, whole a.objects.now p h w c.if-h.false)
 
+-- no entry was found exactly where none stands there
+is-missing : (found : Option ℕ) (missing entered : Bool) (n : ℕ) → is_some found ≡ not missing → MatchOption found (entered ≡ false) (λ k. (k < n) × (entered ≡ true)) → missing ≡ not entered
+is-missing None true entered n e h = rw h refl
+is-missing None false entered n e h = cc
+is-missing (Some k) true entered n e h = cc
+is-missing (Some k) false entered n e h = rw h.1 refl
+
 pub loop-listing-preserved : goal.loop-listing-preserved
 loop-listing-preserved c =
     let a = c.args in
     let p = c.loop-listing.position in
     let h = c.in-Here.h in
     let w : Walked a.objects.now p h = told-by _ _ _ (sym c.step.ensures ∙ c.in-Here.is) in
-    ((whole a.objects.now p h w c.if-h.false).1, c.seek-sought.ensures.next, c.object_line-told.auto.listing ∙ c.loop-listing.invariant.2, going_on (going-as (further a.slot a.trailer.now a.objects.now p h c.seek-sought.result.missing w (whole a.objects.now p h w c.if-h.false).0 c.seek-sought.ensures.missing) c.loop-listing.invariant.3) c.object_line-told.ensures)
+    let said = is-missing c.seek-found.result c.is_none.result _ _ c.is_none.ensures c.seek-found.ensures in
+    let next : c.match-found.cursor ≤ count_in a.trailer.now
+    = elim c.match-found.branch [ in-Some w ↦ omega (arith, (rw w.in-Some.is at c.seek-found.ensures).0, w.cursor-is) | in_default w ↦ omega (arith, c.loop-listing.invariant.1) ] in
+    ((whole a.objects.now p h w c.if-h.false).1, next, c.object_line-told.auto.listing ∙ c.loop-listing.invariant.2, going_on (going-as (further a.slot a.trailer.now a.objects.now p h _ w (whole a.objects.now p h w c.if-h.false).0 said) c.loop-listing.invariant.3) c.object_line-told.ensures)

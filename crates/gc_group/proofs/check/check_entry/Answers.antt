@@ -1,10 +1,10 @@
+use Rattle.std.specs.Prelude.{Err, Ok}
 use Prim.Native.Nat.{ℕ, ◌+◌}
 use mathlib.Core.Path.{◌≡◌, sym, ap, ◌∙◌}
 use mathlib.Core.Bool.{Bool, true}
 use Rattle.numbers.specs.Choice.{pick}
-use Rattle.disk_location.specs.declared.Located.{Located}
+use Rattle.disk_location.specs.Answers.{Located}
 use Rattle.disk_location.specs.Locations.{position_of, delete_of, told, located_at}
-use Rattle.rules.specs.declared.Answer.TheVariants.{Done, Refused}
 use Rattle.rules.specs.declared.Refusal.TheVariants.{NotThere}
 use Rattle.rules.specs.Layout.{used_entries}
 use Rattle.gc_group.proofs.Checks.{entry-object, entry-great, entry-mapped, located-number}
@@ -35,7 +35,7 @@ returns-then-never_written c =
     let w = number-is a.e.location a.lsn _ _ c.to_absolute.ensures c.number.ensures d in
     sym (
     entry-mapped a.lsn (used_entries a.table.now) a.e d ((located-number _).0 (sym w ∙ c.if-number-ne0.false))
-    ∙ ap (λ (t : Bool). pick t (Refused NotThere) Done) (sym c.never_written.ensures ∙ c.if-never_written.true))
+    ∙ ap (λ (t : Bool). pick t (Err NotThere) (Ok tt)) (sym c.never_written.ensures ∙ c.if-never_written.true))
 
 pub returns : goal.returns
 returns c =
@@ -44,4 +44,4 @@ returns c =
     let w = number-is a.e.location a.lsn _ _ c.to_absolute.ensures c.number.ensures d in
     sym (
     entry-mapped a.lsn (used_entries a.table.now) a.e d ((located-number _).0 (sym w ∙ c.if-number-ne0.false))
-    ∙ ap (λ (t : Bool). pick t (Refused NotThere) Done) (sym c.never_written.ensures ∙ c.if-never_written.false))
+    ∙ ap (λ (t : Bool). pick t (Err NotThere) (Ok tt)) (sym c.never_written.ensures ∙ c.if-never_written.false))

@@ -1,9 +1,9 @@
+use Rattle.std.specs.Prelude.{Result, Err, Ok, is_err, ℕ}
 use Prim.Native.Nat.{◌-◌}
 use mathlib.Core.Path.{◌≡◌, sym, ap, ◌∙◌}
 use native.Mathlib.Omega.{arith}
 use mathlib.Core.Bool.{Bool}
 use Rattle.numbers.specs.Choice.{pick}
-use Rattle.rules.specs.declared.Answer.TheVariants.{Done, Refused}
 use Rattle.rules.specs.declared.Refusal.TheVariants.{Checksum}
 use mathlib.Core.List.{List}
 use Rattle.rules.specs.declared.Entry.{Entry}
@@ -15,15 +15,20 @@ use Rattle.gc_group.specs.Checks.{never_at}
 use Rattle.gc_group.proofs.Checks.{never-at, moved-large, moved-never, moved-short, moved_sum}
 use Rattle.gc_group.proofs.check.check_object.Goals as goal
 
+-- no place of its own
+told : (found : Result ℕ ℕ) (b : Bool) → b ≡ is_err found → b ≡ never_at found
+told (Ok k) b e = e
+told (Err k) b e = e
+
 pub returns-then-limit-h : goal.returns-then-limit-h
 returns-then-limit-h c table r e =
     let a = c.args in
     sym (moved-large a.limit table a.objects.now a.position a.h c.requires (omega arith))
 
-pub returns-then-never_at : goal.returns-then-never_at
-returns-then-never_at c table r e =
+pub returns-then-is_err : goal.returns-then-is_err
+returns-then-is_err c table r e =
     let a = c.args in
-    sym (moved-never a.limit table a.objects.now a.position a.h c.requires c.if-limit-h.false (sym (c.never_at.ensures ∙ ap never_at e ∙ never-at table r a.h.id) ∙ c.if-never_at.true))
+    sym (moved-never a.limit table a.objects.now a.position a.h c.requires c.if-limit-h.false (sym (told _ _ c.is_err.ensures.value ∙ ap never_at e ∙ never-at table r a.h.id) ∙ c.if-is_err.true))
 
 pub overflow_sub-h : goal.overflow_sub-h
 overflow_sub-h c =
@@ -33,7 +38,7 @@ overflow_sub-h c =
 pub returns-then-h : goal.returns-then-h
 returns-then-h c table r e =
     let a = c.args in
-    sym (moved-short a.limit table a.objects.now a.position a.h c.requires c.if-limit-h.false (sym (c.never_at.ensures ∙ ap never_at e ∙ never-at table r a.h.id) ∙ c.if-never_at.false)
+    sym (moved-short a.limit table a.objects.now a.position a.h c.requires c.if-limit-h.false (sym (told _ _ c.is_err.ensures.value ∙ ap never_at e ∙ never-at table r a.h.id) ∙ c.if-is_err.false)
     (omega (arith, (header-fits a.objects.now a.position a.h c.requires).0)))
 
 pub bad_checksum-requires : goal.bad_checksum-requires
@@ -48,14 +53,14 @@ pub returns-then-bad_checksum : goal.returns-then-bad_checksum
 returns-then-bad_checksum c table r e =
     let a = c.args in
     sym (
-    moved_sum a.limit table a.objects.now a.position a.h c.requires c.if-limit-h.false (sym (c.never_at.ensures ∙ ap never_at e ∙ never-at table r a.h.id) ∙ c.if-never_at.false)
+    moved_sum a.limit table a.objects.now a.position a.h c.requires c.if-limit-h.false (sym (told _ _ c.is_err.ensures.value ∙ ap never_at e ∙ never-at table r a.h.id) ∙ c.if-is_err.false)
     (omega (arith, (header-fits a.objects.now a.position a.h c.requires).0))
-    ∙ ap (λ (t : Bool). pick t (Refused Checksum) Done) (sym c.bad_checksum.ensures ∙ c.if-bad_checksum.true))
+    ∙ ap (λ (t : Bool). pick t (Err Checksum) (Ok tt)) (sym c.bad_checksum.ensures ∙ c.if-bad_checksum.true))
 
 pub returns : goal.returns
 returns c table r e =
     let a = c.args in
     sym (
-    moved_sum a.limit table a.objects.now a.position a.h c.requires c.if-limit-h.false (sym (c.never_at.ensures ∙ ap never_at e ∙ never-at table r a.h.id) ∙ c.if-never_at.false)
+    moved_sum a.limit table a.objects.now a.position a.h c.requires c.if-limit-h.false (sym (told _ _ c.is_err.ensures.value ∙ ap never_at e ∙ never-at table r a.h.id) ∙ c.if-is_err.false)
     (omega (arith, (header-fits a.objects.now a.position a.h c.requires).0))
-    ∙ ap (λ (t : Bool). pick t (Refused Checksum) Done) (sym c.bad_checksum.ensures ∙ c.if-bad_checksum.false))
+    ∙ ap (λ (t : Bool). pick t (Err Checksum) (Ok tt)) (sym c.bad_checksum.ensures ∙ c.if-bad_checksum.false))

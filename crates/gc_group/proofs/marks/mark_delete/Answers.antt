@@ -2,7 +2,7 @@ use Prim.Native.Nat.{ℕ, ◌+◌, ◌-◌}
 use mathlib.Core.Path.{◌≡◌, sym, ap, ◌∙◌}
 use mathlib.Core.List.{List}
 use mathlib.Core.Bool.{true}
-use Rattle.disk_location.specs.declared.Located.{Located}
+use Rattle.disk_location.specs.Answers.{Located}
 use Rattle.disk_location.specs.Locations.{position_of, delete_of, raw_of, told}
 use Rattle.rules.specs.Layout.{used_entries}
 use Rattle.gc_group.specs.Marks.{current, marked}

@@ -1,12 +1,12 @@
-use Prim.Native.Nat.{ℕ, suc, ◌+◌, ◌<◌, ◌-◌}
-use mathlib.Core.Path.{◌≡◌, refl, sym, ap, ap₂, ◌∙◌, subst}
+use Prim.Native.Nat.{ℕ, suc, ◌+◌, ◌<◌}
+use mathlib.Core.Path.{◌≡◌, sym, ap, ap₂, ◌∙◌, subst}
 use native.Mathlib.Omega.{arith}
 use borrow.Author.Rules.{rules}
-use lib.ListN.{length, drop, set, length-set, length-replicate}
+use lib.ListN.{length, drop, set, length-replicate, replicate}
 use mathlib.Core.List.{List}
 use native.Mathlib.Numerals.{add-one}
 use Rattle.rules.specs.declared.Label.{Label}
-use Rattle.rules.specs.declared.Answer.{Answer}
+use Rattle.rules.specs.Types.{Answer}
 use Rattle.rules.specs.declared.Record.{Record}
 use Rattle.rules.specs.Refusal.{decide}
 use Rattle.rules.specs.FileMap.{record_at}
@@ -20,43 +20,30 @@ use Rattle.gc_group.specs.Source.{source, Lies}
 use Rattle.gc_group.specs.Checks.{group_checks}
 use Rattle.gc_group.proofs.Checks.{group-refused, group-on, group-none}
 use Rattle.gc_group.specs.Marks.{found_file, ids_of, marked, marks_from, marks_of}
-use Rattle.gc_group.proofs.MarkLaws.{marked-length, marks-next, marks-end, marks-start}
+use Rattle.gc_group.proofs.MarkLaws.{marks-next, marks-end, marks-start}
 use Rattle.gc_group.proofs.marks.mark_group.Goals as goal
-use Rattle.gc_group.proofs.marks.mark_group.Goals.{then-plan-i+in-Done, else-plan-i}
+use Rattle.std.proofs.lemmas.Result.{err_from_is_err_and}
+use Rattle.gc_group.proofs.marks.mark_group.Goals.{then-plan-i+in_ok-mark_file, else-plan-i}
 
 pub loop-i-init : goal.loop-i-init
 loop-i-init c =
     let a = c.args in
     let from = source a.group.settings.slot_bytes a.heap.now a.m.records (used_entries a.table.now) in
-    let zeros = c.unmark.ensures in
-    let first = planned-start a.plan.now a.group.generation in (
-      omega arith,
-      refl,
-      c.requires.table_in_bounds.1,
-      ap (λ (ks : List ℕ). decide (group_checks a.group.settings.max_object_size from ks)) (sym first),
-      ap₂ (marks_from from) (sym first) zeros ∙ marks-start from (length a.marks.now) (planned a.plan.now a.group.generation)
-          ∙ ap (λ (n : ℕ). marks_of from n (planned a.plan.now a.group.generation)) (sym (ap length zeros ∙ length-replicate {A = ℕ} (length a.marks.now) 0)),
-      copied-start (λ (r : Record). r.label.lsn) a.m.records a.lsns.now,
-    )
+    let zeros : c.fill.new.self ≡ replicate (length a.marks.now) 0 = c.fill.ensures.after (λ y e. e) in
+    let first = planned-start a.plan.now a.group.generation in record {
+      same_answer = ap (λ (ks : List ℕ). decide (group_checks a.group.settings.max_object_size from ks)) (sym first);
+      same_marks = ap₂ (marks_from from) (sym first) zeros ∙ marks-start from (length a.marks.now) (planned a.plan.now a.group.generation)
+          ∙ ap (λ (n : ℕ). marks_of from n (planned a.plan.now a.group.generation)) (sym (ap length zeros ∙ length-replicate {A = ℕ} (length a.marks.now) 0));
+      lsns_read = copied-start (λ (r : Record). r.label.lsn) a.m.records a.lsns.now;
+    }
 
-pub slot_at-slot-requires : goal.slot_at-slot-requires
-slot_at-slot-requires c =
-    c.requires.ready.standing c.loop-i.i c.if-plan-i.true
-
-pub mark_file-requires : goal.mark_file-requires
-mark_file-requires c =
+pub mark_file-requires-clause-lies : goal.mark_file-requires-clause-lies
+mark_file-requires-clause-lies c =
     let a = c.args in
     let i = c.loop-i.i in
     let whole : length c.slot_at-slot.result.now ≡ a.group.settings.slot_bytes =
-    ap length c.slot_at-slot.ensures ∙ slot-length a.group.settings.slot_bytes a.heap.now i (c.requires.ready.standing i c.if-plan-i.true) in record {
-      lies = subst (λ (n : ℕ). Lies n (record_at a.m.records i).label) (sym whole) (c.requires.ready.files i);
-      formed = c.requires.formed;
-      table_in_bounds = omega (arith, c.requires.table_in_bounds.0, c.loop-i.invariant.1, ap length c.unmark.ensures ∙ length-replicate {A = ℕ} (length a.marks.now) 0);
-    }
-
-pub shape_of-lsns-in-Refused : goal.shape_of-lsns-in-Refused
-shape_of-lsns-in-Refused c =
-    length-set c.loop-i.lsns c.loop-i.i _ ∙ c.loop-i.invariant.2 ∙ sym c.requires.table_in_bounds.1
+    ap length c.slot_at-slot.ensures ∙ slot-length a.group.settings.slot_bytes a.heap.now i (c.requires.ready.standing i c.if-plan-i.true) in
+    subst (λ (n : ℕ). Lies n (record_at a.m.records i).label) (sym whole) (c.requires.ready.files i)
 
 -- what is decided of the file in a slot
 checked : (limit size i : ℕ) (t heap : List ℕ) (l : Label) (slot : List ℕ) (answer : Answer) → slot ≡ bytes_of_slot size heap i
@@ -64,18 +51,16 @@ checked : (limit size i : ℕ) (t heap : List ℕ) (l : Label) (slot : List ℕ)
     → decide (file_tests limit (used_entries t) l (bytes_of_slot size heap i)) ≡ answer
 checked limit size i t heap l slot answer is decided = ap (λ (bytes : List ℕ). decide (file_tests limit (used_entries t) l bytes)) (sym is) ∙ sym decided
 
-pub returns-in-Refused : goal.returns-in-Refused
-returns-in-Refused c =
+pub returns-in_err-mark_file-clause-answers : goal.returns-in_err-mark_file-clause-answers
+returns-in_err-mark_file-clause-answers c =
     let a = c.args in
     let from = source a.group.settings.slot_bytes a.heap.now a.m.records (used_entries a.table.now) in
-    let i = c.loop-i.i in record {
-      answers = sym (
-          ap (λ (ks : List ℕ). decide (group_checks a.group.settings.max_object_size from ks)) (planned-here a.plan.now a.group.generation i (omega (arith, c.requires.ready.slots, c.loop-i-test.true)) c.if-plan-i.true)
-          ∙ group-refused a.group.settings.max_object_size from i _ _ (checked c.args.group.settings.max_object_size c.args.group.settings.slot_bytes c.loop-i.i c.args.table.now c.args.heap.now (record_at c.args.m.records c.loop-i.i).label _ _ c.slot_at-slot.ensures c.mark_file.ensures.answers ∙ c.in-Refused.is))
-          ∙ c.loop-i.invariant.3;
-      marks = (λ e. absurd (let z : ◌≡◌ {A = ℕ} 0 1 = cc in omega arith));
-      lsns = (λ e. absurd (let z : ◌≡◌ {A = ℕ} 0 1 = cc in omega arith));
-    }
+    let i = c.loop-i.i in
+    let p = err_from_is_err_and c.from_residual.result c.from_residual.ensures.1 in
+    rw (p.1, p.2) (sym (
+    ap (λ (ks : List ℕ). decide (group_checks a.group.settings.max_object_size from ks)) (planned-here a.plan.now a.group.generation i (omega (arith, c.requires.ready.slots)) c.if-plan-i.true)
+    ∙ group-refused a.group.settings.max_object_size from i _ _ (checked a.group.settings.max_object_size a.group.settings.slot_bytes i a.table.now a.heap.now (record_at a.m.records i).label _ _ c.slot_at-slot.ensures c.mark_file.ensures.answers ∙ c.in_err-mark_file.was))
+    ∙ c.loop-i.invariant.same_answer)
 
 pub loop-i-preserved : goal.loop-i-preserved
 loop-i-preserved c =
@@ -86,50 +71,48 @@ loop-i-preserved c =
     let rs = a.m.records in
     let l = (record_at rs i).label in
     let rest = planned_from (i + 1) (drop (i + 1) a.plan.now) a.group.generation in
+    let all : length rs ≡ 256 = search (mapped-length, rules) in
     let inside : i < length a.plan.now = omega (arith, c.requires.ready.slots) in
     let f : List ℕ → Answer = λ ks. decide (group_checks a.group.settings.max_object_size from ks) in
-    let all : length rs ≡ 256 = search (mapped-length, rules) in
-    let long = length-set c.loop-i.lsns i l.lsn ∙ c.loop-i.invariant.2 in
     let read =
-    ap (λ (ns : List ℕ). set ns i l.lsn) c.loop-i.invariant.5 ∙ copied_next (λ (q : Record). q.label.lsn) rs i a.lsns.now (omega arith) (omega (arith, c.requires.table_in_bounds.1)) in
+    ap (λ (ns : List ℕ). set ns i l.lsn) c.loop-i.invariant.lsns_read ∙ copied_next (λ (q : Record). q.label.lsn) rs i a.lsns.now (omega arith) (omega (arith, c.requires.table_in_bounds.1)) in
     elim c.if-plan-i.branch [
-      | then-plan-i+in-Done w ↦
+      | then-plan-i+in_ok-mark_file w ↦
           let here = planned-here a.plan.now a.group.generation i inside w.if-plan-i.true in
           let ids = ids_of (found_file table l (bytes_of_slot a.group.settings.slot_bytes a.heap.now i)) in
           let after : c.if-plan-i.marks ≡ marked (suc i) ids table c.loop-i.marks =
-          w.marks-is ∙ w.mark_file.ensures.marks w.in-Done.is ∙ ap₂ (λ (m : ℕ) (bytes : List ℕ). marked m (ids_of (found_file table l bytes)) table c.loop-i.marks) (add-one i) w.slot_at-slot.ensures in (
-            omega arith,
-            ap length after ∙ marked-length (suc i) ids table c.loop-i.marks ∙ c.loop-i.invariant.1,
-            long,
-            sym (
+          w.marks-is ∙ w.mark_file.ensures.marks w.in_ok-mark_file.was ∙ ap₂ (λ (m : ℕ) (bytes : List ℕ). marked m (ids_of (found_file table l bytes)) table c.loop-i.marks) (add-one i) w.slot_at-slot.ensures in record {
+            same_answer = sym (
                 ap f here
-                ∙ group-on a.group.settings.max_object_size from i _ (checked c.args.group.settings.max_object_size c.args.group.settings.slot_bytes c.loop-i.i c.args.table.now c.args.heap.now (record_at c.args.m.records c.loop-i.i).label _ _ w.slot_at-slot.ensures w.mark_file.ensures.answers ∙ w.in-Done.is))
-                ∙ c.loop-i.invariant.3,
-            ap (marks_from from rest) after ∙ sym (marks-next from i rest c.loop-i.marks) ∙ sym (ap (λ (ks : List ℕ). marks_from from ks c.loop-i.marks) here) ∙ c.loop-i.invariant.4,
-            read,
-          )
+                ∙ group-on a.group.settings.max_object_size from i _ (checked a.group.settings.max_object_size a.group.settings.slot_bytes i a.table.now a.heap.now l _ _ w.slot_at-slot.ensures w.mark_file.ensures.answers ∙ w.in_ok-mark_file.was))
+                ∙ c.loop-i.invariant.same_answer;
+            same_marks = ap (marks_from from rest) after ∙ sym (marks-next from i rest c.loop-i.marks) ∙ sym (ap (λ (ks : List ℕ). marks_from from ks c.loop-i.marks) here) ∙ c.loop-i.invariant.same_marks;
+            lsns_read = read;
+          }
       | else-plan-i w ↦
-          let past = planned-next a.plan.now a.group.generation i inside w.if-plan-i.false in (
-            omega arith,
-            ap length w.marks-is ∙ c.loop-i.invariant.1,
-            long,
-            sym (ap f past) ∙ c.loop-i.invariant.3,
-            ap (marks_from from rest) w.marks-is ∙ sym (ap (λ (ks : List ℕ). marks_from from ks c.loop-i.marks) past) ∙ c.loop-i.invariant.4,
-            read,
-          )
+          let past = planned-next a.plan.now a.group.generation i inside w.if-plan-i.false in record {
+            same_answer = sym (ap f past) ∙ c.loop-i.invariant.same_answer;
+            same_marks = ap (marks_from from rest) w.marks-is ∙ sym (ap (λ (ks : List ℕ). marks_from from ks c.loop-i.marks) past) ∙ c.loop-i.invariant.same_marks;
+            lsns_read = read;
+          }
     ]
 
-pub returns : goal.returns
-returns c =
+pub returns-clause-answers : goal.returns-clause-answers
+returns-clause-answers c =
     let a = c.args in
     let from = source a.group.settings.slot_bytes a.heap.now a.m.records (used_entries a.table.now) in
-    let rs = a.m.records in
-    let all : length rs ≡ 256 = search (mapped-length, rules) in
-    let past = planned-end a.plan.now a.group.generation c.loop-i.i (omega (arith, c.requires.ready.slots)) in record {
-      answers = sym (ap (λ (ks : List ℕ). decide (group_checks a.group.settings.max_object_size from ks)) past ∙ group-none a.group.settings.max_object_size from) ∙ c.loop-i.invariant.3;
-      marks = (λ e.
-          sym (ap (λ (ks : List ℕ). marks_from from ks c.loop-i.marks) past ∙ marks-end from c.loop-i.marks)
-          ∙ c.loop-i.invariant.4
-          ∙ ap (λ (n : ℕ). marks_of from n (planned a.plan.now a.group.generation)) (ap length c.unmark.ensures ∙ length-replicate {A = ℕ} (length a.marks.now) 0));
-      lsns = (λ e. c.loop-i.invariant.5 ∙ copied-end (λ (r : Record). r.label.lsn) rs c.loop-i.i a.lsns.now (omega arith) (omega (arith, c.requires.table_in_bounds.1)));
-    }
+    let past = planned-end a.plan.now a.group.generation c.loop-i.i (omega (arith, c.requires.ready.slots)) in
+    sym (ap (λ (ks : List ℕ). decide (group_checks a.group.settings.max_object_size from ks)) past ∙ group-none a.group.settings.max_object_size from) ∙ c.loop-i.invariant.same_answer
+
+pub returns-clause-marks : goal.returns-clause-marks
+returns-clause-marks c =
+    let a = c.args in
+    let from = source a.group.settings.slot_bytes a.heap.now a.m.records (used_entries a.table.now) in
+    let past = planned-end a.plan.now a.group.generation c.loop-i.i (omega (arith, c.requires.ready.slots)) in
+    λ e. sym (ap (λ (ks : List ℕ). marks_from from ks c.loop-i.marks) past ∙ marks-end from c.loop-i.marks)
+    ∙ c.loop-i.invariant.same_marks
+    ∙ ap (λ (n : ℕ). marks_of from n (planned a.plan.now a.group.generation)) c.fill.ensures.len
+
+pub returns-clause-lsns : goal.returns-clause-lsns
+returns-clause-lsns c =
+    λ e. c.loop-i.invariant.lsns_read ∙ copied-end (λ (r : Record). r.label.lsn) c.args.m.records c.loop-i.i c.args.lsns.now (omega arith) (omega (arith, c.requires.table_in_bounds.1))

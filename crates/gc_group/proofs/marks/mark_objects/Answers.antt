@@ -1,13 +1,13 @@
+use Rattle.std.specs.Prelude.{Ok}
 use Prim.Native.Nat.{ℕ, ◌+◌, ◌≤◌, ◌-◌, zero-le}
 use mathlib.Core.Path.{◌≡◌, sym, ap, ◌∙◌, refl}
 use mathlib.Core.Bool.{false}
 use mathlib.Core.List.{List}
 use native.Mathlib.Omega.{arith}
 use lib.ListN.{length, drop}
-use Rattle.rules.specs.declared.Answer.{Answer}
-use Rattle.rules.specs.declared.Answer.TheVariants.{Done}
+use Rattle.rules.specs.Types.{Answer}
 use Rattle.stored_object.specs.declared.Header.{Header}
-use Rattle.disk_location.specs.declared.Located.{Located}
+use Rattle.disk_location.specs.Answers.{Located}
 use Rattle.disk_location.specs.Locations.{raw_of, told}
 use Rattle.rules.specs.Base.{each}
 use Rattle.rules.specs.Object.{Stored, stored_at}
@@ -20,11 +20,12 @@ use Rattle.gc_group.proofs.Checks.{walk_end, walk-cut, walk_refused, walk-on, wa
 use Rattle.gc_group.specs.Marks.{object_id, marked, current}
 use Rattle.gc_group.proofs.MarkLaws.{located-raw, marked-length}
 use Rattle.gc_group.proofs.MarkTurns.{objects-done, objects-mark}
+use Rattle.std.proofs.lemmas.Result.{err_from_is_err_and}
 use Rattle.gc_group.proofs.marks.mark_objects.Goals as goal
 
 -- behind an object that passes
 further : (limit : ℕ) (t objects : List ℕ) (position : ℕ) (h : Header) (answer : Answer) → Walked objects position h
-    → answer ≡ decide (moved_tests limit (used_entries t) (stored_at position (drop position objects))) → answer ≡ Done
+    → answer ≡ decide (moved_tests limit (used_entries t) (stored_at position (drop position objects))) → answer ≡ Ok tt
     → (position + (20 + h.size) ≤ length objects)
     × (decide (each (moved_tests limit (used_entries t)) (objects_at objects position)) ≡ decide (each (moved_tests limit (used_entries t)) (objects_at objects (position + (20 + h.size)))))
 further limit t objects position h answer walked decided done =
@@ -60,17 +61,16 @@ returns-in-HeaderCut c =
       marks = λ e. absurd (let z : ◌≡◌ {A = ℕ} 0 1 = cc in omega arith);
     }
 
+pub returns-in_err-check_object-in-Here-clause-answers : goal.returns-in_err-check_object-in-Here-clause-answers
+returns-in_err-check_object-in-Here-clause-answers c =
+    let a = c.args in
+    let p = err_from_is_err_and c.from_residual.result c.from_residual.ensures.1 in
+    rw (p.1, p.2) (sym (walk_refused a.limit (used_entries a.table.now) a.objects.now c.loop-h.position _ (told-by _ _ _ (sym c.step.ensures ∙ c.in-Here.is)) _
+    (sym (c.check_object.ensures (used_entries c.args.table.now) (used-rising c.args.table.now c.requires.formed) c.find_near-found.ensures) ∙ c.in_err-check_object-in-Here.was))
+    ∙ c.loop-h.invariant.2)
+
 pub check_object-requires : goal.check_object-requires
 check_object-requires c = told-by _ _ _ (sym c.step.ensures ∙ c.in-Here.is)
-
-pub returns-in-Refused : goal.returns-in-Refused
-returns-in-Refused c =
-    let a = c.args in record {
-      answers = sym (walk_refused a.limit (used_entries a.table.now) a.objects.now c.loop-h.position _ (told-by _ _ _ (sym c.step.ensures ∙ c.in-Here.is)) _
-          (sym (c.check_object.ensures (used_entries c.args.table.now) (used-rising c.args.table.now c.requires.formed) c.find_near-found.ensures) ∙ c.in-Refused.is))
-          ∙ c.loop-h.invariant.2;
-      marks = λ e. absurd (let z : ◌≡◌ {A = ℕ} 0 1 = cc in omega arith);
-    }
 
 pub overflow_add-lsn : goal.overflow_add-lsn
 overflow_add-lsn c =
@@ -84,19 +84,19 @@ mark_at-requires c =
     }
 
 pub overflow_add-position : goal.overflow_add-position
-overflow_add-position c = omega (arith, (further c.args.limit c.args.table.now c.args.objects.now c.loop-h.position _ _ (told-by _ _ _ (sym c.step.ensures ∙ c.in-Here.is)) (c.check_object.ensures (used_entries c.args.table.now) (used-rising c.args.table.now c.requires.formed) c.find_near-found.ensures) c.in-Done.is).0)
+overflow_add-position c = omega (arith, (further c.args.limit c.args.table.now c.args.objects.now c.loop-h.position _ _ (told-by _ _ _ (sym c.step.ensures ∙ c.in-Here.is)) (c.check_object.ensures (used_entries c.args.table.now) (used-rising c.args.table.now c.requires.formed) c.find_near-found.ensures) c.in_ok-check_object-in-Here.was).0)
 
 pub overflow_add-position-in-Here : goal.overflow_add-position-in-Here
-overflow_add-position-in-Here c = omega (arith, (further c.args.limit c.args.table.now c.args.objects.now c.loop-h.position _ _ (told-by _ _ _ (sym c.step.ensures ∙ c.in-Here.is)) (c.check_object.ensures (used_entries c.args.table.now) (used-rising c.args.table.now c.requires.formed) c.find_near-found.ensures) c.in-Done.is).0)
+overflow_add-position-in-Here c = omega (arith, (further c.args.limit c.args.table.now c.args.objects.now c.loop-h.position _ _ (told-by _ _ _ (sym c.step.ensures ∙ c.in-Here.is)) (c.check_object.ensures (used_entries c.args.table.now) (used-rising c.args.table.now c.requires.formed) c.find_near-found.ensures) c.in_ok-check_object-in-Here.was).0)
 
 pub loop-h-smaller : goal.loop-h-smaller
-loop-h-smaller c = omega (arith, (further c.args.limit c.args.table.now c.args.objects.now c.loop-h.position _ _ (told-by _ _ _ (sym c.step.ensures ∙ c.in-Here.is)) (c.check_object.ensures (used_entries c.args.table.now) (used-rising c.args.table.now c.requires.formed) c.find_near-found.ensures) c.in-Done.is).0)
+loop-h-smaller c = omega (arith, (further c.args.limit c.args.table.now c.args.objects.now c.loop-h.position _ _ (told-by _ _ _ (sym c.step.ensures ∙ c.in-Here.is)) (c.check_object.ensures (used_entries c.args.table.now) (used-rising c.args.table.now c.requires.formed) c.find_near-found.ensures) c.in_ok-check_object-in-Here.was).0)
 
 pub loop-h-preserved : goal.loop-h-preserved
 loop-h-preserved c =
     let a = c.args in
     let table = used_entries a.table.now in
-    let more = further c.args.limit c.args.table.now c.args.objects.now c.loop-h.position _ _ (told-by _ _ _ (sym c.step.ensures ∙ c.in-Here.is)) (c.check_object.ensures (used_entries c.args.table.now) (used-rising c.args.table.now c.requires.formed) c.find_near-found.ensures) c.in-Done.is in
+    let more = further c.args.limit c.args.table.now c.args.objects.now c.loop-h.position _ _ (told-by _ _ _ (sym c.step.ensures ∙ c.in-Here.is)) (c.check_object.ensures (used_entries c.args.table.now) (used-rising c.args.table.now c.requires.formed) c.find_near-found.ensures) c.in_ok-check_object-in-Here.was in
     let position = c.loop-h.position in
     let h = c.in-Here.h in
     let next = position + (20 + h.size) in

@@ -1,5 +1,5 @@
 use mathlib.Core.Path.{◌≡◌}
-use Prim.Native.Nat.{ℕ, ◌*◌, ◌≤◌, ◌-◌}
+use Prim.Native.Nat.{ℕ, ◌*◌, ◌-◌}
 use Rattle.stores.specs.Runs.{Made}
 use Rattle.losses.specs.Lines.{slots_told, LabelsIn}
 use Rattle.rules.specs.PruneLaws.{emptying}
@@ -8,10 +8,6 @@ use mathlib.Core.List.{List}
 use Rattle.losses.proofs.lines.empty_slots.Given as goal
 
 abbrev pub invariant-loop-i : goal.invariant-loop-i
-invariant-loop-i l = (l.i ≤ l.lines)
-    × (length l.heap ≡ length l.initial.heap)
+invariant-loop-i l = (length l.heap ≡ length l.initial.heap)
     × LabelsIn l.slot_bytes (slots_told (l.lines - l.i) (drop (2 * l.i) l.report)) (length l.initial.heap)
     × ((after : List ℕ) (m : ℕ) → Made l.rest (emptying l.slot_bytes (slots_told (l.lines - l.i) (drop (2 * l.i) l.report))) l.heap after m → Made l.left (emptying l.slot_bytes (slots_told l.lines l.report)) l.initial.heap after m)
-
-abbrev pub decreases-loop-i : goal.decreases-loop-i
-decreases-loop-i l = l.lines - l.i

@@ -2,7 +2,6 @@ use mathlib.Core.Path.{ap}
 use mathlib.Core.Logic.{⊎_elim}
 use Prim.Native.Nat.{ℕ, ◌-◌, ◌^◌}
 use native.Mathlib.Omega.{arith}
-use borrow.Author.Tests.{ltb-true, ltb-false}
 use lib.ListN.{get_or}
 use Rattle.numbers.proofs.GroupReading.{begin, seven, last, top, tenth, padded, cut_short, turn}
 use Rattle.numbers.proofs.groups.decode.Goals as goal

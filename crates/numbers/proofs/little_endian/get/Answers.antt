@@ -1,33 +1,20 @@
-use mathlib.Core.Path.{◌≡◌, sym}
-use Prim.Native.Nat.{◌-◌, ◌<◌}
-use native.Mathlib.Nat.{le_refl, sub_self}
-use lib.Dec.{lit<}
-use native.Mathlib.Omega.{arith}
-use Rattle.numbers.proofs.LittleEndianTurns.{Turned, get-turn, get_none}
+use Rattle.std.proofs.Common.{◌≡◌, take, ℕ, List, [], ◌∷◌, ◌++◌, ◌∙◌, sym, ap, append-nil, append_assoc, refl, lit<, arith}
+use Rattle.numbers.specs.LittleEndian.{le_value}
+use Rattle.numbers.proofs.LittleEndianTurns.{get-turn, get-next}
 use Rattle.numbers.proofs.little_endian.get.Goals as goal
 
-pub loop-i-init : goal.loop-i-init
-loop-i-init c = (le_refl _, sym (get_none c.args.s.now c.args.n), rw sub_self (lit< tt))
+pub loop-b-init : goal.loop-b-init
+unfolding le_value
+loop-b-init c =
+    let all : c.into_iter-b-iterator.result.iter.rest.now ≡ take c.args.n c.args.s.now = cc (ap (λ i. i.iter.rest.now) c.into_iter-b-iterator.ensures.into_iter_gives) in
+    ([], sym (append-nil _ ∙ all), refl, lit< tt)
 
-pub overflow_cast-v : goal.overflow_cast-v
-overflow_cast-v c = omega (arith, c.type_inv.s (c.loop-i.i - 1))
-
-turned : (c : goal.After-shared_slice_known-1)
-    → Turned c.args.s.now c.args.n (c.loop-i.i - 1) c.loop-i.v
-turned c =
-    let pre = c.requires in
-    let inv = c.loop-i.invariant in
-    get-turn _ _ c.loop-i.i c.loop-i.v c.loop-i-test.true inv.0 pre.n_in_bounds pre.n_bound inv.1 inv.2
-    (c.type_inv.s (c.loop-i.i - 1)).fits
-
-pub overflow_add-v : goal.overflow_add-v
-overflow_add-v c = record { fits = (turned c).fits }
-
-pub loop-i-preserved : goal.loop-i-preserved
-loop-i-preserved c = (omega (arith, c.loop-i.invariant.0), (turned c).value, (turned c).below)
-
-pub returns : goal.returns
-returns c =
-    let inv = c.loop-i.invariant in
-    let done : c.loop-i.i ≡ 0 = omega arith in
-    rw done at inv.1
+pub loop-b-preserved : goal.loop-b-preserved
+loop-b-preserved c =
+    let seen = c.loop-b.invariant.0 in
+    let b = c.in-Some.b.now in
+    let rest = c.next.new.self.iter.rest.now in
+    let parts : take c.args.n c.args.s.now ≡ rest ++ (b ∷ seen) = c.loop-b.invariant.1 ∙ ap (λ (xs : List ℕ). xs ++ seen) c.in-Some.ensures.steps ∙ append_assoc rest (b ∷ []) seen in
+    let next = get-next c.args.s.now rest seen c.args.n b parts (λ i. (c.type_inv.s i).fits) in
+    let turn = get-turn b seen c.loop-b.v (omega (arith, next.1, c.requires.n_bound)) c.loop-b.invariant.2 c.loop-b.invariant.3 next.0 in
+    (b ∷ seen, parts, turn.value, turn.below)

@@ -1,11 +1,6 @@
-use mathlib.Core.Path.{◌≡◌}
-use Prim.Native.Nat.{◌-◌, ◌^◌, ◌≤◌, ◌<◌}
-use lib.ListN.{take, drop}
+use Rattle.std.proofs.Common.{◌≡◌, ◌^◌, ◌<◌, List, ℕ, ◌++◌, length, take}
 use Rattle.numbers.specs.LittleEndian.{le_value}
 use Rattle.numbers.proofs.little_endian.get.Given as goal
 
-abbrev pub invariant-loop-i : goal.invariant-loop-i
-invariant-loop-i l = (l.i ≤ l.n) × (l.v ≡ le_value (drop l.i (take l.n l.s))) × (l.v < 256 ^ (l.n - l.i))
-
-abbrev pub decreases-loop-i : goal.decreases-loop-i
-decreases-loop-i l = l.i
+abbrev pub invariant-loop-b : goal.invariant-loop-b
+invariant-loop-b l = (seen : List ℕ) × (take l.n l.s ≡ l.b-iterator.iter.rest.now ++ seen) × (l.v ≡ le_value seen) × (l.v < 256 ^ length seen)

@@ -1,23 +1,23 @@
-use mathlib.Core.Path.{refl, ◌∙◌}
-use Prim.Native.Nat.{◌-◌, zero-le}
+use Rattle.std.proofs.Common.{◌<◌, ◌≤◌, ◌∙◌, ◌++◌, ap, arith, List, ℕ, length-take, drop}
 use native.Mathlib.Nat.{sub-zero}
-use native.Mathlib.Omega.{arith}
-use lib.ListN.{length-set}
+use Rattle.numbers.specs.LittleEndian.{le_bytes, le-length}
 use Rattle.numbers.specs.Parts.{put_front}
 use Rattle.numbers.proofs.LittleEndianTurns.{put-turn, put-done}
+use Rattle.numbers.proofs.Lent.{front-part}
 use Rattle.numbers.proofs.little_endian.put.Goals as goal
 
-pub loop-i-init : goal.loop-i-init
-loop-i-init c = (zero-le, refl, rw sub-zero (put_front _ _))
+pub loop-b-init : goal.loop-b-init
+loop-b-init c = rw sub-zero (put_front _ _)
 
-pub loop-i-preserved : goal.loop-i-preserved
-loop-i-preserved c =
-    let inv = c.loop-i.invariant in
-    let h = c.loop-i-test.true in
-    (omega arith, simp length-set (omega arith), put-turn _ _ _ _ h (omega (arith, c.requires)) ∙ inv.2)
-
-pub shape_of-s : goal.shape_of-s
-shape_of-s c = c.loop-i.invariant.1
+pub loop-b-preserved : goal.loop-b-preserved
+loop-b-preserved c =
+    let inside : c.loop-b.b-index < c.args.n = omega (arith, length-take c.args.n c.args.s.now) in
+    put-turn _ _ _ _ inside (omega (arith, length-take c.args.n c.args.s.now, c.requires)) ∙ c.loop-b.invariant
 
 pub returns : goal.returns
-returns c = put-done _ _ c.args.n c.loop-i.i c.loop-i.rest c.loop-i-test.false c.loop-i.invariant.2
+returns c =
+    let s = c.args.s.now in
+    let n = c.args.n in
+    let all : n ≤ c.loop-b.b-index = omega (arith, length-take n s, c.requires) in
+    ap (λ (l : List ℕ). l ++ drop n s) (put-done _ _ n c.loop-b.b-index c.loop-b.rest all c.loop-b.invariant)
+    ∙ front-part s (le_bytes n c.args.x) n (le-length n c.args.x)

@@ -1,7 +1,7 @@
 use Rattle.file_map.proofs.RecordTurns.{mapped-length}
 use mathlib.Core.Path.{◌≡◌, refl, ap, ◌∙◌}
 use mathlib.Core.List.{List}
-use Prim.Native.Nat.{ℕ, zero-le}
+use Prim.Native.Nat.{ℕ}
 use native.Mathlib.Omega.{arith}
 use borrow.Author.Rules.{rules}
 use lib.ListN.{length, replicate, set, length-replicate}
@@ -13,20 +13,18 @@ zeros : length (replicate {A = ℕ} 256 0) ≡ 256
 zeros = length-replicate {A = ℕ} 256 0
 
 pub loop-k-init : goal.loop-k-init
-loop-k-init c = (zero-le, refl)
+loop-k-init c = refl
 
 pub loop-k-preserved : goal.loop-k-preserved
 loop-k-preserved c =
     let ls = c.args.slots.labels in
     let len : length ls ≡ 256 = search (mapped-length, rules) in
-    let l = c.loop-k in (
-      omega arith,
-      ap (λ (ns : List ℕ). set ns l.k c.masked.result) l.invariant.1 ∙ ap (set (map_to masked_lsn l.k ls (replicate 256 0)) l.k) c.masked.ensures ∙ map_next masked_lsn ls (replicate 256 0) l.k (omega arith) (omega (arith, zeros)),
-    )
+    let l = c.loop-k in
+    ap (λ (ns : List ℕ). set ns l.k c.masked.result) l.invariant ∙ ap (set (map_to masked_lsn l.k ls (replicate 256 0)) l.k) c.masked.ensures ∙ map_next masked_lsn ls (replicate 256 0) l.k (omega arith) (omega (arith, zeros))
 
 pub returns : goal.returns
 returns c =
     let ls = c.args.slots.labels in
     let len : length ls ≡ 256 = search (mapped-length, rules) in
     let l = c.loop-k in
-    l.invariant.1 ∙ map-end masked_lsn ls (replicate 256 0) l.k (omega arith) (omega (arith, zeros))
+    l.invariant ∙ map-end masked_lsn ls (replicate 256 0) l.k (omega arith) (omega (arith, zeros))

@@ -1,7 +1,7 @@
 use Rattle.file_map.proofs.RecordTurns.{mapped-length}
 use mathlib.Core.Path.{ap, refl, ◌∙◌, ◌≡◌}
 use mathlib.Core.List.{List}
-use Prim.Native.Nat.{ℕ, zero-le}
+use Prim.Native.Nat.{ℕ}
 use Rattle.rules.specs.declared.Record.{Record}
 use Rattle.rules.specs.Layout.{used_entries}
 use Rattle.reopen_tests.specs.Labels.{label_at}
@@ -17,7 +17,7 @@ pub loop-k-init : goal.loop-k-init
 loop-k-init c =
     let len : length c.no_files-m.result.records ≡ 256 = search (mapped-length, rules) in
     let labels : length c.args.slots.labels ≡ 256 = search (mapped-length, rules) in
-    (zero-le, len, labels, refl)
+    (len, labels, refl)
 
 pub loop-k-preserved : goal.loop-k-preserved
 loop-k-preserved c =
@@ -28,10 +28,9 @@ loop-k-preserved c =
     let l = c.loop-k in
     let here =
     c.slot_record.ensures ∙ ap (λ (ns : List ℕ). slot_record (label_at ls l.k) (get_or ns l.k 0)) c.live_counts-lives.ensures ∙ record-live es ls l.k in (
-      omega arith,
+      l.invariant.0,
       l.invariant.1,
-      l.invariant.2,
-      ap (λ (rs : List Record). set rs l.k c.slot_record.result) l.invariant.3 ∙ ap (set (map_to (counted es) l.k ls none) l.k) here ∙ map_next (counted es) ls none l.k (omega (arith, l.invariant.2)) (omega (arith, l.invariant.1)),
+      ap (λ (rs : List Record). set rs l.k c.slot_record.result) l.invariant.2 ∙ ap (set (map_to (counted es) l.k ls none) l.k) here ∙ map_next (counted es) ls none l.k (omega (arith, l.invariant.1)) (omega (arith, l.invariant.0)),
     )
 
 pub returns : goal.returns
@@ -40,4 +39,4 @@ returns c =
     let none = c.no_files-m.result.records in
     let ls = a.slots.labels in
     let l = c.loop-k in
-    l.invariant.3 ∙ map-end (counted (used_entries a.table.now)) ls none l.k (omega (arith, l.invariant.2)) (omega (arith, l.invariant.1))
+    l.invariant.2 ∙ map-end (counted (used_entries a.table.now)) ls none l.k (omega (arith, l.invariant.1)) (omega (arith, l.invariant.0))

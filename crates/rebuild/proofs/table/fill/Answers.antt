@@ -1,7 +1,7 @@
 use mathlib.Core.Path.{sym, ap, refl, ◌∙◌}
 use mathlib.Core.List.{◌++◌}
-use Prim.Native.Nat.{zero-le, ◌+◌}
-use borrow.Author.Tests.{not-true, not-false}
+use Prim.Native.Nat.{◌+◌}
+use borrow.Author.Rules.{rules}
 use lib.ListN.{take, drop}
 use Rattle.rules.specs.Base.{each}
 use Rattle.rules.specs.SlotFile.{View, view_in, views_in}
@@ -17,7 +17,7 @@ use Rattle.rebuild.proofs.table.fill.Goals as goal
 pub loop-k-init : goal.loop-k-init
 unfolding each files_in
 loop-k-init c =
-    (zero-le, refl, filled_none c.args.table.now c.requires.formed)
+    (refl, filled_none c.args.table.now c.requires.formed)
 
 pub slot_at-requires : goal.slot_at-requires
 slot_at-requires c =
@@ -30,7 +30,7 @@ fill_slot-requires c =
     let l = c.loop-k in
     let views = views_in a.n a.size a.heap.now in
     let sound = all_take (Sound a.size) l.k views (sound-views a.n a.size a.heap.now a.slots.labels c.requires.surveyed) in record {
-      formed = filled-formed a.table.now c.requires.formed (rows_in (take l.k views)) l.table (views-in-use a.size (take l.k views) sound) l.invariant.2;
+      formed = filled-formed a.table.now c.requires.formed (rows_in (take l.k views)) l.table (views-in-use a.size (take l.k views) sound) l.invariant.1;
       shown = rw c.slot_at.ensures (shown-at a.n a.size a.heap.now a.slots.labels c.requires.surveyed l.k c.loop-k-test.true);
     }
 
@@ -44,7 +44,7 @@ returns-then-not-fill_slot c =
     let sound = all_take (Sound a.size) l.k views (sound-views a.n a.size a.heap.now a.slots.labels c.requires.surveyed) in
     let view = ap view_in c.slot_at.ensures ∙ sym (views-at a.n a.size a.heap.now l.k low) in
     let rows = slot-out views l.k (omega arith) ∙ ap (λ (v : View). (rows_in (take l.k views) ++ each rows_of (file_of v)) ++ rows_in (drop (l.k + 1) views)) (sym view) in
-    chunk_out a.table.now c.requires.formed (rows_in (take l.k views)) _ (views-in-use a.size (take l.k views) sound) _ l.invariant.2 _ _ c.fill_slot.ensures (not-true _ c.if-not-fill_slot.true-raw) (rows_in views) _ rows
+    chunk_out a.table.now c.requires.formed (rows_in (take l.k views)) _ (views-in-use a.size (take l.k views) sound) _ l.invariant.1 _ _ c.fill_slot.ensures (search rules) (rows_in views) _ rows
 
 pub loop-k-preserved : goal.loop-k-preserved
 loop-k-preserved c =
@@ -56,9 +56,8 @@ loop-k-preserved c =
     let sound = all_take (Sound a.size) l.k views (sound-views a.n a.size a.heap.now a.slots.labels c.requires.surveyed) in
     let view = ap view_in c.slot_at.ensures ∙ sym (views-at a.n a.size a.heap.now l.k low) in
     let rows = slot-in views l.k (omega arith) ∙ ap (λ (v : View). rows_in (take l.k views) ++ each rows_of (file_of v)) (sym view) in (
-      omega arith,
-      c.fill_slot.auto.table ∙ l.invariant.1,
-      chunk_in a.table.now c.requires.formed (rows_in (take l.k views)) _ (views-in-use a.size (take l.k views) sound) _ l.invariant.2 _ _ c.fill_slot.ensures (not-false _ c.if-not-fill_slot.false-raw) (rows_in (take (l.k + 1) views)) rows,
+      c.fill_slot.auto.table ∙ l.invariant.0,
+      chunk_in a.table.now c.requires.formed (rows_in (take l.k views)) _ (views-in-use a.size (take l.k views) sound) _ l.invariant.1 _ _ c.fill_slot.ensures (search rules) (rows_in (take (l.k + 1) views)) rows,
     )
 
 pub returns : goal.returns
@@ -66,4 +65,4 @@ returns c =
     let a = c.args in
     let l = c.loop-k in
     let views = views_in a.n a.size a.heap.now in
-    filled-as (slot-end views l.k (omega (arith, l.invariant, views-length a.n a.size a.heap.now, c.loop-k-test.false))) l.invariant.2
+    filled-as (slot-end views l.k (omega (arith, l.invariant, views-length a.n a.size a.heap.now, c.loop-k-test.false))) l.invariant.1

@@ -1,7 +1,7 @@
 use mathlib.Core.Path.{refl, sym, ap, subst, ◌∙◌}
 use mathlib.Core.List.{[], ◌∷◌, map}
-use Prim.Native.Nat.{zero-le, ◌^◌, ◌+◌, ◌<◌}
-use borrow.Author.Tests.{not-true, not-false}
+use Prim.Native.Nat.{◌^◌, ◌+◌, ◌<◌}
+use borrow.Author.Rules.{rules}
 use Rattle.rules.specs.declared.Entry.{Entry}
 use Rattle.disk_location.specs.Locations.{position_of}
 use Rattle.trailer.specs.Entries.{entries-count}
@@ -17,7 +17,7 @@ use Rattle.rebuild.proofs.table.one_by_one.Goals as goal
 
 pub loop-k-init : goal.loop-k-init
 loop-k-init c =
-    (c.count-n.ensures, zero-le, refl, filled_none c.args.table.now c.requires.0)
+    (c.count-k-end.ensures, refl, filled_none c.args.table.now c.requires.0)
 
 pub absolute-e-requires : goal.absolute-e-requires
 absolute-e-requires c =
@@ -36,7 +36,7 @@ meet-requires c =
     let l = c.loop-k in
     let rows = map (absolute lsn) (entries_in c.args.trailer.now) in
     let used = rows-in-use lsn (entries_in c.args.trailer.now) c.requires.2.some in record {
-      formed = filled-formed c.args.table.now c.requires.0 (take l.k rows) l.table (all_take InUse l.k rows used) l.invariant.3;
+      formed = filled-formed c.args.table.now c.requires.0 (take l.k rows) l.table (all_take InUse l.k rows used) l.invariant.2;
       location_nonzero = subst InUse (sym c.absolute-e.ensures) (rows-in-use lsn (c.entry.result ∷ []) c.requires.2.some).0;
     }
 
@@ -50,7 +50,7 @@ returns-then-not-meet c =
     let used = all_take InUse l.k rows (rows-in-use lsn es c.requires.2.some) in
     let is = c.absolute-e.ensures ∙ ap (absolute lsn) c.entry.ensures in
     let low : l.k < length es = omega (arith, l.invariant, entries-count t c.requires.1, c.loop-k-test.true) in
-    chunk_out c.args.table.now c.requires.0 (take l.k rows) _ used _ l.invariant.3 _ _ c.meet.ensures (not-true _ c.if-not-meet.true-raw) rows _
+    chunk_out c.args.table.now c.requires.0 (take l.k rows) _ used _ l.invariant.2 _ _ c.meet.ensures (search rules) rows _
     (entry-out lsn es l.k _ low is)
 
 pub loop-k-preserved : goal.loop-k-preserved
@@ -64,9 +64,8 @@ loop-k-preserved c =
     let is = c.absolute-e.ensures ∙ ap (absolute lsn) c.entry.ensures in
     let low : l.k < length es = omega (arith, l.invariant, entries-count t c.requires.1, c.loop-k-test.true) in (
       l.invariant.0,
-      omega arith,
-      c.meet.auto.table ∙ l.invariant.2,
-      chunk_in c.args.table.now c.requires.0 (take l.k rows) _ used _ l.invariant.3 _ _ c.meet.ensures (not-false _ c.if-not-meet.false-raw) (take (l.k + 1) rows)
+      c.meet.auto.table ∙ l.invariant.1,
+      chunk_in c.args.table.now c.requires.0 (take l.k rows) _ used _ l.invariant.2 _ _ c.meet.ensures (search rules) (take (l.k + 1) rows)
           (entry_in lsn es l.k _ low is),
     )
 
@@ -75,4 +74,4 @@ returns c =
     let lsn = c.args.lsn in
     let t = c.args.trailer.now in
     let l = c.loop-k in
-    filled-as (entry-end lsn (entries_in t) l.k (omega (arith, l.invariant, entries-count t c.requires.1, c.loop-k-test.false))) l.invariant.3
+    filled-as (entry-end lsn (entries_in t) l.k (omega (arith, l.invariant, entries-count t c.requires.1, c.loop-k-test.false))) l.invariant.2

@@ -1,5 +1,4 @@
 use mathlib.Core.Path.{sym, refl, ◌∙◌}
-use Prim.Native.Nat.{zero-le}
 use Rattle.rules.specs.SlotFile.{views_in}
 use Rattle.rules.proofs.SlotLaws.{slots_apart, views-length}
 use Rattle.reopen_tests.specs.Ascending.{file_falls}
@@ -9,7 +8,7 @@ use native.Mathlib.Omega.{arith}
 use Rattle.reopen_tests.proofs.rising.not_rising.Goals as goal
 
 pub loop-k-init : goal.loop-k-init
-loop-k-init c = (zero-le, refl)
+loop-k-init c = refl
 
 pub slot_at-requires : goal.slot_at-requires
 slot_at-requires c =
@@ -27,7 +26,7 @@ returns-then-slot_falls c =
     let k = c.loop-k.k in
     let low = c.loop-k-test.true in
     let said = slot_read file_falls a.n a.size a.heap.now k low _ c.slot_at.ensures ∙ sym c.slot_falls.ensures ∙ c.if-slot_falls.true in
-    sym (slot-here file_falls (views_in a.n a.size a.heap.now) k (omega (arith, views-length a.n a.size a.heap.now)) said) ∙ c.loop-k.invariant.1
+    sym (slot-here file_falls (views_in a.n a.size a.heap.now) k (omega (arith, views-length a.n a.size a.heap.now)) said) ∙ c.loop-k.invariant
 
 pub loop-k-preserved : goal.loop-k-preserved
 loop-k-preserved c =
@@ -35,9 +34,9 @@ loop-k-preserved c =
     let k = c.loop-k.k in
     let low = c.loop-k-test.true in
     let said = slot_read file_falls a.n a.size a.heap.now k low _ c.slot_at.ensures ∙ sym c.slot_falls.ensures ∙ c.if-slot_falls.false in
-    (omega arith, slot-later file_falls (views_in a.n a.size a.heap.now) k (omega (arith, views-length a.n a.size a.heap.now)) said ∙ c.loop-k.invariant.1)
+    slot-later file_falls (views_in a.n a.size a.heap.now) k (omega (arith, views-length a.n a.size a.heap.now)) said ∙ c.loop-k.invariant
 
 pub returns : goal.returns
 returns c =
     let a = c.args in
-    sym (slot-end file_falls (views_in a.n a.size a.heap.now) c.loop-k.k (omega (arith, views-length a.n a.size a.heap.now))) ∙ c.loop-k.invariant.1
+    sym (slot-end file_falls (views_in a.n a.size a.heap.now) c.loop-k.k (omega (arith, views-length a.n a.size a.heap.now))) ∙ c.loop-k.invariant

@@ -1,5 +1,4 @@
 use mathlib.Core.Path.{◌≡◌}
-use Prim.Native.Nat.{◌≤◌, ◌-◌}
 use lib.ListN.{drop}
 use Rattle.rules.specs.Base.{any}
 use Rattle.rules.specs.SlotFile.{views_in}
@@ -8,7 +7,4 @@ use Rattle.reopen_tests.specs.Ascending.{file_falls}
 use Rattle.reopen_tests.proofs.rising.not_rising.Given as goal
 
 abbrev pub invariant-loop-k : goal.invariant-loop-k
-invariant-loop-k l = (l.k ≤ l.n) × (any file_falls (files_in (drop l.k (views_in l.n l.size l.heap))) ≡ any file_falls (files_in (views_in l.n l.size l.heap)))
-
-abbrev pub decreases-loop-k : goal.decreases-loop-k
-decreases-loop-k l = l.n - l.k
+invariant-loop-k l = any file_falls (files_in (drop l.k (views_in l.n l.size l.heap))) ≡ any file_falls (files_in (views_in l.n l.size l.heap))

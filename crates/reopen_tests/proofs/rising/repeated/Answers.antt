@@ -17,8 +17,8 @@ returns-then-repeats c =
     let es = entries_in t in
     let l = c.loop-j in
     let found = ap (repeats c.entry-e.result) (sym c.entry.ensures) ∙ sym c.repeats.ensures ∙ c.if-repeats.true in
-    sym (any_here es l.j no_entry (omega (arith, entries-count t c.requires.trailer_in_bounds, l.invariant)) _ found) ∙ l.invariant.3
-    ∙ ap (λ (e : Entry). any (repeats e) (drop (c.args.k + 1) es)) l.invariant.2
+    sym (any_here es l.j no_entry (omega (arith, entries-count t c.requires.trailer_in_bounds, l.invariant)) _ found) ∙ l.invariant.2
+    ∙ ap (λ (e : Entry). any (repeats e) (drop (c.args.k + 1) es)) l.invariant.1
 
 pub loop-j-preserved : goal.loop-j-preserved
 loop-j-preserved c =
@@ -26,12 +26,12 @@ loop-j-preserved c =
     let es = entries_in t in
     let l = c.loop-j in
     let found = ap (repeats c.entry-e.result) (sym c.entry.ensures) ∙ sym c.repeats.ensures ∙ c.if-repeats.false in
-    (l.invariant.0, omega arith, l.invariant.2, any-later es l.j no_entry (omega (arith, entries-count t c.requires.trailer_in_bounds, l.invariant)) _ found ∙ l.invariant.3)
+    (l.invariant.0, l.invariant.1, any-later es l.j no_entry (omega (arith, entries-count t c.requires.trailer_in_bounds, l.invariant)) _ found ∙ l.invariant.2)
 
 pub returns : goal.returns
 returns c =
     let t = c.args.trailer.now in
     let es = entries_in t in
     let l = c.loop-j in
-    sym (any-end es l.j (omega (arith, entries-count t c.requires.trailer_in_bounds, l.invariant)) _) ∙ l.invariant.3
-    ∙ ap (λ (e : Entry). any (repeats e) (drop (c.args.k + 1) es)) l.invariant.2
+    sym (any-end es l.j (omega (arith, entries-count t c.requires.trailer_in_bounds, l.invariant)) _) ∙ l.invariant.2
+    ∙ ap (λ (e : Entry). any (repeats e) (drop (c.args.k + 1) es)) l.invariant.1

@@ -1,7 +1,9 @@
 use mathlib.Core.Path.{sym, ap, refl, ◌∙◌}
-use Prim.Native.Nat.{zero-le, ◌-◌}
 use Rattle.rules.proofs.SlotLaws.{slots_apart, views-length}
-use Rattle.reopen_tests.proofs.SurveyTurns.{labels-start, labels_next, labels-end, survey-here, survey-later, survey-end, said-refusal, said-label, surveyed-refused, surveyed-clear}
+use Rattle.std.specs.Option.{unwrap_or}
+use Rattle.std.proofs.lemmas.Result.{err_from_is_err_and}
+use Rattle.reopen_tests.specs.Labels.{refusal_shown, label_shown}
+use Rattle.reopen_tests.proofs.SurveyTurns.{labels-start, labels_next, labels-end, survey-here, survey-later, survey-end, said-refusal, said-label, shown-clear, shown-label, surveyed-refused, surveyed-clear}
 use lib.ListN.{set}
 use mathlib.Core.List.{List}
 use Rattle.rules.specs.declared.Label.{Label}
@@ -12,22 +14,22 @@ use Rattle.reopen_tests.proofs.slots.survey.Goals as goal
 pub loop-k-init : goal.loop-k-init
 loop-k-init c =
     let a = c.args in
-    (zero-le, c.no_labels-slots.ensures ∙ sym (labels-start (views_in a.n a.size a.heap.now)), refl)
+    (c.no_labels-slots.ensures ∙ sym (labels-start (views_in a.n a.size a.heap.now)), refl)
 
 pub slot_at-requires : goal.slot_at-requires
 slot_at-requires c =
     let a = c.args in
     omega (arith, c.requires, slots_apart a.size c.loop-k.k a.n c.loop-k-test.true)
 
-pub returns-in-Refused : goal.returns-in-Refused
-returns-in-Refused c =
+pub returns-in_err-shown : goal.returns-in_err-shown
+returns-in_err-shown c =
     let a = c.args in
     let k = c.loop-k.k in
     let views = views_in a.n a.size a.heap.now in
-    let low = c.loop-k-test.true in
-    let said = sym (said-refusal a.n a.size a.heap.now k low _ c.slot_at.ensures _ c.check-shown.ensures) ∙ sym c.refusal.ensures ∙ c.in-Refused.is in
-    let all = sym c.loop-k.invariant.2 ∙ survey-here views k (omega (arith, views-length a.n a.size a.heap.now)) _ said in
-    c.refused.ensures ∙ surveyed-refused views _ all
+    let said = sym (said-refusal a.n a.size a.heap.now k c.loop-k-test.true _ c.slot_at.ensures _ c.check.ensures) ∙ ap refusal_shown c.in_err-shown.was in
+    let all = sym c.loop-k.invariant.1 ∙ survey-here views k (omega (arith, views-length a.n a.size a.heap.now)) _ said in
+    let p = err_from_is_err_and c.from_residual.result c.from_residual.ensures.1 in
+    rw (p.1, p.2) (surveyed-refused views _ all)
 
 pub loop-k-preserved : goal.loop-k-preserved
 loop-k-preserved c =
@@ -36,9 +38,12 @@ loop-k-preserved c =
     let views = views_in a.n a.size a.heap.now in
     let low = c.loop-k-test.true in
     let many = views-length a.n a.size a.heap.now in
-    let said = sym (said-refusal a.n a.size a.heap.now k low _ c.slot_at.ensures _ c.check-shown.ensures) ∙ sym c.refusal.ensures ∙ c.in_default.is in
-    let label = c.label.ensures ∙ said-label a.n a.size a.heap.now k low _ c.slot_at.ensures _ c.check-shown.ensures in
-    (omega arith, ap (λ (ls : List Label). set ls k c.label.result) c.loop-k.invariant.1 ∙ labels_next views k _ (omega arith) (omega arith) label, survey-later views k (omega arith) said ∙ c.loop-k.invariant.2)
+    let shown = c.in_ok-shown.shown in
+    let said = sym (said-refusal a.n a.size a.heap.now k low _ c.slot_at.ensures _ c.check.ensures) ∙ ap refusal_shown c.in_ok-shown.was ∙ shown-clear shown in
+    let label =
+    c.unwrap_or.ensures ∙ ap (unwrap_or shown) c.no_label.ensures ∙ shown-label shown ∙ ap label_shown (sym c.in_ok-shown.was)
+    ∙ said-label a.n a.size a.heap.now k low _ c.slot_at.ensures _ c.check.ensures in
+    (ap (λ (ls : List Label). set ls k c.unwrap_or.result) c.loop-k.invariant.0 ∙ labels_next views k _ (omega arith) (omega arith) label, survey-later views k (omega arith) said ∙ c.loop-k.invariant.1)
 
 pub returns : goal.returns
 returns c =
@@ -46,4 +51,4 @@ returns c =
     let views = views_in a.n a.size a.heap.now in
     let k = c.loop-k.k in
     let many = views-length a.n a.size a.heap.now in
-    surveyed-clear views _ (sym c.loop-k.invariant.2 ∙ survey-end views k (omega arith)) (c.loop-k.invariant.1 ∙ labels-end views k (omega arith))
+    surveyed-clear views _ (sym c.loop-k.invariant.1 ∙ survey-end views k (omega arith)) (c.loop-k.invariant.0 ∙ labels-end views k (omega arith))

@@ -1,5 +1,4 @@
 use mathlib.Core.Path.{◌≡◌}
-use Prim.Native.Nat.{◌≤◌, ◌-◌}
 use Rattle.reopen_tests.proofs.SurveyTurns.{labels_to}
 use lib.ListN.{drop}
 use Rattle.rules.specs.Base.{each}
@@ -9,7 +8,4 @@ use Rattle.rules.specs.Reopen.{view_tests}
 use Rattle.reopen_tests.proofs.slots.survey.Given as goal
 
 abbrev pub invariant-loop-k : goal.invariant-loop-k
-invariant-loop-k l = (l.k ≤ l.n) × (l.slots.labels ≡ labels_to l.k (views_in l.n l.size l.heap)) × (decide (each view_tests (drop l.k (views_in l.n l.size l.heap))) ≡ decide (each view_tests (views_in l.n l.size l.heap)))
-
-abbrev pub decreases-loop-k : goal.decreases-loop-k
-decreases-loop-k l = l.n - l.k
+invariant-loop-k l = (l.slots.labels ≡ labels_to l.k (views_in l.n l.size l.heap)) × (decide (each view_tests (drop l.k (views_in l.n l.size l.heap))) ≡ decide (each view_tests (views_in l.n l.size l.heap)))

@@ -1,5 +1,5 @@
 use mathlib.Core.Path.{◌≡◌}
-use Prim.Native.Nat.{◌≤◌, ◌-◌}
+use Prim.Native.Nat.{◌≤◌}
 use Rattle.losses.specs.Lines.{Going}
 use Rattle.losses.specs.Starts.{slots_judged, start_in, end_in}
 use Rattle.losses.specs.Salvage.{first_kind}
@@ -9,15 +9,10 @@ use mathlib.Core.List.{map}
 use Rattle.salvage.proofs.first.first_kind.Given as goal
 
 abbrev pub invariant-loop-k : goal.invariant-loop-k
-invariant-loop-k l = (l.k ≤ l.n)
-    × (l.n ≡ length l.initial.starts)
-    × (length l.report ≡ length l.initial.report)
-    × (length l.starts ≡ l.n)
-    × (length l.ends ≡ l.n)
+invariant-loop-k l = (length l.report ≡ length l.initial.report)
+    × (length l.starts ≡ length l.initial.starts)
+    × (length l.ends ≡ length l.initial.starts)
     × (l.count ≤ l.k)
     × Going 0 (first_kind 0 (slots_judged (length l.initial.starts) l.size l.heap)) l.initial.report l.count (first_kind l.k (drop l.k (slots_judged (length l.initial.starts) l.size l.heap))) l.report
     × (put_at l.starts l.k (map start_in (drop l.k (slots_judged (length l.initial.starts) l.size l.heap))) ≡ map start_in (slots_judged (length l.initial.starts) l.size l.heap))
     × (put_at l.ends l.k (map end_in (drop l.k (slots_judged (length l.initial.starts) l.size l.heap))) ≡ map end_in (slots_judged (length l.initial.starts) l.size l.heap))
-
-abbrev pub decreases-loop-k : goal.decreases-loop-k
-decreases-loop-k l = l.n - l.k

@@ -1,3 +1,4 @@
+use Rattle.std.specs.Prelude.{Ok}
 use mathlib.Core.Path.{◌≡◌, refl, sym, ap, ◌∙◌}
 use mathlib.Core.List.{List}
 use lib.ListN.{drop, length, length-drop}
@@ -7,7 +8,6 @@ use native.Mathlib.Omega.{arith}
 use Rattle.rules.specs.Object.{Stored, stored_at}
 use Rattle.rules.specs.Refusal.{decide}
 use Rattle.rules.specs.Read.{object_tests}
-use Rattle.stored_object.specs.declared.BodyAnswer.TheVariants.{Body}
 use Rattle.stored_object.specs.declared.Header.{Header}
 use Rattle.stored_object.specs.Objects.{header_of}
 use Rattle.stored_object.proofs.object.read.Goals as goal
@@ -94,4 +94,4 @@ returns c =
     let from = kept c.header-h.result o c.header-h.ensures in
     let size = size_is c.header-h.result o c.header-h.ensures in
     let id = id-is c.header-h.result o c.header-h.ensures in
-    rw (le-ltb o.room 20 (omega (arith, room, c.if-room.false)), le-ltb o.room (20 + o.size) (omega (arith, room, from, size, c.if-room.false, c.if-most-h.false)), sym c.bad_checksum.ensures ∙ c.if-bad_checksum.false, eq-eqb o.id a.id (sym id ∙ c.if-h-id.false)) (ap (Body (a.position + 20)) size)
+    rw (le-ltb o.room 20 (omega (arith, room, c.if-room.false)), le-ltb o.room (20 + o.size) (omega (arith, room, from, size, c.if-room.false, c.if-most-h.false)), sym c.bad_checksum.ensures ∙ c.if-bad_checksum.false, eq-eqb o.id a.id (sym id ∙ c.if-h-id.false)) (ap (λ (n : ℕ). Ok (a.position + 20, n)) size)

@@ -1,5 +1,0 @@
-use Prim.Native.Nat.{◌-◌}
-use Rattle.maintenance_cases.proofs.batches.make.Goals as goal
-
-pub shape_of-batch : goal.shape_of-batch
-shape_of-batch c = c.loop-i.invariant.0

@@ -1,9 +1,0 @@
-use mathlib.Core.Path.{sym, ◌∙◌}
-use native.Mathlib.Nat.{add-zero}
-use Rattle.record_marks.proofs.counted.Goals as goal
-
-pub returns-then-is_unsynced : goal.returns-then-is_unsynced
-returns-then-is_unsynced c = simp (sym c.is_unsynced.ensures ∙ c.if-is_unsynced.true)
-
-pub returns : goal.returns
-returns c = simp (sym c.is_unsynced.ensures ∙ c.if-is_unsynced.false) (sym (add-zero _))
