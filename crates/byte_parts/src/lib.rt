@@ -6,12 +6,15 @@ ghost use Rattle.std.specs.Prelude.{◌≡◌, ◌==◌, ◌+◌, ◌≤◌, len
 ghost use Rattle.numbers.specs.Parts.{front};
 ghost use Rattle.byte_parts.specs.Bytes.{slice, index_of};
 
-// Copies `from` over the front of `to`; what is behind it stays.
+// Copies `from` over the front of `to`, from the first byte on; what is behind it stays.
 pub fn copy(from: &[u8], to: &mut [u8])
     requires { length from.now ≤ length to.old }
     ensures { to.new ≡ front from.now to.old }
 {
-    to[..from.len()].copy_from_slice(from);
+    // Kept: a loop, since the library's copy of a slice becomes a call of the host's memmove, which may store in another order.
+    for i in 0..from.len() {
+        to[i] = from[i];
+    }
 }
 
 // Where `byte` first stands.

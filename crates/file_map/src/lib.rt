@@ -69,7 +69,14 @@ pub fn fresh(label: Label) -> Record
 pub fn is_empty(r: Record) -> bool
     ensures { result ≡ is_empty r }
 {
-    r == empty()
+    // Kept: seven tests and no derived `==`, which goes on by branches: a count of the unsynced took over half as long again with it.
+    (r.label.lsn == 0)
+        & (r.label.trailer_offset == 0)
+        & (r.label.file_size == 0)
+        & (r.label.present_objects == 0)
+        & (r.label.generation == 0)
+        & (r.live == 0)
+        & (r.synced == 0)
 }
 
 // ---- the map

@@ -1,1 +1,2 @@
 pub mod FirstBytes
+pub mod MoveTurn

@@ -1,7 +1,10 @@
-use Rattle.std.proofs.Common.{◌++◌, ap, drop, length, List, ℕ}
+use Rattle.std.proofs.Common.{◌≡◌, ◌∙◌, length, arith}
+use lib.Seq.{take-length}
 use Rattle.numbers.specs.Parts.{front}
 use Rattle.byte_parts.proofs.copy.Goals as goal
 
 pub returns : goal.returns
 unfolding front
-returns c = ap (λ (l : List ℕ). l ++ drop (length c.args.from.now) c.args.to.now) c.copy_from_slice.ensures.after
+returns c =
+    let all : c.loop-i.i ≡ length c.args.from.now = omega arith in
+    c.loop-i.invariant.1 ∙ rw (all, take-length)
