@@ -3,10 +3,11 @@ import struct
 
 
 class Archive:
-    """functions: names of the global ones. sections: name -> (bytes, relocations) of all that is linked into a program"""
+    """functions: names of the global ones. needed: names that a host must define. sections: name -> (bytes, relocations) of all that is linked into
+    a program"""
 
     def __init__(self, path):
-        self.functions, self.sections = set(), {}
+        self.functions, self.needed, self.sections = set(), set(), {}
         with open(path, 'rb') as file:
             data = file.read()
         at = 8
@@ -16,6 +17,7 @@ class Archive:
             if member[:4] == b'\x7fELF':
                 self.add(member)
             at += 60 + size + size % 2
+        self.needed -= self.functions
 
     def add(self, elf):
         def text(table, at):
@@ -31,8 +33,8 @@ class Archive:
             for k in range(size // entry if kind == 2 else 0):
                 name, info, _, section, value, _ = struct.unpack_from('<IBBHQQ', elf, offset + k * entry)
                 name = text(link, name)
-                if info >> 4 == 1 and section != 0:
-                    self.functions.add(name)
+                if info >> 4 == 1:
+                    (self.functions if section != 0 else self.needed).add(name)
                 # a place within this object is one of a section
                 symbols.append((names[section], value) if 0 < section < count else (name, 0))
         for k, (_, kind, flags, _, offset, size, _, _, _, _) in enumerate(sections):
