@@ -15,30 +15,46 @@ fn is_later(a: u64, b: u64) -> bool
     disk_location::masked(b) < disk_location::masked(a)
 }
 
-// A location's raw number, if it is no refusal.
+// What the paper tells of a location: 0 and its raw number, or a refusal's number and 0.
 #[derive(Clone, Copy)]
-struct Raw(Option<u64>);
+struct Raw {
+    number: u64,
+    raw: u64,
+}
 
 impl fmt::Display for Raw {
     fn fmt<W: fmt::Write>(&self, f: &mut fmt::Formatter<W>) -> fmt::Result {
-        match self.0 {
-            Some(raw) => write!(f, "raw {raw}"),
-            None => write!(f, "refused 20"),
+        let Raw { number, raw } = *self;
+        if number == 0 {
+            return write!(f, "raw {raw}");
         }
+        write!(f, "refused {number}")
     }
 }
 
 fn relative(position: u64, delete: bool) -> Raw {
-    Raw(RelativeDiskLocation::new(position, delete).map(|l| l.raw()))
+    let located = RelativeDiskLocation::new(position, delete);
+    Raw {
+        number: disk_location::relative_number(located),
+        raw: disk_location::relative_raw(located),
+    }
+}
+
+// What is told of a location in the whole store.
+fn shown(located: Option<DiskLocation>) -> Raw {
+    Raw {
+        number: disk_location::number(located),
+        raw: disk_location::raw(located),
+    }
 }
 
 fn absolute(position: u64, delete: bool) -> Raw {
-    Raw(DiskLocation::new(position, delete).map(|l| l.raw()))
+    shown(DiskLocation::new(position, delete))
 }
 
 // A relative location of that raw number in a file of that lsn.
 fn in_file(raw: u64, lsn: u64) -> Raw {
-    Raw(RelativeDiskLocation(raw).to_absolute(lsn).map(|l| l.raw()))
+    shown(RelativeDiskLocation(raw).to_absolute(lsn))
 }
 
 // The number at the front of some bytes, if one stands there.

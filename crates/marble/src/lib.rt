@@ -15,7 +15,7 @@ pub use writepath::{Written, write};
 pub use readpath::{read, read_answer};
 
 // Request P3, "Let the editor see what it hasn't saved": a part of the batch or of the heap, and the answer beside it.
-pub use through::{through, through_answer};
+pub use through::{ThroughLookup, through, through_answer};
 
 // "Claim, release", "Counts"
 pub use claims::{ClaimAnswer, claim, counts, release};

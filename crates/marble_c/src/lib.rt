@@ -34,10 +34,9 @@ use as_numbers::answers::{
 };
 use as_numbers::claim_words::{claims_in, put_claims};
 use as_numbers::state_words::{put_state, state_in};
-use marble::Request;
+use marble::{Request, ThroughLookup};
 use plan_words::put_plan;
 use rules::{Lookup, Record, Refusal, Settings};
-use through::ThroughLookup;
 
 // The version of this interface, which a host holds against its header's.
 #[unsafe(no_mangle)]

@@ -24,7 +24,7 @@ module _ (claims : Claims) where
   abbrev pub emptied_on : ℕ → List Record → List Record
   emptied_on i rs = take i rs ++ emptied_from claims i (drop i rs)
 
-  emptied-next : (i : ℕ) (rs : List Record) → i < length rs
+  pub emptied-next : (i : ℕ) (rs : List Record) → i < length rs
       → emptied_on (i + 1) (set rs i (pick (is_dead claims i (record_at rs i)) empty_record (record_at rs i))) ≡ emptied_on i rs
   unfolding emptied_from
   emptied-next i rs h =
