@@ -24,6 +24,12 @@ fn table_words() -> [u64; 131072]
     [0u64; 131072]
 }
 
+fn line_bytes() -> [u8; 131200]
+    ensures { 131200 ≡ length result }
+{
+    [0u8; 131200]
+}
+
 // As many as the longest line's hex pairs can give.
 fn decoded_bytes() -> [u8; 65600]
     ensures { 65600 ≡ length result }
@@ -35,6 +41,7 @@ fn decoded_bytes() -> [u8; 65600]
 pub fn run(rt: &(impl Print + Input)) -> io::Result<()> {
     let mut heap = heap_bytes();
     let mut table = table_words();
+    let mut line = line_bytes();
     let mut decoded = decoded_bytes();
     let mut input = standard_input::large_buffer();
     let mut written = Ok(());
@@ -42,6 +49,7 @@ pub fn run(rt: &(impl Print + Input)) -> io::Result<()> {
         rt,
         &mut written,
         &mut input,
+        &mut line,
         &mut decoded,
         &mut heap,
         &mut table,

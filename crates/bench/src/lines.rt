@@ -2,7 +2,7 @@
 ghost use Rattle.std.specs.Prelude.{◌≡◌, List, ℕ, ◌≤◌, length};
 ghost use Rattle.desk.specs.Desk.{desk};
 ghost use Rattle.desk.specs.Commands.{fresh_bench};
-ghost use Rattle.bench.specs.Buffer.{held_of, longest};
+ghost use Rattle.bench.specs.Buffer.{held_of};
 ghost use Rattle.bench.specs.Input.{FedTo, last_done, line_done, told};
 
 use crate::line_buffer::LineBuffer;
@@ -21,15 +21,15 @@ fn answered(
     rt: &impl Print,
     written: &mut io::Result<()>,
     b: Bench,
-    line: &LineBuffer,
+    line: &LineBuffer<'_>,
     decoded: &mut [u8],
     heap: &mut [u8],
     table: &mut [u64],
 ) -> Bench
     ensures { (text : List ℕ)
-        → line.now ≡ held_of longest text
+        → line.now.line ≡ held_of line.now.cap text
         → desk result heap.new table.new
-        ≡ line_done longest (length decoded.old) text
+        ≡ line_done line.now.cap (length decoded.old) text
         (desk b heap.old table.old) }
 {
     match line.text() {
@@ -51,26 +51,29 @@ fn lines_in(
     written: &mut io::Result<()>,
     bench: Bench,
     input: &[u8],
-    line: &mut LineBuffer,
+    line: &mut LineBuffer<'_>,
     decoded: &mut [u8],
     heap: &mut [u8],
     table: &mut [u64],
 ) -> Bench
-    ensures { (text : List ℕ)
-        → line.old ≡ held_of longest text
-        → FedTo longest (length decoded.old) input.now text
+    ensures cap { line.new.cap ≡ line.old.cap }
+    ensures feeds { (text : List ℕ)
+        → line.old.line ≡ held_of line.old.cap text
+        → FedTo line.old.cap (length decoded.old) input.now text
         (desk bench heap.old table.old)
-        line.new
+        line.new.line
         (desk result heap.new table.new) }
 {
     let mut b = bench;
-    for byte in input {
-        if *byte == b'\n' {
+    let mut from: usize = 0;
+    while from < input.len() {
+        let end = byte_parts::find(input, from, input.len(), b'\n');
+        line.push_all(&input[from..end]);
+        if end < input.len() {
             b = answered(rt, written, b, line, decoded, heap, table);
             line.clear();
-        } else {
-            line.push(*byte);
         }
+        from = end + 1;
     }
     b
 }
@@ -87,15 +90,15 @@ fn finished(
     rt: &impl Print,
     written: &mut io::Result<()>,
     b: Bench,
-    line: &LineBuffer,
+    line: &LineBuffer<'_>,
     decoded: &mut [u8],
     heap: &mut [u8],
     table: &mut [u64],
 ) -> Bench
     ensures { (text : List ℕ)
-        → line.now ≡ held_of longest text
+        → line.now.line ≡ held_of line.now.cap text
         → desk result heap.new table.new
-        ≡ last_done longest (length decoded.old) text
+        ≡ last_done line.now.cap (length decoded.old) text
         (desk b heap.old table.old) }
 {
     if line.is_empty() {
@@ -110,16 +113,17 @@ pub fn run_all(
     rt: &(impl Print + Input),
     written: &mut io::Result<()>,
     input: &mut [u8],
+    line: &mut [u8],
     decoded: &mut [u8],
     heap: &mut [u8],
     table: &mut [u64],
 ) -> Bench
     ensures { (bytes : List ℕ)
         × (desk result heap.new table.new
-        ≡ told longest (length decoded.old) bytes
+        ≡ told (length line.old) (length decoded.old) bytes
         (desk fresh_bench heap.old table.old)) }
 {
-    let mut line = LineBuffer::new();
+    let mut reading = LineBuffer::new(line);
     let mut b = desk::start();
     // A proved loop has to end, and nothing says that the input does: this number of turns no run uses up.
     for _ in 0..u64::MAX {
@@ -127,7 +131,16 @@ pub fn run_all(
         if n == 0 {
             break;
         }
-        b = lines_in(rt, written, b, &input[..n], &mut line, decoded, heap, table);
+        b = lines_in(
+            rt,
+            written,
+            b,
+            &input[..n],
+            &mut reading,
+            decoded,
+            heap,
+            table,
+        );
     }
-    finished(rt, written, b, &line, decoded, heap, table)
+    finished(rt, written, b, &reading, decoded, heap, table)
 }
