@@ -6,7 +6,7 @@ use Prim.Native.Nat.{ℕ, zero, suc, ◌+◌, ◌<◌, ◌≤◌}
 use native.Mathlib.Nat.{le_of_suc-le-suc, not-suc-le-zero}
 use native.Mathlib.Numerals.{add-one}
 use lib.ListN.{length, get_or, set, drop}
-use Rattle.std.specs.List.{count_by}
+use Rattle.std.specs.List.{sum_by}
 use Rattle.std.proofs.lemmas.List.Recursion.{is_sum_by}
 use Rattle.rules.specs.Base.{any, sum, pick}
 use Rattle.rules.specs.declared.Record.{Record}
@@ -15,7 +15,7 @@ use Rattle.rules.specs.Sync.{is_unsynced, unsynced_in, marked, marked_all}
 use Rattle.rules.proofs.TurnLaws.{left-next, any-end}
 
 -- ---- counting
-pub counted : (rs : List Record) → count_by (λ (r : Record). is_unsynced r) rs ≡ unsynced_in rs
+pub counted : (rs : List Record) → sum_by (λ (r : Record). pick (is_unsynced r) 1 0) rs ≡ unsynced_in rs
 unfolding unsynced_in sum
 counted rs = sym (is_sum_by unsynced_in (λ (r : Record). pick (is_unsynced r) 1 0) refl (λ r rs. refl) rs)
 

@@ -32,7 +32,7 @@ pub fn marked(r: Record) -> Record
 pub fn count(records: &[Record]) -> u64
     ensures { result ≡ unsynced_in records.now }
 {
-    records.iter().filter(|r| is_unsynced(**r)).count() as u64
+    records.iter().map(|r| u64::from(is_unsynced(*r))).sum()
 }
 
 // All of them marked, and "whether any mark changed".
