@@ -8,7 +8,7 @@ ghost use Rattle.script.specs.Hex.{is_hex_digit, is_hex, nibble_of, bytes_of, gl
 pub fn is_digit(b: u8) -> bool
     ensures { result ≡ is_hex_digit b }
 {
-    matches!(b, b'0'..=b'9' | b'A'..=b'F' | b'a'..=b'f')
+    b.is_ascii_hexdigit()
 }
 
 // What a digit of either case says; of another byte something below 16.
