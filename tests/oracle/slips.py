@@ -185,6 +185,9 @@ ON_ARBITRARY_STATES = {name: ['--count', '300'] for name in (
     'the first operation of a batch read through', 'a put of no bytes read through', "a batch's delete read through",
     'a read through a batch refused with 3', 'a malformed batch read through')}
 
+# the stored scenarios do not show this one: without the original it is noticed beside the right model, by the job
+NOT_BY_THE_STORED = {'only the first group moved'}
+
 
 def noticed(folder, name, words):
     """a difference is found: anything else that ends the run is not taken for one. The original's process may have said something before it"""
@@ -219,7 +222,7 @@ def main():
                 found = noticed(HERE, 'damaged.py', ['--console', os.path.join(copy, 'model.py')])
             elif name in IN_THE_SALVAGE:
                 found = noticed(HERE, 'salvaged.py', ['--console', os.path.join(copy, 'model.py')])
-            elif name in IN_TWO_CALLS:
+            elif name in IN_TWO_CALLS or options.stored and name in NOT_BY_THE_STORED:
                 found = noticed(HERE, 'planned.py', ['--console', os.path.join(copy, 'model.py')])
             elif name in ON_ARBITRARY_STATES:
                 found = noticed(HERE, 'hostile.py', ['--console', os.path.join(copy, 'model.py')] + ON_ARBITRARY_STATES[name])
