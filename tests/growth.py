@@ -5,12 +5,15 @@ compiled here with no proof: processor time of one call, the least of five or mo
 - at twice the size: how many times as long the call takes, worked out from each step to the next size, also where that is tenfold; the greatest;
 - beside rising ids: a write of ids in another order, at its largest size, by one of the same ids rising.
 How many times as long as plain C a call takes is printed and not judged: it is another figure on another processor.
-Fails where a figure is over its limit; as others may use the machine, only after that row was measured four times more, the least taken of all. With
---table every figure is printed, as a table in Markdown, and nothing is judged: ARCHITECTURE, "What a call costs", has it."""
+Fails where a figure is over its limit; as others may use the machine, which then can be twice as slow at one size as at the next, only if it is also by
+the middle one of twenty-one more measurements of its row, a second apart. With --table every figure is printed, as a table in Markdown, and nothing is
+judged: ARCHITECTURE, "What a call costs", has it."""
 import math
 import os
+import statistics
 import subprocess
 import sys
+import time
 
 HERE = os.path.dirname(os.path.abspath(__file__))
 sys.path.insert(0, os.path.join(HERE, 'oracle'))
@@ -19,7 +22,7 @@ from port import console_command  # noqa: E402
 ARCHIVE, PROGRAM = (os.path.join(os.path.dirname(HERE), 'target', 'tests', name) for name in ('libmarble_c.a', 'times'))
 TWICE, RISING = 'at twice the size', 'beside rising ids'
 LIMIT = {TWICE: 3, RISING: 5}
-TRIES = 5
+AGAIN = 21
 IN_ORDER = 'write, held ids rising, table of 1,024'
 OTHER_ORDERS = ('write, held ids in any order, table of 1,024', 'write, held ids falling, table of 1,024')
 
@@ -38,11 +41,6 @@ class Row:
     def ratios(self):
         return [ours / plain for ours, plain in zip(self.times, self.plain)]
 
-    def least(self, other):
-        """of this and another measurement of the row"""
-        self.times = [min(pair) for pair in zip(self.times, other.times)]
-        self.plain = [min(pair) for pair in zip(self.plain, other.plain)]
-
 
 def measured(*numbers):
     """rows by their names: those of these numbers, or all"""
@@ -51,27 +49,32 @@ def measured(*numbers):
         sys.exit(f'growth: {said.stdout}{said.stderr}')
     rows = {}
     for line in said.stdout.splitlines():
-        name, unit, size, time, plain = line.split('\t')
+        name, unit, size, took, plain = line.split('\t')
         row = rows.setdefault(name, Row(unit))
         row.sizes.append(int(size))
-        row.times.append(float(time))
+        row.times.append(float(took))
         row.plain.append(float(plain))
     return rows
 
 
-def figures(name, rows):
-    """kind -> measured, of a row"""
-    row = rows[name]
-    found = {TWICE: max(row.growth())}
+def figures(name, *measurements):
+    """kind -> measured, of a row: of each step and ratio the middle one of these measurements"""
+    steps = zip(*(rows[name].growth() for rows in measurements))
+    found = {TWICE: max(statistics.median(step) for step in steps)}
     if name in OTHER_ORDERS:
-        found[RISING] = row.times[-1] / rows[IN_ORDER].times[-1]
+        found[RISING] = statistics.median(rows[name].times[-1] / rows[IN_ORDER].times[-1] for rows in measurements)
     return found
 
 
-def complaints(name, rows):
-    """what is wrong with the figures of a row"""
-    found = figures(name, rows).items()
-    return [f'growth: {name}: {kind} {figure:.1f}, over its limit of {LIMIT[kind]}' for kind, figure in found if figure > LIMIT[kind]]
+def over(found):
+    """those over their limits"""
+    return {kind: figure for kind, figure in found.items() if figure > LIMIT[kind]}
+
+
+def again(*numbers):
+    """rows of these numbers, measured once more"""
+    time.sleep(1)
+    return measured(*sorted(set(numbers)))
 
 
 def judged():
@@ -79,13 +82,14 @@ def judged():
     numbers = {name: number for number, name in enumerate(rows)}
     wrong = []
     for name in rows:
-        for _ in range(TRIES - 1):
-            if complaints(name, rows):
-                for other, row in measured(*sorted({numbers[name], numbers[IN_ORDER]})).items():
-                    rows[other].least(row)
-        wrong += complaints(name, rows)
+        first = figures(name, rows)
+        if over(first):
+            middle = figures(name, *(again(numbers[name], numbers[IN_ORDER]) for _ in range(AGAIN)))
+            for kind in {**over(first), **over(middle)}:
+                print(f'growth: {name}: {kind} {first[kind]:.1f}, its limit {LIMIT[kind]}; the middle one of {AGAIN} more: {middle[kind]:.1f}')
+            wrong += over(middle)
     if wrong:
-        sys.exit('\n'.join(wrong))
+        sys.exit('growth: over a limit, as told above')
     print(f'growth: {len(rows)} rows, {sum(len(figures(name, rows)) for name in rows)} figures within their limits')
 
 
