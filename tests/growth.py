@@ -87,9 +87,10 @@ def judged():
             middle = figures(name, *(again(numbers[name], numbers[IN_ORDER]) for _ in range(AGAIN)))
             for kind in {**over(first), **over(middle)}:
                 print(f'growth: {name}: {kind} {first[kind]:.1f}, its limit {LIMIT[kind]}; the middle one of {AGAIN} more: {middle[kind]:.1f}')
-            wrong += over(middle)
+            if over(middle):
+                wrong.append(name)
     if wrong:
-        sys.exit('growth: over a limit, as told above')
+        sys.exit('growth: over a limit: ' + '; '.join(wrong))
     print(f'growth: {len(rows)} rows, {sum(len(figures(name, rows)) for name in rows)} figures within their limits')
 
 
